@@ -1,0 +1,151 @@
+-- One event: why it is refused, or what it changes and answers.
+use Rattle.std.specs.Prelude.{ℕ, ◌+◌, Bool, true, false, not, cond, List, [], ◌∷◌, ◌++◌, length, max, nat_lt, nat_le, Option, None, Some, is_none, is_some, Result, Ok, Err}
+use Rattle.std.specs.FinMap as map
+use Rattle.spool_types.specs.declared.phase.Phase.{Phase}
+use Rattle.spool_types.specs.declared.phase.Phase.TheVariants.{Incoming, Waiting, Canceled, Aborted}
+use Rattle.spool_types.specs.declared.phase.Hold.TheVariants.{Free}
+use Rattle.spool_types.specs.declared.phase.AbortReason.TheVariants.{NoFilter}
+use Rattle.spool_types.specs.declared.rows.QueueRow.{QueueRow}
+use Rattle.spool_types.specs.declared.event.NewQueue.{NewQueue}
+use Rattle.spool_types.specs.declared.event.NewJob.{NewJob}
+use Rattle.spool_types.specs.declared.event.Closing.{Closing}
+use Rattle.spool_types.specs.declared.event.Event.{Event}
+use Rattle.spool_types.specs.declared.event.Event.TheVariants.{AddQueue, Create, Send, Close, Cancel, Clock}
+use Rattle.spool_types.specs.declared.event.Reply.{Reply}
+use Rattle.spool_types.specs.declared.event.Reply.TheVariants.{Done, Number, Size}
+use Rattle.spool_types.specs.declared.refusal.Refusal.{Refusal}
+use Rattle.spool_types.specs.declared.refusal.Refusal.TheVariants.{NoQueue, QueueExists, TooManyQueues, NotAccepting, NoJob, NotIncoming, TooLong, OldNumber, NoNumberLeft, JobEnded}
+use Rattle.spool_types.specs.Limits.{most_queues, longest_document, greatest_number}
+use Rattle.spool_types.specs.Phases.{has_ended, is_incoming, hold_of}
+use Rattle.spool_types.specs.State.{State, Job, queue_at, job_at}
+
+-- whether there is a value, and it passes
+abbrev pub passes : {X : Type 0} → (X → Bool) → Option X → Bool
+passes p None = false
+passes p (Some x) = p x
+
+-- the refusal of the first cause that stands
+abbrev pub first_cause : List (Bool × Refusal) → Option Refusal
+first_cause [] = None
+first_cause (c ∷ cs) = cond c.0 (Some c.1) (first_cause cs)
+
+-- the causes for which an event is refused, in order
+abbrev pub causes : State → Event → List (Bool × Refusal)
+causes s (AddQueue q) =
+    (is_some (queue_at s q.name), QueueExists)
+    ∷ (nat_le most_queues (map.len s.queues), TooManyQueues)
+    ∷ []
+causes s (Create n) =
+    (is_none (queue_at s n.queue), NoQueue)
+    ∷ (passes (λ q. not q.accepting) (queue_at s n.queue), NotAccepting)
+    ∷ (nat_le greatest_number s.highest, NoNumberLeft)
+    ∷ (nat_le n.job s.highest, OldNumber)
+    ∷ []
+causes s (Send j bytes) =
+    (is_none (job_at s j), NoJob)
+    ∷ (passes (λ r. has_ended r.phase) (job_at s j), JobEnded)
+    ∷ (passes (λ r. not (is_incoming r.phase)) (job_at s j), NotIncoming)
+    ∷ (passes (λ r. nat_lt longest_document (r.size + length bytes)) (job_at s j), TooLong)
+    ∷ []
+causes s (Close c) =
+    (is_none (job_at s c.job), NoJob)
+    ∷ (passes (λ r. has_ended r.phase) (job_at s c.job), JobEnded)
+    ∷ (passes (λ r. not (is_incoming r.phase)) (job_at s c.job), NotIncoming)
+    ∷ []
+causes s (Cancel j) =
+    (is_none (job_at s j), NoJob)
+    ∷ (passes (λ r. has_ended r.phase) (job_at s j), JobEnded)
+    ∷ []
+causes s (Clock m) = []
+
+abbrev pub refusal_of : State → Event → Option Refusal
+refusal_of s e = first_cause (causes s e)
+
+-- a new queue accepts, isn't stopped, and has empty texts and lists
+abbrev pub new_queue : NewQueue → QueueRow
+new_queue q = record {
+  name = q.name;
+  uri = q.uri;
+  target = q.target;
+  policy = q.policy;
+  interval = q.interval;
+  limit = q.limit;
+  info = [];
+  location = [];
+  accepting = true;
+  stopped = false;
+  message = [];
+  reasons = [];
+  attributes = [];
+}
+
+-- a new job is incoming and free, and has no bytes
+abbrev pub new_job : NewJob → Job
+new_job n = record {
+  id = n.job;
+  queue = n.queue;
+  user = n.user;
+  title = n.title;
+  copies = n.copies;
+  priority = n.priority;
+  options = n.options;
+  media = None;
+  filters = [];
+  attempts = 0;
+  pages = 0;
+  size = 0;
+  phase = Incoming Free;
+  document = [];
+}
+
+abbrev pub with_bytes : List ℕ → Job → Job
+with_bytes bytes r = record r { size = r.size + length bytes; document = r.document ++ bytes }
+
+-- a job that ends loses its document and keeps its size
+abbrev pub ended : Phase → Job → Job
+ended phase r = record r { phase = phase; document = [] }
+
+-- a closed job waits with the hold that it had, or ends where nothing can print it
+abbrev pub closed : Closing → Job → Job
+closed c r = elim c.filters [
+  | None ↦ ended (Aborted NoFilter) (record r { media = Some c.media })
+  | Some filters ↦ record r { media = Some c.media; filters = filters; phase = Waiting (hold_of r.phase) 0 false }
+]
+
+-- the job that the event speaks of is changed, if there is one
+abbrev pub change_found : State → ℕ → (Job → Job) → Option Job → State
+change_found s j f None = s
+change_found s j f (Some r) = record s { jobs = map.insert s.jobs j (f r) }
+
+abbrev pub change_job : State → ℕ → (Job → Job) → State
+change_job s j f = change_found s j f (job_at s j)
+
+-- the state after an event that isn't refused
+abbrev pub after : State → Event → State
+after s (AddQueue q) = record s { queues = map.insert s.queues q.name (new_queue q) }
+after s (Create n) = record s { jobs = map.insert s.jobs n.job (new_job n); highest = n.job }
+after s (Send j bytes) = change_job s j (with_bytes bytes)
+after s (Close c) = change_job s c.job (closed c)
+after s (Cancel j) = change_job s j (ended Canceled)
+after s (Clock m) = record s { moment = max s.moment m }
+
+abbrev pub size_found : Option Job → ℕ
+size_found None = 0
+size_found (Some r) = r.size
+
+-- what is answered to an event that isn't refused
+abbrev pub reply_to : State → Event → Reply
+reply_to s (AddQueue q) = Done
+reply_to s (Create n) = Number n.job
+reply_to s (Send j bytes) = Size (size_found (job_at s j) + length bytes)
+reply_to s (Close c) = Done
+reply_to s (Cancel j) = Done
+reply_to s (Clock m) = Done
+
+-- Step: one refusal, the first whose cause stands, or the new state and the reply.
+abbrev pub answered : State → Event → Option Refusal → Result (State × Reply) Refusal
+answered s e None = Ok (after s e, reply_to s e)
+answered s e (Some r) = Err r
+
+abbrev pub step : State → Event → Result (State × Reply) Refusal
+step s e = answered s e (refusal_of s e)

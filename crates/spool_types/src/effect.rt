@@ -1,0 +1,54 @@
+//! How a child ended, and what it said on standard error.
+use crate::items::Words;
+use crate::kinds::{AttributeName, Message};
+
+/// How a child ended.
+#[derive(Clone, Copy, Debug, PartialEq, Eq)]
+pub enum Exit {
+    /// By itself, with this status (backend(7) names 0 to 7).
+    Code(u8),
+    /// By a signal.
+    Signal,
+    /// It was never started.
+    NoStart,
+    /// Its end or its output is not known.
+    Lost,
+}
+
+/// How urgent a message is (filter(7)).
+#[derive(Clone, Copy, Debug, PartialEq, Eq)]
+pub enum Level {
+    Emergency,
+    Alert,
+    Critical,
+    Error,
+    Warning,
+    Notice,
+    Info,
+}
+
+/// An attribute of a queue.
+#[derive(Clone, Debug, PartialEq, Eq, Drop)]
+pub struct Attribute {
+    pub name: AttributeName,
+    pub value: Message,
+}
+
+/// What a line of a child's standard error does (filter(7)).
+#[derive(Clone, Debug, PartialEq, Eq, Drop)]
+pub enum Effect {
+    /// `PAGE: page copies` adds the copies to the job's pages.
+    Pages { page: u32, copies: u32 },
+    /// `PAGE: total pages` sets them.
+    TotalPages(u32),
+    /// `STATE: word,..` sets the queue's reasons.
+    SetReasons(Words),
+    /// `STATE: +word,..` adds to them.
+    AddReasons(Words),
+    /// `STATE: -word,..` takes from them.
+    DropReasons(Words),
+    /// `ATTR: name=value` sets an attribute of the queue.
+    Attribute(Attribute),
+    /// `ERROR: text` and the like set the queue's message.
+    Message { level: Level, text: Message },
+}

@@ -1,0 +1,72 @@
+//! Events, and what they are answered.
+ghost use Rattle.std.specs.Prelude.{◌≡◌, IfOk};
+
+use crate::items::{Filters, Piece};
+use crate::kinds::{OptionText, QueueName, Title, Uri, UserName};
+use crate::media::MediaType;
+use crate::numbers::{Copies, Interval, JobId, Moment, Priority};
+use crate::phase::{Phase, Policy};
+use std::alloc::AllocError;
+
+/// A queue to be made.
+#[derive(Clone, Debug, PartialEq, Eq, Drop)]
+pub struct NewQueue {
+    pub name: QueueName,
+    pub uri: Uri,
+    pub target: MediaType,
+    pub policy: Policy,
+    pub interval: Interval,
+    pub limit: u16,
+}
+
+/// A job to be made.
+#[derive(Clone, Debug, PartialEq, Eq, Drop)]
+pub struct NewJob {
+    pub queue: QueueName,
+    pub job: JobId,
+    pub user: UserName,
+    pub title: Title,
+    pub copies: Copies,
+    pub priority: Priority,
+    pub options: OptionText,
+}
+
+/// The end of a document: its media type, and the filters to the queue's target, if any lead there.
+#[derive(Clone, Debug, PartialEq, Eq, Drop)]
+pub struct Closing {
+    pub job: JobId,
+    pub media: MediaType,
+    pub filters: Option<Filters>,
+}
+
+/// A change of the table.
+#[derive(Clone, Debug, PartialEq, Eq, Drop)]
+pub enum Event {
+    AddQueue(NewQueue),
+    Create(NewJob),
+    Send { job: JobId, bytes: Piece },
+    Close(Closing),
+    Cancel(JobId),
+    Clock(Moment),
+}
+
+impl Event {
+    /// The same event, in memory of its own.
+    pub fn copy(&self) -> Result<Event, AllocError>
+        ensures { IfOk result (λ copy. copy ≡ self.now) }
+    {
+        self.clone()
+    }
+}
+
+/// What an accepted event is answered.
+#[derive(Clone, Copy, Debug, PartialEq, Eq)]
+pub enum Reply {
+    Done,
+    /// The number of a new job.
+    Number(JobId),
+    /// The size of a document, in bytes.
+    Size(u32),
+    /// The phase that a job is in now.
+    Phase(Phase),
+}

@@ -1,0 +1,96 @@
+//! Lists of at most so many items.
+ghost use Rattle.std.specs.Prelude.{◌≡◌, ◌≤◌, ◌↔◌, [], length, IfOk, IfErr, IsOk};
+
+use crate::effect::Attribute;
+use crate::kinds::{FilterName, Reason};
+use std::alloc::{AllocError, Global};
+use std::marker::Model;
+
+/// At most `MOST` items in order, seen as a list.
+#[derive(Clone, Debug, Drop)]
+pub struct Items<T, const MOST: usize> {
+    items: Vec<T>,
+}
+
+impl<T, const MOST: usize> Model for Items<T, MOST> {
+    ghost use Rattle.std.specs.Prelude.{List, ◌≤◌, length};
+
+    ghost Value = { List T };
+
+    ghost view = { λ a. a.items.items };
+
+    ghost invariant = { λ a. length a.items.items ≤ MOST };
+}
+
+impl<T, const MOST: usize> Items<T, MOST> {
+    /// The items, or the `Vec` again where it has more than `MOST`. It takes no memory.
+    pub fn new(items: Vec<T>) -> Result<Items<T, MOST>, Vec<T>>
+        ensures short { IsOk result ↔ (length items.items ≤ MOST) }
+        ensures value { IfOk result (λ list. list ≡ items.items) }
+        ensures returned { IfErr result (λ same. same ≡ items) }
+    {
+        if items.len() <= MOST {
+            Ok(Items { items })
+        } else {
+            Err(items)
+        }
+    }
+
+    /// No items, which takes no memory.
+    pub fn empty(alloc: Global) -> Items<T, MOST>
+        ensures { result ≡ [] }
+    {
+        Items {
+            items: Vec::new(alloc),
+        }
+    }
+
+    /// The items in order.
+    pub fn as_slice(&self) -> &[T]
+        ensures value { result.now ≡ self.now }
+        ensures short { length self.now ≤ MOST }
+    {
+        &self.items
+    }
+
+    /// The items as they were given.
+    pub fn into_vec(self) -> Vec<T>
+        ensures value { result.items ≡ self }
+        ensures short { length result.items ≤ MOST }
+    {
+        self.items
+    }
+}
+
+impl<T: PartialEq, const MOST: usize> PartialEq for Items<T, MOST> {
+    ghost use Rattle.std.specs.Cmp.Lexicographic.{pointwise, lists_per};
+
+    ghost eq = { pointwise T.eq };
+
+    ghost laws = { lists_per T.laws };
+
+    fn eq(&self, other: &Items<T, MOST>) -> bool {
+        self.as_slice() == other.as_slice()
+    }
+}
+
+impl<T: Eq, const MOST: usize> Eq for Items<T, MOST> {
+    ghost use Rattle.std.specs.Cmp.Lexicographic.{lists_equiv};
+
+    ghost laws = { lists_equiv T.Eq.laws };
+}
+
+/// The filters of a job, in the order in which they run.
+pub type Filters = Items<FilterName, 15>;
+
+/// The bytes of one send.
+pub type Piece = Items<u8, 65_536>;
+
+/// The printer-state-reasons of a queue.
+pub type Reasons = Items<Reason, 64>;
+
+/// The reasons that an effect names.
+pub type Words = Items<Reason, 65_535>;
+
+/// The attributes of a queue.
+pub type Attributes = Items<Attribute, 64>;

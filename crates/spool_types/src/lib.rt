@@ -1,0 +1,50 @@
+//! The words of the spooler: texts, numbers, rows, phases, effects, events, replies and refusals.
+//!
+//! Every other crate speaks in these types, so what a value may be is said here once, by its type: a text of a kind
+//! ([`Text`]) passes its kind's test, a number ([`Ranged`], [`JobId`], [`Moment`]) lies in its range, a list
+//! ([`Items`]) has at most so many items. A clause sees a text as the list of its bytes, a number as a number, and a
+//! list as a list, so a row or an event is in a clause the record that it is in the code.
+//!
+//! Beside the types, `specs/` has the definitions that the crates above share:
+//!
+//! - `Values`, `Limits`: what texts may hold, and how much of each thing there may be.
+//! - `Phases`: which phases have ended, which hold is in force, and how a job is shown.
+//! - `State`, `Legal`: a table of queues and jobs, and what is so of each table that events lead to.
+//! - `Step`: for each event the causes of its refusals in order, its effect and its reply.
+//! - `Fold`: many events in turn.
+//!
+//! # Promises
+//!
+//! - *ExactValues*: [`JobId::new`], [`Moment::new`], [`Moment::plus`], [`Ranged::new`], [`Items::new`], [`Text::read`] and
+//!   [`MediaType::read`] take exactly the values that their clauses name.
+//! - Want of memory comes only where a text is copied, and then nothing has changed.
+#![tactic(auto)]
+
+mod effect;
+mod event;
+mod items;
+mod kinds;
+mod media;
+mod numbers;
+mod phase;
+mod refusal;
+mod rows;
+mod text;
+
+pub use effect::{Attribute, Effect, Exit, Level};
+pub use event::{Closing, Event, NewJob, NewQueue, Reply};
+pub use items::{Attributes, Filters, Items, Piece, Reasons, Words};
+pub use kinds::{
+    AttributeName, AttributeNameKind, FileName, FileNameKind, FilterName, FilterNameKind, Message,
+    MessageKind, Note, NoteKind, OptionText, OptionTextKind, QueueName, QueueNameKind, Reason,
+    ReasonKind, Title, TitleKind, Uri, UriKind, UserName, UserNameKind,
+};
+pub use media::{MediaName, MediaType, MediaTypeKind};
+pub use numbers::{Copies, Interval, JobId, Moment, Priority, Ranged};
+pub use phase::{AbortReason, Hold, HoldReason, Phase, Policy};
+pub use refusal::Refusal;
+pub use rows::{JobRow, QueueRow};
+pub use text::{Text, TextFault, TextKind};
+
+#[cfg(test)]
+mod tests;

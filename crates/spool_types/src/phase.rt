@@ -1,0 +1,200 @@
+//! Phases of a job, what holds it, and what a queue does with a job that fails.
+ghost use Rattle.std.specs.Prelude.{◌≡◌};
+ghost use Rattle.spool_types.specs.Phases.{has_ended, is_incoming, is_processing, hold_of, is_in_force, job_state, job_reason, hold_reason_word, hold_word, abort_reason_word, waiting_word};
+
+use crate::numbers::Moment;
+
+/// What a queue does with a job whose backend failed (ErrorPolicy, cupsd.conf(5)).
+#[derive(Clone, Copy, Debug, PartialEq, Eq)]
+pub enum Policy {
+    AbortJob,
+    RetryJob,
+    RetryCurrentJob,
+    StopPrinter,
+}
+
+/// Why a job is held until it is released.
+#[derive(Clone, Copy, Debug, PartialEq, Eq)]
+pub enum HoldReason {
+    /// A command held it.
+    Unspecified,
+    /// Its backend wants credentials.
+    Authentication,
+    /// Its backend asked to hold it.
+    Backend,
+}
+
+impl HoldReason {
+    /// The word that is shown for the reason.
+    pub fn word(self) -> &'static str
+        ensures { result.now ≡ hold_reason_word self }
+    {
+        match self {
+            HoldReason::Unspecified => "job-hold-until-specified",
+            HoldReason::Authentication => "cups-held-for-authentication",
+            HoldReason::Backend => "held-by-backend",
+        }
+    }
+}
+
+/// Why a job was aborted.
+#[derive(Clone, Copy, Debug, PartialEq, Eq)]
+pub enum AbortReason {
+    FilterFailed,
+    BackendFailed,
+    /// It was started as often as its queue allows.
+    RetryLimit,
+    /// The spooler ended while the job was processing.
+    AttemptLost,
+    /// No filters lead from its media type to the queue's.
+    NoFilter,
+}
+
+impl AbortReason {
+    /// The word that is shown for the reason.
+    pub fn word(self) -> &'static str
+        ensures { result.now ≡ abort_reason_word self }
+    {
+        match self {
+            AbortReason::FilterFailed => "filter-failed",
+            AbortReason::BackendFailed => "backend-failed",
+            AbortReason::RetryLimit => "retry-limit",
+            AbortReason::AttemptLost => "attempt-lost",
+            AbortReason::NoFilter => "no-filter",
+        }
+    }
+}
+
+/// What holds a job back.
+#[derive(Clone, Copy, Debug, PartialEq, Eq)]
+pub enum Hold {
+    Free,
+    /// Until it is released.
+    Indefinite(HoldReason),
+    /// Until a moment has come.
+    Until(Moment),
+}
+
+impl Hold {
+    /// Whether the hold is in force at the moment now.
+    pub fn is_in_force(self, now: Moment) -> bool
+        ensures { result ≡ is_in_force now self }
+    {
+        match self {
+            Hold::Free => false,
+            Hold::Indefinite(_) => true,
+            Hold::Until(moment) => now < moment,
+        }
+    }
+
+    /// The word that is shown while the hold is in force.
+    pub fn word(&self) -> &'static str
+        ensures { result.now ≡ hold_word self.now }
+    {
+        match self {
+            Hold::Free => "none",
+            Hold::Indefinite(reason) => reason.word(),
+            Hold::Until(_) => HoldReason::Unspecified.word(),
+        }
+    }
+}
+
+/// Where a job is on its way.
+#[derive(Clone, Copy, Debug, PartialEq, Eq)]
+pub enum Phase {
+    /// Its document is coming.
+    Incoming(Hold),
+    /// It is closed, and not tried before a moment. One that is marked first goes before all others.
+    Waiting {
+        hold: Hold,
+        not_before: Moment,
+        first: bool,
+    },
+    /// Stage `stage` of `stages` of an attempt runs; attempts and stages count from 1.
+    Processing {
+        attempt: u32,
+        stage: u8,
+        stages: u8,
+    },
+    Completed,
+    Canceled,
+    Aborted(AbortReason),
+}
+
+impl Phase {
+    /// Whether the job was completed, canceled or aborted.
+    pub fn has_ended(self) -> bool
+        ensures { result ≡ has_ended self }
+    {
+        matches!(self, Phase::Completed | Phase::Canceled | Phase::Aborted(_))
+    }
+
+    /// Whether the job's document is coming.
+    pub fn is_incoming(self) -> bool
+        ensures { result ≡ is_incoming self }
+    {
+        matches!(self, Phase::Incoming(_))
+    }
+
+    /// Whether a stage of the job runs.
+    pub fn is_processing(self) -> bool
+        ensures { result ≡ is_processing self }
+    {
+        matches!(self, Phase::Processing { .. })
+    }
+
+    /// The hold of an incoming or waiting job; no other has one.
+    pub fn hold(self) -> Hold
+        ensures { result ≡ hold_of self }
+    {
+        match self {
+            Phase::Incoming(hold) | Phase::Waiting { hold, .. } => hold,
+            _ => Hold::Free,
+        }
+    }
+
+    /// The number that is shown for the phase at the moment now (job-state, RFC 8011).
+    pub fn job_state(self, now: Moment) -> u8
+        ensures { result ≡ job_state now self }
+    {
+        match self {
+            Phase::Incoming(_) => 4,
+            Phase::Waiting { hold, .. } => { if hold.is_in_force(now) { 4 } else { 3 } }
+            Phase::Processing { .. } => 5,
+            Phase::Canceled => 7,
+            Phase::Aborted(_) => 8,
+            Phase::Completed => 9,
+        }
+    }
+
+    /// The word that is shown beside that number (job-state-reasons, RFC 8011).
+    pub fn job_reason(&self, now: &Moment) -> &'static str
+        ensures { result.now ≡ job_reason now.now self.now }
+    {
+        match self {
+            Phase::Incoming(_) => "job-incoming",
+            Phase::Waiting {
+                hold,
+                not_before,
+                ..
+            } => { waiting_reason(now, hold, not_before) }
+            Phase::Processing { .. } => "job-printing",
+            Phase::Canceled => "canceled",
+            Phase::Aborted(reason) => reason.word(),
+            Phase::Completed => "job-completed-successfully",
+        }
+    }
+}
+
+// The word of a waiting job.
+fn waiting_reason(now: &Moment, hold: &Hold, not_before: &Moment) -> &'static str
+    ensures { result.now ≡ waiting_word now.now hold.now not_before.now }
+{
+    if hold.is_in_force(*now) {
+        hold.word()
+    } else if now < not_before {
+        "retry-later"
+    } else {
+        "none"
+    }
+}

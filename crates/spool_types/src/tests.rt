@@ -1,0 +1,162 @@
+use super::*;
+use std::alloc::Global;
+use std::test::Fail;
+
+#[test]
+fn job_numbers_begin_at_one(rt: HostRuntime) -> Result<(), Fail> {
+    assert!(rt; JobId::new(0).is_none());
+    assert_eq!(rt; JobId::new(1).ok_or("no")?.get(), 1);
+    assert_eq!(rt; JobId::new(2_147_483_647).ok_or("no")?.get(), 2_147_483_647);
+    assert!(rt; JobId::new(2_147_483_648).is_none());
+    Ok(())
+}
+
+#[test]
+fn moments_stop_at_the_greatest(rt: HostRuntime) -> Result<(), Fail> {
+    let last = Moment::new(4_000_000_000_000).ok_or("no")?;
+    assert!(rt; Moment::new(4_000_000_000_001).is_none());
+    assert_eq!(rt; last.plus(1), last);
+    assert_eq!(rt; Moment::ZERO.plus(30).get(), 30);
+    assert_eq!(rt; Moment::ZERO.plus(u64::MAX), last);
+    Ok(())
+}
+
+#[test]
+fn ranges_hold_their_ends(rt: HostRuntime) -> Result<(), Fail> {
+    assert!(rt; Copies::new(0).is_none());
+    assert_eq!(rt; Copies::new(9_999).ok_or("no")?.get(), 9_999);
+    assert!(rt; Copies::new(10_000).is_none());
+    assert!(rt; Priority::new(101).is_none());
+    assert_eq!(rt; Interval::new(0).ok_or("no")?.get(), 0);
+    Ok(())
+}
+
+// Whether a queue may have this name.
+fn names_a_queue(alloc: Global, text: &str) -> bool {
+    QueueName::read(alloc, text).is_ok()
+}
+
+#[test]
+fn queue_names_are_letters_digits_hyphens_and_underscores(rt: HostRuntime) -> Result<(), Fail> {
+    let alloc = rt.alloc();
+    assert!(rt; names_a_queue(alloc, "Lab-2_b"));
+    assert!(rt; !names_a_queue(alloc, ""));
+    assert!(rt; !names_a_queue(alloc, "a b"));
+    assert!(rt; !names_a_queue(alloc, "a.b"));
+    assert_eq!(rt; QueueName::read(alloc, "lab")?.as_str(), "lab");
+    Ok(())
+}
+
+#[test]
+fn queue_names_have_at_most_127_bytes(rt: HostRuntime) -> Result<(), Fail> {
+    let alloc = rt.alloc();
+    let mut text = String::new(alloc);
+    for _ in 0..127 {
+        text.push('q')?;
+    }
+    assert!(rt; names_a_queue(alloc, text.as_str()));
+    text.push('q')?;
+    assert!(rt; !names_a_queue(alloc, text.as_str()));
+    Ok(())
+}
+
+// The media type as it is read, or "bad".
+fn media(alloc: Global, text: &str) -> Result<String, Fail> {
+    match MediaType::read(alloc, text) {
+        Ok(media) => Ok(String::from_str(alloc, media.as_str())?),
+        Err(TextFault::Bad) => Ok(String::from_str(alloc, "bad")?),
+        Err(TextFault::Memory) => Err(Fail::from("no memory")),
+    }
+}
+
+#[test]
+fn media_types_fold_their_capitals(rt: HostRuntime) -> Result<(), Fail> {
+    let alloc = rt.alloc();
+    for (text, want) in [
+        ("application/octet-stream", "application/octet-stream"),
+        ("Image/SVG+xml", "image/svg+xml"),
+        ("a/b", "a/b"),
+        ("a", "bad"),
+        ("/b", "bad"),
+        ("a/", "bad"),
+        ("a/b/c", "bad"),
+        ("a b/c", "bad"),
+    ] {
+        assert_eq!(rt; media(alloc, text)?.as_str(), want, "at {text}");
+    }
+    Ok(())
+}
+
+#[test]
+fn texts_hold_no_control_characters(rt: HostRuntime) -> Result<(), Fail> {
+    let alloc = rt.alloc();
+    assert!(rt; Title::read(alloc, "").is_ok());
+    assert!(rt; Title::read(alloc, "First \u{e9}").is_ok());
+    assert!(rt; Title::read(alloc, "a\tb").is_err());
+    assert!(rt; Title::read(alloc, "\u{7f}").is_err());
+    assert!(rt; UserName::read(alloc, "").is_err());
+    assert!(rt; Uri::read(alloc, "a b").is_err());
+    assert!(rt; Reason::read(alloc, "none").is_err());
+    Ok(())
+}
+
+#[test]
+fn jobs_are_shown_by_their_phase(rt: HostRuntime) -> Result<(), Fail> {
+    let now = Moment::new(100).ok_or("no")?;
+    let later = now.plus(1);
+    let waiting = |hold: Hold, not_before: Moment| Phase::Waiting {
+        hold,
+        not_before,
+        first: false,
+    };
+    for (phase, state, reason) in [
+        (
+            Phase::Incoming(Hold::Indefinite(HoldReason::Unspecified)),
+            4,
+            "job-incoming",
+        ),
+        (waiting(Hold::Free, now), 3, "none"),
+        (waiting(Hold::Free, later), 3, "retry-later"),
+        (waiting(Hold::Until(now), now), 3, "none"),
+        (
+            waiting(Hold::Until(later), now),
+            4,
+            "job-hold-until-specified",
+        ),
+        (
+            waiting(Hold::Indefinite(HoldReason::Backend), now),
+            4,
+            "held-by-backend",
+        ),
+        (Phase::Aborted(AbortReason::NoFilter), 8, "no-filter"),
+    ] {
+        assert_eq!(rt; phase.job_state(now), state, "at {phase:?}");
+        assert_eq!(rt; phase.job_reason(&now), reason, "at {phase:?}");
+    }
+    Ok(())
+}
+
+#[test]
+fn refusals_are_told_by_number_and_name(rt: HostRuntime) -> Result<(), Fail> {
+    assert_eq!(rt; Refusal::NoQueue.number(), 1);
+    assert_eq!(rt; Refusal::JobEnded.number(), 10);
+    assert_eq!(rt; Refusal::NeedsCheckpoint.number(), 17);
+    assert_eq!(rt; Refusal::TooLong.name(), "TooLong");
+    Ok(())
+}
+
+#[test]
+fn lists_give_back_what_is_too_long(rt: HostRuntime) -> Result<(), Fail> {
+    let alloc = rt.alloc();
+    let fits = Vec::from_slice(alloc, &[7; 65_536])?;
+    assert_eq!(rt;
+        Piece::new(fits).map(|piece| piece.as_slice().len()),
+        Ok(65_536)
+    );
+    let long = Vec::from_slice(alloc, &[7; 65_537])?;
+    assert_eq!(rt;
+        Piece::new(long).map_err(|bytes| bytes.len()).err(),
+        Some(65_537)
+    );
+    Ok(())
+}
