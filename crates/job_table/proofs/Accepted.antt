@@ -1,0 +1,77 @@
+-- What holds where an event isn't refused.
+use Rattle.std.proofs.Common.{◌≡◌, ℕ, ◌+◌, ◌<◌, ◌≤◌, Bool, true, false, not, cond, List, [], ◌∷◌, length, Option, Some, None, IsSome, refl, subst, arith}
+use Rattle.std.specs.Prelude.{nat_le, nat_lt, is_some, is_none}
+use Rattle.std.specs.FinMap as finite
+use Rattle.std.proofs.lemmas.Bool.Decides.{nat_tests}
+use Rattle.spool_types.specs.Limits.{most_queues, longest_document}
+use Rattle.spool_types.specs.Phases.{is_incoming}
+use Rattle.spool_types.specs.declared.event.NewQueue.{NewQueue}
+use Rattle.spool_types.specs.declared.event.NewJob.{NewJob}
+use Rattle.spool_types.specs.declared.event.Closing.{Closing}
+use Rattle.spool_types.specs.declared.event.Event.TheVariants.{AddQueue, Create, Send, Close}
+use Rattle.spool_types.specs.declared.refusal.Refusal.{Refusal}
+use Rattle.spool_types.specs.State.{State, Job, queue_at, job_at}
+use Rattle.spool_types.specs.Step.{refusal_of, causes, first_cause, passes}
+
+-- no cause of the list stands
+abbrev NoneStand : List (Bool × Refusal) → Type 0
+NoneStand [] = Unit {0}
+NoneStand (c ∷ cs) = (c.0 ≡ false) × NoneStand cs
+
+-- the first cause, and then the others
+none_first : (b : Bool) (r : Refusal) (cs : List (Bool × Refusal)) → cond b (Some r) (first_cause cs) ≡ None → (b ≡ false) × (first_cause cs ≡ None)
+none_first true r cs e = absurd (cc)
+none_first false r cs e = (refl, e)
+
+none_stand : (cs : List (Bool × Refusal)) → first_cause cs ≡ None → NoneStand cs
+none_stand [] e = tt
+none_stand (c ∷ cs) e = let first = none_first c.0 c.1 cs e in (first.0, none_stand cs first.1)
+
+none_from : {X : Type 0} (o : Option X) → is_some o ≡ false → o ≡ None
+none_from None e = refl
+none_from (Some x) e = absurd (cc)
+
+some_from : {X : Type 0} (o : Option X) → is_none o ≡ false → (x : X) × (o ≡ Some x)
+some_from None e = absurd (cc)
+some_from (Some x) e = (x, refl)
+
+is_some_from : {X : Type 0} (o : Option X) → is_none o ≡ false → IsSome o
+is_some_from None e = absurd (cc)
+is_some_from (Some x) e = refl
+
+true_from : (b : Bool) → not b ≡ false → b ≡ true
+true_from true e = refl
+true_from false e = absurd (cc)
+
+above : (m n : ℕ) → nat_le m n ≡ false → n < m
+above m n e = grind (arith, nat_tests)
+
+at_most : (m n : ℕ) → nat_lt m n ≡ false → n ≤ m
+at_most m n e = grind (arith, nat_tests)
+
+pub accepted_queue : (s : State) (q : NewQueue) → refusal_of s (AddQueue q) ≡ None → queue_at s q.name ≡ None
+accepted_queue s q e = none_from _ (none_stand (causes s (AddQueue q)) e).0
+
+pub accepted_few : (s : State) (q : NewQueue) → refusal_of s (AddQueue q) ≡ None → finite.len s.queues < most_queues
+accepted_few s q e = above _ _ (none_stand (causes s (AddQueue q)) e).1.0
+
+pub accepted_create_queue : (s : State) (n : NewJob) → refusal_of s (Create n) ≡ None → IsSome (queue_at s n.queue)
+accepted_create_queue s n e = is_some_from _ (none_stand (causes s (Create n)) e).0
+
+pub accepted_create : (s : State) (n : NewJob) → refusal_of s (Create n) ≡ None → s.highest < n.job
+accepted_create s n e = above _ _ (none_stand (causes s (Create n)) e).1.1.1.0
+
+pub accepted_there : (s : State) (j : ℕ) (bytes : List ℕ) → refusal_of s (Send j bytes) ≡ None → (r : Job) × (job_at s j ≡ Some r)
+accepted_there s j bytes e = some_from _ (none_stand (causes s (Send j bytes)) e).0
+
+pub accepted_send_incoming : (s : State) (j : ℕ) (bytes : List ℕ) (r : Job) → job_at s j ≡ Some r → refusal_of s (Send j bytes) ≡ None → is_incoming r.phase ≡ true
+accepted_send_incoming s j bytes r there e =
+    true_from _ (subst (λ o. passes (λ (r : Job). not (is_incoming r.phase)) o ≡ false) there (none_stand (causes s (Send j bytes)) e).1.1.0)
+
+pub accepted_short : (s : State) (j : ℕ) (bytes : List ℕ) (r : Job) → job_at s j ≡ Some r → refusal_of s (Send j bytes) ≡ None → r.size + length bytes ≤ longest_document
+accepted_short s j bytes r there e =
+    at_most _ _ (subst (λ o. passes (λ (r : Job). nat_lt longest_document (r.size + length bytes)) o ≡ false) there (none_stand (causes s (Send j bytes)) e).1.1.1.0)
+
+pub accepted_close_incoming : (s : State) (c : Closing) (r : Job) → job_at s c.job ≡ Some r → refusal_of s (Close c) ≡ None → is_incoming r.phase ≡ true
+accepted_close_incoming s c r there e =
+    true_from _ (subst (λ o. passes (λ (r : Job). not (is_incoming r.phase)) o ≡ false) there (none_stand (causes s (Close c)) e).1.1.0)

@@ -1,0 +1,30 @@
+-- the row goes into its gap
+use Rattle.std.proofs.Common.{ap, ◌∙◌}
+use Rattle.std.specs.FinMap as finite
+use Rattle.spool_types.specs.declared.event.Event.TheVariants.{AddQueue}
+use Rattle.std.specs.List.{insert}
+use Rattle.job_table.specs.Seen.{contents_of}
+use Rattle.spool_types.specs.Step.{after, refusal_of}
+use Rattle.job_table.proofs.Accepted.{accepted_queue}
+use Rattle.job_table.proofs.Legal.{legal_after}
+use Rattle.job_table.proofs.Tables.{some_queue, there_and_not}
+use Rattle.job_table.proofs.Steps.{add_queue_state, add_queue_ordered}
+use Rattle.job_table.proofs.table.Table.add_queue.Goals as goal
+
+pub unreachable-requires : goal.unreachable-requires
+unreachable-requires c =
+    let there = some_queue c.self.inside.queues.items c.self.invariant.queues c.args.queue.name _ (rw c.deref.ensures.value at c.in-Ok.ensures.found) in
+    there_and_not _ _ _ there.1 (accepted_queue c.args.self.now.state c.args.queue c.requires.accepted) (ap (λ v. finite.get v.state.queues c.args.queue.name) c.self.view_is)
+
+pub invariant_of-self : goal.invariant_of-self
+invariant_of-self c = add_queue_ordered c.self.inside c.self.invariant c.args.queue c.insert.new.self c.in-Err.at
+    (rw c.deref.ensures.value at c.in-Err.ensures.absent)
+    (rw c.unwrap.ensures at c.insert.ensures.items ∙ ap (insert c.self.inside.queues.items c.in-Err.at) c.new_queue_row-row.ensures)
+    (legal_after (contents_of c.self.inside).state (AddQueue c.args.queue) (ap (λ v. refusal_of v.state (AddQueue c.args.queue)) c.self.view_is ∙ c.requires.accepted) c.self.invariant.legal)
+
+pub returns : goal.returns
+returns c =
+    add_queue_state c.self.inside c.self.invariant c.args.queue c.insert.new.self c.in-Err.at
+    (rw c.deref.ensures.value at c.in-Err.ensures.absent)
+    (rw c.unwrap.ensures at c.insert.ensures.items ∙ ap (insert c.self.inside.queues.items c.in-Err.at) c.new_queue_row-row.ensures)
+    ∙ ap (λ v. after v.state (AddQueue c.args.queue)) c.self.view_is

@@ -1,0 +1,22 @@
+-- Jobs that have ended, and the events that speak of a job.
+use Rattle.std.specs.Prelude.{◌≡◌, ℕ, Option, None, Some, IsTrue}
+use Rattle.spool_types.specs.Phases.{has_ended}
+use Rattle.spool_types.specs.declared.event.Event.{Event}
+use Rattle.spool_types.specs.declared.event.Event.TheVariants.{AddQueue, Create, Send, Close, Cancel, Clock}
+use Rattle.spool_types.specs.State.{State, Job, job_at}
+use Rattle.spool_types.specs.Legal.{IsLegal}
+
+-- a legal table has this job, and it has ended
+pub record HasEndedJob (s : State) (j : ℕ) (r : Job) : Type 0 where
+  pub legal : IsLegal s
+  pub there : job_at s j ≡ Some r
+  pub ended : IsTrue (has_ended r.phase)
+
+-- the job that is there already and that an event is about
+abbrev pub subject : Event → Option ℕ
+subject (AddQueue q) = None
+subject (Create n) = None
+subject (Send j bytes) = Some j
+subject (Close c) = Some c.job
+subject (Cancel j) = Some j
+subject (Clock m) = None

@@ -1,0 +1,5 @@
+pub mod Contents
+pub mod Rows
+pub mod Places
+pub mod Seen
+pub mod Ended
