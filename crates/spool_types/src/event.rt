@@ -4,8 +4,9 @@ ghost use Rattle.std.specs.Prelude.{◌≡◌, IfOk};
 use crate::items::{Filters, Piece};
 use crate::kinds::{OptionText, QueueName, Title, Uri, UserName};
 use crate::media::MediaType;
-use crate::numbers::{Copies, Interval, JobId, Moment, Priority};
+use crate::numbers::{JobId, Moment};
 use crate::phase::{Phase, Policy};
+use crate::ranged::{Copies, Interval, Priority};
 use std::alloc::AllocError;
 
 /// A queue to be made.

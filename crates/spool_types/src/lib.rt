@@ -27,6 +27,7 @@ mod kinds;
 mod media;
 mod numbers;
 mod phase;
+mod ranged;
 mod refusal;
 mod rows;
 mod text;
@@ -40,8 +41,9 @@ pub use kinds::{
     ReasonKind, Title, TitleKind, Uri, UriKind, UserName, UserNameKind,
 };
 pub use media::{MediaName, MediaType, MediaTypeKind};
-pub use numbers::{Copies, Interval, JobId, Moment, Priority, Ranged};
+pub use numbers::{JobId, Moment};
 pub use phase::{AbortReason, Hold, HoldReason, Phase, Policy};
+pub use ranged::{Copies, Interval, Priority, Ranged};
 pub use refusal::Refusal;
 pub use rows::{JobRow, QueueRow};
 pub use text::{Text, TextFault, TextKind};

@@ -2,8 +2,9 @@
 use crate::items::{Attributes, Filters, Reasons};
 use crate::kinds::{Message, Note, OptionText, QueueName, Title, Uri, UserName};
 use crate::media::MediaType;
-use crate::numbers::{Copies, Interval, JobId, Priority};
+use crate::numbers::JobId;
 use crate::phase::{Phase, Policy};
+use crate::ranged::{Copies, Interval, Priority};
 
 /// A queue.
 #[derive(Clone, Debug, PartialEq, Eq, Drop)]

@@ -1,0 +1,5 @@
+pub mod LineLaws
+pub mod TextLaws
+pub mod StepLaws
+pub mod WordLaws
+pub mod GrammarLaws

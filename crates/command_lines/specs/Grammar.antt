@@ -1,0 +1,151 @@
+-- What a line says: the table of commands, by their first words.
+use Rattle.std.specs.Prelude.{ℕ, Bool, true, ◌&&◌, cond, nat_lt, ◌==◌, List, [], ◌∷◌, length, codes, nat_eq, Option, None, Some}
+use Rattle.std.specs.Cmp.Lexicographic.{pointwise}
+use Rattle.std.specs.Str.{is_utf8, str_to_ascii_lowercase}
+use Rattle.spool_types.specs.Limits.{greatest_number}
+use Rattle.spool_types.specs.Values.{is_queue_name, is_uri, is_media_type, is_user_name, is_title, is_options, is_file_name}
+use Rattle.spool_types.specs.declared.phase.Policy.{Policy}
+use Rattle.spool_types.specs.declared.phase.Policy.TheVariants.{AbortJob, RetryJob, RetryCurrentJob, StopPrinter}
+use Rattle.command_lines.specs.Words.{words_of}
+use Rattle.command_lines.specs.Numbers.{ranged}
+use Rattle.command_lines.specs.declared.command.Command.TheVariants.{Queue, Create, Close, Cancel, Jobs, Malformed}
+use Rattle.command_lines.specs.declared.command.Kind.{Kind}
+use Rattle.command_lines.specs.declared.command.Kind.TheVariants.{Remark, Says, Takes}
+
+-- ## The values of words
+
+-- a word that is this one
+abbrev pub is_word : List ℕ → List ℕ → Bool
+is_word word name = pointwise nat_eq word name
+
+-- a text that is allowed
+abbrev pub text_in : (List ℕ → Bool) → List ℕ → Option (List ℕ)
+text_in allowed word = cond (is_utf8 word && allowed word) (Some word) None
+
+-- a media type: capitals stand for their small letters
+abbrev pub media_in : List ℕ → Option (List ℕ)
+media_in word = cond (is_utf8 word && is_media_type (str_to_ascii_lowercase word)) (Some (str_to_ascii_lowercase word)) None
+
+abbrev pub policy_in : List ℕ → Option Policy
+policy_in word =
+    cond (is_word word (codes "abort-job")) (Some AbortJob)
+    (cond (is_word word (codes "retry-job")) (Some RetryJob)
+    (cond (is_word word (codes "retry-current-job")) (Some RetryCurrentJob)
+    (cond (is_word word (codes "stop-printer")) (Some StopPrinter)
+    None)))
+
+abbrev pub job_in : List ℕ → Option ℕ
+job_in word = ranged 1 greatest_number word
+
+abbrev pub copies_in : List ℕ → Option ℕ
+copies_in word = ranged 1 9999 word
+
+abbrev pub priority_in : List ℕ → Option ℕ
+priority_in word = ranged 1 100 word
+
+-- seconds
+abbrev pub interval_in : List ℕ → Option ℕ
+interval_in word = ranged 0 86400 word
+
+abbrev pub limit_in : List ℕ → Option ℕ
+limit_in word = ranged 0 65535 word
+
+-- how many bytes a send announces
+abbrev pub count_in : List ℕ → Option ℕ
+count_in word = ranged 0 4294967295 word
+
+-- ## The commands, each of the words that follow its name
+
+abbrev pub queue_of : Option (List ℕ) → Option (List ℕ) → Option (List ℕ) → Option Policy → Option ℕ → Option ℕ → Option Kind
+queue_of (Some name) (Some uri) (Some target) (Some policy) (Some interval) (Some limit) =
+    Some (Says (Queue (record { name = name; uri = uri; target = target; policy = policy; interval = interval; limit = limit })))
+queue_of name uri target policy interval limit = None
+
+-- NAME URI TYPE POLICY [INTERVAL [LIMIT]]
+abbrev pub queue_line : List (List ℕ) → Option Kind
+queue_line (name ∷ uri ∷ target ∷ policy ∷ []) =
+    queue_of (text_in is_queue_name name) (text_in is_uri uri) (media_in target) (policy_in policy) (Some 30) (Some 5)
+queue_line (name ∷ uri ∷ target ∷ policy ∷ interval ∷ []) =
+    queue_of (text_in is_queue_name name) (text_in is_uri uri) (media_in target) (policy_in policy) (interval_in interval) (Some 5)
+queue_line (name ∷ uri ∷ target ∷ policy ∷ interval ∷ limit ∷ []) =
+    queue_of (text_in is_queue_name name) (text_in is_uri uri) (media_in target) (policy_in policy) (interval_in interval) (limit_in limit)
+queue_line words = None
+
+abbrev pub creation_of : Option (List ℕ) → Option (List ℕ) → Option (List ℕ) → Option ℕ → Option ℕ → Option (List ℕ) → Option Kind
+creation_of (Some queue) (Some user) (Some title) (Some copies) (Some priority) (Some options) =
+    Some (Says (Create (record { queue = queue; user = user; title = title; copies = copies; priority = priority; options = options })))
+creation_of queue user title copies priority options = None
+
+-- QUEUE USER TITLE COPIES PRIORITY OPTIONS
+abbrev pub create_line : List (List ℕ) → Option Kind
+create_line (queue ∷ user ∷ title ∷ copies ∷ priority ∷ options ∷ []) =
+    creation_of (text_in is_queue_name queue) (text_in is_user_name user) (text_in is_title title) (copies_in copies) (priority_in priority) (text_in is_options options)
+create_line words = None
+
+abbrev pub send_of : Option ℕ → Option ℕ → Option Kind
+send_of (Some job) (Some count) = Some (Takes job count)
+send_of job count = None
+
+-- JOB N, and N raw bytes on the lines that follow
+abbrev pub send_line : List (List ℕ) → Option Kind
+send_line (job ∷ count ∷ []) = send_of (job_in job) (count_in count)
+send_line words = None
+
+abbrev pub close_of : Option ℕ → Option (List ℕ) → Option Kind
+close_of (Some job) (Some name) = Some (Says (Close job name))
+close_of job name = None
+
+-- JOB NAME
+abbrev pub close_line : List (List ℕ) → Option Kind
+close_line (job ∷ name ∷ []) = close_of (job_in job) (text_in is_file_name name)
+close_line words = None
+
+abbrev pub cancel_of : Option ℕ → Option Kind
+cancel_of (Some job) = Some (Says (Cancel job))
+cancel_of None = None
+
+-- JOB
+abbrev pub cancel_line : List (List ℕ) → Option Kind
+cancel_line (job ∷ []) = cancel_of (job_in job)
+cancel_line words = None
+
+-- no more words
+abbrev pub jobs_line : List (List ℕ) → Option Kind
+jobs_line [] = Some (Says Jobs)
+jobs_line words = None
+
+-- ## The table
+
+abbrev pub line_of : List ℕ → List (List ℕ) → Option Kind
+line_of name words =
+    cond (is_word name (codes "queue")) (queue_line words)
+    (cond (is_word name (codes "create")) (create_line words)
+    (cond (is_word name (codes "send")) (send_line words)
+    (cond (is_word name (codes "close")) (close_line words)
+    (cond (is_word name (codes "cancel")) (cancel_line words)
+    (cond (is_word name (codes "jobs")) (jobs_line words)
+    None)))))
+
+-- a line of blanks is no command
+abbrev pub kind_in : List (List ℕ) → Option Kind
+kind_in [] = None
+kind_in (name ∷ words) = line_of name words
+
+-- what is no command is malformed
+abbrev pub or_malformed : Option Kind → Kind
+or_malformed None = Says Malformed
+or_malformed (Some kind) = kind
+
+-- words that are there, and what they say
+abbrev pub kind_of_words : Option (List (List ℕ)) → Kind
+kind_of_words None = Says Malformed
+kind_of_words (Some words) = or_malformed (kind_in words)
+
+-- an empty line and one that begins with '#' say nothing
+abbrev pub is_remark : List ℕ → Bool
+is_remark [] = true
+is_remark (b ∷ bs) = b == 35
+
+-- what a line says, of at most 4,096 bytes if it is no remark
+unfoldable pub kind_of : List ℕ → Kind
+kind_of line = cond (is_remark line) Remark (cond (nat_lt 4096 (length line)) (Says Malformed) (kind_of_words (words_of line)))

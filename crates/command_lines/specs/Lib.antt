@@ -1,0 +1,11 @@
+pub mod Lines
+pub mod Words
+pub mod Fronts
+pub mod Numbers
+pub mod Grammar
+pub mod Text
+pub mod Pending
+pub mod Steps
+pub mod Moves
+pub mod Seen
+pub mod Replies

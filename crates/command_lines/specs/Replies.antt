@@ -1,0 +1,59 @@
+-- The text of the reply to each command.
+use Rattle.std.specs.Prelude.{ℕ, Bool, ◌||◌, cond, ◌==◌, List, [], ◌∷◌, ◌++◌, length, codes, map, Option, None, Some}
+use Rattle.std.specs.List.{flat_map}
+use Rattle.std.specs.Fmt.{decimal}
+use Rattle.spool_types.specs.Phases.{job_state, job_reason}
+use Rattle.spool_types.specs.Refusals.{refusal_number, refusal_name}
+use Rattle.spool_types.specs.State.{Job, job_of}
+use Rattle.spool_types.specs.declared.refusal.Refusal.{Refusal}
+use Rattle.command_lines.specs.declared.reply.Answer.{Answer}
+use Rattle.command_lines.specs.declared.reply.Answer.TheVariants.{Done, Created, Sent, Closed, Jobs, Refused, Malformed, NoMemory}
+
+-- a quote or a backslash, which a quoted text escapes
+abbrev pub is_escaped : ℕ → Bool
+is_escaped b = b == 34 || b == 92
+
+abbrev pub escaped_byte : ℕ → List ℕ
+escaped_byte b = cond (is_escaped b) (92 ∷ b ∷ []) (b ∷ [])
+
+abbrev pub quoted : List ℕ → List ℕ
+quoted text = 34 ∷ (flat_map escaped_byte text ++ 34 ∷ [])
+
+abbrev pub refusal_line : Refusal → List ℕ
+refusal_line r = codes "error " ++ decimal (refusal_number r) ++ codes " " ++ refusal_name r ++ codes "\n"
+
+abbrev pub created_line : ℕ → List ℕ
+created_line job = codes "ok job " ++ decimal job ++ codes "\n"
+
+abbrev pub sent_line : ℕ → List ℕ
+sent_line size = codes "ok bytes " ++ decimal size ++ codes "\n"
+
+-- what a closed job is, and how many stages it has, if it can be printed
+abbrev pub closed_line : List ℕ → Option ℕ → List ℕ
+closed_line media None = codes "ok type " ++ media ++ codes " unprintable\n"
+closed_line media (Some stages) = codes "ok type " ++ media ++ codes " stages " ++ decimal stages ++ codes "\n"
+
+-- a job's number, queue, state and reason
+abbrev pub job_head : ℕ → Job → List ℕ
+job_head now r =
+    codes "job " ++ decimal r.id ++ codes " " ++ r.queue ++ codes " " ++ decimal (job_state now r.phase) ++ codes " " ++ job_reason now r.phase ++ codes " "
+
+-- its size and its pages
+abbrev pub job_sizes : Job → List ℕ
+job_sizes r = codes " " ++ decimal r.size ++ codes " " ++ decimal r.pages ++ codes " "
+
+abbrev pub job_line : ℕ → Job → List ℕ
+job_line now r = job_head now r ++ quoted r.user ++ job_sizes r ++ quoted r.title ++ codes "\n"
+
+abbrev pub jobs_text : ℕ → List Job → List ℕ
+jobs_text now jobs = flat_map (job_line now) jobs ++ codes "ok " ++ decimal (length jobs) ++ codes "\n"
+
+abbrev pub answer_text : Answer → List ℕ
+answer_text Done = codes "ok\n"
+answer_text (Created job) = created_line job
+answer_text (Sent size) = sent_line size
+answer_text (Closed media stages) = closed_line media stages
+answer_text (Jobs rows now) = jobs_text now (map job_of rows.now)
+answer_text (Refused refusal) = refusal_line refusal
+answer_text Malformed = codes "error syntax\n"
+answer_text NoMemory = codes "error memory\n"

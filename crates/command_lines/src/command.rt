@@ -1,0 +1,61 @@
+//! What a text of commands says.
+use spool_types::{
+    Copies, FileName, JobId, NewQueue, OptionText, Piece, Priority, QueueName, Title, UserName,
+};
+
+/// A job to be made, but for its number.
+#[derive(Debug, PartialEq, Eq, Drop)]
+pub struct Creation {
+    pub queue: QueueName,
+    pub user: UserName,
+    pub title: Title,
+    pub copies: Copies,
+    pub priority: Priority,
+    /// The options as they were given.
+    pub options: OptionText,
+}
+
+/// A command.
+#[derive(Debug, PartialEq, Eq, Drop)]
+pub enum Command {
+    /// Makes a queue.
+    Queue(NewQueue),
+    /// Makes a job.
+    Create(Creation),
+    /// Adds bytes to a job's document.
+    Send { job: JobId, bytes: Piece },
+    /// A send of more bytes than one may have. They were passed over, and nothing of them is kept.
+    OversizedSend,
+    /// Ends a job's document, which has this name.
+    Close { job: JobId, name: FileName },
+    /// Cancels a job.
+    Cancel(JobId),
+    /// Lists the jobs.
+    Jobs,
+    /// A line that is no command, or bytes of a send that no line feed follows.
+    Malformed,
+}
+
+// What a line says.
+#[derive(Debug, Drop)]
+pub enum Kind {
+    // Nothing: it is empty or a remark.
+    Remark,
+    // A command.
+    Says(Command),
+    // That the bytes of a send follow.
+    Takes { job: JobId, count: u32 },
+}
+
+// What the next bytes are.
+#[derive(Clone, Copy, Debug, PartialEq, Eq)]
+pub enum Mode {
+    // A line.
+    Line,
+    // The rest of a line that says nothing more.
+    Skip,
+    // The bytes of a send.
+    Payload { job: JobId, count: u32 },
+    // Bytes of a send that are passed over.
+    Counting { left: u32 },
+}

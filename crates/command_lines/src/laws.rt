@@ -1,0 +1,16 @@
+//! What the definitions that count lines and words down say without a count.
+ghost use Rattle.std.specs.Prelude.{◌≡◌, ℕ, List};
+ghost use Rattle.command_lines.specs.Lines.{first_line, after_line};
+ghost use Rattle.command_lines.specs.Words.{words_of, after_front, next_word};
+ghost use Rattle.command_lines.specs.Grammar.{kind_of};
+ghost use Rattle.command_lines.specs.Text.{commands_of, after_kind};
+
+/// The commands of a text are what its first line says, and then the commands of the rest.
+pub fn line_by_line()
+    ensures { (text : List ℕ) → commands_of text ≡ after_kind commands_of (kind_of (first_line text)) (after_line text) }
+{}
+
+/// The words of a line are its next word, and then the words of the rest.
+pub fn word_by_word()
+    ensures { (line : List ℕ) → words_of line ≡ after_front words_of (next_word line) }
+{}

@@ -1,0 +1,304 @@
+//! What a line says.
+ghost use Rattle.std.specs.Prelude.{◌≡◌, IfOk, map};
+ghost use Rattle.spool_types.specs.Values.{is_queue_name, is_uri, is_user_name, is_title, is_options};
+ghost use Rattle.command_lines.specs.Fronts.{bytes_of};
+ghost use Rattle.command_lines.specs.Grammar.{kind_of as line_kind, is_remark as remark, kind_in, line_of, queue_line as queues, queue_of, create_line as creates, creation_of, send_line as sends, send_of, close_line as closes, close_of, cancel_line as cancels, cancel_of, jobs_line as lists, text_in, media_in, copies_in, priority_in, policy_in as policy_word};
+
+use crate::command::{Command, Creation, Kind};
+use crate::numbers::{job_number, ranged_number, short_number, small_number};
+use crate::words::{Word, words_of};
+use spool_types::{
+    Copies, FileName, Interval, MediaType, NewQueue, OptionText, Policy, Priority, QueueName, Text,
+    TextFault, TextKind, Title, Uri, UserName,
+};
+use std::alloc::{AllocError, Global};
+
+/// How many bytes a line may have before its line feed, unless it is a remark.
+pub const LONGEST_LINE: usize = 4096;
+
+/// What a line begins with that has no reply.
+pub const REMARK: u8 = b'#';
+
+// What a queue has that names no interval and no limit (JobRetryInterval and JobRetryLimit, cupsd.conf(5)).
+const USUAL_INTERVAL: u32 = 30;
+
+const USUAL_LIMIT: u16 = 5;
+
+/// What the line says.
+#[tactic(auto, unfolding(crate::specs::Grammar::kind_of))]
+pub fn kind_of(alloc: Global, line: &[u8]) -> Result<Kind, AllocError>
+    ensures { IfOk result (λ kind. kind ≡ line_kind line.now) }
+{
+    if is_remark(line) {
+        return Ok(Kind::Remark);
+    }
+    if LONGEST_LINE < line.len() {
+        return Ok(Kind::Says(Command::Malformed));
+    }
+    let Some(words) = words_of(alloc, line)? else {
+        return Ok(Kind::Says(Command::Malformed));
+    };
+    match kind_of_words(alloc, &words)? {
+        Some(kind) => Ok(kind),
+        None => Ok(Kind::Says(Command::Malformed)),
+    }
+}
+
+// Whether a line has no reply: it is empty, or begins with `#`.
+fn is_remark(line: &[u8]) -> bool
+    ensures { result ≡ remark line.now }
+{
+    match line.first() {
+        Some(b) => *b == REMARK,
+        None => true,
+    }
+}
+
+// What the words of a line say, if they are a command.
+fn kind_of_words(alloc: Global, words: &[Word<'_>]) -> Result<Option<Kind>, AllocError>
+    ensures { IfOk result (λ kind. kind ≡ kind_in (map bytes_of words.now)) }
+{
+    match words {
+        [] => Ok(None),
+        [name, words @ ..] => line_of_command(alloc, name.bytes(), words),
+    }
+}
+
+// What the words behind the name of a command say.
+fn line_of_command(
+    alloc: Global,
+    name: &[u8],
+    words: &[Word<'_>],
+) -> Result<Option<Kind>, AllocError>
+    ensures { IfOk result (λ kind. kind ≡ line_of name.now (map bytes_of words.now)) }
+{
+    if name == b"queue".as_slice() {
+        return queue_line(alloc, words);
+    }
+    if name == b"create".as_slice() {
+        return create_line(alloc, words);
+    }
+    if name == b"send".as_slice() {
+        return Ok(send_line(words));
+    }
+    if name == b"close".as_slice() {
+        return close_line(alloc, words);
+    }
+    if name == b"cancel".as_slice() {
+        return Ok(cancel_line(words));
+    }
+    if name == b"jobs".as_slice() {
+        return Ok(jobs_line(words));
+    }
+    Ok(None)
+}
+
+// `queue NAME URI TYPE POLICY [INTERVAL [LIMIT]]`
+fn queue_line(alloc: Global, words: &[Word<'_>]) -> Result<Option<Kind>, AllocError>
+    ensures { IfOk result (λ kind. kind ≡ queues (map bytes_of words.now)) }
+{
+    match words {
+        [name, uri, target, policy] => new_queue(
+            alloc,
+            name.bytes(),
+            uri.bytes(),
+            target.bytes(),
+            policy.bytes(),
+            Interval::new(USUAL_INTERVAL),
+            Some(USUAL_LIMIT),
+        ),
+        [name, uri, target, policy, interval] => new_queue(
+            alloc,
+            name.bytes(),
+            uri.bytes(),
+            target.bytes(),
+            policy.bytes(),
+            ranged_number(interval.bytes()),
+            Some(USUAL_LIMIT),
+        ),
+        [name, uri, target, policy, interval, limit] => new_queue(
+            alloc,
+            name.bytes(),
+            uri.bytes(),
+            target.bytes(),
+            policy.bytes(),
+            ranged_number(interval.bytes()),
+            short_number(limit.bytes()),
+        ),
+        _ => Ok(None),
+    }
+}
+
+// The queue of these words.
+fn new_queue(
+    alloc: Global,
+    name: &[u8],
+    uri: &[u8],
+    target: &[u8],
+    policy: &[u8],
+    interval: Option<Interval>,
+    limit: Option<u16>,
+) -> Result<Option<Kind>, AllocError>
+    ensures { IfOk result (λ kind. kind ≡ queue_of (text_in is_queue_name name.now) (text_in is_uri uri.now) (media_in target.now) (policy_word policy.now) interval limit) }
+{
+    let name: Option<QueueName> = text_of(alloc, name)?;
+    let uri: Option<Uri> = text_of(alloc, uri)?;
+    let target = media_of(alloc, target)?;
+    match (name, uri, target, policy_of(policy), interval, limit) {
+        (Some(name), Some(uri), Some(target), Some(policy), Some(interval), Some(limit)) => {
+            Ok(Some(Kind::Says(Command::Queue(NewQueue {
+                name,
+                uri,
+                target,
+                policy,
+                interval,
+                limit,
+            }))))
+        }
+        _ => Ok(None),
+    }
+}
+
+// `create QUEUE USER TITLE COPIES PRIORITY OPTIONS`
+fn create_line(alloc: Global, words: &[Word<'_>]) -> Result<Option<Kind>, AllocError>
+    ensures { IfOk result (λ kind. kind ≡ creates (map bytes_of words.now)) }
+{
+    match words {
+        [queue, user, title, copies, priority, options] => creation(
+            alloc,
+            queue.bytes(),
+            user.bytes(),
+            title.bytes(),
+            copies.bytes(),
+            priority.bytes(),
+            options.bytes(),
+        ),
+        _ => Ok(None),
+    }
+}
+
+// The job of these words.
+fn creation(
+    alloc: Global,
+    queue: &[u8],
+    user: &[u8],
+    title: &[u8],
+    copies: &[u8],
+    priority: &[u8],
+    options: &[u8],
+) -> Result<Option<Kind>, AllocError>
+    ensures { IfOk result (λ kind. kind ≡ creation_of (text_in is_queue_name queue.now) (text_in is_user_name user.now) (text_in is_title title.now) (copies_in copies.now) (priority_in priority.now) (text_in is_options options.now)) }
+{
+    let queue: Option<QueueName> = text_of(alloc, queue)?;
+    let user: Option<UserName> = text_of(alloc, user)?;
+    let title: Option<Title> = text_of(alloc, title)?;
+    let copies: Option<Copies> = ranged_number(copies);
+    let priority: Option<Priority> = ranged_number(priority);
+    let options: Option<OptionText> = text_of(alloc, options)?;
+    match (queue, user, title, copies, priority, options) {
+        (Some(queue), Some(user), Some(title), Some(copies), Some(priority), Some(options)) => {
+            Ok(Some(Kind::Says(Command::Create(Creation {
+                queue,
+                user,
+                title,
+                copies,
+                priority,
+                options,
+            }))))
+        }
+        _ => Ok(None),
+    }
+}
+
+// `send JOB N`
+fn send_line(words: &[Word<'_>]) -> Option<Kind>
+    ensures { result ≡ sends (map bytes_of words.now) }
+{
+    let [job, count] = words else {
+        return None;
+    };
+    match (job_number(job.bytes()), small_number(count.bytes())) {
+        (Some(job), Some(count)) => Some(Kind::Takes { job, count }),
+        _ => None,
+    }
+}
+
+// `close JOB NAME`
+fn close_line(alloc: Global, words: &[Word<'_>]) -> Result<Option<Kind>, AllocError>
+    ensures { IfOk result (λ kind. kind ≡ closes (map bytes_of words.now)) }
+{
+    let [job, name] = words else {
+        return Ok(None);
+    };
+    let name: Option<FileName> = text_of(alloc, name.bytes())?;
+    match (job_number(job.bytes()), name) {
+        (Some(job), Some(name)) => Ok(Some(Kind::Says(Command::Close { job, name }))),
+        _ => Ok(None),
+    }
+}
+
+// `cancel JOB`
+fn cancel_line(words: &[Word<'_>]) -> Option<Kind>
+    ensures { result ≡ cancels (map bytes_of words.now) }
+{
+    match words {
+        [job] => Some(Kind::Says(Command::Cancel(job_number(job.bytes())?))),
+        _ => None,
+    }
+}
+
+// `jobs`
+fn jobs_line(words: &[Word<'_>]) -> Option<Kind>
+    ensures { result ≡ lists (map bytes_of words.now) }
+{
+    match words {
+        [] => Some(Kind::Says(Command::Jobs)),
+        _ => None,
+    }
+}
+
+// A text of a kind, if the word is one.
+fn text_of<K: TextKind>(alloc: Global, word: &[u8]) -> Result<Option<Text<K>>, AllocError>
+    ensures { IfOk result (λ text. text ≡ text_in K.allowed word.now) }
+{
+    let Ok(text) = str::from_utf8(word) else {
+        return Ok(None);
+    };
+    match Text::read(alloc, text) {
+        Ok(text) => Ok(Some(text)),
+        Err(TextFault::Bad) => Ok(None),
+        Err(TextFault::Memory) => Err(AllocError),
+    }
+}
+
+// A media type, if the word is one.
+fn media_of(alloc: Global, word: &[u8]) -> Result<Option<MediaType>, AllocError>
+    ensures { IfOk result (λ media. media ≡ media_in word.now) }
+{
+    let Ok(text) = str::from_utf8(word) else {
+        return Ok(None);
+    };
+    match MediaType::read(alloc, text) {
+        Ok(media) => Ok(Some(media)),
+        Err(TextFault::Bad) => Ok(None),
+        Err(TextFault::Memory) => Err(AllocError),
+    }
+}
+
+fn policy_of(word: &[u8]) -> Option<Policy>
+    ensures { result ≡ policy_word word.now }
+{
+    if word == b"abort-job".as_slice() {
+        return Some(Policy::AbortJob);
+    }
+    if word == b"retry-job".as_slice() {
+        return Some(Policy::RetryJob);
+    }
+    if word == b"retry-current-job".as_slice() {
+        return Some(Policy::RetryCurrentJob);
+    }
+    if word == b"stop-printer".as_slice() {
+        return Some(Policy::StopPrinter);
+    }
+    None
+}

@@ -1,0 +1,136 @@
+//! The texts of replies.
+ghost use Rattle.std.specs.Prelude.{◌≡◌, ◌++◌, IfOk, OnOk, map};
+ghost use Rattle.spool_types.specs.State.{job_of};
+ghost use Rattle.command_lines.specs.Replies.{answer_text, quoted, job_line, job_head, job_sizes, jobs_text, refusal_line, created_line, sent_line, closed_line};
+
+use spool_types::{JobId, JobRow, MediaType, Moment, Refusal};
+use std::alloc::{AllocError, Global};
+use std::io::Write;
+
+/// What a command is answered.
+#[derive(Drop)]
+pub enum Answer<'a> {
+    Done,
+    Created(JobId),
+    /// The size of the document so far, in bytes.
+    Sent(u32),
+    /// The media type of a closed job, and how many stages it has; `None` where nothing can print it.
+    Closed {
+        media: MediaType,
+        stages: Option<u8>,
+    },
+    /// The jobs in ascending order of number, shown as they are at the moment now.
+    Jobs {
+        rows: &'a [JobRow],
+        now: Moment,
+    },
+    Refused(Refusal),
+    /// The line isn't a command.
+    Malformed,
+    NoMemory,
+}
+
+/// The text of a reply.
+pub fn print_reply(alloc: Global, answer: &Answer<'_>) -> Result<Vec<u8>, AllocError>
+    ensures { IfOk result (λ text. text.items ≡ answer_text answer.now) }
+{
+    match answer {
+        Answer::Done => Vec::from_slice(alloc, b"ok\n"),
+        Answer::Created(job) => created(alloc, *job),
+        Answer::Sent(size) => sent(alloc, *size),
+        Answer::Closed { media, stages } => closed(alloc, media, *stages),
+        Answer::Jobs { rows, now } => jobs(alloc, rows, *now),
+        Answer::Refused(refusal) => refused(alloc, *refusal),
+        Answer::Malformed => Vec::from_slice(alloc, b"error syntax\n"),
+        Answer::NoMemory => Vec::from_slice(alloc, b"error memory\n"),
+    }
+}
+
+fn created(alloc: Global, job: JobId) -> Result<Vec<u8>, AllocError>
+    ensures { IfOk result (λ text. text.items ≡ created_line job) }
+{
+    let number = job.get();
+    Ok(format!(in alloc; "ok job {number}\n")?.into_bytes())
+}
+
+fn sent(alloc: Global, size: u32) -> Result<Vec<u8>, AllocError>
+    ensures { IfOk result (λ text. text.items ≡ sent_line size) }
+{
+    Ok(format!(in alloc; "ok bytes {size}\n")?.into_bytes())
+}
+
+fn closed(alloc: Global, media: &MediaType, stages: Option<u8>) -> Result<Vec<u8>, AllocError>
+    ensures { IfOk result (λ text. text.items ≡ closed_line media.now stages) }
+{
+    let media = media.as_str();
+    match stages {
+        Some(stages) => Ok(format!(in alloc; "ok type {media} stages {stages}\n")?.into_bytes()),
+        None => Ok(format!(in alloc; "ok type {media} unprintable\n")?.into_bytes()),
+    }
+}
+
+fn refused(alloc: Global, refusal: Refusal) -> Result<Vec<u8>, AllocError>
+    ensures { IfOk result (λ text. text.items ≡ refusal_line refusal) }
+{
+    let number = refusal.number();
+    let name = refusal.name();
+    Ok(format!(in alloc; "error {number} {name}\n")?.into_bytes())
+}
+
+fn jobs(alloc: Global, rows: &[JobRow], now: Moment) -> Result<Vec<u8>, AllocError>
+    ensures { IfOk result (λ text. text.items ≡ jobs_text now (map job_of rows.now)) }
+{
+    let mut text = Vec::new(alloc);
+    for row in rows {
+        push_job(&mut text, row, &now)?;
+    }
+    let count = rows.len();
+    match write!(text, "ok {count}\n") {
+        Ok(()) => Ok(text),
+        Err(_) => Err(AllocError),
+    }
+}
+
+fn push_job(text: &mut Vec<u8>, row: &JobRow, now: &Moment) -> Result<(), AllocError>
+    ensures { OnOk result (text.new.items ≡ text.old.items ++ job_line now.now (job_of row.now)) }
+{
+    push_head(text, row, now)?;
+    push_quoted(text, row.user.as_str())?;
+    push_sizes(text, row)?;
+    push_quoted(text, row.title.as_str())?;
+    text.push(b'\n')?;
+    Ok(())
+}
+
+fn push_head(text: &mut Vec<u8>, row: &JobRow, now: &Moment) -> Result<(), AllocError>
+    ensures { OnOk result (text.new.items ≡ text.old.items ++ job_head now.now (job_of row.now)) }
+{
+    let number = row.id.get();
+    let queue = row.queue.as_str();
+    let state = row.phase.job_state(*now);
+    let reason = row.phase.job_reason(now);
+    write!(text, "job {number} {queue} {state} {reason} ").map_err(|_| AllocError)
+}
+
+fn push_sizes(text: &mut Vec<u8>, row: &JobRow) -> Result<(), AllocError>
+    ensures { OnOk result (text.new.items ≡ text.old.items ++ job_sizes (job_of row.now)) }
+{
+    let size = row.size;
+    let pages = row.pages;
+    write!(text, " {size} {pages} ").map_err(|_| AllocError)
+}
+
+// Adds a text in quotes, its quotes and backslashes escaped.
+fn push_quoted(text: &mut Vec<u8>, value: &str) -> Result<(), AllocError>
+    ensures { OnOk result (text.new.items ≡ text.old.items ++ quoted value.now) }
+{
+    text.push(b'"')?;
+    for byte in value.as_bytes() {
+        if *byte == b'"' || *byte == b'\\' {
+            text.push(b'\\')?;
+        }
+        text.push(*byte)?;
+    }
+    text.push(b'"')?;
+    Ok(())
+}
