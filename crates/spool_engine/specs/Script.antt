@@ -1,0 +1,120 @@
+-- Script: the reply to each command of a text, and the table after it, where nothing fails.
+use Rattle.std.specs.Prelude.{ℕ, ◌+◌, min, cond, nat_eq, List, [], ◌∷◌, ◌++◌, codes, length, Option, None, Some, Result, Ok, Err}
+use Rattle.std.specs.Cmp.Lexicographic.{pointwise}
+use Rattle.std.specs.Option.{option_map, option_and_then}
+use Rattle.std.specs.FinMap as map
+use Rattle.spool_types.specs.declared.event.Event.{Event}
+use Rattle.spool_types.specs.declared.event.Event.TheVariants as events
+use Rattle.spool_types.specs.declared.event.NewJob.{NewJob}
+use Rattle.spool_types.specs.declared.event.Closing.{Closing}
+use Rattle.spool_types.specs.declared.event.Reply.{Reply}
+use Rattle.spool_types.specs.declared.event.Reply.TheVariants as replies
+use Rattle.spool_types.specs.declared.refusal.Refusal.{Refusal}
+use Rattle.spool_types.specs.declared.refusal.Refusal.TheVariants.{TooLong}
+use Rattle.spool_types.specs.declared.rows.QueueRow.{QueueRow}
+use Rattle.spool_types.specs.Limits.{greatest_number}
+use Rattle.spool_types.specs.State.{State, Job, queue_at, job_at}
+use Rattle.spool_types.specs.Step.{step}
+use Rattle.command_lines.specs.Replies.{refusal_line, created_line, sent_line, closed_line, jobs_text}
+use Rattle.command_lines.specs.Text.{commands_of}
+use Rattle.command_lines.specs.declared.command.Creation.{Creation}
+use Rattle.command_lines.specs.declared.command.Command.{Command}
+use Rattle.command_lines.specs.declared.command.Command.TheVariants as commands
+
+-- the number of the next job, or the greatest, which is then refused
+abbrev pub next_number : State → ℕ
+next_number s = min (s.highest + 1) greatest_number
+
+abbrev pub job_of_creation : State → Creation → NewJob
+job_of_creation s c = record { queue = c.queue; job = next_number s; user = c.user; title = c.title; copies = c.copies; priority = c.priority; options = c.options }
+
+-- every document is of this type
+abbrev pub document_type : List ℕ
+document_type = codes "application/octet-stream"
+
+-- no filter is known, so a document is printed only where the queue takes its type as it is
+abbrev pub filters_to : QueueRow → Option (List (List ℕ))
+filters_to q = cond (pointwise nat_eq q.target document_type) (Some []) None
+
+-- the queue of a job
+abbrev pub queue_of : State → ℕ → Option QueueRow
+queue_of s j = option_and_then (λ (r : Job). queue_at s r.queue) (job_at s j)
+
+abbrev pub closing_of : State → ℕ → Closing
+closing_of s j = record { job = j; media = document_type; filters = option_and_then filters_to (queue_of s j) }
+
+-- the event of a command, if it is one
+abbrev pub event_of : State → Command → Option Event
+event_of s (commands.Queue q) = Some (events.AddQueue q)
+event_of s (commands.Create c) = Some (events.Create (job_of_creation s c))
+event_of s (commands.Send job bytes) = Some (events.Send job bytes)
+event_of s (commands.Close job name) = Some (events.Close (closing_of s job))
+event_of s (commands.Cancel job) = Some (events.Cancel job)
+event_of s commands.OversizedSend = None
+event_of s commands.Jobs = None
+event_of s commands.Malformed = None
+
+-- the reply of a command that is no event
+abbrev pub said_of : State → Command → List ℕ
+said_of s (commands.Queue q) = []
+said_of s (commands.Create c) = []
+said_of s (commands.Send job bytes) = []
+said_of s (commands.Close job name) = []
+said_of s (commands.Cancel job) = []
+said_of s commands.OversizedSend = refusal_line TooLong
+said_of s commands.Jobs = jobs_text s.moment (map.values s.jobs)
+said_of s commands.Malformed = codes "error syntax\n"
+
+abbrev pub reply_line : Reply → List ℕ
+reply_line replies.Done = codes "ok\n"
+reply_line (replies.Number n) = created_line n
+reply_line (replies.Size n) = sent_line n
+reply_line (replies.Phase p) = codes "ok\n"
+
+-- the filters in order, and then the backend
+abbrev pub stages_of : Option (List (List ℕ)) → Option ℕ
+stages_of filters = option_map (λ fs. length fs + 1) filters
+
+-- a closed job is told by its type and its stages
+abbrev pub accepted_line : Event → Reply → List ℕ
+accepted_line (events.AddQueue q) reply = reply_line reply
+accepted_line (events.Create n) reply = reply_line reply
+accepted_line (events.Send job bytes) reply = reply_line reply
+accepted_line (events.Close c) reply = closed_line c.media (stages_of c.filters)
+accepted_line (events.Cancel job) reply = reply_line reply
+accepted_line (events.Clock moment) reply = reply_line reply
+
+abbrev pub step_line : Event → Result (State × Reply) Refusal → List ℕ
+step_line e (Ok r) = accepted_line e r.1
+step_line e (Err refusal) = refusal_line refusal
+
+abbrev pub step_state : State → Result (State × Reply) Refusal → State
+step_state s (Ok r) = r.0
+step_state s (Err refusal) = s
+
+-- the reply to a command, and the table after it
+abbrev pub reply_of : State → Command → List ℕ
+reply_of s c = elim (event_of s c) [ None ↦ said_of s c | Some e ↦ step_line e (step s e) ]
+
+abbrev pub after_command : State → Command → State
+after_command s c = elim (event_of s c) [ None ↦ s | Some e ↦ step_state s (step s e) ]
+
+-- a whole script: the bytes that are written, the events, and the table after them
+abbrev pub script_text : State → List Command → List ℕ
+script_text s [] = []
+script_text s (c ∷ cs) = reply_of s c ++ script_text (after_command s c) cs
+
+abbrev pub event_then : Option Event → List Event → List Event
+event_then None es = es
+event_then (Some e) es = e ∷ es
+
+abbrev pub script_events : State → List Command → List Event
+script_events s [] = []
+script_events s (c ∷ cs) = event_then (event_of s c) (script_events (after_command s c) cs)
+
+-- Script of a whole text
+abbrev pub replies_of : State → List ℕ → List ℕ
+replies_of s text = script_text s (commands_of text)
+
+abbrev pub events_of : State → List ℕ → List Event
+events_of s text = script_events s (commands_of text)

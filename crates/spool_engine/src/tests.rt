@@ -1,0 +1,276 @@
+use crate::{Engine, RunFault};
+use job_table::Table;
+use std::alloc::{AllocError, Global};
+use std::io;
+use std::io::{ErrorKind, Read, Write};
+use std::test::Fail;
+
+// What a new engine replies to a script.
+fn replies(alloc: Global, script: &[u8]) -> Result<Vec<u8>, Fail> {
+    let mut engine = Engine::new(alloc, Table::new(alloc));
+    let mut written = Vec::new(alloc);
+    engine.run(
+        &mut Cursor {
+            rest: script,
+            most: 16_384,
+        },
+        &mut written,
+    )?;
+    Ok(written)
+}
+
+// The same as a text.
+fn reply_text(alloc: Global, script: &str) -> Result<String, Fail> {
+    Ok(String::from_utf8(replies(alloc, script.as_bytes())?)?)
+}
+
+// A reader that gives at most so many bytes at once.
+#[derive(Drop)]
+struct Cursor<'a> {
+    rest: &'a [u8],
+    most: usize,
+}
+
+impl Read for Cursor<'_> {
+    fn read(&mut self, buf: &mut [u8]) -> io::Result<usize> {
+        let count = self.rest.len().min(buf.len()).min(self.most);
+        buf[..count].copy_from_slice(&self.rest[..count]);
+        self.rest = &self.rest[count..];
+        Ok(count)
+    }
+}
+
+const FIRST: &str =
+    "queue lab spoolfile:/out application/octet-stream abort-job\ncreate lab ann \"First page\" 1 50 \"\"\nsend 1 0\n\nclose 1 page.txt\njobs\n";
+
+const FIRST_REPLIES: &str =
+    "ok\nok job 1\nok bytes 0\nok type application/octet-stream stages 1\njob 1 lab 3 none \"ann\" 0 0 \"First page\"\nok 1\n";
+
+#[test]
+fn an_empty_script_has_no_replies(rt: HostRuntime) -> Result<(), Fail> {
+    assert_eq!(rt; reply_text(rt.alloc(), "")?.as_str(), "");
+    Ok(())
+}
+
+#[test]
+fn a_job_is_made_closed_and_listed(rt: HostRuntime) -> Result<(), Fail> {
+    assert_eq!(rt; reply_text(rt.alloc(), FIRST)?.as_str(), FIRST_REPLIES);
+    Ok(())
+}
+
+#[test]
+fn the_pieces_of_a_text_make_no_difference(rt: HostRuntime) -> Result<(), Fail> {
+    let alloc = rt.alloc();
+    for most in [1, 2, 3, 7, 64] {
+        let mut engine = Engine::new(alloc, Table::new(alloc));
+        let mut written = Vec::new(alloc);
+        let mut reader = Cursor {
+            rest: FIRST.as_bytes(),
+            most,
+        };
+        engine.run(&mut reader, &mut written)?;
+        assert_eq!(rt; written.as_slice(), FIRST_REPLIES.as_bytes(), "at {most}");
+    }
+    Ok(())
+}
+
+#[test]
+fn an_engine_goes_on_from_its_table(rt: HostRuntime) -> Result<(), Fail> {
+    let alloc = rt.alloc();
+    let mut engine = Engine::new(alloc, Table::new(alloc));
+    let mut written = Vec::new(alloc);
+    engine.run(&mut FIRST.as_bytes(), &mut written)?;
+    let mut next = Engine::new(alloc, engine.into_parts());
+    let mut more = Vec::new(alloc);
+    next.run(&mut "jobs".as_bytes(), &mut more)?;
+    let listed = "job 1 lab 3 none \"ann\" 0 0 \"First page\"\nok 1\n";
+    assert_eq!(rt; more.as_slice(), listed.as_bytes());
+    Ok(())
+}
+
+#[test]
+fn what_is_not_there_is_refused(rt: HostRuntime) -> Result<(), Fail> {
+    let alloc = rt.alloc();
+    for (script, want) in [
+        ("cancel 1\n", "error 5 NoJob\n"),
+        ("cancel 9\n", "error 5 NoJob\n"),
+        ("foo\n", "error syntax\n"),
+        ("create nope u \"\" 1 50 \"\"\n", "error 1 NoQueue\n"),
+        ("close 1 x\n", "error 5 NoJob\n"),
+        ("send 3 1\nx\n", "error 5 NoJob\n"),
+    ] {
+        assert_eq!(rt; reply_text(alloc, script)?.as_str(), want, "at {script}");
+    }
+    Ok(())
+}
+
+#[test]
+fn a_queue_is_made_once(rt: HostRuntime) -> Result<(), Fail> {
+    let script = "queue lab s:/ a/b abort-job\nqueue lab s:/ a/b retry-job 0 3\n";
+    let want = "ok\nerror 2 QueueExists\n";
+    assert_eq!(rt; reply_text(rt.alloc(), script)?.as_str(), want);
+    Ok(())
+}
+
+#[test]
+fn there_are_at_most_64_queues(rt: HostRuntime) -> Result<(), Fail> {
+    let alloc = rt.alloc();
+    let mut script = String::new(alloc);
+    let mut want = String::new(alloc);
+    for n in 0..64 {
+        write!(script, "queue q{n} s:/ a/b abort-job\n")?;
+        want.push_str("ok\n")?;
+    }
+    script.push_str("queue more s:/ a/b abort-job\n")?;
+    want.push_str("error 3 TooManyQueues\n")?;
+    assert_eq!(rt; reply_text(alloc, script.as_str())?.as_str(), want.as_str());
+    Ok(())
+}
+
+#[test]
+fn a_closed_job_takes_no_bytes(rt: HostRuntime) -> Result<(), Fail> {
+    let script =
+        "queue lab s:/ a/b abort-job\ncreate lab u t 1 50 \"\"\nclose 1 x\nsend 1 1\ny\njobs\n";
+    let want =
+        "ok\nok job 1\nok type application/octet-stream unprintable\nerror 10 JobEnded\njob 1 lab 8 no-filter \"u\" 0 0 \"t\"\nok 1\n";
+    assert_eq!(rt; reply_text(rt.alloc(), script)?.as_str(), want);
+    let script =
+        "queue lab s:/ application/octet-stream abort-job\ncreate lab u t 1 50 \"\"\nclose 1 x\nsend 1 1\ny\n";
+    let want = "ok\nok job 1\nok type application/octet-stream stages 1\nerror 6 NotIncoming\n";
+    assert_eq!(rt; reply_text(rt.alloc(), script)?.as_str(), want);
+    Ok(())
+}
+
+#[test]
+fn a_job_is_canceled_once_and_keeps_its_size(rt: HostRuntime) -> Result<(), Fail> {
+    let script =
+        "queue lab s:/ a/b abort-job\ncreate lab u t 1 50 \"\"\nsend 1 3\nabc\ncancel 1\ncancel 1\njobs";
+    let want =
+        "ok\nok job 1\nok bytes 3\nok\nerror 10 JobEnded\njob 1 lab 7 canceled \"u\" 3 0 \"t\"\nok 1\n";
+    assert_eq!(rt; reply_text(rt.alloc(), script)?.as_str(), want);
+    Ok(())
+}
+
+#[test]
+fn quotes_and_backslashes_are_escaped(rt: HostRuntime) -> Result<(), Fail> {
+    let script =
+        "queue lab s:/ a/b abort-job\ncreate lab \"a\\\\b\" \"say \\\"hi\\\"\" 1 50 \"\"\njobs\n";
+    let want = "ok\nok job 1\njob 1 lab 4 job-incoming \"a\\\\b\" 0 0 \"say \\\"hi\\\"\"\nok 1\n";
+    assert_eq!(rt; reply_text(rt.alloc(), script)?.as_str(), want);
+    Ok(())
+}
+
+// Adds a command that sends so many bytes.
+fn push_send(script: &mut Vec<u8>, count: usize) -> Result<(), AllocError> {
+    let alloc = *script.allocator();
+    let line = format!(in alloc; "send 1 {count}\n")?;
+    script.extend_from_slice(line.as_bytes())?;
+    for _ in 0..count {
+        script.push(b'x')?;
+    }
+    script.push(b'\n')?;
+    Ok(())
+}
+
+#[test]
+fn a_document_has_at_most_1048576_bytes(rt: HostRuntime) -> Result<(), Fail> {
+    let alloc = rt.alloc();
+    let mut script = Vec::from_slice(
+        alloc,
+        b"queue lab s:/ a/b abort-job\ncreate lab u t 1 50 \"\"\n",
+    )?;
+    for _ in 0..16 {
+        push_send(&mut script, 65_536)?;
+    }
+    push_send(&mut script, 1)?;
+    script.extend_from_slice(b"jobs\n")?;
+    let mut want = String::from_str(alloc, "ok\nok job 1\n")?;
+    for n in 1..17 {
+        let size: u32 = n * 65_536;
+        write!(want, "ok bytes {size}\n")?;
+    }
+    want.push_str("error 7 TooLong\njob 1 lab 4 job-incoming \"u\" 1048576 0 \"t\"\nok 1\n")?;
+    assert_eq!(rt; replies(alloc, &script)?.as_slice(), want.as_bytes());
+    Ok(())
+}
+
+#[test]
+fn an_oversized_send_is_passed_over(rt: HostRuntime) -> Result<(), Fail> {
+    let alloc = rt.alloc();
+    let mut script = Vec::new(alloc);
+    push_send(&mut script, 70_000)?;
+    script.extend_from_slice(b"jobs\n")?;
+    assert_eq!(rt;
+        replies(alloc, &script)?.as_slice(),
+        b"error 7 TooLong\nok 0\n".as_slice()
+    );
+    Ok(())
+}
+
+// A reader that is interrupted, gives some bytes, and fails.
+#[derive(Drop)]
+struct Failing<'a> {
+    rest: &'a [u8],
+    interrupted: bool,
+}
+
+impl Read for Failing<'_> {
+    fn read(&mut self, buf: &mut [u8]) -> io::Result<usize> {
+        if !self.interrupted {
+            self.interrupted = true;
+            return Err(io::Error::from(ErrorKind::Interrupted));
+        }
+        let count = self.rest.len().min(buf.len());
+        if count == 0 {
+            return Err(io::Error::from(ErrorKind::Other));
+        }
+        buf[..count].copy_from_slice(&self.rest[..count]);
+        self.rest = &self.rest[count..];
+        Ok(count)
+    }
+}
+
+#[test]
+fn a_reader_that_fails_ends_the_run(rt: HostRuntime) -> Result<(), Fail> {
+    let alloc = rt.alloc();
+    let mut engine = Engine::new(alloc, Table::new(alloc));
+    let mut written = Vec::new(alloc);
+    let mut reader = Failing {
+        rest: b"jobs\njobs",
+        interrupted: false,
+    };
+    assert_eq!(rt; engine.run(&mut reader, &mut written), Err(RunFault::Read));
+    assert_eq!(rt; written.as_slice(), b"ok 0\n".as_slice());
+    Ok(())
+}
+
+// A writer with room for so many bytes.
+#[derive(Drop)]
+struct Full {
+    room: usize,
+}
+
+impl Write for Full {
+    fn write(&mut self, buf: &[u8]) -> io::Result<usize> {
+        let count = self.room.min(buf.len());
+        self.room -= count;
+        Ok(count)
+    }
+
+    fn flush(&mut self) -> io::Result<()> {
+        Ok(())
+    }
+}
+
+#[test]
+fn a_writer_that_fails_ends_the_run(rt: HostRuntime) -> Result<(), Fail> {
+    let alloc = rt.alloc();
+    let mut engine = Engine::new(alloc, Table::new(alloc));
+    let mut writer = Full { room: 4 };
+    assert_eq!(rt;
+        engine.run(&mut FIRST.as_bytes(), &mut writer),
+        Err(RunFault::Write)
+    );
+    assert_eq!(rt; engine.into_parts().queues().len(), 1);
+    Ok(())
+}
