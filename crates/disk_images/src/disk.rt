@@ -1,0 +1,188 @@
+// The disk that keeps exactly its images.
+ghost use Rattle.std.specs.Prelude.{◌≡◌, ◌+◌, ◌≤◌, ◌⊎◌, ◌∷◌, [], ◌++◌, ◌<◌, ◌-◌, ◌^◌, Some, false, IfOk, IsErr, OnOk, OnErr, IsTrue, length, replicate};
+ghost use Rattle.std.specs.Option.{option_map};
+ghost use Rattle.std.proofs.Common.{subst};
+ghost use Rattle.std.proofs.lemmas.Option.{same_Some};
+ghost use Rattle.spool_disk.specs.Disk.{overwritten, SameOutside, Reads, IsOldOutside, IsSynced, LeavesOnly, HasCause};
+ghost use Rattle.spool_disk.specs.Images.{AddsRange, HasNoneUnsynced, IsImage, IsImageSince};
+ghost use Rattle.disk_images.specs.ImageLaws.{what_is_read, counts_now, only_now};
+ghost use Rattle.disk_images.specs.Kept.{device_of, past_of, moment_of, moments_of, failure_count, AddsImages};
+
+use crate::content::Content;
+use crate::faults::Faults;
+use spool_disk::{DeviceFault, Disk};
+use std::alloc::{AllocError, Global};
+
+/// A disk that keeps exactly the images of the definition, and fails where its faults strike.
+///
+/// A moment ends with each sync that answers Ok: what the disk held then, with the places that were unsynced, is kept
+/// among the past. Between two syncs images are only added, so those at the last moment of one number are all the
+/// images at moments of that number.
+#[derive(Drop)]
+pub struct ImageDisk<F: Faults> {
+    now: Content,
+    past: Vec<Content>,
+    failures: u64,
+    faults: F,
+}
+
+impl<F: Faults> ImageDisk<F> {
+    /// A disk of so many zero bytes, all synced, without a past.
+    pub fn new(alloc: Global, len: usize, faults: F) -> Result<ImageDisk<F>, AllocError>
+    where
+        F: Drop,
+        ensures bytes { IfOk result (λ d. (device_of d).bytes ≡ replicate len 0) }
+        ensures synced { IfOk result (λ d. HasNoneUnsynced (device_of d)) }
+        ensures first { IfOk result (λ d. moment_of d ≡ 0) }
+        ensures count { IfOk result (λ d. failure_count d ≡ 0) }
+    {
+        Ok(ImageDisk {
+            now: Content::new(alloc, len)?,
+            past: Vec::new(alloc),
+            failures: 0,
+            faults,
+        })
+    }
+
+    // Whether the device fails at this call, which is then counted. At the greatest count no call fails.
+    fn strikes(&mut self) -> bool
+        ensures now { self.new.now ≡ self.old.now }
+        ensures past { self.new.past ≡ self.old.past }
+        ensures counted { IsTrue result → self.new.failures ≡ self.old.failures + 1 }
+        ensures fits { IsTrue result → self.new.failures < 2 ^ 64 }
+        ensures same { result ≡ false → self.new.failures ≡ self.old.failures }
+    {
+        if self.failures == u64::MAX || !self.faults.strikes() {
+            return false;
+        }
+        self.failures += 1;
+        true
+    }
+
+    // Keeps the disk as it is now among its past moments.
+    fn keep_moment(&mut self) -> Result<(), AllocError>
+        ensures now { self.new.now ≡ self.old.now }
+        ensures count { self.new.failures ≡ self.old.failures }
+        ensures kept { OnOk result (self.new.past.items ≡ self.old.past.items ++ self.old.now ∷ []) }
+        ensures left_out { OnErr result (self.new.past.items ≡ self.old.past.items) }
+    {
+        let moment = self.now.copy()?;
+        self.past.push(moment)?;
+        Ok(())
+    }
+
+    // Keeps this moment, or counts a failure where there is no memory for it. At the greatest count, where no call may
+    // fail, a moment without memory is left out.
+    fn end_moment(&mut self) -> Result<(), DeviceFault>
+        ensures now { self.new.now ≡ self.old.now }
+        ensures past { (self.new.past.items ≡ self.old.past.items ++ self.old.now ∷ []) ⊎ (self.new.past.items ≡ self.old.past.items) }
+        ensures kept { OnOk result (self.old.failures < 2 ^ 64 - 1 → self.new.past.items ≡ self.old.past.items ++ self.old.now ∷ []) }
+        ensures left_out { OnErr result (self.new.past.items ≡ self.old.past.items) }
+        ensures cause { HasCause self.old.failures self.new.failures result }
+    {
+        match self.keep_moment() {
+            Ok(()) => Ok(()),
+            Err(_) => {
+                if self.failures == u64::MAX {
+                    return Ok(());
+                }
+                self.failures += 1;
+                Err(DeviceFault)
+            }
+        }
+    }
+}
+
+impl<F: Faults> Disk for ImageDisk<F> {
+    ghost bytes = { λ d. Some (device_of d).bytes };
+
+    ghost size = { λ d. length (device_of d).bytes };
+
+    ghost image = { λ d. IsImage (device_of d) };
+
+    ghost moment = { moment_of };
+
+    ghost image_since = { λ d. IsImageSince (moments_of d) };
+
+    ghost failures = { failure_count };
+
+    ghost reads_image = { λ d r tells. subst (IsImage (device_of d)) (same_Some (device_of d).bytes r tells) (what_is_read (device_of d)) };
+
+    ghost image_size = { λ d c is. is.size };
+
+    ghost counts_now = { λ d. counts_now (past_of d) (device_of d) };
+
+    ghost only_now = { λ d. only_now (past_of d) (device_of d) };
+
+    fn len(&self) -> u64 {
+        self.now.len() as u64
+    }
+
+    fn faults(&self) -> u64 {
+        self.failures
+    }
+
+    fn read(&mut self, at: u64, into: &mut [u8]) -> Result<(), DeviceFault>
+        requires { at + length into.old ≤ length (device_of self.old).bytes }
+        ensures data { OnOk result (Reads (Some (device_of self.old).bytes) at into.new) }
+        ensures stays { Some (device_of self.new).bytes ≡ Some (device_of self.old).bytes }
+        ensures fixed { length (device_of self.new).bytes ≡ length (device_of self.old).bytes }
+        ensures during { LeavesOnly ⟦<ImageDisk<F> as Disk>⟧.moment ⟦<ImageDisk<F> as Disk>⟧.image_since self.old self.new (IsImage (device_of self.old)) }
+        ensures cause { HasCause (failure_count self.old) (failure_count self.new) result }
+
+        // Exactly as defined: it stays as it is.
+        ensures same { device_of self.new ≡ device_of self.old }
+        ensures since { AddsImages self.old self.new }
+    {
+        if self.strikes() {
+            self.faults.leave(into);
+            return Err(DeviceFault);
+        }
+        let at = at as usize;
+        into.copy_from_slice(&self.now.bytes()[at..at + into.len()]);
+        Ok(())
+    }
+
+    fn write(&mut self, at: u64, from: &[u8]) -> Result<(), DeviceFault>
+        requires { at + length from.now ≤ length (device_of self.old).bytes }
+        ensures written { OnOk result (Some (device_of self.new).bytes ≡ option_map (overwritten at from.now) (Some (device_of self.old).bytes)) }
+        ensures stays { SameOutside at (length from.now) (device_of self.old).bytes (device_of self.new).bytes }
+        ensures fixed { length (device_of self.new).bytes ≡ length (device_of self.old).bytes }
+        ensures during { LeavesOnly ⟦<ImageDisk<F> as Disk>⟧.moment ⟦<ImageDisk<F> as Disk>⟧.image_since self.old self.new (IsOldOutside (IsImage (device_of self.old)) at (length from.now)) }
+        ensures cause { HasCause (failure_count self.old) (failure_count self.new) result }
+
+        // Exactly as defined: the range is unsynced, after a fault too.
+        ensures unsynced { AddsRange at (length from.now) (device_of self.old) (device_of self.new) }
+        ensures since { AddsImages self.old self.new }
+    {
+        let at = at as usize;
+        self.now.mark(at, from.len());
+        if self.strikes() {
+            self.now.tear(at, from.len(), &mut self.faults);
+            return Err(DeviceFault);
+        }
+        self.now.overwrite(at, from);
+        Ok(())
+    }
+
+    fn sync(&mut self) -> Result<(), DeviceFault>
+        ensures durable { OnOk result (IsSynced (Some (device_of self.new).bytes) (IsImage (device_of self.new))) }
+        ensures stays { Some (device_of self.new).bytes ≡ Some (device_of self.old).bytes }
+        ensures fixed { length (device_of self.new).bytes ≡ length (device_of self.old).bytes }
+        ensures during { LeavesOnly ⟦<ImageDisk<F> as Disk>⟧.moment ⟦<ImageDisk<F> as Disk>⟧.image_since self.old self.new (IsImage (device_of self.old)) }
+        ensures cause { HasCause (failure_count self.old) (failure_count self.new) result }
+
+        // Exactly as defined: nothing is unsynced, or all stays as it is. Only at the greatest count of failures, where
+        // no call may fail, a moment for which there is no memory isn't kept.
+        ensures synced { OnOk result (HasNoneUnsynced (device_of self.new)) }
+        ensures same { OnErr result (device_of self.new ≡ device_of self.old) }
+        ensures since { failure_count self.old < 2 ^ 64 - 1 → AddsImages self.old self.new }
+    {
+        if self.strikes() {
+            return Err(DeviceFault);
+        }
+        self.end_moment()?;
+        self.now.settle();
+        Ok(())
+    }
+}

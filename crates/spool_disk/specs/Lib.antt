@@ -1,0 +1,5 @@
+pub mod Disk
+pub mod File
+pub mod Fuse
+pub mod Images
+pub mod Memory

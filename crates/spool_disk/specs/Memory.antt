@@ -1,0 +1,7 @@
+-- A disk in memory.
+use Rattle.std.specs.Prelude.{ℕ, List}
+use Rattle.spool_disk.specs.declared.memory.MemDisk.{MemDisk}
+
+-- what it holds, and what a crash leaves of it
+abbrev pub mem_bytes : MemDisk → List ℕ
+mem_bytes m = m.bytes.items

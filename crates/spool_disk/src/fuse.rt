@@ -1,0 +1,158 @@
+// A disk that passes so many calls on, and then fails each one without effect.
+ghost use Rattle.std.specs.Prelude.{◌≡◌, ◌+◌, ◌-◌, ◌≤◌, ◌<◌, ◌^◌, length, OnOk, IsErr};
+ghost use Rattle.std.specs.Option.{option_map};
+ghost use Rattle.spool_disk.specs.Disk.{overwritten, SameOutside, Reads, Tells, IsOldOutside, IsSynced, LeavesOnly, HasCause};
+ghost use Rattle.spool_disk.specs.Fuse.{disk_of, calls_left, fault_count, IsFused};
+
+use crate::surely::{read_surely, sync_surely, write_surely};
+use crate::{DeviceFault, Disk};
+
+/// A disk that passes its first calls of `read`, `write` and `sync` on to the disk behind it, and then fails each
+/// such call without effect. It stands for a device that breaks, or is cut off, at a chosen moment.
+///
+/// What it tells, its images and its moments are those of the disk behind it; the failures are its own count, of its
+/// own failures and of those that the disk behind it answers. At the greatest count, where no call may fail, it asks
+/// the disk behind it again until that succeeds.
+#[derive(Drop)]
+pub struct FuseDisk<D: Disk> {
+    disk: D,
+    left: u64,
+    faults: u64,
+}
+
+impl<D: Disk> FuseDisk<D> {
+    /// A fuse before a disk, which passes so many calls of `read`, `write` and `sync` together.
+    pub fn new(disk: D, calls: u64) -> FuseDisk<D>
+        ensures disk { disk_of result ≡ disk }
+        ensures calls { calls_left result ≡ calls }
+        ensures count { fault_count result ≡ 0 }
+    {
+        FuseDisk {
+            disk,
+            left: calls,
+            faults: 0,
+        }
+    }
+
+    /// The disk behind the fuse.
+    pub fn into_disk(self) -> D
+        ensures { result ≡ disk_of self }
+    {
+        self.disk
+    }
+
+    // Takes one of the calls that are left. Where none is left this counts a failure.
+    fn take_call(&mut self) -> Result<(), DeviceFault>
+        requires { fault_count self.old < 2 ^ 64 - 1 }
+        ensures passes { OnOk result (0 < calls_left self.old) }
+        ensures fails { IsErr result → calls_left self.old ≡ 0 }
+        ensures takes { calls_left self.new ≡ calls_left self.old - 1 }
+        ensures disk { disk_of self.new ≡ disk_of self.old }
+        ensures count { OnOk result (fault_count self.new ≡ fault_count self.old) }
+        ensures counted { IsErr result → fault_count self.new ≡ fault_count self.old + 1 }
+    {
+        if self.left == 0 {
+            self.faults += 1;
+            return Err(DeviceFault);
+        }
+        self.left -= 1;
+        Ok(())
+    }
+
+    // Counts a failure of the disk behind the fuse.
+    fn counted(&mut self, answer: Result<(), DeviceFault>) -> Result<(), DeviceFault>
+        requires { fault_count self.old < 2 ^ 64 - 1 }
+        ensures same { result ≡ answer }
+        ensures disk { disk_of self.new ≡ disk_of self.old }
+        ensures left { calls_left self.new ≡ calls_left self.old }
+        ensures cause { HasCause (fault_count self.old) (fault_count self.new) result }
+    {
+        if answer.is_err() {
+            self.faults += 1;
+        }
+        answer
+    }
+}
+
+impl<D: Disk> Disk for FuseDisk<D> {
+    ghost bytes = { λ f. D.bytes (disk_of f) };
+
+    ghost size = { λ f. D.size (disk_of f) };
+
+    ghost image = { λ f. D.image (disk_of f) };
+
+    ghost moment = { λ f. D.moment (disk_of f) };
+
+    ghost image_since = { λ f. D.image_since (disk_of f) };
+
+    ghost failures = { λ f. fault_count f };
+
+    ghost reads_image = { λ f. D.reads_image (disk_of f) };
+
+    ghost image_size = { λ f. D.image_size (disk_of f) };
+
+    ghost counts_now = { λ f. D.counts_now (disk_of f) };
+
+    ghost only_now = { λ f. D.only_now (disk_of f) };
+
+    fn len(&self) -> u64 {
+        self.disk.len()
+    }
+
+    fn faults(&self) -> u64 {
+        self.faults
+    }
+
+    fn read(&mut self, at: u64, into: &mut [u8]) -> Result<(), DeviceFault>
+        requires { at + length into.old ≤ D.size (disk_of self.old) }
+        ensures data { OnOk result (Reads (D.bytes (disk_of self.old)) at into.new) }
+        ensures stays { D.bytes (disk_of self.new) ≡ D.bytes (disk_of self.old) }
+        ensures fixed { D.size (disk_of self.new) ≡ D.size (disk_of self.old) }
+        ensures during { LeavesOnly ⟦<FuseDisk<D> as Disk>⟧.moment ⟦<FuseDisk<D> as Disk>⟧.image_since self.old self.new (D.image (disk_of self.old)) }
+        ensures cause { HasCause (fault_count self.old) (fault_count self.new) result }
+        ensures fuse { fault_count self.old < 2 ^ 64 - 1 → IsFused D.failures self.old self.new result }
+    {
+        if self.faults == u64::MAX {
+            read_surely(&mut self.disk, at, into);
+            return Ok(());
+        }
+        self.take_call()?;
+        let answer = self.disk.read(at, into);
+        self.counted(answer)
+    }
+
+    fn write(&mut self, at: u64, from: &[u8]) -> Result<(), DeviceFault>
+        requires { at + length from.now ≤ D.size (disk_of self.old) }
+        ensures written { OnOk result (D.bytes (disk_of self.new) ≡ option_map (overwritten at from.now) (D.bytes (disk_of self.old))) }
+        ensures stays { Tells (SameOutside at (length from.now)) (D.bytes (disk_of self.old)) (D.bytes (disk_of self.new)) }
+        ensures fixed { D.size (disk_of self.new) ≡ D.size (disk_of self.old) }
+        ensures during { LeavesOnly ⟦<FuseDisk<D> as Disk>⟧.moment ⟦<FuseDisk<D> as Disk>⟧.image_since self.old self.new (IsOldOutside (D.image (disk_of self.old)) at (length from.now)) }
+        ensures cause { HasCause (fault_count self.old) (fault_count self.new) result }
+        ensures fuse { fault_count self.old < 2 ^ 64 - 1 → IsFused D.failures self.old self.new result }
+    {
+        if self.faults == u64::MAX {
+            write_surely(&mut self.disk, at, from);
+            return Ok(());
+        }
+        self.take_call()?;
+        let answer = self.disk.write(at, from);
+        self.counted(answer)
+    }
+
+    fn sync(&mut self) -> Result<(), DeviceFault>
+        ensures durable { OnOk result (IsSynced (D.bytes (disk_of self.new)) (D.image (disk_of self.new))) }
+        ensures stays { D.bytes (disk_of self.new) ≡ D.bytes (disk_of self.old) }
+        ensures fixed { D.size (disk_of self.new) ≡ D.size (disk_of self.old) }
+        ensures during { LeavesOnly ⟦<FuseDisk<D> as Disk>⟧.moment ⟦<FuseDisk<D> as Disk>⟧.image_since self.old self.new (D.image (disk_of self.old)) }
+        ensures cause { HasCause (fault_count self.old) (fault_count self.new) result }
+        ensures fuse { fault_count self.old < 2 ^ 64 - 1 → IsFused D.failures self.old self.new result }
+    {
+        if self.faults == u64::MAX {
+            sync_surely(&mut self.disk);
+            return Ok(());
+        }
+        self.take_call()?;
+        let answer = self.disk.sync();
+        self.counted(answer)
+    }
+}

@@ -1,0 +1,88 @@
+// A disk in memory.
+ghost use Rattle.std.specs.Prelude.{◌≡◌, ◌+◌, ◌≤◌, Some, length, IfOk, replicate};
+ghost use Rattle.std.proofs.Common.{ap, sym};
+ghost use Rattle.std.proofs.lemmas.Option.{same_Some};
+ghost use Rattle.spool_disk.specs.Disk.{overwritten};
+ghost use Rattle.spool_disk.specs.Memory.{mem_bytes};
+
+use crate::{DeviceFault, Disk};
+use std::alloc::{AllocError, Global};
+
+/// A disk in memory. It never fails, and each call is done at once, so what a crash leaves is what it holds: of all the
+/// disks of the trait the one that loses least. A test writes the bytes of any other image to it.
+#[derive(Drop)]
+pub struct MemDisk {
+    bytes: Vec<u8>,
+}
+
+impl MemDisk {
+    /// A disk of so many zero bytes.
+    pub fn new(alloc: Global, len: usize) -> Result<MemDisk, AllocError>
+        ensures { IfOk result (λ d. mem_bytes d ≡ replicate len 0) }
+    {
+        Ok(MemDisk {
+            bytes: vec![in alloc; 0; len]?,
+        })
+    }
+
+    /// The bytes that it holds.
+    pub fn bytes(&self) -> &[u8]
+        ensures { result.now ≡ mem_bytes self.now }
+    {
+        &self.bytes
+    }
+}
+
+// Writes bytes over those at a place.
+fn overwrite(bytes: &mut [u8], at: usize, from: &[u8])
+    requires { at + length from.now ≤ length bytes.old }
+    ensures { bytes.new ≡ overwritten at from.now bytes.old }
+{
+    bytes[at..at + from.len()].copy_from_slice(from);
+}
+
+impl Disk for MemDisk {
+    ghost bytes = { λ d. Some (mem_bytes d) };
+
+    ghost size = { λ d. length (mem_bytes d) };
+
+    ghost image = { λ d c. c ≡ mem_bytes d };
+
+    ghost moment = { λ d. 0 };
+
+    ghost image_since = { λ d t c. c ≡ mem_bytes d };
+
+    ghost failures = { λ d. 0 };
+
+    ghost reads_image = { λ d r tells. sym (same_Some (mem_bytes d) r tells) };
+
+    ghost image_size = { λ d c is. ap length is };
+
+    ghost counts_now = { λ d t c le now. now };
+
+    ghost only_now = { λ d c left. left };
+
+    fn len(&self) -> u64 {
+        self.bytes.len() as u64
+    }
+
+    fn faults(&self) -> u64 {
+        0
+    }
+
+    fn read(&mut self, at: u64, into: &mut [u8]) -> Result<(), DeviceFault> {
+        let at = at as usize;
+        into.copy_from_slice(&self.bytes[at..at + into.len()]);
+        Ok(())
+    }
+
+    #[tactic(auto, using(crate::proofs::Writes::overwrites))]
+    fn write(&mut self, at: u64, from: &[u8]) -> Result<(), DeviceFault> {
+        overwrite(&mut self.bytes, at as usize, from);
+        Ok(())
+    }
+
+    fn sync(&mut self) -> Result<(), DeviceFault> {
+        Ok(())
+    }
+}
