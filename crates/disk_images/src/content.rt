@@ -1,5 +1,5 @@
 // What a device holds: its bytes, and which of them a crash may change.
-ghost use Rattle.std.specs.Prelude.{◌≡◌, ◌+◌, ◌≤◌, IfOk, length, replicate, false};
+ghost use Rattle.std.specs.Prelude.{◌≡◌, ◌+◌, ◌<◌, ◌≤◌, ◌↔◌, ◌⊎◌, ℕ, IfOk, IsTrue, length, replicate, false, slice_index_or};
 ghost use Rattle.spool_disk.specs.Disk.{overwritten, SameOutside};
 ghost use Rattle.spool_disk.specs.Images.{AreBytes, AddsRange, HasNoneUnsynced};
 
@@ -77,7 +77,7 @@ impl Content {
         ensures bytes { self.new.bytes ≡ self.old.bytes }
         ensures unsynced { AddsRange at len self.old self.new }
     {
-        self.unsynced[at..at + len].fill(true);
+        mark_in(&mut self.unsynced, at, len);
     }
 
     // Marks every byte as synced.
@@ -97,6 +97,14 @@ impl Content {
             unsynced: self.unsynced.clone()?,
         })
     }
+}
+
+// Sets a range of these marks, and no other.
+fn mark_in(unsynced: &mut [bool], at: usize, len: usize)
+    requires { at + len ≤ length unsynced.old }
+    ensures { (k : ℕ) → IsTrue (slice_index_or unsynced.new k false) ↔ (IsTrue (slice_index_or unsynced.old k false) ⊎ ((at ≤ k) × (k < at + len))) }
+{
+    unsynced[at..at + len].fill(true);
 }
 
 // Writes bytes over those at a place.

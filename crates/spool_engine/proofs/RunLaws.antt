@@ -1,9 +1,9 @@
 -- A run so far, and what ends it.
-use Rattle.std.proofs.Common.{◌≡◌, ℕ, List, [], ◌∷◌, ◌++◌, refl, ap, sym, ◌∙◌, subst, append_assoc, Option, None, Some, Result, Ok, Err}
+use Rattle.std.proofs.Common.{◌≡◌, ℕ, List, [], ◌++◌, ap, sym, ◌∙◌, subst, append_assoc, Option, None, Some, Result, Ok, Err}
 use Rattle.std.proofs.lemmas.List.{append-nil, map-append}
 use Rattle.std.specs.Prelude.{OnOk}
 use Rattle.std.specs.Io.KnownBytes.{Appends, Keeps, Consumes, IsAtEnd}
-use Rattle.std.proofs.KnownBytes.{Appends-nil, Appends-trans, Consumes-nil, Consumes-trans, Consumes-kept}
+use Rattle.std.proofs.KnownBytes.{Appends-nil, Consumes-nil, Consumes-trans, Consumes-kept}
 use Rattle.spool_types.specs.State.{State}
 use Rattle.spool_types.specs.Fold.{after_all}
 use Rattle.command_lines.specs.Pending.{Pending, to_come, commands_from}
@@ -14,7 +14,7 @@ use Rattle.spool_engine.specs.Script.{script_text, script_events}
 use Rattle.spool_engine.specs.Runs.{Turn, texts_of, commands_in, AllServed, Wrote, Lead, Drains, DrainsEnd, DrainsPiece, Tells, IsScript, IsRun}
 use Rattle.spool_engine.specs.declared.fault.RunFault.{RunFault}
 use Rattle.spool_engine.specs.declared.fault.RunFault.TheVariants.{Read}
-use Rattle.spool_engine.proofs.TurnLaws.{lead_both, lead_none, texts_of-append, wrote_more, served_all}
+use Rattle.spool_engine.proofs.TurnLaws.{lead_both, lead_none, wrote_more, served_all}
 
 -- what was read so far, the turns so far, and the commands to come
 pub record SoFar (known known' : Option (List ℕ)) (s s' : State) (p : Pending) (seen : List ℕ) (ts : List Turn) (old new : Option (List ℕ)) : Type 0 where

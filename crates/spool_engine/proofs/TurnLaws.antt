@@ -1,7 +1,7 @@
 -- Turns, one after another.
-use Rattle.std.proofs.Common.{◌≡◌, ℕ, suc, ◌+◌, ◌<◌, ◌≤◌, List, [], ◌∷◌, ◌++◌, length, take, drop, map, refl, ap, sym, ◌∙◌, subst, arith, append_assoc, length-append, Option, None, Some, Result, Ok, Err}
-use Rattle.std.proofs.lemmas.List.{append-nil, map-append, take_all}
-use Rattle.std.specs.Prelude.{IfOk, OnOk, codes}
+use Rattle.std.proofs.Common.{◌≡◌, ℕ, suc, ◌+◌, List, [], ◌∷◌, ◌++◌, length, take, refl, ap, sym, ◌∙◌, subst, arith, append_assoc, length-append, Option, None, Some, Result, Ok, Err}
+use Rattle.std.proofs.lemmas.List.{append-nil, map-append}
+use Rattle.std.specs.Prelude.{IfOk, codes}
 use Rattle.std.specs.Io.KnownBytes.{Appends}
 use Rattle.std.proofs.KnownBytes.{Appends-nil, Appends-trans}
 use Rattle.spool_types.specs.declared.event.Event.{Event}
@@ -9,13 +9,13 @@ use Rattle.spool_types.specs.declared.event.Reply.{Reply}
 use Rattle.spool_types.specs.declared.refusal.Refusal.{Refusal}
 use Rattle.spool_types.specs.State.{State}
 use Rattle.spool_types.specs.Step.{step, answered, refusal_of}
-use Rattle.spool_types.specs.Fold.{after_all, after_one, unless_refused}
+use Rattle.spool_types.specs.Fold.{after_all, unless_refused}
 use Rattle.command_lines.specs.Pending.{Pending, Leads, to_come}
 use Rattle.command_lines.specs.Replies.{refusal_line}
 use Rattle.command_lines.specs.Steps.{GivesOne, EndsWith}
 use Rattle.command_lines.specs.declared.command.Command.{Command}
 use Rattle.spool_engine.specs.Script.{reply_of, after_command, said_of, event_of, step_line, step_state, accepted_line, reply_line, script_text, script_events, event_then}
-use Rattle.spool_engine.specs.Runs.{Turn, Outcome, served, no_memory, IsTurn, IsOutcome, AreTurns, last_state, texts_of, commands_in, AllServed, Wrote, WroteSome, WroteBefore, Lead, Serves, Drains, DrainsEnd}
+use Rattle.spool_engine.specs.Runs.{Turn, served, no_memory, IsTurn, IsOutcome, AreTurns, last_state, texts_of, commands_in, AllServed, Wrote, WroteSome, Lead, Serves, Drains, DrainsEnd}
 use Rattle.spool_engine.specs.Answers.{applied_line, plain_line, IsApplied, Takes}
 use Rattle.spool_engine.specs.declared.applied.Applied.{Applied}
 use Rattle.spool_engine.specs.declared.applied.Applied.TheVariants.{Accepted, Refused, NoMemory}

@@ -1,5 +1,5 @@
 -- What is so of each table that events lead to. What a single value may be is said by its type.
-use Rattle.std.specs.Prelude.{◌≡◌, ℕ, ◌+◌, ◌<◌, ◌≤◌, true, List, [], length, Option, None, Some, IsSome, if◌then◌else◌}
+use Rattle.std.specs.Prelude.{◌≡◌, ℕ, ◌+◌, ◌<◌, ◌≤◌, true, List, [], length, None, Some, IsSome, if◌then◌else◌}
 use Rattle.std.specs.FinMap as map
 use Rattle.spool_types.specs.Limits.{most_queues, longest_document, greatest_attempts}
 use Rattle.spool_types.specs.Phases.{has_ended, is_processing}

@@ -1,5 +1,5 @@
 -- What the phases of a job tell, and how a job is shown.
-use Rattle.std.specs.Prelude.{ℕ, Bool, true, false, not, nat_lt, cond, List, codes}
+use Rattle.std.specs.Prelude.{ℕ, Bool, true, false, nat_lt, cond, List, codes}
 use Rattle.spool_types.specs.declared.phase.Phase.{Phase}
 use Rattle.spool_types.specs.declared.phase.Phase.TheVariants.{Incoming, Waiting, Processing, Completed, Canceled, Aborted}
 use Rattle.spool_types.specs.declared.phase.Hold.{Hold}

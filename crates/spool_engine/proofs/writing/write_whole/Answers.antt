@@ -1,4 +1,4 @@
-use Rattle.std.proofs.Common.{◌≡◌, ◌+◌, ◌-◌, ◌≤◌, ◌++◌, take, drop, length, arith, ap, sym, ◌∙◌, subst}
+use Rattle.std.proofs.Common.{◌≡◌, ◌+◌, ◌++◌, take, drop, length, arith, ap, sym, ◌∙◌, subst}
 use Rattle.std.proofs.Common.{ℕ, List, Option, None, Some, length-drop}
 use Rattle.std.proofs.lemmas.List.{take-append-drop, take-take, drop-take, take_rest}
 use Rattle.std.specs.Io.KnownBytes.{Appends, Keeps}

@@ -1,5 +1,5 @@
-use Rattle.std.proofs.Common.{◌≡◌, ◌<◌, List, ℕ, [], ◌∷◌, ◌++◌, Ok, Err, take, length, subst, arith, sym, ap, ◌∙◌, refl}
-use Rattle.std.specs.Io.KnownBytes.{Consumes, Keeps, IsAtEnd}
+use Rattle.std.proofs.Common.{◌≡◌, [], ◌++◌, take, length, subst, arith, ap, ◌∙◌, refl}
+use Rattle.std.specs.Io.KnownBytes.{Consumes, IsAtEnd}
 use Rattle.std.proofs.KnownBytes.{Keeps-refl}
 use Rattle.spool_engine.proofs.RunLaws.{nothing_yet, still, stops, stops_in, goes_on, ends, renamed}
 use Rattle.spool_engine.proofs.engine.Engine.run.Goals as goal
