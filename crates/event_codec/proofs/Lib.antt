@@ -1,0 +1,6 @@
+pub mod Utf8
+pub mod Loop
+pub mod FieldLaws
+pub mod TextLaws
+pub mod FilterLaws
+pub mod EventLaws

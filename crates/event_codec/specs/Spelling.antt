@@ -1,0 +1,117 @@
+-- The one spelling of each event in bytes.
+use Rattle.std.specs.Prelude.{◌≡◌, ℕ, ◌≤◌, Bool, true, List, ◌∷◌, ◌++◌, length, Option, None, Some}
+use Rattle.std.specs.List.{flat_map, AllByRecursion}
+use Rattle.std.specs.Int.{w8, w16, w32, w64, to_be_bytes}
+use Rattle.std.specs.Str.{is_utf8}
+use Rattle.spool_types.specs.declared.phase.Policy.{Policy}
+use Rattle.spool_types.specs.declared.phase.Policy.TheVariants.{AbortJob, RetryJob, RetryCurrentJob, StopPrinter}
+use Rattle.spool_types.specs.declared.event.NewQueue.{NewQueue}
+use Rattle.spool_types.specs.declared.event.NewJob.{NewJob}
+use Rattle.spool_types.specs.declared.event.Closing.{Closing}
+use Rattle.spool_types.specs.declared.event.Event.{Event}
+use Rattle.spool_types.specs.declared.event.Event.TheVariants.{AddQueue, Create, Send, Close, Cancel, Clock}
+use Rattle.spool_types.specs.Limits.{greatest_number, greatest_moment, longest_send}
+use Rattle.spool_types.specs.Values.{is_queue_name, is_uri, is_media_type, is_user_name, is_title, is_options, is_filter_name}
+
+-- ---- fields. Numbers are big-endian
+
+-- a text: its length in two bytes, and its bytes
+abbrev pub text_code : List ℕ → List ℕ
+text_code text = to_be_bytes w16 (length text) ++ text
+
+abbrev pub policy_number : Policy → ℕ
+policy_number AbortJob = 0
+policy_number RetryJob = 1
+policy_number RetryCurrentJob = 2
+policy_number StopPrinter = 3
+
+-- 0 where nothing prints the document; else 1, how many filters there are, and each of them
+abbrev pub filters_code : Option (List (List ℕ)) → List ℕ
+filters_code None = to_be_bytes w8 0
+filters_code (Some filters) = to_be_bytes w8 1 ++ to_be_bytes w8 (length filters) ++ flat_map text_code filters
+
+-- ---- events
+
+abbrev pub queue_code : NewQueue → List ℕ
+queue_code q =
+    text_code q.name
+    ++ text_code q.uri
+    ++ text_code q.target
+    ++ to_be_bytes w8 (policy_number q.policy)
+    ++ to_be_bytes w32 q.interval
+    ++ to_be_bytes w16 q.limit
+
+abbrev pub job_code : NewJob → List ℕ
+job_code n =
+    text_code n.queue
+    ++ to_be_bytes w32 n.job
+    ++ text_code n.user
+    ++ text_code n.title
+    ++ to_be_bytes w16 n.copies
+    ++ to_be_bytes w8 n.priority
+    ++ text_code n.options
+
+abbrev pub send_code : ℕ → List ℕ → List ℕ
+send_code j bytes = to_be_bytes w32 j ++ to_be_bytes w32 (length bytes) ++ bytes
+
+abbrev pub closing_code : Closing → List ℕ
+closing_code c = to_be_bytes w32 c.job ++ text_code c.media ++ filters_code c.filters
+
+-- the event's kind in one byte, its fields in order, and nothing else
+abbrev pub spelling : Event → List ℕ
+spelling (AddQueue q) = 0x01 ∷ queue_code q
+spelling (Create n) = 0x05 ∷ job_code n
+spelling (Send j bytes) = 0x06 ∷ send_code j bytes
+spelling (Close c) = 0x07 ∷ closing_code c
+spelling (Cancel j) = 0x0A ∷ to_be_bytes w32 j
+spelling (Clock m) = 0x0B ∷ to_be_bytes w64 m
+
+-- ---- what has a spelling: an event whose fields are within their limits, as the event of each value of the type is
+
+pub record IsIn (least most n : ℕ) : Type 0 where
+  pub at_least : least ≤ n
+  pub at_most : n ≤ most
+
+abbrev pub IsJobNumber : ℕ → Type 0
+IsJobNumber n = IsIn 1 greatest_number n
+
+pub record IsText (allowed : List ℕ → Bool) (text : List ℕ) : Type 0 where
+  pub utf8 : is_utf8 text ≡ true
+  pub passes : allowed text ≡ true
+
+pub record IsQueue (q : NewQueue) : Type 0 where
+  pub name : IsText is_queue_name q.name
+  pub uri : IsText is_uri q.uri
+  pub target : IsText is_media_type q.target
+  pub interval : IsIn 0 86400 q.interval
+  pub limit : IsIn 0 65535 q.limit
+
+pub record IsJob (n : NewJob) : Type 0 where
+  pub queue : IsText is_queue_name n.queue
+  pub job : IsJobNumber n.job
+  pub user : IsText is_user_name n.user
+  pub title : IsText is_title n.title
+  pub copies : IsIn 1 9999 n.copies
+  pub priority : IsIn 1 100 n.priority
+  pub options : IsText is_options n.options
+
+pub record IsSend (j : ℕ) (bytes : List ℕ) : Type 0 where
+  pub job : IsJobNumber j
+  pub length : length bytes ≤ longest_send
+
+abbrev pub AreFilters : Option (List (List ℕ)) → Type 0
+AreFilters None = Unit {0}
+AreFilters (Some filters) = (length filters ≤ 15) × AllByRecursion (IsText is_filter_name) filters
+
+pub record IsClosing (c : Closing) : Type 0 where
+  pub job : IsJobNumber c.job
+  pub media : IsText is_media_type c.media
+  pub filters : AreFilters c.filters
+
+abbrev pub IsSpellable : Event → Type 0
+IsSpellable (AddQueue q) = IsQueue q
+IsSpellable (Create n) = IsJob n
+IsSpellable (Send j bytes) = IsSend j bytes
+IsSpellable (Close c) = IsClosing c
+IsSpellable (Cancel j) = IsJobNumber j
+IsSpellable (Clock m) = IsIn 0 greatest_moment m

@@ -1,0 +1,113 @@
+//! Fields at the front of bytes, each with the bytes after it.
+ghost use Rattle.std.specs.Prelude.{◌≡◌, length, IfOk};
+ghost use Rattle.std.specs.Int.{w8, w16, w32, w64};
+ghost use Rattle.spool_types.specs.Limits.{greatest_number, greatest_moment};
+ghost use Rattle.event_codec.specs.Reading.{Gives, part_at as part, number_at, ranged as in_range, text_at as text, utf8_of};
+
+use crate::fault::CodecFault;
+use spool_types::{JobId, Moment, Ranged, Text, TextKind};
+use std::alloc::Global;
+
+/// The first `count` bytes.
+#[tactic(auto, unfolding(crate::specs::Reading::part_at))]
+pub(crate) fn part_at(count: usize, bytes: &[u8]) -> Result<(&[u8], &[u8]), CodecFault>
+    ensures part { Gives (λ x. (x.0.now, x.1.now)) result (part count bytes.now) }
+    ensures length { IfOk result (λ x. length x.0.now ≡ count) }
+{
+    if bytes.len() < count {
+        return Err(CodecFault::Length);
+    }
+    Ok(bytes.split_at(count))
+}
+
+#[tactic(auto, unfolding(crate::specs::Reading::number_at))]
+pub(crate) fn u8_at(bytes: &[u8]) -> Result<(u8, &[u8]), CodecFault>
+    ensures { Gives (λ x. (x.0, x.1.now)) result (number_at w8 bytes.now) }
+{
+    let (part, rest) = part_at(1, bytes)?;
+    Ok((part[0], rest))
+}
+
+#[tactic(auto, unfolding(crate::specs::Reading::number_at))]
+pub(crate) fn u16_at(bytes: &[u8]) -> Result<(u16, &[u8]), CodecFault>
+    ensures { Gives (λ x. (x.0, x.1.now)) result (number_at w16 bytes.now) }
+{
+    let (part, rest) = part_at(2, bytes)?;
+    Ok((u16::from_be_bytes([part[0], part[1]]), rest))
+}
+
+#[tactic(auto, unfolding(crate::specs::Reading::number_at))]
+pub(crate) fn u32_at(bytes: &[u8]) -> Result<(u32, &[u8]), CodecFault>
+    ensures { Gives (λ x. (x.0, x.1.now)) result (number_at w32 bytes.now) }
+{
+    let (part, rest) = part_at(4, bytes)?;
+    let number = u32::from_be_bytes([part[0], part[1], part[2], part[3]]);
+    Ok((number, rest))
+}
+
+#[tactic(auto, unfolding(crate::specs::Reading::number_at))]
+pub(crate) fn u64_at(bytes: &[u8]) -> Result<(u64, &[u8]), CodecFault>
+    ensures { Gives (λ x. (x.0, x.1.now)) result (number_at w64 bytes.now) }
+{
+    let (part, rest) = part_at(8, bytes)?;
+    let number = u64::from_be_bytes([
+        part[0], part[1], part[2], part[3], part[4], part[5], part[6], part[7],
+    ]);
+    Ok((number, rest))
+}
+
+/// A number in its range.
+#[tactic(auto, unfolding(crate::specs::Reading::ranged, crate::specs::Reading::checked))]
+pub(crate) fn ranged<const LEAST: u32, const MOST: u32>(
+    number: u32,
+) -> Result<Ranged<LEAST, MOST>, CodecFault>
+    ensures { Gives (λ n. n) result (in_range LEAST MOST number) }
+{
+    match Ranged::new(number) {
+        Some(ranged) => Ok(ranged),
+        None => Err(CodecFault::Range),
+    }
+}
+
+#[tactic(auto, unfolding(crate::specs::Reading::ranged, crate::specs::Reading::checked))]
+pub(crate) fn job_id(number: u32) -> Result<JobId, CodecFault>
+    ensures { Gives (λ n. n) result (in_range 1 greatest_number number) }
+{
+    match JobId::new(number) {
+        Some(job) => Ok(job),
+        None => Err(CodecFault::Range),
+    }
+}
+
+#[tactic(auto, unfolding(crate::specs::Reading::ranged, crate::specs::Reading::checked))]
+pub(crate) fn moment(seconds: u64) -> Result<Moment, CodecFault>
+    ensures { Gives (λ n. n) result (in_range 0 greatest_moment seconds) }
+{
+    match Moment::new(seconds) {
+        Some(moment) => Ok(moment),
+        None => Err(CodecFault::Range),
+    }
+}
+
+fn utf8_in(bytes: &[u8]) -> Result<&str, CodecFault>
+    ensures { Gives (λ s. s.now) result (utf8_of bytes.now) }
+{
+    match str::from_utf8(bytes) {
+        Ok(text) => Ok(text),
+        Err(_) => Err(CodecFault::Utf8),
+    }
+}
+
+/// A text of the kind `K`, copied once.
+#[tactic(auto, unfolding(crate::specs::Reading::text_at, crate::specs::Reading::checked))]
+pub(crate) fn text_at<K: TextKind>(
+    alloc: Global,
+    bytes: &[u8],
+) -> Result<(Text<K>, &[u8]), CodecFault>
+    ensures { Gives (λ x. (x.0, x.1.now)) result (text K.allowed bytes.now) }
+{
+    let (length, rest) = u16_at(bytes)?;
+    let (part, rest) = part_at(length as usize, rest)?;
+    let copy = Text::read(alloc, utf8_in(part)?)?;
+    Ok((copy, rest))
+}

@@ -1,0 +1,14 @@
+//! Laws of the spelling.
+ghost use Rattle.std.specs.Prelude.{◌≡◌, List, ℕ, [], ◌++◌};
+ghost use Rattle.spool_types.specs.declared.event.Event.{Event};
+ghost use Rattle.event_codec.specs.Spelling.{IsSpellable, spelling};
+
+/// No event's spelling begins another's, so that what stands behind a spelling is never a part of it.
+pub fn no_proper_prefix()
+    ensures { (d e : Event) (rest : List ℕ) → IsSpellable d → IsSpellable e → spelling d ++ rest ≡ spelling e → rest ≡ [] }
+{}
+
+/// Bytes spell one event at most.
+pub fn one_event()
+    ensures { (d e : Event) → IsSpellable d → IsSpellable e → spelling d ≡ spelling e → d ≡ e }
+{}

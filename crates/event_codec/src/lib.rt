@@ -1,0 +1,43 @@
+//! The spelling of events in bytes.
+//!
+//! An event is spelled by its kind in one byte and its fields in order, and nothing else. Numbers are big-endian. A text
+//! is its length in two bytes and its bytes of UTF-8. The table of kinds and fields is `spelling`, in `specs/Spelling`;
+//! `specs/Reading` says how bytes are read from left to right.
+//!
+//! | Byte | Event | Fields |
+//! |---|---|---|
+//! | 01 | AddQueue | name, URI, target, policy in 1 byte, interval in 4, limit in 2 |
+//! | 05 | Create | queue, job in 4 bytes, user, title, copies in 2, priority in 1, options |
+//! | 06 | Send | job in 4 bytes, length in 4, so many bytes |
+//! | 07 | Close | job in 4 bytes, media type, then 0, or 1, the number of filters in 1 byte, and each filter |
+//! | 0A | Cancel | job in 4 bytes |
+//! | 0B | Clock | moment in 8 bytes |
+//!
+//! # Promises
+//!
+//! - *ExactSpelling*: [`encode`] gives `spelling` of its event (`spelled`), and that event is within its limits
+//!   (`spellable`). [`decode`] gives an event only where the bytes are its spelling (`sound`), gives each event from its
+//!   spelling (`complete`), and answers the first fault from the left (`exact`, by `reading`).
+//! - [`no_proper_prefix`]: no spelling is a proper prefix of another. [`one_event`]: bytes spell one event at most.
+//!
+//! # Faults
+//!
+//! The first byte is looked at first, and is [`CodecFault::Kind`] where it stands for no event. Then each field from left
+//! to right may have a fault: `Length` where it passes the end, `Utf8` where a text isn't UTF-8, `Range` where the value
+//! is outside its limits. Bytes after the last field are `Length`, and so are no bytes at all. `Memory` comes where a
+//! field's copy is refused, and then nothing is kept. [`encode`] reserves the whole length at once, and fails only there.
+#![tactic(auto)]
+
+mod fault;
+mod fields;
+mod laws;
+mod reading;
+mod writing;
+
+pub use fault::CodecFault;
+pub use laws::{no_proper_prefix, one_event};
+pub use reading::decode;
+pub use writing::encode;
+
+#[cfg(test)]
+mod tests;

@@ -1,0 +1,232 @@
+//! Reading events.
+ghost use Rattle.std.specs.Prelude.{◌≡◌, ◌↔◌, ◌⊎◌, length, IfOk, IfErr, IsOk, Ok, IsErrOf};
+ghost use Rattle.std.specs.Int.{w8, w16, w32};
+ghost use Rattle.spool_types.specs.declared.event.Event.{Event as Change};
+ghost use Rattle.spool_types.specs.Values.{is_media_type};
+ghost use Rattle.event_codec.specs.Spelling.{IsSpellable, spelling};
+ghost use Rattle.event_codec.specs.Reading.{Gives, text_at as text, policy_at as policy, filters_at as filters, counted_filters_at as counted_filters, maybe_filters_at as maybe_filters, piece_at as piece, queue_at, job_at, send_at, closing_at, cancel_at, clock_at, whole, reading};
+
+use crate::fault::CodecFault;
+use crate::fields::{job_id, moment, part_at, ranged, text_at, u8_at, u16_at, u32_at, u64_at};
+use spool_types::{
+    Closing, Event, FilterName, Filters, MediaType, MediaTypeKind, NewJob, NewQueue, Piece, Policy,
+};
+use std::alloc::Global;
+
+#[tactic(auto, unfolding(crate::specs::Reading::policy_at, crate::specs::Reading::policy_of))]
+fn policy_at(bytes: &[u8]) -> Result<(Policy, &[u8]), CodecFault>
+    ensures { Gives (λ x. (x.0, x.1.now)) result (policy bytes.now) }
+{
+    let (number, rest) = u8_at(bytes)?;
+    let policy = match number {
+        0 => Policy::AbortJob,
+        1 => Policy::RetryJob,
+        2 => Policy::RetryCurrentJob,
+        3 => Policy::StopPrinter,
+        _ => return Err(CodecFault::Range),
+    };
+    Ok((policy, rest))
+}
+
+fn media_at(alloc: Global, bytes: &[u8]) -> Result<(MediaType, &[u8]), CodecFault>
+    ensures { Gives (λ x. (x.0, x.1.now)) result (text is_media_type bytes.now) }
+{
+    let (name, rest) = text_at::<MediaTypeKind>(alloc, bytes)?;
+    Ok((MediaType::from_name(name), rest))
+}
+
+/// So many names of filters.
+fn filters_at(
+    alloc: Global,
+    count: u8,
+    bytes: &[u8],
+) -> Result<(Vec<FilterName>, &[u8]), CodecFault>
+    ensures filters { Gives (λ x. (x.0.items, x.1.now)) result (filters count bytes.now) }
+    ensures length { IfOk result (λ x. length x.0.items ≡ count) }
+{
+    let mut filters = Vec::with_capacity(alloc, count as usize)?;
+    let mut rest = bytes;
+    for _ in 0..count {
+        let (filter, after) = text_at(alloc, rest)?;
+        filters.push(filter)?;
+        rest = after;
+    }
+    Ok((filters, rest))
+}
+
+#[tactic(auto, unfolding(crate::specs::Reading::counted_filters_at, crate::specs::Reading::ranged_at, crate::specs::Reading::ranged, crate::specs::Reading::checked))]
+fn counted_filters_at(alloc: Global, bytes: &[u8]) -> Result<(Option<Filters>, &[u8]), CodecFault>
+    ensures { Gives (λ x. (x.0, x.1.now)) result (counted_filters bytes.now) }
+{
+    let (count, rest) = u8_at(bytes)?;
+    if 15 < count {
+        return Err(CodecFault::Range);
+    }
+    let (filters, rest) = filters_at(alloc, count, rest)?;
+    match Filters::new(filters) {
+        Ok(filters) => Ok((Some(filters), rest)),
+        Err(_) => Err(CodecFault::Range),
+    }
+}
+
+#[tactic(auto, unfolding(crate::specs::Reading::maybe_filters_at, crate::specs::Reading::flagged_filters_at))]
+fn maybe_filters_at(alloc: Global, bytes: &[u8]) -> Result<(Option<Filters>, &[u8]), CodecFault>
+    ensures { Gives (λ x. (x.0, x.1.now)) result (maybe_filters bytes.now) }
+{
+    let (flag, rest) = u8_at(bytes)?;
+    match flag {
+        0 => Ok((None, rest)),
+        1 => counted_filters_at(alloc, rest),
+        _ => Err(CodecFault::Range),
+    }
+}
+
+#[tactic(auto, unfolding(crate::specs::Reading::piece_at, crate::specs::Reading::ranged_at, crate::specs::Reading::ranged, crate::specs::Reading::checked))]
+fn piece_at(alloc: Global, bytes: &[u8]) -> Result<(Piece, &[u8]), CodecFault>
+    ensures { Gives (λ x. (x.0, x.1.now)) result (piece bytes.now) }
+{
+    let (count, rest) = u32_at(bytes)?;
+    if 65_536 < count {
+        return Err(CodecFault::Range);
+    }
+    let (part, rest) = part_at(count as usize, rest)?;
+    match Piece::new(Vec::from_slice(alloc, part)?) {
+        Ok(piece) => Ok((piece, rest)),
+        Err(_) => Err(CodecFault::Range),
+    }
+}
+
+/// Nothing stands after the last field.
+fn ended(rest: &[u8]) -> Result<(), CodecFault>
+    ensures ok { IsOk result ↔ (length rest.now ≡ 0) }
+    ensures fault { IfErr result (λ e. e ≡ CodecFault.Length) }
+{
+    if rest.is_empty() {
+        Ok(())
+    } else {
+        Err(CodecFault::Length)
+    }
+}
+
+#[tactic(auto, unfolding(crate::specs::Reading::queue_at, crate::specs::Reading::ranged_at, crate::specs::Reading::whole))]
+fn queue_of(alloc: Global, fields: &[u8]) -> Result<Event, CodecFault>
+    ensures { Gives (λ e. e) result (whole (queue_at fields.now)) }
+{
+    let (name, rest) = text_at(alloc, fields)?;
+    let (uri, rest) = text_at(alloc, rest)?;
+    let (target, rest) = media_at(alloc, rest)?;
+    let (policy, rest) = policy_at(rest)?;
+    let (interval, rest) = u32_at(rest)?;
+    let interval = ranged(interval)?;
+    let (limit, rest) = u16_at(rest)?;
+    ended(rest)?;
+    Ok(Event::AddQueue(NewQueue {
+        name,
+        uri,
+        target,
+        policy,
+        interval,
+        limit,
+    }))
+}
+
+#[tactic(auto, unfolding(crate::specs::Reading::job_at, crate::specs::Reading::ranged_at, crate::specs::Reading::whole))]
+fn job_of(alloc: Global, fields: &[u8]) -> Result<Event, CodecFault>
+    ensures { Gives (λ e. e) result (whole (job_at fields.now)) }
+{
+    let (queue, rest) = text_at(alloc, fields)?;
+    let (number, rest) = u32_at(rest)?;
+    let job = job_id(number)?;
+    let (user, rest) = text_at(alloc, rest)?;
+    let (title, rest) = text_at(alloc, rest)?;
+    let (copies, rest) = u16_at(rest)?;
+    let copies = ranged(copies as u32)?;
+    let (priority, rest) = u8_at(rest)?;
+    let priority = ranged(priority as u32)?;
+    let (options, rest) = text_at(alloc, rest)?;
+    ended(rest)?;
+    Ok(Event::Create(NewJob {
+        queue,
+        job,
+        user,
+        title,
+        copies,
+        priority,
+        options,
+    }))
+}
+
+#[tactic(auto, unfolding(crate::specs::Reading::send_at, crate::specs::Reading::ranged_at, crate::specs::Reading::whole))]
+fn send_of(alloc: Global, fields: &[u8]) -> Result<Event, CodecFault>
+    ensures { Gives (λ e. e) result (whole (send_at fields.now)) }
+{
+    let (number, rest) = u32_at(fields)?;
+    let job = job_id(number)?;
+    let (bytes, rest) = piece_at(alloc, rest)?;
+    ended(rest)?;
+    Ok(Event::Send { job, bytes })
+}
+
+#[tactic(auto, unfolding(crate::specs::Reading::closing_at, crate::specs::Reading::ranged_at, crate::specs::Reading::whole))]
+fn closing_of(alloc: Global, fields: &[u8]) -> Result<Event, CodecFault>
+    ensures { Gives (λ e. e) result (whole (closing_at fields.now)) }
+{
+    let (number, rest) = u32_at(fields)?;
+    let job = job_id(number)?;
+    let (media, rest) = media_at(alloc, rest)?;
+    let (filters, rest) = maybe_filters_at(alloc, rest)?;
+    ended(rest)?;
+    Ok(Event::Close(Closing {
+        job,
+        media,
+        filters,
+    }))
+}
+
+#[tactic(auto, unfolding(crate::specs::Reading::cancel_at, crate::specs::Reading::ranged_at, crate::specs::Reading::whole))]
+fn cancel_of(fields: &[u8]) -> Result<Event, CodecFault>
+    ensures { Gives (λ e. e) result (whole (cancel_at fields.now)) }
+{
+    let (number, rest) = u32_at(fields)?;
+    let job = job_id(number)?;
+    ended(rest)?;
+    Ok(Event::Cancel(job))
+}
+
+#[tactic(auto, unfolding(crate::specs::Reading::clock_at, crate::specs::Reading::ranged_at, crate::specs::Reading::whole))]
+fn clock_of(fields: &[u8]) -> Result<Event, CodecFault>
+    ensures { Gives (λ e. e) result (whole (clock_at fields.now)) }
+{
+    let (seconds, rest) = u64_at(fields)?;
+    let moment = moment(seconds)?;
+    ended(rest)?;
+    Ok(Event::Clock(moment))
+}
+
+#[tactic(auto, unfolding(crate::specs::Reading::event_at, crate::specs::Reading::fields_at, crate::specs::Reading::whole))]
+fn event_of(alloc: Global, payload: &[u8]) -> Result<Event, CodecFault>
+    ensures { Gives (λ e. e) result (reading payload.now) }
+{
+    match payload {
+        [] => Err(CodecFault::Length),
+        [0x01, fields @ ..] => queue_of(alloc, fields),
+        [0x05, fields @ ..] => job_of(alloc, fields),
+        [0x06, fields @ ..] => send_of(alloc, fields),
+        [0x07, fields @ ..] => closing_of(alloc, fields),
+        [0x0A, fields @ ..] => cancel_of(fields),
+        [0x0B, fields @ ..] => clock_of(fields),
+        [_, ..] => Err(CodecFault::Kind),
+    }
+}
+
+/// The event that all of the bytes spell. A field is copied once, and nothing is kept of bytes that spell none.
+pub fn decode(alloc: Global, payload: &[u8]) -> Result<Event, CodecFault>
+    // What is read is spelled so.
+    ensures sound { IfOk result (λ event. IsSpellable event × (payload.now ≡ spelling event)) }
+    // What is spelled so is read, unless memory runs out.
+    ensures complete { (event : Change) → IsSpellable event → payload.now ≡ spelling event → Gives (λ e. e) result (Ok event) }
+    // Which fault it is.
+    ensures exact { Gives (λ e. e) result (reading payload.now) }
+{
+    event_of(alloc, payload)
+}

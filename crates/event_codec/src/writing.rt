@@ -1,0 +1,227 @@
+//! Writing events.
+ghost use Rattle.std.specs.Prelude.{◌≡◌, ◌+◌, ◌<◌, ◌≤◌, ◌^◌, ◌++◌, List, ℕ, true, length, IfOk, OnOk};
+ghost use Rattle.std.specs.Int.{w8};
+ghost use Rattle.std.specs.List.{flat_map, AllByRecursion};
+ghost use Rattle.spool_types.specs.Values.{is_media_type, is_filter_name};
+ghost use Rattle.event_codec.specs.Spelling.{text_code, filters_code, queue_code, job_code, send_code, closing_code, policy_number, spelling, IsText, IsQueue, IsJob, IsSend, IsClosing, AreFilters, IsSpellable};
+
+use spool_types::{
+    Closing, Event, FilterName, Filters, JobId, MediaType, NewJob, NewQueue, Piece, Policy, Text,
+    TextKind,
+};
+use std::alloc::{AllocError, Global};
+
+fn put_str(out: &mut Vec<u8>, text: &str) -> Result<(), AllocError>
+    requires { length text.now < 2 ^ 16 }
+    ensures written { OnOk result (out.new.items ≡ out.old.items ++ text_code text.now) }
+{
+    out.extend_from_slice(&(text.len() as u16).to_be_bytes())?;
+    out.extend_from_slice(text.as_bytes())
+}
+
+fn put_text<K: TextKind>(out: &mut Vec<u8>, text: &Text<K>) -> Result<(), AllocError>
+    requires short { (t : List ℕ) → K.allowed t ≡ true → length t < 2 ^ 16 }
+    ensures written { OnOk result (out.new.items ≡ out.old.items ++ text_code text.now) }
+    ensures is_text { IsText K.allowed text.now }
+{
+    put_str(out, text.as_str())
+}
+
+fn put_media(out: &mut Vec<u8>, media: &MediaType) -> Result<(), AllocError>
+    ensures written { OnOk result (out.new.items ≡ out.old.items ++ text_code media.now) }
+    ensures is_text { IsText is_media_type media.now }
+{
+    put_str(out, media.as_str())
+}
+
+fn policy_byte(policy: Policy) -> u8
+    ensures { result ≡ policy_number policy }
+{
+    match policy {
+        Policy::AbortJob => 0,
+        Policy::RetryJob => 1,
+        Policy::RetryCurrentJob => 2,
+        Policy::StopPrinter => 3,
+    }
+}
+
+fn put_queue(out: &mut Vec<u8>, queue: &NewQueue) -> Result<(), AllocError>
+    ensures written { OnOk result (out.new.items ≡ out.old.items ++ queue_code queue.now) }
+    ensures legal { OnOk result (IsQueue queue.now) }
+{
+    put_text(out, &queue.name)?;
+    put_text(out, &queue.uri)?;
+    put_media(out, &queue.target)?;
+    out.extend_from_slice(&policy_byte(queue.policy).to_be_bytes())?;
+    out.extend_from_slice(&queue.interval.get().to_be_bytes())?;
+    out.extend_from_slice(&queue.limit.to_be_bytes())
+}
+
+fn put_job(out: &mut Vec<u8>, job: &NewJob) -> Result<(), AllocError>
+    ensures written { OnOk result (out.new.items ≡ out.old.items ++ job_code job.now) }
+    ensures legal { OnOk result (IsJob job.now) }
+{
+    put_text(out, &job.queue)?;
+    out.extend_from_slice(&job.job.get().to_be_bytes())?;
+    put_text(out, &job.user)?;
+    put_text(out, &job.title)?;
+    out.extend_from_slice(&(job.copies.get() as u16).to_be_bytes())?;
+    out.extend_from_slice(&(job.priority.get() as u8).to_be_bytes())?;
+    put_text(out, &job.options)
+}
+
+fn put_send(out: &mut Vec<u8>, job: JobId, bytes: &Piece) -> Result<(), AllocError>
+    ensures written { OnOk result (out.new.items ≡ out.old.items ++ send_code job bytes.now) }
+    ensures legal { OnOk result (IsSend job bytes.now) }
+{
+    let bytes = bytes.as_slice();
+    out.extend_from_slice(&job.get().to_be_bytes())?;
+    out.extend_from_slice(&(bytes.len() as u32).to_be_bytes())?;
+    out.extend_from_slice(bytes)
+}
+
+fn put_names(out: &mut Vec<u8>, filters: &[FilterName]) -> Result<(), AllocError>
+    ensures written { OnOk result (out.new.items ≡ out.old.items ++ flat_map text_code filters.now) }
+    ensures legal { OnOk result (AllByRecursion (IsText is_filter_name) filters.now) }
+{
+    for filter in filters {
+        put_text(out, filter)?;
+    }
+    Ok(())
+}
+
+fn put_filters(out: &mut Vec<u8>, filters: &Option<Filters>) -> Result<(), AllocError>
+    ensures written { OnOk result (out.new.items ≡ out.old.items ++ filters_code filters.now) }
+    ensures legal { OnOk result (AreFilters filters.now) }
+{
+    match filters {
+        None => out.extend_from_slice(&0u8.to_be_bytes()),
+        Some(filters) => {
+            let filters = filters.as_slice();
+            out.extend_from_slice(&1u8.to_be_bytes())?;
+            out.extend_from_slice(&(filters.len() as u8).to_be_bytes())?;
+            put_names(out, filters)
+        }
+    }
+}
+
+fn put_closing(out: &mut Vec<u8>, closing: &Closing) -> Result<(), AllocError>
+    ensures written { OnOk result (out.new.items ≡ out.old.items ++ closing_code closing.now) }
+    ensures legal { OnOk result (IsClosing closing.now) }
+{
+    out.extend_from_slice(&closing.job.get().to_be_bytes())?;
+    put_media(out, &closing.media)?;
+    put_filters(out, &closing.filters)
+}
+
+fn put_event(out: &mut Vec<u8>, event: &Event) -> Result<(), AllocError>
+    ensures written { OnOk result (out.new.items ≡ out.old.items ++ spelling event.now) }
+    ensures legal { OnOk result (IsSpellable event.now) }
+{
+    match event {
+        Event::AddQueue(queue) => {
+            out.push(0x01)?;
+            put_queue(out, queue)
+        }
+        Event::Create(job) => {
+            out.push(0x05)?;
+            put_job(out, job)
+        }
+        Event::Send { job, bytes } => {
+            out.push(0x06)?;
+            put_send(out, *job, bytes)
+        }
+        Event::Close(closing) => {
+            out.push(0x07)?;
+            put_closing(out, closing)
+        }
+        Event::Cancel(job) => {
+            out.push(0x0A)?;
+            out.extend_from_slice(&job.get().to_be_bytes())
+        }
+        Event::Clock(moment) => {
+            out.push(0x0B)?;
+            out.extend_from_slice(&moment.get().to_be_bytes())
+        }
+    }
+}
+
+fn text_len<K: TextKind>(text: &Text<K>) -> usize
+    requires short { (t : List ℕ) → K.allowed t ≡ true → length t < 2 ^ 16 }
+    ensures value { result ≡ length (text_code text.now) }
+    ensures small { result < 2 ^ 17 }
+{
+    2 + text.as_str().len()
+}
+
+fn media_len(media: &MediaType) -> usize
+    ensures value { result ≡ length (text_code media.now) }
+    ensures small { result < 2 ^ 17 }
+{
+    2 + media.as_str().len()
+}
+
+fn queue_len(queue: &NewQueue) -> usize
+    ensures value { result ≡ length (queue_code queue.now) }
+    ensures small { result < 2 ^ 24 }
+{
+    text_len(&queue.name) + text_len(&queue.uri) + media_len(&queue.target) + 7
+}
+
+fn job_len(job: &NewJob) -> usize
+    ensures value { result ≡ length (job_code job.now) }
+    ensures small { result < 2 ^ 24 }
+{
+    text_len(&job.queue)
+        + 4
+        + text_len(&job.user)
+        + text_len(&job.title)
+        + 3
+        + text_len(&job.options)
+}
+
+fn names_len(filters: &[FilterName]) -> usize
+    requires { length filters.now ≤ 15 }
+    ensures value { result ≡ length (flat_map text_code filters.now) }
+    ensures small { result < 2 ^ 24 }
+{
+    let mut len = 0;
+    for filter in filters {
+        len += text_len(filter);
+    }
+    len
+}
+
+fn filters_len(filters: &Option<Filters>) -> usize
+    ensures value { result ≡ length (filters_code filters.now) }
+    ensures small { result < 2 ^ 25 }
+{
+    match filters {
+        None => 1,
+        Some(filters) => 2 + names_len(filters.as_slice()),
+    }
+}
+
+/// How many bytes the spelling of an event has.
+fn spelled_len(event: &Event) -> usize
+    ensures { result ≡ length (spelling event.now) }
+{
+    match event {
+        Event::AddQueue(queue) => 1 + queue_len(queue),
+        Event::Create(job) => 1 + job_len(job),
+        Event::Send { bytes, .. } => 9 + bytes.as_slice().len(),
+        Event::Close(closing) => 5 + media_len(&closing.media) + filters_len(&closing.filters),
+        Event::Cancel(_) => 5,
+        Event::Clock(_) => 9,
+    }
+}
+
+/// The one spelling of an event, in memory that is reserved once.
+pub fn encode(alloc: Global, event: &Event) -> Result<Vec<u8>, AllocError>
+    ensures spelled { IfOk result (λ bytes. bytes.items ≡ spelling event.now) }
+    ensures spellable { OnOk result (IsSpellable event.now) }
+{
+    let mut out = Vec::with_capacity(alloc, spelled_len(event))?;
+    put_event(&mut out, event)?;
+    Ok(out)
+}
