@@ -160,3 +160,21 @@ fn lists_give_back_what_is_too_long(rt: HostRuntime) -> Result<(), Fail> {
     );
     Ok(())
 }
+
+#[test]
+fn an_event_is_copied(rt: HostRuntime) -> Result<(), Fail> {
+    let alloc = rt.alloc();
+    let bytes = Piece::new(Vec::from_slice(alloc, b"ab")?).map_err(|_| "long")?;
+    let job = JobId::new(1).ok_or("no")?;
+    let event = Event::Send { job, bytes };
+    assert_eq!(rt; event.copy()?, event);
+    Ok(())
+}
+
+#[test]
+fn a_list_gives_its_items_back(rt: HostRuntime) -> Result<(), Fail> {
+    let alloc = rt.alloc();
+    let piece = Piece::new(Vec::from_slice(alloc, b"ab")?).map_err(|_| "long")?;
+    assert_eq!(rt; piece.into_vec().as_slice(), b"ab".as_slice());
+    Ok(())
+}
