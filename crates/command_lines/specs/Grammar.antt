@@ -2,13 +2,13 @@
 use Rattle.std.specs.Prelude.{ℕ, Bool, true, ◌&&◌, cond, nat_lt, ◌==◌, List, [], ◌∷◌, length, codes, nat_eq, Option, None, Some}
 use Rattle.std.specs.Cmp.Lexicographic.{pointwise}
 use Rattle.std.specs.Str.{is_utf8, str_to_ascii_lowercase}
-use Rattle.spool_types.specs.Limits.{greatest_number}
+use Rattle.spool_types.specs.Limits.{greatest_number, greatest_moment}
 use Rattle.spool_types.specs.Values.{is_queue_name, is_uri, is_media_type, is_user_name, is_title, is_options, is_file_name}
 use Rattle.spool_types.specs.declared.phase.Policy.{Policy}
 use Rattle.spool_types.specs.declared.phase.Policy.TheVariants.{AbortJob, RetryJob, RetryCurrentJob, StopPrinter}
 use Rattle.command_lines.specs.Words.{words_of}
 use Rattle.command_lines.specs.Numbers.{ranged}
-use Rattle.command_lines.specs.declared.command.Command.TheVariants.{Queue, Create, Close, Cancel, Jobs, Malformed}
+use Rattle.command_lines.specs.declared.command.Command.TheVariants.{Queue, Create, Close, Cancel, Clock, Jobs, Malformed}
 use Rattle.command_lines.specs.declared.command.Kind.{Kind}
 use Rattle.command_lines.specs.declared.command.Kind.TheVariants.{Remark, Says, Takes}
 
@@ -36,6 +36,10 @@ policy_in word =
 
 abbrev pub job_in : List ℕ → Option ℕ
 job_in word = ranged 1 greatest_number word
+
+-- seconds
+abbrev pub moment_in : List ℕ → Option ℕ
+moment_in word = ranged 0 greatest_moment word
 
 abbrev pub copies_in : List ℕ → Option ℕ
 copies_in word = ranged 1 9999 word
@@ -109,6 +113,15 @@ abbrev pub cancel_line : List (List ℕ) → Option Kind
 cancel_line (job ∷ []) = cancel_of (job_in job)
 cancel_line words = None
 
+abbrev pub clock_of : Option ℕ → Option Kind
+clock_of (Some moment) = Some (Says (Clock moment))
+clock_of None = None
+
+-- MOMENT
+abbrev pub clock_line : List (List ℕ) → Option Kind
+clock_line (moment ∷ []) = clock_of (moment_in moment)
+clock_line words = None
+
 -- no more words
 abbrev pub jobs_line : List (List ℕ) → Option Kind
 jobs_line [] = Some (Says Jobs)
@@ -123,8 +136,9 @@ line_of name words =
     (cond (is_word name (codes "send")) (send_line words)
     (cond (is_word name (codes "close")) (close_line words)
     (cond (is_word name (codes "cancel")) (cancel_line words)
+    (cond (is_word name (codes "clock")) (clock_line words)
     (cond (is_word name (codes "jobs")) (jobs_line words)
-    None)))))
+    None))))))
 
 -- a line of blanks is no command
 abbrev pub kind_in : List (List ℕ) → Option Kind

@@ -7,7 +7,7 @@ use Rattle.spool_types.specs.Refusals.{refusal_number, refusal_name}
 use Rattle.spool_types.specs.State.{Job, job_of}
 use Rattle.spool_types.specs.declared.refusal.Refusal.{Refusal}
 use Rattle.command_lines.specs.declared.reply.Answer.{Answer}
-use Rattle.command_lines.specs.declared.reply.Answer.TheVariants.{Done, Created, Sent, Closed, Jobs, Refused, Malformed, NoMemory}
+use Rattle.command_lines.specs.declared.reply.Answer.TheVariants.{Done, Created, Sent, Closed, Jobs, Refused, Malformed, Dead, NoMemory, Full, Disk}
 
 -- a quote or a backslash, which a quoted text escapes
 abbrev pub is_escaped : ℕ → Bool
@@ -56,4 +56,7 @@ answer_text (Closed media stages) = closed_line media stages
 answer_text (Jobs rows now) = jobs_text now (map job_of rows.now)
 answer_text (Refused refusal) = refusal_line refusal
 answer_text Malformed = codes "error syntax\n"
+answer_text Dead = codes "error dead\n"
 answer_text NoMemory = codes "error memory\n"
+answer_text Full = codes "error full\n"
+answer_text Disk = codes "error disk\n"

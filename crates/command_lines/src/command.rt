@@ -1,6 +1,7 @@
 //! What a text of commands says.
 use spool_types::{
-    Copies, FileName, JobId, NewQueue, OptionText, Piece, Priority, QueueName, Title, UserName,
+    Copies, FileName, JobId, Moment, NewQueue, OptionText, Piece, Priority, QueueName, Title,
+    UserName,
 };
 
 /// A job to be made, but for its number.
@@ -30,6 +31,8 @@ pub enum Command {
     Close { job: JobId, name: FileName },
     /// Cancels a job.
     Cancel(JobId),
+    /// Tells the moment now.
+    Clock(Moment),
     /// Lists the jobs.
     Jobs,
     /// A line that is no command, or bytes of a send that no line feed follows.

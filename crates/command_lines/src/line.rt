@@ -2,10 +2,10 @@
 ghost use Rattle.std.specs.Prelude.{◌≡◌, IfOk, map};
 ghost use Rattle.spool_types.specs.Values.{is_queue_name, is_uri, is_user_name, is_title, is_options};
 ghost use Rattle.command_lines.specs.Fronts.{bytes_of};
-ghost use Rattle.command_lines.specs.Grammar.{kind_of as line_kind, is_remark as remark, kind_in, line_of, queue_line as queues, queue_of, create_line as creates, creation_of, send_line as sends, send_of, close_line as closes, close_of, cancel_line as cancels, cancel_of, jobs_line as lists, text_in, media_in, copies_in, priority_in, policy_in as policy_word};
+ghost use Rattle.command_lines.specs.Grammar.{kind_of as line_kind, is_remark as remark, kind_in, line_of, queue_line as queues, queue_of, create_line as creates, creation_of, send_line as sends, send_of, close_line as closes, close_of, cancel_line as cancels, cancel_of, clock_line as clocks, jobs_line as lists, text_in, media_in, copies_in, priority_in, policy_in as policy_word};
 
 use crate::command::{Command, Creation, Kind};
-use crate::numbers::{job_number, ranged_number, short_number, small_number};
+use crate::numbers::{job_number, moment_number, ranged_number, short_number, small_number};
 use crate::words::{Word, words_of};
 use spool_types::{
     Copies, FileName, Interval, MediaType, NewQueue, OptionText, Policy, Priority, QueueName, Text,
@@ -86,6 +86,9 @@ fn line_of_command(
     }
     if name == b"cancel".as_slice() {
         return Ok(cancel_line(words));
+    }
+    if name == b"clock".as_slice() {
+        return Ok(clock_line(words));
     }
     if name == b"jobs".as_slice() {
         return Ok(jobs_line(words));
@@ -243,6 +246,16 @@ fn cancel_line(words: &[Word<'_>]) -> Option<Kind>
 {
     match words {
         [job] => Some(Kind::Says(Command::Cancel(job_number(job.bytes())?))),
+        _ => None,
+    }
+}
+
+// `clock MOMENT`
+fn clock_line(words: &[Word<'_>]) -> Option<Kind>
+    ensures { result ≡ clocks (map bytes_of words.now) }
+{
+    match words {
+        [moment] => Some(Kind::Says(Command::Clock(moment_number(moment.bytes())?))),
         _ => None,
     }
 }

@@ -1,16 +1,23 @@
 //! Numbers of 1 to 13 digits.
 ghost use Rattle.std.specs.Prelude.{◌≡◌, ◌<◌, ◌^◌, true};
 ghost use Rattle.std.specs.List.{list_all};
-ghost use Rattle.spool_types.specs.Limits.{greatest_number};
+ghost use Rattle.spool_types.specs.Limits.{greatest_number, greatest_moment};
 ghost use Rattle.command_lines.specs.Numbers.{number_of as number_in, is_number as is_digits, is_digit as digit, read_on, ranged};
 
-use spool_types::{JobId, Ranged};
+use spool_types::{JobId, Moment, Ranged};
 
 /// The number of a job.
 pub fn job_number(word: &[u8]) -> Option<JobId>
     ensures { result ≡ ranged 1 greatest_number word.now }
 {
     JobId::new(small_number(word)?)
+}
+
+/// A moment.
+pub fn moment_number(word: &[u8]) -> Option<Moment>
+    ensures { result ≡ ranged 0 greatest_moment word.now }
+{
+    Moment::new(number_of(word)?)
 }
 
 /// A number in a range.

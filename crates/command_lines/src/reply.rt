@@ -27,7 +27,13 @@ pub enum Answer<'a> {
     Refused(Refusal),
     /// The line isn't a command.
     Malformed,
+    /// The spool has failed, and has to be opened again.
+    Dead,
     NoMemory,
+    /// There is no room for the event.
+    Full,
+    /// The device has failed.
+    Disk,
 }
 
 /// The text of a reply.
@@ -42,7 +48,10 @@ pub fn print_reply(alloc: Global, answer: &Answer<'_>) -> Result<Vec<u8>, AllocE
         Answer::Jobs { rows, now } => jobs(alloc, rows, *now),
         Answer::Refused(refusal) => refused(alloc, *refusal),
         Answer::Malformed => Vec::from_slice(alloc, b"error syntax\n"),
+        Answer::Dead => Vec::from_slice(alloc, b"error dead\n"),
         Answer::NoMemory => Vec::from_slice(alloc, b"error memory\n"),
+        Answer::Full => Vec::from_slice(alloc, b"error full\n"),
+        Answer::Disk => Vec::from_slice(alloc, b"error disk\n"),
     }
 }
 

@@ -137,6 +137,17 @@ fn numbers(rt: HostRuntime) -> Result<(), Fail> {
 }
 
 #[test]
+fn moments(rt: HostRuntime) -> Result<(), Fail> {
+    let text = b"clock 0\nclock 4000000000000\nclock 4000000000001\nclock\nclock 1 2\nclock -1\n";
+    let lines = shown(rt.alloc(), text, 4096)?;
+    assert_eq!(rt;
+        lines.as_str(),
+        "Clock(Moment { seconds: 0 })\nClock(Moment { seconds: 4000000000000 })\nMalformed\nMalformed\nMalformed\nMalformed\n"
+    );
+    Ok(())
+}
+
+#[test]
 fn limits_of_a_creation(rt: HostRuntime) -> Result<(), Fail> {
     let text =
         b"create q u t 9999 100 o\ncreate q u t 10000 1 o\ncreate q u t 1 101 o\ncreate q u t 0 1 o\ncreate q \"\" t 1 1 o\n";
@@ -226,6 +237,9 @@ fn replies_are_printed_line_by_line(rt: HostRuntime) -> Result<(), Fail> {
         ),
         (Answer::Malformed, "error syntax\n"),
         (Answer::NoMemory, "error memory\n"),
+        (Answer::Dead, "error dead\n"),
+        (Answer::Full, "error full\n"),
+        (Answer::Disk, "error disk\n"),
     ] {
         assert_eq!(rt; printed(alloc, &answer)?.as_str(), want);
     }

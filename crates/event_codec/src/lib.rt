@@ -16,8 +16,9 @@
 //! # Promises
 //!
 //! - *ExactSpelling*: [`encode`] gives `spelling` of its event (`spelled`), and that event is within its limits
-//!   (`spellable`). [`decode`] gives an event only where the bytes are its spelling (`sound`), gives each event from its
-//!   spelling (`complete`), and answers the first fault from the left (`exact`, by `reading`).
+//!   (`spellable`); [`encode_onto`] adds it to bytes that are there already. [`decode`] gives an event only where the
+//!   bytes are its spelling (`sound`), gives each event from its spelling (`complete`), and answers the first fault from
+//!   the left (`exact`, by `reading`).
 //! - [`no_proper_prefix`]: no spelling is a proper prefix of another. [`one_event`]: bytes spell one event at most.
 //!
 //! # Faults
@@ -25,7 +26,8 @@
 //! The first byte is looked at first, and is [`CodecFault::Kind`] where it stands for no event. Then each field from left
 //! to right may have a fault: `Length` where it passes the end, `Utf8` where a text isn't UTF-8, `Range` where the value
 //! is outside its limits. Bytes after the last field are `Length`, and so are no bytes at all. `Memory` comes where a
-//! field's copy is refused, and then nothing is kept. [`encode`] reserves the whole length at once, and fails only there.
+//! field's copy is refused, and then nothing is kept. [`encode`] and [`encode_onto`] reserve the whole length at once, and
+//! fail only there.
 #![tactic(auto)]
 
 mod fault;
@@ -37,7 +39,7 @@ mod writing;
 pub use fault::CodecFault;
 pub use laws::{no_proper_prefix, one_event};
 pub use reading::decode;
-pub use writing::encode;
+pub use writing::{encode, encode_onto};
 
 #[cfg(test)]
 mod tests;

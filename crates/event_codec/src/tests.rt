@@ -17,6 +17,16 @@ fn a_cancel_is_spelled_in_five_bytes(rt: HostRuntime) -> Result<(), Fail> {
 }
 
 #[test]
+fn a_spelling_is_added_to_what_is_there(rt: HostRuntime) -> Result<(), Fail> {
+    let alloc = rt.alloc();
+    let cancel = Event::Cancel(JobId::new(1).ok_or("no")?);
+    let mut bytes = Vec::from_slice(alloc, &[7, 8])?;
+    encode_onto(&cancel, &mut bytes)?;
+    assert_eq!(rt; bytes.as_slice(), [7, 8, 0x0A, 0, 0, 0, 1].as_slice());
+    Ok(())
+}
+
+#[test]
 fn wrong_cancels_have_their_faults(rt: HostRuntime) {
     let alloc = rt.alloc();
     assert!(rt; decode(alloc, &[0x0A, 0, 0, 0, 1, 0]) == Err(CodecFault::Length));

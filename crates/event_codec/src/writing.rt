@@ -204,7 +204,8 @@ fn filters_len(filters: &Option<Filters>) -> usize
 
 /// How many bytes the spelling of an event has.
 fn spelled_len(event: &Event) -> usize
-    ensures { result ≡ length (spelling event.now) }
+    ensures value { result ≡ length (spelling event.now) }
+    ensures small { result < 2 ^ 26 }
 {
     match event {
         Event::AddQueue(queue) => 1 + queue_len(queue),
@@ -224,4 +225,15 @@ pub fn encode(alloc: Global, event: &Event) -> Result<Vec<u8>, AllocError>
     let mut out = Vec::with_capacity(alloc, spelled_len(event))?;
     put_event(&mut out, event)?;
     Ok(out)
+}
+
+/// Adds the one spelling of an event to bytes that are there already, whose memory is made ready for all of it first.
+/// After an error what stands behind those bytes has no meaning.
+pub fn encode_onto(event: &Event, out: &mut Vec<u8>) -> Result<(), AllocError>
+    ensures spelled { OnOk result (out.new.items ≡ out.old.items ++ spelling event.now) }
+    ensures spellable { OnOk result (IsSpellable event.now) }
+    ensures short { OnOk result (length (spelling event.now) < 2 ^ 26) }
+{
+    out.reserve(spelled_len(event))?;
+    put_event(out, event)
 }

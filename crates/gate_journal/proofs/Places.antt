@@ -60,7 +60,7 @@ at_entry base end place before after payload bytes has at fits =
     let found : entry_at bytes end place ≡ Entry (place + 5) (length payload) = ap (choose end place (get_or bytes place 0)) long ∙ chosen end place (get_or bytes place 0) (length payload) gate fits in
     (found, ap (λ (n : ℕ). take (length payload) (drop n bytes)) e ∙ ap (take (length payload)) (sym (drop-drop 4 (place + 1) bytes) ∙ ap (drop 4) behind) ∙ take_at payload rest (length payload) refl)
 
-same_size : (p q r s : List ℕ) → length p ≡ length q → p ++ r ≡ q ++ s → (p ≡ q) × (r ≡ s)
+pub same_size : (p q r s : List ℕ) → length p ≡ length q → p ++ r ≡ q ++ s → (p ≡ q) × (r ≡ s)
 same_size [] [] r s is e = (refl, e)
 same_size [] (y ∷ q) r s is e = absurd (omega arith)
 same_size (x ∷ p) [] r s is e = absurd (omega arith)
@@ -70,7 +70,7 @@ same_size (x ∷ p) (y ∷ q) r s is e =
     let both = same_size p q r s (omega arith) tails in
     (cc (heads, both.0), both.1)
 
-regroup : (p : List ℕ) (ps : List (List ℕ)) (tail : List ℕ) → records (p ∷ ps) ++ tail ≡ 165 ∷ (to_be_bytes w32 (length p) ++ (p ++ (records ps ++ tail)))
+pub regroup : (p : List ℕ) (ps : List (List ℕ)) (tail : List ℕ) → records (p ∷ ps) ++ tail ≡ 165 ∷ (to_be_bytes w32 (length p) ++ (p ++ (records ps ++ tail)))
 regroup p ps tail = append_assoc (record_of p) (records ps) tail ∙ append_assoc (165 ∷ to_be_bytes w32 (length p)) p (records ps ++ tail)
 
 -- bytes have one list of entries

@@ -1,7 +1,7 @@
 -- Turns, one after another.
-use Rattle.std.proofs.Common.{◌≡◌, ℕ, suc, ◌+◌, List, [], ◌∷◌, ◌++◌, length, take, refl, ap, sym, ◌∙◌, subst, arith, append_assoc, length-append, Option, None, Some, Result, Ok, Err}
+use Rattle.std.proofs.Common.{◌≡◌, ℕ, suc, ◌+◌, List, [], ◌∷◌, ◌++◌, length, take, refl, ap, sym, ◌∙◌, subst, ◌⊎◌, inl, arith, append_assoc, length-append, false, Option, None, Some, Result, Ok, Err}
 use Rattle.std.proofs.lemmas.List.{append-nil, map-append}
-use Rattle.std.specs.Prelude.{IfOk, codes}
+use Rattle.std.specs.Prelude.{◌≤◌, ◌↔◌, IfOk, OnOk, IsSome, codes}
 use Rattle.std.specs.Io.KnownBytes.{Appends}
 use Rattle.std.proofs.KnownBytes.{Appends-nil, Appends-trans}
 use Rattle.spool_types.specs.declared.event.Event.{Event}
@@ -9,32 +9,98 @@ use Rattle.spool_types.specs.declared.event.Reply.{Reply}
 use Rattle.spool_types.specs.declared.refusal.Refusal.{Refusal}
 use Rattle.spool_types.specs.State.{State}
 use Rattle.spool_types.specs.Step.{step, answered, refusal_of}
-use Rattle.spool_types.specs.Fold.{after_all, unless_refused}
+use Rattle.spool_types.specs.Fold.{after_all, after_one, unless_refused}
+use Rattle.spool_disk.specs.Disk.{LeavesOnly}
+use Rattle.spool_disk.proofs.Moments.{started}
 use Rattle.command_lines.specs.Pending.{Pending, Leads, to_come}
 use Rattle.command_lines.specs.Replies.{refusal_line}
 use Rattle.command_lines.specs.Steps.{GivesOne, EndsWith}
 use Rattle.command_lines.specs.declared.command.Command.{Command}
+use Rattle.spool_core.specs.Image.{HasTable, HasBeforeOrAfterEvent}
+use Rattle.spool_core.specs.Standing.{Standing, IsAnswer}
+use Rattle.spool_core.specs.declared.spool.apply_fault.ApplyFault.{ApplyFault}
+use Rattle.spool_core.specs.declared.spool.apply_fault.ApplyFault.TheVariants.{Dead, Refused, Memory, Full, Disk}
 use Rattle.spool_engine.specs.Script.{reply_of, after_command, said_of, event_of, step_line, step_state, accepted_line, reply_line, script_text, script_events, event_then}
-use Rattle.spool_engine.specs.Runs.{Turn, served, no_memory, IsTurn, IsOutcome, AreTurns, last_state, texts_of, commands_in, AllServed, Wrote, WroteSome, Lead, Serves, Drains, DrainsEnd}
-use Rattle.spool_engine.specs.Answers.{applied_line, plain_line, IsApplied, Takes}
-use Rattle.spool_engine.specs.declared.applied.Applied.{Applied}
-use Rattle.spool_engine.specs.declared.applied.Applied.TheVariants.{Accepted, Refused, NoMemory}
+use Rattle.spool_engine.specs.Runs.{Device, Outcome, Turn, served, no_memory, full, disk, dead, IsServed, IsTaken, IsStep, IsTurn, IsOutcome, IsKept, HasBeforeOrAfterCommand, AreTurns, last_state, texts_of, commands_in, AllServed, Wrote, WroteSome, Lead, Serves, Drains, DrainsEnd}
+use Rattle.spool_engine.specs.Answers.{answer_line, plain_line, IsApplied, Takes}
 use Rattle.spool_engine.specs.declared.fault.RunFault.{RunFault}
-use Rattle.spool_engine.specs.declared.fault.RunFault.TheVariants.{Read, Write, Memory}
+use Rattle.spool_engine.specs.declared.fault.RunFault.TheVariants.{Read, Write, Memory as Wanted}
 
--- a turn that is served as the script says
-pub served_turn : (s s' : State) (c : Command) (text : List ℕ) → text ≡ reply_of s c → s' ≡ after_command s c → (t : Turn) × Takes s c t s' × (t.text ≡ text)
-served_turn s s' c text e f = (record { command = c; outcome = served; text = text; next = s' }, record { legal = (e, f); command = refl; next = refl }, refl)
+-- since this moment there is no other
+abbrev pub OnlyNow : {D : Type 0} → Device D → Type 0
+OnlyNow {D} v = (d : D) (c : List ℕ) → v.image_since d (v.moment d) c → v.image d c
+
+-- where nothing is done a crash leaves the table
+pub unmoved : {D : Type 0} (v : Device D) (s : Standing D) (P : List ℕ → Type 0) → OnlyNow v → IsKept v s → ((c : List ℕ) → HasTable s.state c → P c) → s.dead ≡ false → IsSome (v.bytes s.disk) → LeavesOnly v.moment v.image_since s.disk s.disk P
+unmoved v s P now kept weaker alive tells = started v.moment v.image_since s.disk P (λ c since. weaker c (kept alive tells c (now s.disk c since)))
+
+-- the state of a step is the one of the fold
+step_folds : (s : State) (e : Event) (o : Option Refusal) → step_state s (answered s e o) ≡ unless_refused s e o
+step_folds s e None = refl
+step_folds s e (Some r) = refl
+
+same_after : (s : State) (c : Command) (e : Event) → event_of s c ≡ Some e → after_command s c ≡ after_one s e
+same_after s c e is = ap (λ o. elim o [ None ↦ s | Some e ↦ step_state s (step s e) ]) is ∙ step_folds s e (refusal_of s e)
+
+same_reply : (s : State) (c : Command) (e : Event) → event_of s c ≡ Some e → reply_of s c ≡ step_line e (step s e)
+same_reply s c e is = ap (λ o. elim o [ None ↦ said_of s c | Some e ↦ step_line e (step s e) ]) is
+
+-- a command that is no event changes nothing
+said_turn : {D : Type 0} (v : Device D) (s : Standing D) (c : Command) (text : List ℕ) → OnlyNow v → IsKept v s → event_of s.state c ≡ None → text ≡ said_of s.state c → (t : Turn D) × Takes v s c t s × (t.text ≡ text)
+said_turn v s c text now kept is e = (
+  record { command = c; outcome = served; text = text; next = s },
+  record {
+    legal = record {
+      outcome = record {
+        text = e ∙ sym (ap (λ o. elim o [ None ↦ said_of s.state c | Some e ↦ step_line e (step s.state e) ]) is);
+        state = sym (ap (λ o. elim o [ None ↦ s.state | Some e ↦ step_state s.state (step s.state e) ]) is);
+        step = subst (λ o. IsStep s o s) (sym is) refl;
+      };
+      counted = omega arith;
+      told = (λ h. h, λ h. h);
+      crash = unmoved v s (HasBeforeOrAfterCommand s.state c) now kept (λ image h. inl h);
+      kept = kept;
+    };
+    command = refl;
+    next = refl;
+  },
+  refl,
+)
 
 -- a turn whose event went so
-pub event_turn : (s s' : State) (c : Command) (e : Event) (a : Applied) → event_of s c ≡ Some e → IsApplied s (step s e) a s' → (t : Turn) × Takes s c t s' × (t.text ≡ applied_line e a)
-event_turn s s' c e (Accepted reply) is h = served_turn s s' c (accepted_line e reply)
-    (sym (ap (λ o. elim o [ None ↦ said_of s c | Some e ↦ step_line e (step s e) ]) is ∙ ap (step_line e) h))
-    (sym (ap (λ o. elim o [ None ↦ s | Some e ↦ step_state s (step s e) ]) is ∙ ap (step_state s) h))
-event_turn s s' c e (Refused refusal) is h = served_turn s s' c (refusal_line refusal)
-    (sym (ap (λ o. elim o [ None ↦ said_of s c | Some e ↦ step_line e (step s e) ]) is ∙ ap (step_line e) h.0))
-    (h.1 ∙ sym (ap (λ o. elim o [ None ↦ s | Some e ↦ step_state s (step s e) ]) is ∙ ap (step_state s) h.0))
-event_turn s s' c e NoMemory is h = (record { command = c; outcome = no_memory; text = codes "error memory\n"; next = s' }, record { legal = (refl, h); command = refl; next = refl }, refl)
+applied_turn : {D : Type 0} (v : Device D) (s s' : Standing D) (c : Command) (e : Event) (a : Result Reply ApplyFault) (o : Outcome) (text : List ℕ) → event_of s.state c ≡ Some e → IsApplied v s e a s'
+    → IsOutcome v.failures s (record { command = c; outcome = o; text = text; next = s' }) o → (t : Turn D) × Takes v s c t s' × (t.text ≡ text)
+applied_turn v s s' c e a o text is h out = (
+  record { command = c; outcome = o; text = text; next = s' },
+  record {
+    legal = record {
+      outcome = out;
+      counted = h.counted;
+      told = h.told;
+      crash = λ alive tells. subst (λ after. LeavesOnly v.moment v.image_since s.disk s'.disk (λ image. HasTable s.state image ⊎ HasTable after image)) (sym (same_after s.state c e is)) (h.crash alive tells);
+      kept = h.kept;
+    };
+    command = refl;
+    next = refl;
+  },
+  refl,
+)
+
+pub event_turn : {D : Type 0} (v : Device D) (s s' : Standing D) (c : Command) (e : Event) (a : Result Reply ApplyFault) → event_of s.state c ≡ Some e → IsApplied v s e a s' → (t : Turn D) × Takes v s c t s' × (t.text ≡ answer_line e a)
+event_turn v s s' c e (Ok reply) is h = applied_turn v s s' c e (Ok reply) served (accepted_line e reply) is h (record {
+  text = sym (same_reply s.state c e is ∙ ap (step_line e) h.cause.step);
+  state = sym (ap (λ o. elim o [ None ↦ s.state | Some e ↦ step_state s.state (step s.state e) ]) is ∙ ap (step_state s.state) h.cause.step);
+  step = subst (λ o. IsStep s o s') (sym is) (subst (λ r. IsTaken s e r s') (sym h.cause.step) h.cause);
+})
+event_turn v s s' c e (Err (Refused refusal)) is h = applied_turn v s s' c e (Err (Refused refusal)) served (refusal_line refusal) is h (record {
+  text = sym (same_reply s.state c e is ∙ ap (step_line e) h.cause.1);
+  state = ap (λ v. v.state) h.cause.2 ∙ sym (ap (λ o. elim o [ None ↦ s.state | Some e ↦ step_state s.state (step s.state e) ]) is ∙ ap (step_state s.state) h.cause.1);
+  step = subst (λ o. IsStep s o s') (sym is) (subst (λ r. IsTaken s e r s') (sym h.cause.1) (h.cause.0, h.cause.2));
+})
+event_turn v s s' c e (Err Dead) is h = applied_turn v s s' c e (Err Dead) dead (codes "error dead\n") is h (record { event = e; is = is; cause = h.cause; text = refl })
+event_turn v s s' c e (Err Memory) is h = applied_turn v s s' c e (Err Memory) no_memory (codes "error memory\n") is h (record { event = e; is = is; cause = h.cause; text = refl })
+event_turn v s s' c e (Err Full) is h = applied_turn v s s' c e (Err Full) full (codes "error full\n") is h (record { event = e; is = is; cause = h.cause; text = refl })
+event_turn v s s' c e (Err Disk) is h = applied_turn v s s' c e (Err Disk) disk (codes "error disk\n") is h (record { event = e; is = is; cause = h.cause; text = refl })
 
 -- a text that is Ok has other bytes, where these are the same
 same_bytes : {X E : Type 0} (bytes : X → List ℕ) (r : Result X E) (a b : List ℕ) → b ≡ a → IfOk r (λ text. bytes text ≡ a) → IfOk r (λ text. bytes text ≡ b)
@@ -42,59 +108,94 @@ same_bytes bytes (Ok x) a b e h = h ∙ sym e
 same_bytes bytes (Err fault) a b e h = h
 
 -- a command that is an event, and the text that tells how it went
-pub event_told : {X E : Type 0} (bytes : X → List ℕ) (r : Result X E) (s s' : State) (c : Command) (e : Event) (line : Applied → List ℕ) → ((a : Applied) → line a ≡ applied_line e a) → event_of s c ≡ Some e
-    → (a : Applied) × IsApplied s (step s e) a s' × IfOk r (λ text. bytes text ≡ line a)
-    → (t : Turn) × Takes s c t s' × IfOk r (λ text. bytes text ≡ t.text)
-event_told bytes r s s' c e line same is (a, went, text) =
-    let (t, takes, told) = event_turn s s' c e a is went in
+pub event_told : {X E D : Type 0} (bytes : X → List ℕ) (r : Result X E) (v : Device D) (s s' : Standing D) (c : Command) (e : Event) (line : Result Reply ApplyFault → List ℕ) → ((a : Result Reply ApplyFault) → line a ≡ answer_line e a) → event_of s.state c ≡ Some e
+    → (a : Result Reply ApplyFault) × IsApplied v s e a s' × IfOk r (λ text. bytes text ≡ line a)
+    → (t : Turn D) × Takes v s c t s' × IfOk r (λ text. bytes text ≡ t.text)
+event_told bytes r v s s' c e line same is (a, went, text) =
+    let (t, takes, told) = event_turn v s s' c e a is went in
     (t, takes, same_bytes bytes r (line a) t.text (told ∙ sym (same a)) text)
 
 -- a command that is no event
-pub said_told : {X E : Type 0} (bytes : X → List ℕ) (r : Result X E) (s : State) (c : Command) (text : List ℕ) → text ≡ reply_of s c → s ≡ after_command s c → IfOk r (λ v. bytes v ≡ text) → (t : Turn) × Takes s c t s × IfOk r (λ v. bytes v ≡ t.text)
-said_told bytes r s c text e f h =
-    let (t, takes, told) = served_turn s s c text e f in
+pub said_told : {X E D : Type 0} (bytes : X → List ℕ) (r : Result X E) (v : Device D) (s : Standing D) (c : Command) (text : List ℕ) → OnlyNow v → IsKept v s → event_of s.state c ≡ None → text ≡ said_of s.state c → IfOk r (λ x. bytes x ≡ text) → (t : Turn D) × Takes v s c t s × IfOk r (λ x. bytes x ≡ t.text)
+said_told bytes r v s c text now kept is e h =
+    let (t, takes, told) = said_turn v s c text now kept is e in
     (t, takes, same_bytes bytes r text t.text told h)
 
 -- a reply that tells its event alone
-pub plain : (e : Event) → ((reply : Reply) → accepted_line e reply ≡ reply_line reply) → (a : Applied) → plain_line a ≡ applied_line e a
-plain e same (Accepted reply) = sym (same reply)
-plain e same (Refused refusal) = refl
-plain e same NoMemory = refl
+pub plain : (e : Event) → ((reply : Reply) → accepted_line e reply ≡ reply_line reply) → (a : Result Reply ApplyFault) → plain_line a ≡ answer_line e a
+plain e same (Ok reply) = sym (same reply)
+plain e same (Err fault) = refl
+
+-- an event for which there was nothing to be done, so that the spool is as it was
+pub unasked : {D : Type 0} (v : Device D) (s : Standing D) (e : Event) (a : Result Reply ApplyFault) → OnlyNow v → IsKept v s → IsAnswer v.failures s e a s → IsApplied v s e a s
+unasked v s e a now kept h = record {
+  cause = h;
+  counted = omega arith;
+  told = (λ h. h, λ h. h);
+  crash = unmoved v s (HasBeforeOrAfterEvent s.state e) now kept (λ image h. inl h);
+  kept = kept;
+}
+
+-- the same spool by another name
+pub kept_as : {D : Type 0} (v : Device D) (s s' : Standing D) → s ≡ s' → IsKept v s → IsKept v s'
+kept_as v s s' e kept = subst (IsKept v) e kept
+
+-- after every answer of the spool a crash leaves the table that is shown
+still_kept : {D : Type 0} (v : Device D) (s s' : Standing D) (e : Event) (a : Result Reply ApplyFault) → IsAnswer v.failures s e a s' → (IsSome (v.bytes s'.disk) ↔ IsSome (v.bytes s.disk))
+    → OnOk a (IsSome (v.bytes s.disk) → (c : List ℕ) → v.image s'.disk c → HasTable s'.state c) → IsKept v s → IsKept v s'
+still_kept v s s' e (Ok reply) h told ok kept = λ alive tells c now. ok (told.0 tells) c now
+still_kept v s s' e (Err Dead) h told ok kept = kept_as v s s' (sym h.1) kept
+still_kept v s s' e (Err (Refused r)) h told ok kept = kept_as v s s' (sym h.2) kept
+still_kept v s s' e (Err Memory) h told ok kept = kept_as v s s' (sym h.2) kept
+still_kept v s s' e (Err Full) h told ok kept = kept_as v s s' (sym h.1) kept
+still_kept v s s' e (Err Disk) h told ok kept = λ alive tells c now. absurd (let died = h.dead in cc)
+
+-- what the spool says of an event
+pub spool_applied : {D : Type 0} (v : Device D) (s s' : Standing D) (e : Event) (a : Result Reply ApplyFault) → IsAnswer v.failures s e a s' → v.failures s.disk ≤ v.failures s'.disk → (IsSome (v.bytes s'.disk) ↔ IsSome (v.bytes s.disk))
+    → (s.dead ≡ false → IsSome (v.bytes s.disk) → LeavesOnly v.moment v.image_since s.disk s'.disk (HasBeforeOrAfterEvent s.state e))
+    → OnOk a (IsSome (v.bytes s.disk) → (c : List ℕ) → v.image s'.disk c → HasTable s'.state c) → IsKept v s → IsApplied v s e a s'
+spool_applied v s s' e a h counted told crash ok kept = record {
+  cause = h;
+  counted = counted;
+  told = told;
+  crash = crash;
+  kept = still_kept v s s' e a h told ok kept;
+}
 
 -- a turn is put behind turns
-are_more : (s : State) (ts : List Turn) (t : Turn) → AreTurns s ts → IsTurn (last_state s ts) t → AreTurns s (ts ++ t ∷ [])
-are_more s [] t h k = (k, tt)
-are_more s (u ∷ ts) t h k = (h.0, are_more u.next ts t h.1 k)
+are_more : {D : Type 0} (v : Device D) (s : Standing D) (ts : List (Turn D)) (t : Turn D) → AreTurns v s ts → IsTurn v (last_state s ts) t → AreTurns v s (ts ++ t ∷ [])
+are_more v s [] t h k = (k, tt)
+are_more v s (u ∷ ts) t h k = (h.0, are_more v u.next ts t h.1 k)
 
-last_more : (s : State) (ts : List Turn) (t : Turn) → last_state s (ts ++ t ∷ []) ≡ t.next
+last_more : {D : Type 0} (s : Standing D) (ts : List (Turn D)) (t : Turn D) → last_state s (ts ++ t ∷ []) ≡ t.next
 last_more s [] t = refl
 last_more s (u ∷ ts) t = last_more u.next ts t
 
-pub texts_of-append : (ts us : List Turn) → texts_of (ts ++ us) ≡ texts_of ts ++ texts_of us
+pub texts_of-append : {D : Type 0} (ts us : List (Turn D)) → texts_of (ts ++ us) ≡ texts_of ts ++ texts_of us
 texts_of-append [] us = refl
 texts_of-append (t ∷ ts) us = ap (λ l. t.text ++ l) (texts_of-append ts us) ∙ sym (append_assoc t.text (texts_of ts) (texts_of us))
 
-commands_more : (ts : List Turn) (t : Turn) → commands_in (ts ++ t ∷ []) ≡ commands_in ts ++ t.command ∷ []
-commands_more ts t = map-append (λ (u : Turn). u.command) ts (t ∷ [])
+commands_more : {D : Type 0} (ts : List (Turn D)) (t : Turn D) → commands_in (ts ++ t ∷ []) ≡ commands_in ts ++ t.command ∷ []
+commands_more {D} ts t = map-append (λ (u : Turn D). u.command) ts (t ∷ [])
 
-pub lead_none : (s : State) → Lead s [] s
-lead_none s = record { legal = tt; last = refl }
+pub lead_none : {D : Type 0} (v : Device D) (s : Standing D) → Lead v s [] s
+lead_none v s = record { legal = tt; last = refl }
 
-lead_more : (s m s' : State) (ts : List Turn) (t : Turn) → Lead s ts m → IsTurn m t → t.next ≡ s' → Lead s (ts ++ t ∷ []) s'
-lead_more s m s' ts t l is e = record { legal = are_more s ts t l.legal (subst (λ v. IsTurn v t) (sym l.last) is); last = last_more s ts t ∙ e }
+lead_more : {D : Type 0} (v : Device D) (s m s' : Standing D) (ts : List (Turn D)) (t : Turn D) → Lead v s ts m → IsTurn v m t → t.next ≡ s' → Lead v s (ts ++ t ∷ []) s'
+lead_more v s m s' ts t l is e = record { legal = are_more v s ts t l.legal (subst (λ x. IsTurn v x t) (sym l.last) is); last = last_more s ts t ∙ e }
 
-are_both : (s : State) (ts us : List Turn) → AreTurns s ts → AreTurns (last_state s ts) us → AreTurns s (ts ++ us)
-are_both s [] us h k = k
-are_both s (t ∷ ts) us h k = (h.0, are_both t.next ts us h.1 k)
+are_both : {D : Type 0} (v : Device D) (s : Standing D) (ts us : List (Turn D)) → AreTurns v s ts → AreTurns v (last_state s ts) us → AreTurns v s (ts ++ us)
+are_both v s [] us h k = k
+are_both v s (t ∷ ts) us h k = (h.0, are_both v t.next ts us h.1 k)
 
-last_both : (s : State) (ts us : List Turn) → last_state s (ts ++ us) ≡ last_state (last_state s ts) us
+last_both : {D : Type 0} (s : Standing D) (ts us : List (Turn D)) → last_state s (ts ++ us) ≡ last_state (last_state s ts) us
 last_both s [] us = refl
 last_both s (t ∷ ts) us = last_both t.next ts us
 
-pub lead_both : (s m s' : State) (ts us : List Turn) → Lead s ts m → Lead m us s' → Lead s (ts ++ us) s'
-lead_both s m s' ts us l k = record {
-  legal = are_both s ts us l.legal (subst (λ v. AreTurns v us) (sym l.last) k.legal);
-  last = last_both s ts us ∙ ap (λ v. last_state v us) l.last ∙ k.last;
+pub lead_both : {D : Type 0} (v : Device D) (s m s' : Standing D) (ts us : List (Turn D)) → Lead v s ts m → Lead v m us s' → Lead v s (ts ++ us) s'
+lead_both v s m s' ts us l k = record {
+  legal = are_both v s ts us l.legal (subst (λ x. AreTurns v x us) (sym l.last) k.legal);
+  last = last_both s ts us ∙ ap (λ x. last_state x us) l.last ∙ k.last;
 }
 
 take_past : (xs ys : List ℕ) (n : ℕ) → take (length xs + n) (xs ++ ys) ≡ xs ++ take n ys
@@ -112,11 +213,11 @@ some_more a b d xs ys h k = record {
 }
 
 -- what was written before, and then
-pub wrote_more : (r : Result (Unit {0}) RunFault) (a b d : Option (List ℕ)) (ts us : List Turn) → Appends a b (texts_of ts) → Wrote r b d us → Wrote r a d (ts ++ us)
+pub wrote_more : {D : Type 0} (r : Result (Unit {0}) RunFault) (a b d : Option (List ℕ)) (ts us : List (Turn D)) → Appends a b (texts_of ts) → Wrote r b d us → Wrote r a d (ts ++ us)
 wrote_more (Ok x) a b d ts us h k = subst (Appends a d) (sym (texts_of-append ts us)) (Appends-trans a b d (texts_of ts) (texts_of us) h k)
 wrote_more (Err Read) a b d ts us h k = subst (Appends a d) (sym (texts_of-append ts us)) (Appends-trans a b d (texts_of ts) (texts_of us) h k)
 wrote_more (Err Write) a b d ts us h k = subst (WroteSome a d) (sym (texts_of-append ts us)) (some_more a b d (texts_of ts) (texts_of us) h k)
-wrote_more (Err Memory) a b d ts us h k = record {
+wrote_more (Err Wanted) a b d ts us h k = record {
   told = ts ++ k.told;
   untold = k.untold;
   split = ap (λ l. ts ++ l) k.split ∙ sym (append_assoc ts k.told k.untold);
@@ -125,82 +226,77 @@ wrote_more (Err Memory) a b d ts us h k = record {
 }
 
 -- all replies were written when no memory was found for what comes next
-pub wrote_all : (a b : Option (List ℕ)) (ts : List Turn) → Appends a b (texts_of ts) → Wrote (Err Memory) a b ts
+pub wrote_all : {D : Type 0} (a b : Option (List ℕ)) (ts : List (Turn D)) → Appends a b (texts_of ts) → Wrote (Err Wanted) a b ts
 wrote_all a b ts h = record { told = ts; untold = []; split = sym (append-nil ts); at_most_one = omega arith; wrote = h }
 
 -- one turn, by how its text was written
-pub wrote_one : (a b : Option (List ℕ)) (t : Turn) → Appends a b t.text → Wrote (Ok tt) a b (t ∷ [])
+pub wrote_one : {D : Type 0} (a b : Option (List ℕ)) (t : Turn D) → Appends a b t.text → Wrote (Ok tt) a b (t ∷ [])
 wrote_one a b t h = subst (Appends a b) (sym (append-nil t.text)) h
 
-pub wrote_part : (a b : Option (List ℕ)) (t : Turn) → WroteSome a b t.text → Wrote (Err Write) a b (t ∷ [])
+pub wrote_part : {D : Type 0} (a b : Option (List ℕ)) (t : Turn D) → WroteSome a b t.text → Wrote (Err Write) a b (t ∷ [])
 wrote_part a b t h = subst (WroteSome a b) (sym (append-nil t.text)) h
 
-pub wrote_none : (a : Option (List ℕ)) (t : Turn) → Wrote (Err Memory) a a (t ∷ [])
+pub wrote_none : {D : Type 0} (a : Option (List ℕ)) (t : Turn D) → Wrote (Err Wanted) a a (t ∷ [])
 wrote_none a t = record { told = []; untold = t ∷ []; split = refl; at_most_one = omega arith; wrote = Appends-nil a }
 
-module _ (r : Result (Unit {0}) RunFault) where
-  pub drains_more : (s m s' : State) (p q q' : Pending) (ts : List Turn) (t : Turn) (c : Command) (a b d : Option (List ℕ))
-      → Drains s p ts m q (Ok tt) a b → GivesOne q c q' → Serves m c t s' r b d → Drains s p (ts ++ t ∷ []) s' q' r a d
+module _ {D : Type 0} (v : Device D) (r : Result (Unit {0}) RunFault) where
+  pub drains_more : (s m s' : Standing D) (p q q' : Pending) (ts : List (Turn D)) (t : Turn D) (c : Command) (a b d : Option (List ℕ))
+      → Drains v s p ts m q (Ok tt) a b → GivesOne q c q' → Serves v m c t s' r b d → Drains v s p (ts ++ t ∷ []) s' q' r a d
   drains_more s m s' p q q' ts t c a b d h gives one = record {
-    lead = lead_more s m s' ts t h.lead one.legal one.next;
+    lead = lead_more v s m s' ts t h.lead one.legal one.next;
     commands = λ more.
         h.commands more ∙ ap (λ l. commands_in ts ++ l) (gives.leads more)
         ∙ sym (append_assoc (commands_in ts) (c ∷ []) (to_come q' more))
-        ∙ ap (λ l. l ++ to_come q' more) (ap (λ v. commands_in ts ++ v ∷ []) (sym one.command) ∙ sym (commands_more ts t));
+        ∙ ap (λ l. l ++ to_come q' more) (ap (λ x. commands_in ts ++ x ∷ []) (sym one.command) ∙ sym (commands_more ts t));
     wrote = wrote_more r a b d ts (t ∷ []) h.wrote one.wrote;
   }
 
-  pub ends_more : (s m s' : State) (p q q' : Pending) (ts : List Turn) (t : Turn) (c : Command) (a b d : Option (List ℕ))
-      → DrainsEnd s p ts m (to_come q []) (Ok tt) a b → EndsWith q c q' → Serves m c t s' r b d → DrainsEnd s p (ts ++ t ∷ []) s' (to_come q' []) r a d
+  pub ends_more : (s m s' : Standing D) (p q q' : Pending) (ts : List (Turn D)) (t : Turn D) (c : Command) (a b d : Option (List ℕ))
+      → DrainsEnd v s p ts m (to_come q []) (Ok tt) a b → EndsWith q c q' → Serves v m c t s' r b d → DrainsEnd v s p (ts ++ t ∷ []) s' (to_come q' []) r a d
   ends_more s m s' p q q' ts t c a b d h gives one = record {
-    lead = lead_more s m s' ts t h.lead one.legal one.next;
+    lead = lead_more v s m s' ts t h.lead one.legal one.next;
     commands =
         h.commands ∙ ap (λ l. commands_in ts ++ l) gives.leads
         ∙ sym (append_assoc (commands_in ts) (c ∷ []) (to_come q' []))
-        ∙ ap (λ l. l ++ to_come q' []) (ap (λ v. commands_in ts ++ v ∷ []) (sym one.command) ∙ sym (commands_more ts t));
+        ∙ ap (λ l. l ++ to_come q' []) (ap (λ x. commands_in ts ++ x ∷ []) (sym one.command) ∙ sym (commands_more ts t));
     wrote = wrote_more r a b d ts (t ∷ []) h.wrote one.wrote;
   }
 
 -- no command was given, and the reader of commands found no memory
-pub drains_stop : (s m : State) (p q q' : Pending) (ts : List Turn) (a b : Option (List ℕ)) → Drains s p ts m q (Ok tt) a b → Leads q [] q' → Drains s p ts m q' (Err Memory) a b
-drains_stop s m p q q' ts a b h leads = record {
+pub drains_stop : {D : Type 0} (v : Device D) (s m : Standing D) (p q q' : Pending) (ts : List (Turn D)) (a b : Option (List ℕ)) → Drains v s p ts m q (Ok tt) a b → Leads q [] q' → Drains v s p ts m q' (Err Wanted) a b
+drains_stop v s m p q q' ts a b h leads = record {
   lead = h.lead;
   commands = λ more. h.commands more ∙ ap (λ l. commands_in ts ++ l) (leads more);
   wrote = wrote_all a b ts h.wrote;
 }
 
 -- no whole command is left
-pub drains_wait : (s m : State) (p q q' : Pending) (ts : List Turn) (a b : Option (List ℕ)) → Drains s p ts m q (Ok tt) a b → Leads q [] q' → Drains s p ts m q' (Ok tt) a b
-drains_wait s m p q q' ts a b h leads = record {
+pub drains_wait : {D : Type 0} (v : Device D) (s m : Standing D) (p q q' : Pending) (ts : List (Turn D)) (a b : Option (List ℕ)) → Drains v s p ts m q (Ok tt) a b → Leads q [] q' → Drains v s p ts m q' (Ok tt) a b
+drains_wait v s m p q q' ts a b h leads = record {
   lead = h.lead;
   commands = λ more. h.commands more ∙ ap (λ l. commands_in ts ++ l) (leads more);
   wrote = h.wrote;
 }
 
-pub ends_stop : (s m : State) (p : Pending) (ts : List Turn) (rest rest' : List Command) (a b : Option (List ℕ)) → DrainsEnd s p ts m rest (Ok tt) a b → rest' ≡ rest → DrainsEnd s p ts m rest' (Err Memory) a b
-ends_stop s m p ts rest rest' a b h e = record {
+pub ends_stop : {D : Type 0} (v : Device D) (s m : Standing D) (p : Pending) (ts : List (Turn D)) (rest rest' : List Command) (a b : Option (List ℕ)) → DrainsEnd v s p ts m rest (Ok tt) a b → rest' ≡ rest → DrainsEnd v s p ts m rest' (Err Wanted) a b
+ends_stop v s m p ts rest rest' a b h e = record {
   lead = h.lead;
   commands = h.commands ∙ ap (λ l. commands_in ts ++ l) (sym e);
   wrote = wrote_all a b ts h.wrote;
 }
-
--- the state of a step is the one of the fold
-step_folds : (s : State) (e : Event) (o : Option Refusal) → step_state s (answered s e o) ≡ unless_refused s e o
-step_folds s e None = refl
-step_folds s e (Some r) = refl
 
 -- a command's event, and then more events
 command_folds : (s : State) (o : Option Event) (es : List Event) → after_all s (event_then o es) ≡ after_all (elim o [ None ↦ s | Some e ↦ step_state s (step s e) ]) es
 command_folds s None es = refl
 command_folds s (Some e) es = ap (λ v. after_all v es) (sym (step_folds s e (refusal_of s e)))
 
--- where no want of memory came, the replies are the script's, and the last table is the fold of its events
-pub served_all : (s : State) (ts : List Turn) → AreTurns s ts → AllServed ts → (texts_of ts ≡ script_text s (commands_in ts)) × (last_state s ts ≡ after_all s (script_events s (commands_in ts)))
-served_all s [] h k = (refl, refl)
-served_all s (t ∷ ts) h k =
-    let one : IsOutcome s t served = subst (IsOutcome s t) k.0 h.0 in
-    let more = served_all t.next ts h.1 k.1 in (
-      ap (λ l. l ++ texts_of ts) one.0 ∙ ap (λ l. reply_of s t.command ++ l) (more.0 ∙ ap (λ v. script_text v (commands_in ts)) one.1),
-      more.1 ∙ ap (λ v. after_all v (script_events v (commands_in ts))) one.1
-          ∙ sym (command_folds s (event_of s t.command) (script_events (after_command s t.command) (commands_in ts))),
+-- where nothing failed, the replies are the script's, and the last table is the fold of its events
+pub served_all : {D : Type 0} (v : Device D) (s : Standing D) (ts : List (Turn D)) → AreTurns v s ts → AllServed ts → (texts_of ts ≡ script_text s.state (commands_in ts)) × ((last_state s ts).state ≡ after_all s.state (script_events s.state (commands_in ts)))
+served_all v s [] h k = (refl, refl)
+served_all v s (t ∷ ts) h k =
+    let one : IsServed s t = subst (IsOutcome v.failures s t) k.0 h.0.outcome in
+    let more = served_all v t.next ts h.1 k.1 in (
+      ap (λ l. l ++ texts_of ts) one.text ∙ ap (λ l. reply_of s.state t.command ++ l) (more.0 ∙ ap (λ x. script_text x (commands_in ts)) one.state),
+      more.1 ∙ ap (λ x. after_all x (script_events x (commands_in ts))) one.state
+          ∙ sym (command_folds s.state (event_of s.state t.command) (script_events (after_command s.state t.command) (commands_in ts))),
     )

@@ -1,36 +1,46 @@
 -- How an event went.
-use Rattle.std.specs.Prelude.{◌≡◌, List, ℕ, codes, Result, Ok, Err}
+use Rattle.std.specs.Prelude.{◌≡◌, ◌≤◌, ◌↔◌, ℕ, List, codes, false, IsSome, Result, Ok, Err}
 use Rattle.spool_types.specs.declared.event.Event.{Event}
 use Rattle.spool_types.specs.declared.event.Reply.{Reply}
-use Rattle.spool_types.specs.declared.refusal.Refusal.{Refusal}
-use Rattle.spool_types.specs.State.{State}
+use Rattle.spool_disk.specs.Disk.{LeavesOnly}
 use Rattle.command_lines.specs.declared.command.Command.{Command}
 use Rattle.command_lines.specs.Replies.{refusal_line}
+use Rattle.spool_core.specs.Image.{HasBeforeOrAfterEvent}
+use Rattle.spool_core.specs.Standing.{Standing, IsAnswer}
+use Rattle.spool_core.specs.declared.spool.apply_fault.ApplyFault.{ApplyFault}
+use Rattle.spool_core.specs.declared.spool.apply_fault.ApplyFault.TheVariants.{Dead, Refused, Memory, Full, Disk}
 use Rattle.spool_engine.specs.Script.{accepted_line, reply_line}
-use Rattle.spool_engine.specs.Runs.{Turn, IsTurn}
-use Rattle.spool_engine.specs.declared.applied.Applied.{Applied}
-use Rattle.spool_engine.specs.declared.applied.Applied.TheVariants.{Accepted, Refused, NoMemory}
+use Rattle.spool_engine.specs.Runs.{Device, Turn, IsTurn, IsKept}
 
--- the line that tells it
-abbrev pub applied_line : Event → Applied → List ℕ
-applied_line e (Accepted reply) = accepted_line e reply
-applied_line e (Refused refusal) = refusal_line refusal
-applied_line e NoMemory = codes "error memory\n"
+-- the line for a fault
+abbrev pub fault_line : ApplyFault → List ℕ
+fault_line Dead = codes "error dead\n"
+fault_line (Refused refusal) = refusal_line refusal
+fault_line Memory = codes "error memory\n"
+fault_line Full = codes "error full\n"
+fault_line Disk = codes "error disk\n"
+
+-- the line that tells how an event went
+abbrev pub answer_line : Event → Result Reply ApplyFault → List ℕ
+answer_line e (Ok reply) = accepted_line e reply
+answer_line e (Err fault) = fault_line fault
 
 -- the same where the reply alone tells it
-abbrev pub plain_line : Applied → List ℕ
-plain_line (Accepted reply) = reply_line reply
-plain_line (Refused refusal) = refusal_line refusal
-plain_line NoMemory = codes "error memory\n"
+abbrev pub plain_line : Result Reply ApplyFault → List ℕ
+plain_line (Ok reply) = reply_line reply
+plain_line (Err fault) = fault_line fault
 
--- the table went so, where this is the event's step
-abbrev pub IsApplied : State → Result (State × Reply) Refusal → Applied → State → Type 0
-IsApplied s r (Accepted reply) s' = r ≡ Ok (s', reply)
-IsApplied s r (Refused refusal) s' = (r ≡ Err refusal) × (s' ≡ s)
-IsApplied s r NoMemory s' = s' ≡ s
+-- an event that was answered so, and what a crash meanwhile and behind it leaves
+pub record IsApplied {D : Type 0} (device : Device D) (old : Standing D) (e : Event) (answer : Result Reply ApplyFault) (new : Standing D) : Type 0 where
+  pub cause : IsAnswer device.failures old e answer new
+  pub counted : device.failures old.disk ≤ device.failures new.disk
+  pub told : IsSome (device.bytes new.disk) ↔ IsSome (device.bytes old.disk)
+  pub crash : old.dead ≡ false → IsSome (device.bytes old.disk) →
+      LeavesOnly device.moment device.image_since old.disk new.disk (HasBeforeOrAfterEvent old.state e)
+  pub kept : IsKept device new
 
 -- a turn of this command, before its text is written
-pub record Takes (s : State) (c : Command) (t : Turn) (s' : State) : Type 0 where
-  pub legal : IsTurn s t
+pub record Takes {D : Type 0} (device : Device D) (s : Standing D) (c : Command) (t : Turn D) (s' : Standing D) : Type 0 where
+  pub legal : IsTurn device s t
   pub command : t.command ≡ c
   pub next : t.next ≡ s'

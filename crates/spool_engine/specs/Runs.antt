@@ -1,55 +1,123 @@
 -- What a run did, turn by turn, also where something failed.
-use Rattle.std.specs.Prelude.{◌≡◌, ℕ, ◌<◌, ◌≤◌, List, [], ◌∷◌, ◌++◌, codes, take, length, map, ⊤, Option, None, Some, Result, Ok, Err, OnOk}
+use Rattle.std.specs.Prelude.{◌≡◌, ℕ, ◌<◌, ◌≤◌, ◌↔◌, ◌⊎◌, List, [], ◌∷◌, ◌++◌, codes, take, length, map, ⊤, false, IsTrue, IsSome, Option, None, Some, Result, Ok, Err, OnOk}
 use Rattle.std.specs.List.{flat_map}
 use Rattle.std.specs.Io.KnownBytes.{Appends}
+use Rattle.spool_types.specs.declared.event.Event.{Event}
+use Rattle.spool_types.specs.declared.event.Reply.{Reply}
+use Rattle.spool_types.specs.declared.refusal.Refusal.{Refusal}
 use Rattle.spool_types.specs.State.{State}
+use Rattle.spool_types.specs.Step.{refusal_of, step}
+use Rattle.spool_types.specs.Fold.{after_all}
+use Rattle.spool_disk.specs.Disk.{LeavesOnly}
 use Rattle.command_lines.specs.Text.{commands_of}
 use Rattle.command_lines.specs.Pending.{Pending, Leads, to_come}
 use Rattle.command_lines.specs.declared.command.Command.{Command}
-use Rattle.spool_types.specs.Fold.{after_all}
-use Rattle.spool_engine.specs.Script.{reply_of, after_command, replies_of, events_of}
+use Rattle.spool_core.specs.Image.{HasTable}
+use Rattle.spool_core.specs.Standing.{Standing, IsDone, IsFull, IsFailed}
+use Rattle.spool_engine.specs.Script.{event_of, reply_of, after_command, replies_of, events_of}
 use Rattle.spool_engine.specs.declared.fault.RunFault.{RunFault}
 use Rattle.spool_engine.specs.declared.fault.RunFault.TheVariants.{Read, Write, Memory}
+
+-- what is said of a disk: the bytes that it tells, what a crash may leave now or since a moment, and how often it failed
+pub record Device (D : Type 0) : Type 1 where
+  pub bytes : D → Option (List ℕ)
+  pub image : D → List ℕ → Type 0
+  pub moment : D → ℕ
+  pub image_since : D → ℕ → List ℕ → Type 0
+  pub failures : D → ℕ
+
+abbrev pub device : {D : Type 0} → (D → Option (List ℕ)) → (D → List ℕ → Type 0) → (D → ℕ) → (D → ℕ → List ℕ → Type 0) → (D → ℕ) → Device D
+device bytes image moment image_since failures = record { bytes = bytes; image = image; moment = moment; image_since = image_since; failures = failures }
 
 -- how a command went
 pub data Outcome : Type 0 where
   served : Outcome
   no_memory : Outcome
+  full : Outcome
+  disk : Outcome
+  dead : Outcome
 
--- a command, how it went, its reply and the table after it
-pub record Turn : Type 0 where
+-- a command, how it went, its reply and the spool after it
+pub record Turn (D : Type 0) : Type 0 where
   pub command : Command
   pub outcome : Outcome
   pub text : List ℕ
-  pub next : State
+  pub next : Standing D
 
--- served as the script says, or an error's line and the table as it was
-abbrev pub IsOutcome : State → Turn → Outcome → Type 0
-IsOutcome s t served = (t.text ≡ reply_of s t.command) × (t.next ≡ after_command s t.command)
-IsOutcome s t no_memory = (t.text ≡ codes "error memory\n") × (t.next ≡ s)
+-- The spool took the event, by the table's answer to it: it is journalled and its room is taken, or it is refused and
+-- nothing has changed. A dead spool takes none.
+abbrev pub IsTaken : {D : Type 0} → Standing D → Event → Result (State × Reply) Refusal → Standing D → Type 0
+IsTaken old e (Ok r) new = IsDone old e r.1 new
+IsTaken old e (Err refusal) new = (old.dead ≡ false) × (new ≡ old)
 
-abbrev pub IsTurn : State → Turn → Type 0
-IsTurn s t = IsOutcome s t t.outcome
+-- the spool took the command's event; one that is no event changes nothing
+abbrev pub IsStep : {D : Type 0} → Standing D → Option Event → Standing D → Type 0
+IsStep old None new = new ≡ old
+IsStep old (Some e) new = IsTaken old e (step old.state e) new
 
--- each turn is one on the table that it found
-abbrev pub AreTurns : State → List Turn → Type 0
-AreTurns s [] = Unit {0}
-AreTurns s (t ∷ ts) = IsTurn s t × AreTurns t.next ts
+-- the reply and the table are those of Script
+pub record IsServed {D : Type 0} (s : Standing D) (t : Turn D) : Type 0 where
+  pub text : t.text ≡ reply_of s.state t.command
+  pub state : t.next.state ≡ after_command s.state t.command
+  pub step : IsStep s (event_of s.state t.command) t.next
 
-abbrev pub last_state : State → List Turn → State
+-- the command is an event that was answered by this line, and the cause of the line stands
+pub record Fails {D : Type 0} (s : Standing D) (t : Turn D) (line : List ℕ) (Cause : Event → Type 0) : Type 0 where
+  pub event : Event
+  pub is : event_of s.state t.command ≡ Some event
+  pub cause : Cause event
+  pub text : t.text ≡ line
+
+-- Served, or an error's line that stands for its cause alone and has changed no row.
+abbrev pub IsOutcome : {D : Type 0} → (D → ℕ) → Standing D → Turn D → Outcome → Type 0
+IsOutcome failures s t served = IsServed s t
+IsOutcome failures s t no_memory = Fails s t (codes "error memory\n") (λ e. (s.dead ≡ false) × (refusal_of s.state e ≡ None) × (t.next ≡ s))
+IsOutcome failures s t full = Fails s t (codes "error full\n") (λ e. IsFull s e × (t.next ≡ s))
+IsOutcome failures s t disk = Fails s t (codes "error disk\n") (λ e. IsFailed failures s e t.next)
+IsOutcome failures s t dead = Fails s t (codes "error dead\n") (λ e. IsTrue s.dead × (t.next ≡ s))
+
+-- Until the device has failed a crash leaves the table, where the disk tells its bytes.
+abbrev pub IsKept : {D : Type 0} → Device D → Standing D → Type 0
+IsKept device s = s.dead ≡ false → IsSome (device.bytes s.disk) → (c : List ℕ) → device.image s.disk c → HasTable s.state c
+
+-- the table before the command, or the one after it
+abbrev pub HasBeforeOrAfterCommand : State → Command → List ℕ → Type 0
+HasBeforeOrAfterCommand s command image = HasTable s image ⊎ HasTable (after_command s command) image
+
+-- A turn on the spool that it found. Whatever came of it, a crash at any moment of it leaves the table before the
+-- command or the one after it, and a crash behind it leaves the table that is shown.
+pub record IsTurn {D : Type 0} (device : Device D) (s : Standing D) (t : Turn D) : Type 0 where
+  pub outcome : IsOutcome device.failures s t t.outcome
+  pub counted : device.failures s.disk ≤ device.failures t.next.disk
+  pub told : IsSome (device.bytes t.next.disk) ↔ IsSome (device.bytes s.disk)
+  pub crash : s.dead ≡ false → IsSome (device.bytes s.disk) →
+      LeavesOnly device.moment device.image_since s.disk t.next.disk (HasBeforeOrAfterCommand s.state t.command)
+  pub kept : IsKept device t.next
+
+-- each turn is one on the spool that it found
+abbrev pub AreTurns : {D : Type 0} → Device D → Standing D → List (Turn D) → Type 0
+AreTurns device s [] = Unit {0}
+AreTurns device s (t ∷ ts) = IsTurn device s t × AreTurns device t.next ts
+
+abbrev pub last_state : {D : Type 0} → Standing D → List (Turn D) → Standing D
 last_state s [] = s
 last_state s (t ∷ ts) = last_state t.next ts
 
-abbrev pub texts_of : List Turn → List ℕ
+abbrev pub texts_of : {D : Type 0} → List (Turn D) → List ℕ
 texts_of ts = flat_map (λ t. t.text) ts
 
-abbrev pub commands_in : List Turn → List Command
+abbrev pub commands_in : {D : Type 0} → List (Turn D) → List Command
 commands_in ts = map (λ t. t.command) ts
 
--- no want of memory came
-abbrev pub AllServed : List Turn → Type 0
+-- nothing failed
+abbrev pub AllServed : {D : Type 0} → List (Turn D) → Type 0
 AllServed [] = Unit {0}
 AllServed (t ∷ ts) = (t.outcome ≡ served) × AllServed ts
+
+-- the table that some of these turns' events lead to, the first of them, in order
+abbrev pub IsAlong : {D : Type 0} → Standing D → List (Turn D) → List ℕ → Type 0
+IsAlong s [] image = HasTable s.state image
+IsAlong s (t ∷ ts) image = HasTable s.state image ⊎ (HasTable (after_command s.state t.command) image ⊎ IsAlong t.next ts image)
 
 -- a front of the bytes, and not all
 pub record WroteSome (old new : Option (List ℕ)) (text : List ℕ) : Type 0 where
@@ -58,28 +126,28 @@ pub record WroteSome (old new : Option (List ℕ)) (text : List ℕ) : Type 0 wh
   pub front : Appends old new (take count text)
 
 -- the turns but for the last, whose text found no memory, or all of them
-pub record WroteBefore (old new : Option (List ℕ)) (turns : List Turn) : Type 0 where
-  pub told : List Turn
-  pub untold : List Turn
+pub record WroteBefore {D : Type 0} (old new : Option (List ℕ)) (turns : List (Turn D)) : Type 0 where
+  pub told : List (Turn D)
+  pub untold : List (Turn D)
   pub split : turns ≡ told ++ untold
   pub at_most_one : length untold ≤ 1
   pub wrote : Appends old new (texts_of told)
 
 -- What was written of the turns' replies, by how the run ended.
-abbrev pub Wrote : Result (Unit {0}) RunFault → Option (List ℕ) → Option (List ℕ) → List Turn → Type 0
+abbrev pub Wrote : {D : Type 0} → Result (Unit {0}) RunFault → Option (List ℕ) → Option (List ℕ) → List (Turn D) → Type 0
 Wrote (Ok done) old new turns = Appends old new (texts_of turns)
 Wrote (Err Read) old new turns = Appends old new (texts_of turns)
 Wrote (Err Write) old new turns = WroteSome old new (texts_of turns)
 Wrote (Err Memory) old new turns = WroteBefore old new turns
 
--- turns that lead from one table to another
-pub record Lead (s : State) (turns : List Turn) (s' : State) : Type 0 where
-  pub legal : AreTurns s turns
+-- turns that lead from one spool to another
+pub record Lead {D : Type 0} (device : Device D) (s : Standing D) (turns : List (Turn D)) (s' : Standing D) : Type 0 where
+  pub legal : AreTurns device s turns
   pub last : last_state s turns ≡ s'
 
 -- the one turn of a command
-pub record Serves (s : State) (c : Command) (t : Turn) (s' : State) (result : Result (Unit {0}) RunFault) (old new : Option (List ℕ)) : Type 0 where
-  pub legal : IsTurn s t
+pub record Serves {D : Type 0} (device : Device D) (s : Standing D) (c : Command) (t : Turn D) (s' : Standing D) (result : Result (Unit {0}) RunFault) (old new : Option (List ℕ)) : Type 0 where
+  pub legal : IsTurn device s t
   pub command : t.command ≡ c
   pub next : t.next ≡ s'
   pub wrote : Wrote result old new (t ∷ [])
@@ -89,21 +157,21 @@ abbrev pub AreFirst : List Command → List Command → Type 0
 AreFirst cs all = (rest : List Command) × (all ≡ cs ++ rest)
 
 -- turns of the commands that were given on the way from one state of the reader of commands to another
-pub record Drains (s : State) (p : Pending) (turns : List Turn) (s' : State) (p' : Pending) (result : Result (Unit {0}) RunFault) (old new : Option (List ℕ)) : Type 0 where
-  pub lead : Lead s turns s'
+pub record Drains {D : Type 0} (device : Device D) (s : Standing D) (p : Pending) (turns : List (Turn D)) (s' : Standing D) (p' : Pending) (result : Result (Unit {0}) RunFault) (old new : Option (List ℕ)) : Type 0 where
+  pub lead : Lead device s turns s'
   pub commands : Leads p (commands_in turns) p'
   pub wrote : Wrote result old new turns
 
 -- the same of a piece that was fed, or after a fault wasn't
-pub record DrainsPiece (piece : List ℕ) (s : State) (p : Pending) (turns : List Turn) (s' : State) (p' : Pending) (result : Result (Unit {0}) RunFault) (old new : Option (List ℕ)) : Type 0 where
-  pub lead : Lead s turns s'
+pub record DrainsPiece {D : Type 0} (device : Device D) (piece : List ℕ) (s : Standing D) (p : Pending) (turns : List (Turn D)) (s' : Standing D) (p' : Pending) (result : Result (Unit {0}) RunFault) (old new : Option (List ℕ)) : Type 0 where
+  pub lead : Lead device s turns s'
   pub commands : (more : List ℕ) → AreFirst (commands_in turns) (to_come p (piece ++ more))
   pub on_ok : OnOk result ((more : List ℕ) → to_come p (piece ++ more) ≡ commands_in turns ++ to_come p' more)
   pub wrote : Wrote result old new turns
 
 -- the same where the text ends here, and these commands are still to come
-pub record DrainsEnd (s : State) (p : Pending) (turns : List Turn) (s' : State) (rest : List Command) (result : Result (Unit {0}) RunFault) (old new : Option (List ℕ)) : Type 0 where
-  pub lead : Lead s turns s'
+pub record DrainsEnd {D : Type 0} (device : Device D) (s : Standing D) (p : Pending) (turns : List (Turn D)) (s' : Standing D) (rest : List Command) (result : Result (Unit {0}) RunFault) (old new : Option (List ℕ)) : Type 0 where
+  pub lead : Lead device s turns s'
   pub commands : to_come p [] ≡ commands_in turns ++ rest
   pub wrote : Wrote result old new turns
 
@@ -117,11 +185,13 @@ pub record IsScript (s : State) (text : List ℕ) (s' : State) (old new : Option
   pub wrote : Appends old new (replies_of s text)
   pub table : s' ≡ after_all s (events_of s text)
 
--- A run over a text: the commands of the text, or after a fault the first of them, each with its turn; and what was written.
-pub record IsRun (known : Option (List ℕ)) (s : State) (text : List ℕ) (turns : List Turn) (s' : State) (result : Result (Unit {0}) RunFault) (old new : Option (List ℕ)) : Type 0 where
+-- A run over a text: the commands of the text, or after a fault the first of them, each with its turn; and what was
+-- written.
+pub record IsRun {D : Type 0} (device : Device D) (known : Option (List ℕ)) (s : Standing D) (text : List ℕ) (turns : List (Turn D)) (s' : Standing D) (result : Result (Unit {0}) RunFault) (old new : Option (List ℕ)) : Type 0 where
   pub tells : Tells known text
-  pub lead : Lead s turns s'
+  pub begins : IsKept device s
+  pub lead : Lead device s turns s'
   pub first : AreFirst (commands_in turns) (commands_of text)
   pub all : OnOk result (commands_in turns ≡ commands_of text)
-  pub exact : OnOk result (AllServed turns → IsScript s text s' old new)
+  pub exact : OnOk result (AllServed turns → IsScript s.state text s'.state old new)
   pub wrote : Wrote result old new turns

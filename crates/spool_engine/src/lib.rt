@@ -1,6 +1,6 @@
-//! The engine: it reads a text of commands, changes the table by their events, and writes a text of replies.
+//! The engine: it reads a text of commands, applies their events to a spool on a disk, and writes a text of replies.
 //!
-//! Each command is one *turn*: the engine reads the command, applies its event to the table that it finds, prints the
+//! Each command is one *turn*: the engine reads the command, applies its event to the spool that it finds, prints the
 //! reply and writes it, and only then takes the next command. The buffering of the text does not show in it: the
 //! commands are those of the whole text, whatever the pieces in which the reader gives it.
 //!
@@ -8,27 +8,40 @@
 //!
 //! [`Engine::run`] carries them in one clause, `IsRun`:
 //!
-//! - *ExactScript* (`exact`): where it answers Ok and no want of memory came, the bytes that it wrote are the replies of
-//!   Script, and the table is the fold of Script's events. This speaks of readers and writers that tell their bytes.
-//! - Each command in turn has Script's reply on the table that it found, or `error memory` and an unchanged table
-//!   (`lead`, by `IsOutcome`); after a fault this holds of the first commands of the text (`first`).
+//! - *ExactScript* (`exact`): where it answers Ok and every command was served, the bytes that it wrote are the
+//!   replies of Script, and the table is the fold of Script's events. This speaks of readers and writers that tell
+//!   their bytes.
+//! - *HonestReplies* (`lead`, by `IsOutcome`): each command in turn has Script's reply on the table that it found, or
+//!   an error's line, which stands for its cause alone and has changed no row: `error memory`, `error full` where the
+//!   event's record doesn't fit, `error disk` where the device failed, and `error dead` to every event after that.
+//!   After a fault of the run this holds of the first commands of the text (`first`).
+//! - *Crashes* (`crash` and `kept` of each turn): a crash at any moment of a turn leaves the table before its command
+//!   or the one after it, and a crash behind the turn leaves the table that is shown. [`crashes_between_replies`] says
+//!   it of whole runs: nothing that was answered is lost. This speaks of disks that tell their bytes.
 //! - What was written (`wrote`): all replies; after a fault of the writer a front of them and not all; where the text
 //!   of a reply found no memory, all but that reply.
 //!
+//! # Invariant
+//!
+//! Until the device has failed, a crash leaves the table that the engine shows (`IsKept`).
+//!
 //! # Faults
 //!
-//! [`RunFault`] says which: the reader's, the writer's, or want of memory for a piece, a command or the text of a reply.
-//! Events that were applied before it stay applied. Want of memory for an event is no fault: it is answered
-//! `error memory`, and the run goes on.
+//! [`RunFault`] says which: the reader's, the writer's, or want of memory for a piece, a command or the text of a
+//! reply. Events that were applied before it stay applied. Want of memory for an event, a full area and a failed
+//! device are no faults of the run: they are answered, and the run goes on. [`Engine::met_fault`] tells whether the
+//! device has failed.
 #![tactic(auto)]
 
-mod applied;
+mod answers;
 mod engine;
 mod fault;
+mod laws;
 mod writing;
 
 pub use engine::Engine;
 pub use fault::RunFault;
+pub use laws::crashes_between_replies;
 
 #[cfg(test)]
 mod tests;

@@ -1,13 +1,37 @@
 use crate::{Engine, RunFault};
-use job_table::Table;
+use spool_core::{OpenFault, Spool, make};
+use spool_disk::{Disk, FuseDisk, MemDisk};
 use std::alloc::{AllocError, Global};
 use std::io;
 use std::io::{ErrorKind, Read, Write};
 use std::test::Fail;
 
-// What a new engine replies to a script.
-fn replies(alloc: Global, script: &[u8]) -> Result<Vec<u8>, Fail> {
-    let mut engine = Engine::new(alloc, Table::new(alloc));
+// How many bytes a disk has, where nothing else is asked.
+const DISK: usize = 65_536;
+
+// A disk of so many bytes that was made a spool.
+fn spool_disk(alloc: Global, len: usize) -> Result<MemDisk, Fail> {
+    let mut disk = MemDisk::new(alloc, len)?;
+    make(&mut disk)?;
+    Ok(disk)
+}
+
+// An engine over the spool of a disk.
+fn engine_over<D: Disk + Drop>(alloc: Global, disk: D) -> Result<Engine<D>, OpenFault> {
+    match Spool::open(alloc, disk) {
+        Ok(spool) => Ok(Engine::new(alloc, spool)),
+        Err(error) => Err(error.fault),
+    }
+}
+
+// An engine over an empty spool.
+fn new_engine(alloc: Global, len: usize) -> Result<Engine<MemDisk>, Fail> {
+    Ok(engine_over(alloc, spool_disk(alloc, len)?)?)
+}
+
+// What a new engine over a disk of so many bytes replies to a script.
+fn replies_on(alloc: Global, len: usize, script: &[u8]) -> Result<Vec<u8>, Fail> {
+    let mut engine = new_engine(alloc, len)?;
     let mut written = Vec::new(alloc);
     engine.run(
         &mut Cursor {
@@ -17,6 +41,11 @@ fn replies(alloc: Global, script: &[u8]) -> Result<Vec<u8>, Fail> {
         &mut written,
     )?;
     Ok(written)
+}
+
+// What a new engine replies to a script.
+fn replies(alloc: Global, script: &[u8]) -> Result<Vec<u8>, Fail> {
+    replies_on(alloc, DISK, script)
 }
 
 // The same as a text.
@@ -62,7 +91,7 @@ fn a_job_is_made_closed_and_listed(rt: HostRuntime) -> Result<(), Fail> {
 fn the_pieces_of_a_text_make_no_difference(rt: HostRuntime) -> Result<(), Fail> {
     let alloc = rt.alloc();
     for most in [1, 2, 3, 7, 64] {
-        let mut engine = Engine::new(alloc, Table::new(alloc));
+        let mut engine = new_engine(alloc, DISK)?;
         let mut written = Vec::new(alloc);
         let mut reader = Cursor {
             rest: FIRST.as_bytes(),
@@ -75,16 +104,124 @@ fn the_pieces_of_a_text_make_no_difference(rt: HostRuntime) -> Result<(), Fail> 
 }
 
 #[test]
-fn an_engine_goes_on_from_its_table(rt: HostRuntime) -> Result<(), Fail> {
+fn an_engine_goes_on_from_its_spool(rt: HostRuntime) -> Result<(), Fail> {
     let alloc = rt.alloc();
-    let mut engine = Engine::new(alloc, Table::new(alloc));
+    let mut engine = new_engine(alloc, DISK)?;
     let mut written = Vec::new(alloc);
     engine.run(&mut FIRST.as_bytes(), &mut written)?;
     let mut next = Engine::new(alloc, engine.into_parts());
     let mut more = Vec::new(alloc);
     next.run(&mut "jobs".as_bytes(), &mut more)?;
-    let listed = "job 1 lab 3 none \"ann\" 0 0 \"First page\"\nok 1\n";
-    assert_eq!(rt; more.as_slice(), listed.as_bytes());
+    assert_eq!(rt; more.as_slice(), FIRST_LISTED.as_bytes());
+    Ok(())
+}
+
+const UNLISTED: &str =
+    "queue lab spoolfile:/out application/octet-stream abort-job\ncreate lab ann \"First page\" 1 50 \"\"\nsend 1 0\n\nclose 1 page.txt\n";
+
+const FIRST_LISTED: &str = "job 1 lab 3 none \"ann\" 0 0 \"First page\"\nok 1\n";
+
+#[test]
+fn a_spool_that_is_opened_again_lists_its_job(rt: HostRuntime) -> Result<(), Fail> {
+    let alloc = rt.alloc();
+    let mut engine = new_engine(alloc, DISK)?;
+    let mut written = Vec::new(alloc);
+    engine.run(&mut UNLISTED.as_bytes(), &mut written)?;
+    let mut next = engine_over(alloc, engine.into_parts().into_disk())?;
+    let mut more = Vec::new(alloc);
+    next.run(&mut "jobs\n".as_bytes(), &mut more)?;
+    assert_eq!(rt; more.as_slice(), FIRST_LISTED.as_bytes());
+    Ok(())
+}
+
+#[test]
+fn the_clock_is_told(rt: HostRuntime) -> Result<(), Fail> {
+    let script = "clock 1000\nclock 4000000000001\n";
+    assert_eq!(rt;
+        reply_text(rt.alloc(), script)?.as_str(),
+        "ok\nerror syntax\n"
+    );
+    Ok(())
+}
+
+// A title that a record of 240 bytes can't hold.
+fn long_title(alloc: Global) -> Result<String, AllocError> {
+    let mut title = String::new(alloc);
+    for _ in 0..250 {
+        title.push('x')?;
+    }
+    Ok(title)
+}
+
+#[test]
+fn a_full_spool_lists_and_refuses(rt: HostRuntime) -> Result<(), Fail> {
+    let alloc = rt.alloc();
+    let title = long_title(alloc)?;
+    let mut script = String::from_str(
+        alloc,
+        "queue lab s:/ a/b abort-job\ncreate lab u t 1 50 \"\"\n",
+    )?;
+    write!(
+        script,
+        "create lab u {title} 1 50 \"\"\ncreate nope u {title} 1 50 \"\"\njobs\n"
+    )?;
+    let want =
+        "ok\nok job 1\nerror full\nerror 1 NoQueue\njob 1 lab 4 job-incoming \"u\" 0 0 \"t\"\nok 1\n";
+    assert_eq!(rt;
+        replies_on(alloc, 512, script.as_bytes())?.as_slice(),
+        want.as_bytes()
+    );
+    Ok(())
+}
+
+// What an engine replies where the disk fails after so many calls, if it can be opened.
+fn replies_until(alloc: Global, calls: u64) -> Result<Option<Vec<u8>>, Fail> {
+    let script = "queue a s:/ a/b abort-job\nqueue b s:/ a/b abort-job\nclose 1 x\njobs\n";
+    let mut engine = match engine_over(alloc, FuseDisk::new(spool_disk(alloc, DISK)?, calls)) {
+        Ok(engine) => engine,
+        Err(_) => return Ok(None),
+    };
+    let mut written = Vec::new(alloc);
+    engine.run(&mut script.as_bytes(), &mut written)?;
+    Ok(Some(written))
+}
+
+const AT_FIRST: &str = "error disk\nerror dead\nerror dead\nok 0\n";
+
+const THEN: &str = "ok\nerror disk\nerror dead\nok 0\n";
+
+const NOT_AT_ALL: &str = "ok\nok\nerror 5 NoJob\nok 0\n";
+
+#[test]
+fn a_disk_that_fails_is_dead_from_then_on(rt: HostRuntime) -> Result<(), Fail> {
+    let alloc = rt.alloc();
+    let mut seen = [false; 3];
+    for calls in 0..64 {
+        if let Some(text) = replies_until(alloc, calls)? {
+            seen[0] |= text.as_slice() == AT_FIRST.as_bytes();
+            seen[1] |= text.as_slice() == THEN.as_bytes();
+            seen[2] |= text.as_slice() == NOT_AT_ALL.as_bytes();
+        }
+    }
+    assert_eq!(rt; seen, [true; 3]);
+    Ok(())
+}
+
+#[test]
+fn a_fault_of_the_disk_is_told_to_the_caller(rt: HostRuntime) -> Result<(), Fail> {
+    let alloc = rt.alloc();
+    let mut told = false;
+    for calls in 0..64 {
+        let disk = FuseDisk::new(spool_disk(alloc, DISK)?, calls);
+        if let Ok(mut engine) = engine_over(alloc, disk) {
+            let mut written = Vec::new(alloc);
+            engine.run(&mut "clock 1\n".as_bytes(), &mut written)?;
+            let failed = written.as_slice() == b"error disk\n".as_slice();
+            assert_eq!(rt; engine.met_fault(), failed, "at {calls}");
+            told |= failed;
+        }
+    }
+    assert!(rt; told);
     Ok(())
 }
 
@@ -190,7 +327,10 @@ fn a_document_has_at_most_1048576_bytes(rt: HostRuntime) -> Result<(), Fail> {
         write!(want, "ok bytes {size}\n")?;
     }
     want.push_str("error 7 TooLong\njob 1 lab 4 job-incoming \"u\" 1048576 0 \"t\"\nok 1\n")?;
-    assert_eq!(rt; replies(alloc, &script)?.as_slice(), want.as_bytes());
+    assert_eq!(rt;
+        replies_on(alloc, 4_194_304, &script)?.as_slice(),
+        want.as_bytes()
+    );
     Ok(())
 }
 
@@ -233,7 +373,7 @@ impl Read for Failing<'_> {
 #[test]
 fn a_reader_that_fails_ends_the_run(rt: HostRuntime) -> Result<(), Fail> {
     let alloc = rt.alloc();
-    let mut engine = Engine::new(alloc, Table::new(alloc));
+    let mut engine = new_engine(alloc, DISK)?;
     let mut written = Vec::new(alloc);
     let mut reader = Failing {
         rest: b"jobs\njobs",
@@ -265,12 +405,12 @@ impl Write for Full {
 #[test]
 fn a_writer_that_fails_ends_the_run(rt: HostRuntime) -> Result<(), Fail> {
     let alloc = rt.alloc();
-    let mut engine = Engine::new(alloc, Table::new(alloc));
+    let mut engine = new_engine(alloc, DISK)?;
     let mut writer = Full { room: 4 };
     assert_eq!(rt;
         engine.run(&mut FIRST.as_bytes(), &mut writer),
         Err(RunFault::Write)
     );
-    assert_eq!(rt; engine.into_parts().queues().len(), 1);
+    assert_eq!(rt; engine.into_parts().table().queues().len(), 1);
     Ok(())
 }

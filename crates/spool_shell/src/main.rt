@@ -1,43 +1,131 @@
-//! The program: it serves the commands on standard input over a table in memory, and writes the replies on standard
-//! output.
+//! The program: it serves the commands on standard input, and writes the replies on standard output.
 //!
-//! It ends with status 0 at the end of input, with 1 after a fault, told on standard error as `spool: WORD`, and with
-//! 2 where it is given words.
+//! Words: `[--root DIR] [--size BYTES]` ([`words`]). The spool lies in the file `DIR/spool.disk` ([`device`]), or else
+//! on a disk in memory.
+//!
+//! # Promises
+//!
+//! [`words::read_words`] carries what the words mean: the root and the size are what clap's definition of a simple
+//! command finds in them or the default (`root`, `size`), each in its limits (`short_root`, `size_in_range`), and they
+//! are refused exactly where clap finds a fault or the root is too long (`taken`).
+//!
+//! # Faults
+//!
+//! It ends with status 0 at the end of input; with 1 after a fault, told on standard error as `spool: WORD`
+//! ([`fault`]); and with 2 where the words are refused, with clap's text. Faults are looked for in the words, then in
+//! the spool, then in the commands. `--help` ends with 0.
 #![tactic(auto)]
 
-use job_table::Table;
-use spool_engine::{Engine, RunFault};
-use std::io;
+mod device;
+mod fault;
+mod words;
+
+use device::open_device;
+use fault::ShellFault;
+use spool_core::{OpenError, Spool, make};
+use spool_disk::{Disk, MemDisk};
+use spool_engine::Engine;
+use std::alloc::Global;
+use std::fs::{File, Files};
+use std::io::{ErrorKind, Read, Write};
 use std::process::ExitCode;
 use std::rt::Env;
+use std::{env, io};
+use words::{ShellWords, WordsFault, read_words};
 
-// Whether the program was given words beside its name.
-fn has_words(rt: &(impl Env + Alloc)) -> io::Result<bool> {
-    Ok(std::env::args(rt)?.nth(1).is_some())
+// Serves the commands over a spool on this disk.
+fn serve<D: Disk + Drop, R: Read, W: Write>(
+    alloc: Global,
+    disk: D,
+    reader: &mut R,
+    writer: &mut W,
+) -> Result<(), ShellFault> {
+    let spool = match Spool::open(alloc, disk) {
+        Ok(spool) => spool,
+        Err(OpenError { fault, .. }) => return Err(ShellFault::from(fault)),
+    };
+    let mut engine = Engine::new(alloc, spool);
+    engine.run(reader, writer)?;
+    if engine.met_fault() {
+        return Err(ShellFault::Disk);
+    }
+    Ok(())
 }
 
-// The word for a fault.
-fn fault_word(fault: RunFault) -> &'static str {
-    match fault {
-        RunFault::Read => "read",
-        RunFault::Write => "write",
-        RunFault::Memory => "memory",
+// A new spool in memory, of so many bytes.
+fn memory_device(alloc: Global, size: u64) -> Result<MemDisk, ShellFault> {
+    let mut disk = MemDisk::new(alloc, size as usize)?;
+    match make(&mut disk) {
+        Ok(()) => Ok(disk),
+        Err(_) => Err(ShellFault::Disk),
     }
 }
 
-fn main(rt: HostRuntime) -> io::Result<ExitCode> {
-    if has_words(&rt)? {
-        eprintln!(rt; "spool: no words are taken")?;
-        return Ok(ExitCode::from(2));
-    }
-    let alloc = rt.alloc();
-    let mut engine = Engine::new(alloc, Table::new(alloc));
-    match engine.run(&mut rt.stdin(), &mut rt.stdout()) {
-        Ok(()) => Ok(ExitCode::SUCCESS),
-        Err(fault) => {
-            let word = fault_word(fault);
-            eprintln!(rt; "spool: {word}")?;
-            Ok(ExitCode::FAILURE)
-        }
+// Serves the commands over the spool that the words ask for.
+fn run<H: Files<File = File> + AllocGlobal, R: Read, W: Write>(
+    rt: &H,
+    words: ShellWords<'_>,
+    reader: &mut R,
+    writer: &mut W,
+) -> Result<(), ShellFault> {
+    match words.root {
+        Some(dir) => serve(
+            rt.alloc(),
+            open_device(rt, dir, words.size)?,
+            reader,
+            writer,
+        ),
+        None => serve(
+            rt.alloc(),
+            memory_device(rt.alloc(), words.size)?,
+            reader,
+            writer,
+        ),
     }
 }
+
+// The words of the command line, the program's name first.
+fn given_words<R: Env + AllocGlobal>(rt: &R) -> io::Result<Vec<String>> {
+    let words = env::args(rt)?.collect(rt.alloc())?;
+    Ok(words)
+}
+
+// Tells a fault. Where that can't be written the status alone tells it.
+fn fail<R: Eprint>(rt: &R, fault: &ShellFault) -> ExitCode {
+    let _ = eprintln!(rt; "spool: {fault}");
+    ExitCode::FAILURE
+}
+
+// Prints why words are refused, or the help that they ask for.
+fn refuse<R: Print + Eprint>(rt: &R, error: &clap::Error) -> ExitCode {
+    let _ = error.print(rt);
+    ExitCode::from(error.exit_code() as u8)
+}
+
+// Tells that the words couldn't be had: they are no text, or there was no memory.
+fn no_words<R: Eprint>(rt: &R, error: &io::Error) -> ExitCode {
+    if error.kind() != ErrorKind::InvalidData {
+        return fail(rt, &ShellFault::Memory);
+    }
+    let _ = eprintln!(rt; "error: invalid UTF-8 was detected in one or more arguments");
+    ExitCode::from(2)
+}
+
+fn main(rt: HostRuntime) -> ExitCode {
+    let given = match given_words(&rt) {
+        Ok(given) => given,
+        Err(error) => return no_words(&rt, &error),
+    };
+    let words = match read_words(rt.alloc(), given.as_slice()) {
+        Ok(words) => words,
+        Err(WordsFault::Refused(error)) => return refuse(&rt, &error),
+        Err(WordsFault::Memory) => return fail(&rt, &ShellFault::Memory),
+    };
+    match run(&rt, words, &mut rt.stdin(), &mut rt.stdout()) {
+        Ok(()) => ExitCode::SUCCESS,
+        Err(fault) => fail(&rt, &fault),
+    }
+}
+
+#[cfg(test)]
+mod tests;

@@ -6,3 +6,5 @@ pub mod Legal
 pub mod Refusals
 pub mod Step
 pub mod Fold
+pub mod Verdicts
+pub mod Next

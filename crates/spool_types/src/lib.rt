@@ -12,6 +12,7 @@
 //! - `State`, `Legal`: a table of queues and jobs, and what is so of each table that events lead to.
 //! - `Step`: for each event the causes of its refusals in order, its effect and its reply.
 //! - `Fold`: many events in turn.
+//! - `Verdicts`: what becomes of a job whose child ended; `Next`: which job of a queue is to be started next.
 //!
 //! # Promises
 //!
@@ -31,6 +32,7 @@ mod ranged;
 mod refusal;
 mod rows;
 mod text;
+mod verdict;
 
 pub use effect::{Attribute, Effect, Exit, Level};
 pub use event::{Closing, Event, NewJob, NewQueue, Reply};
@@ -47,6 +49,7 @@ pub use ranged::{Copies, Interval, Priority, Ranged};
 pub use refusal::Refusal;
 pub use rows::{JobRow, QueueRow};
 pub use text::{Text, TextFault, TextKind};
+pub use verdict::Verdict;
 
 #[cfg(test)]
 mod tests;

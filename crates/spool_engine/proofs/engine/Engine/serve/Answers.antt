@@ -1,55 +1,61 @@
 -- each command is told as it went
 use Rattle.std.proofs.Common.{ap, ◌∙◌, sym, refl, Some, codes}
 use Rattle.std.specs.FinMap as finite
-use Rattle.spool_types.specs.declared.event.Event.TheVariants.{AddQueue, Create, Send, Close, Cancel}
+use Rattle.spool_types.specs.declared.event.Event.TheVariants.{AddQueue, Create, Send, Close, Cancel, Clock}
 use Rattle.spool_types.specs.declared.refusal.Refusal.TheVariants.{TooLong}
 use Rattle.command_lines.specs.Replies.{jobs_text, refusal_line}
-use Rattle.spool_engine.specs.Answers.{plain_line, applied_line}
-use Rattle.spool_engine.specs.Script.{reply_of, after_command, event_of, closing_of}
-use Rattle.spool_engine.proofs.TurnLaws.{event_told, said_told, plain}
+use Rattle.spool_engine.specs.Answers.{plain_line, answer_line}
+use Rattle.spool_engine.specs.Runs.{device}
+use Rattle.spool_engine.specs.Script.{said_of, event_of, closing_of}
+use Rattle.spool_engine.proofs.TurnLaws.{event_told, said_told, plain, kept_as}
 use Rattle.spool_engine.proofs.engine.Engine.serve.Goals as goal
 
 pub returns-in-Queue : goal.returns-in-Queue
-returns-in-Queue c =
+returns-in-Queue g c =
     let s = c.args.self.now in
-    event_told (λ v. v.items) c.serve_event.result s _ c.args.command (AddQueue c.in-Queue.queue) plain_line (plain (AddQueue c.in-Queue.queue) (λ r. refl)) (ap (event_of s) c.in-Queue.is) c.serve_event.ensures
+    event_told (λ v. v.items) c.serve_event.result _ s _ c.args.command (AddQueue c.in-Queue.queue) plain_line (plain (AddQueue c.in-Queue.queue) (λ r. refl)) (ap (event_of s.state) c.in-Queue.is) c.serve_event.ensures
 
 pub returns-in-Create : goal.returns-in-Create
-returns-in-Create c =
+returns-in-Create g c =
     let s = c.args.self.now in
     let n = c.in-Create.creation in
-    let e = ap (event_of s) c.in-Create.is
+    let e = ap (event_of s.state) c.in-Create.is
     ∙ ap (λ j. Some (Create (record { queue = n.queue; job = j; user = n.user; title = n.title; copies = n.copies; priority = n.priority; options = n.options }))) (sym c.next_number.ensures)
     ∙ ap (λ j. Some (Create j)) (sym c.new_job-job.ensures) in
-    event_told (λ v. v.items) c.serve_event-in-Create.result s _ c.args.command (Create c.new_job-job.result) plain_line (plain (Create c.new_job-job.result) (λ r. refl)) e c.serve_event-in-Create.ensures
+    event_told (λ v. v.items) c.serve_event-in-Create.result _ s _ c.args.command (Create c.new_job-job.result) plain_line (plain (Create c.new_job-job.result) (λ r. refl)) e c.serve_event-in-Create.ensures
 
 pub returns-in-Send : goal.returns-in-Send
-returns-in-Send c =
+returns-in-Send g c =
     let s = c.args.self.now in
-    event_told (λ v. v.items) c.serve_event-in-Send.result s _ c.args.command (Send c.in-Send.job c.in-Send.bytes) plain_line (plain (Send c.in-Send.job c.in-Send.bytes) (λ r. refl)) (ap (event_of s) c.in-Send.is) c.serve_event-in-Send.ensures
+    event_told (λ v. v.items) c.serve_event-in-Send.result _ s _ c.args.command (Send c.in-Send.job c.in-Send.bytes) plain_line (plain (Send c.in-Send.job c.in-Send.bytes) (λ r. refl)) (ap (event_of s.state) c.in-Send.is) c.serve_event-in-Send.ensures
 
 pub returns-in-Close : goal.returns-in-Close
-returns-in-Close c =
+returns-in-Close g c =
     let s = c.args.self.now in
-    let e = Close (closing_of s c.in-Close.job) in
-    event_told (λ v. v.items) c.close.result s _ c.args.command e (applied_line e) (λ a. refl) (ap (event_of s) c.in-Close.is) c.close.ensures
+    let e = Close (closing_of s.state c.in-Close.job) in
+    event_told (λ v. v.items) c.close.result _ s _ c.args.command e (answer_line e) (λ a. refl) (ap (event_of s.state) c.in-Close.is) c.close.ensures
 
 pub returns-in-Cancel : goal.returns-in-Cancel
-returns-in-Cancel c =
+returns-in-Cancel g c =
     let s = c.args.self.now in
-    event_told (λ v. v.items) c.serve_event-in-Cancel.result s _ c.args.command (Cancel c.in-Cancel.job) plain_line (plain (Cancel c.in-Cancel.job) (λ r. refl)) (ap (event_of s) c.in-Cancel.is) c.serve_event-in-Cancel.ensures
+    event_told (λ v. v.items) c.serve_event-in-Cancel.result _ s _ c.args.command (Cancel c.in-Cancel.job) plain_line (plain (Cancel c.in-Cancel.job) (λ r. refl)) (ap (event_of s.state) c.in-Cancel.is) c.serve_event-in-Cancel.ensures
+
+pub returns-in-Clock : goal.returns-in-Clock
+returns-in-Clock g c =
+    let s = c.args.self.now in
+    event_told (λ v. v.items) c.serve_event-in-Clock.result _ s _ c.args.command (Clock c.in-Clock.moment) plain_line (plain (Clock c.in-Clock.moment) (λ r. refl)) (ap (event_of s.state) c.in-Clock.is) c.serve_event-in-Clock.ensures
 
 pub returns-in-OversizedSend : goal.returns-in-OversizedSend
-returns-in-OversizedSend c =
+returns-in-OversizedSend g c =
     let s = c.args.self.now in
-    said_told (λ v. v.items) c.print_reply.result s c.args.command (refusal_line TooLong) (ap (reply_of s) (sym c.in-OversizedSend.is)) (ap (after_command s) (sym c.in-OversizedSend.is)) c.print_reply.ensures
+    said_told (λ v. v.items) c.print_reply.result (device g.D.Disk.bytes g.D.Disk.image g.D.Disk.moment g.D.Disk.image_since g.D.Disk.failures) s c.args.command (refusal_line TooLong) g.met.D.Disk.only_now (kept_as (device g.D.Disk.bytes g.D.Disk.image g.D.Disk.moment g.D.Disk.image_since g.D.Disk.failures) _ _ c.self.view_is c.self.invariant) (ap (event_of s.state) c.in-OversizedSend.is) (ap (said_of s.state) (sym c.in-OversizedSend.is)) c.print_reply.ensures
 
 pub returns-in-Jobs : goal.returns-in-Jobs
-returns-in-Jobs c =
+returns-in-Jobs g c =
     let s = c.args.self.now in
-    said_told (λ v. v.items) c.jobs.result s c.args.command (jobs_text s.moment (finite.values s.jobs)) (ap (reply_of s) (sym c.in-Jobs.is)) (ap (after_command s) (sym c.in-Jobs.is)) c.jobs.ensures
+    said_told (λ v. v.items) c.jobs.result (device g.D.Disk.bytes g.D.Disk.image g.D.Disk.moment g.D.Disk.image_since g.D.Disk.failures) s c.args.command (jobs_text s.state.moment (finite.values s.state.jobs)) g.met.D.Disk.only_now c.jobs.ensures.kept (ap (event_of s.state) c.in-Jobs.is) (ap (said_of s.state) (sym c.in-Jobs.is)) c.jobs.ensures.text
 
 pub returns : goal.returns
-returns c =
+returns g c =
     let s = c.args.self.now in
-    said_told (λ v. v.items) c.print_reply-in-Malformed.result s c.args.command (codes "error syntax\n") (ap (reply_of s) (sym c.in-Malformed.is)) (ap (after_command s) (sym c.in-Malformed.is)) c.print_reply-in-Malformed.ensures
+    said_told (λ v. v.items) c.print_reply-in-Malformed.result (device g.D.Disk.bytes g.D.Disk.image g.D.Disk.moment g.D.Disk.image_since g.D.Disk.failures) s c.args.command (codes "error syntax\n") g.met.D.Disk.only_now (kept_as (device g.D.Disk.bytes g.D.Disk.image g.D.Disk.moment g.D.Disk.image_since g.D.Disk.failures) _ _ c.self-in-Malformed.view_is c.self-in-Malformed.invariant) (ap (event_of s.state) c.in-Malformed.is) (ap (said_of s.state) (sym c.in-Malformed.is)) c.print_reply-in-Malformed.ensures

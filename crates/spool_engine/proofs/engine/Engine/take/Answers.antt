@@ -5,4 +5,4 @@ use Rattle.spool_engine.proofs.engine.Engine.take.Goals as goal
 pub returns-in-Ok : goal.returns-in-Ok
 returns-in-Ok g c =
     let (ts, h) = c.drain.ensures in
-    (ts, fed c.drain.result _ _ c.args.commands.now c.feed.new.self _ c.args.piece.now ts _ _ c.in-Ok.ensures.ok h)
+    (ts, fed _ c.drain.result _ _ c.args.commands.now c.feed.new.self _ c.args.piece.now ts _ _ c.in-Ok.ensures.ok h)

@@ -1,0 +1,4 @@
+pub mod Order
+pub mod Any
+pub mod Best
+pub mod Next

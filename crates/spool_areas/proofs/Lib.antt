@@ -1,0 +1,8 @@
+pub mod AreaLaws
+pub mod Added
+pub mod Collected
+pub mod Headers
+pub mod Made
+pub mod Once
+pub mod Reading
+pub mod Sames

@@ -1,0 +1,34 @@
+-- What the current area holds: a list of payloads.
+use Rattle.std.specs.Prelude.{◌≡◌, ◌⊎◌, ◌<◌, ℕ, ◌+◌, List, [], ◌∷◌, ◌++◌, length, Ok}
+use Rattle.gate_journal.specs.Entries.{HasEntries, HasFirst, records}
+use Rattle.gate_journal.specs.Found.{entry_at}
+use Rattle.gate_journal.specs.declared.entry.Found.TheVariants as found
+use Rattle.spool_areas.specs.Header.{half, header_len, current_area}
+
+-- where the gate behind the records of these payloads stands, in the area that begins at base
+abbrev pub gate_after : ℕ → List (List ℕ) → ℕ
+gate_after base payloads = base + header_len + length (records payloads)
+
+-- The current area begins at base. Its records up to the first closed gate are those of these payloads, and that gate
+-- lies in the area.
+pub record HasPayloads (base : ℕ) (payloads : List (List ℕ)) (bytes : List ℕ) : Type 0 where
+  pub current : current_area bytes ≡ Ok base
+  pub entries : HasEntries (base + header_len) payloads bytes
+  pub within : gate_after base payloads < base + half (length bytes)
+
+-- these payloads, or these and this one
+abbrev pub HasBeforeOrAfter : ℕ → List (List ℕ) → List ℕ → List ℕ → Type 0
+HasBeforeOrAfter base payloads payload bytes = HasPayloads base payloads bytes ⊎ HasPayloads base (payloads ++ payload ∷ []) bytes
+
+-- The current area begins at base. Its first records are those of these payloads, and behind them a gate lies in the
+-- area, whatever it is.
+pub record HasFirstPayloads (base : ℕ) (payloads : List (List ℕ)) (bytes : List ℕ) : Type 0 where
+  pub current : current_area bytes ≡ Ok base
+  pub first : HasFirst (base + header_len) (gate_after base payloads) payloads bytes
+  pub within : gate_after base payloads < base + half (length bytes)
+
+-- Behind these payloads stands the open gate of a record that leaves the area. The byte behind its payload counts with
+-- it.
+pub record IsTornAfter (base : ℕ) (payloads : List (List ℕ)) (bytes : List ℕ) : Type 0 where
+  pub first : HasFirstPayloads base payloads bytes
+  pub torn : entry_at bytes (base + half (length bytes)) (gate_after base payloads) ≡ found.Damaged

@@ -1,0 +1,39 @@
+//! Why a call on the areas failed.
+
+/// Why a device was not made a spool.
+#[derive(Clone, Copy, Debug, PartialEq, Eq)]
+pub enum MakeFault {
+    /// The device is shorter than two areas of 23 bytes. Nothing has changed.
+    Full,
+    /// The device has failed. It may hold anything now, and is to be made anew.
+    Disk,
+}
+
+/// Why a device was not opened as a spool.
+#[derive(Clone, Copy, Debug, PartialEq, Eq)]
+pub enum OpenFault {
+    /// It is too short, no header is open, or two open ones have the same epoch.
+    NotASpool,
+    /// What stands behind the open gate at this place is nothing that a spool writes.
+    Damaged(u64),
+    /// There is no memory for what was read.
+    Memory,
+    /// The device has failed.
+    Disk,
+}
+
+/// A device that was not opened, and why. It reads as before.
+#[derive(Debug, Drop)]
+pub struct OpenError<D> {
+    pub disk: D,
+    pub fault: OpenFault,
+}
+
+/// Why nothing was read.
+#[derive(Clone, Copy, Debug, PartialEq, Eq)]
+pub enum ReadFault {
+    /// An earlier call met a fault of the device.
+    Dead,
+    /// The device has failed. Every later call answers `Dead`.
+    Disk,
+}

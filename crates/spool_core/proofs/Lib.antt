@@ -1,0 +1,10 @@
+pub mod HistoryLaws
+pub mod ImageLaws
+pub mod ReadingLaws
+pub mod IdleLaws
+pub mod FoldLaws
+pub mod OpenLaws
+pub mod ReadLaws
+pub mod OpenRuns
+pub mod DriveLaws
+pub mod TurnLaws

@@ -1,0 +1,56 @@
+use Rattle.std.proofs.Common.{◌≡◌, ◌∙◌, ◌∷◌, [], ◌++◌, List, length, sym, ap, arith, length-append}
+use Rattle.std.specs.Vec.Iter.{into_iter_items, into_iter_steps}
+use Rattle.std.specs.declared.vec.IntoIter.{IntoIter}
+use Rattle.std.specs.Iterator.{Yields}
+use Rattle.spool_types.specs.declared.event.Event.{Event}
+use Rattle.spool_core.proofs.DriveLaws.{next_of}
+use Rattle.spool_core.proofs.TurnLaws.{driven_none, driven_more, end_of_memory, end_of_all, end_of_turn, same_replies}
+use Rattle.spool_core.proofs.driving.run.Goals as goal
+
+-- what the iterator of a vector has given is a front of its items
+taken_front : {X A : Type 0} (s : IntoIter X A) (xs : List X) (t : IntoIter X A) → Yields into_iter_steps s xs t → into_iter_items s ≡ xs ++ into_iter_items t
+taken_front s [] t y = ap into_iter_items y
+taken_front s (x ∷ xs) t y = y.1.0 ∙ ap (λ ys. x ∷ ys) (taken_front y.0 xs t y.2)
+
+pub loop-event-init : goal.loop-event-init
+loop-event-init g c = record {
+  driven = driven_none g.D.Disk.bytes g.D.Disk.size g.D.Disk.failures g.D.Disk.image g.D.Disk.moment g.D.Disk.image_since g.met.D.Disk.only_now c.args.spool.now c.args.events.items
+      c.new-replies.result.items c.new-replies.ensures.items c.look.ensures;
+  so_many = ap length c.new-replies.ensures.items;
+}
+
+pub returns-then-is_err : goal.returns-then-is_err
+returns-then-is_err g c =
+    let replies = c.loop-event.replies.items in
+    let events = sym c.into_iter-event-iterator.ensures.into_iter_gives.0 ∙ taken_front c.into_iter-event-iterator.result c.loop-event.yielded c.loop-event.event-iterator c.loop-event.yielded_by ∙ ap (λ (l : List Event). c.loop-event.yielded ++ l) c.in-Some.ensures.steps.0 in
+    let next = next_of c.args.events.items c.loop-event.yielded (into_iter_items c.next.new.self) c.in-Some.event (length replies) c.loop-event.invariant.so_many events in
+    same_replies g.D.Disk.bytes g.D.Disk.size g.D.Disk.failures g.D.Disk.image g.D.Disk.moment g.D.Disk.image_since g.met.D.Disk.only_now c.args.spool.now c.args.events.items
+    replies c.reserve.new.self.items _ c.loop-event.spool c.reserve.ensures.items
+    (end_of_memory g.D.Disk.bytes g.D.Disk.size g.D.Disk.failures g.D.Disk.image g.D.Disk.moment g.D.Disk.image_since g.met.D.Disk.only_now c.args.spool.now c.args.events.items
+    replies c.loop-event.spool c.loop-event.invariant.driven next.fits)
+
+pub loop-event-preserved : goal.loop-event-preserved
+loop-event-preserved g c =
+    let replies = c.loop-event.replies.items in
+    let events = sym c.into_iter-event-iterator.ensures.into_iter_gives.0 ∙ taken_front c.into_iter-event-iterator.result c.loop-event.yielded c.loop-event.event-iterator c.loop-event.yielded_by ∙ ap (λ (l : List Event). c.loop-event.yielded ++ l) c.in-Some.ensures.steps.0 in
+    let next = next_of c.args.events.items c.loop-event.yielded (into_iter_items c.next.new.self) c.in-Some.event (length replies) c.loop-event.invariant.so_many events in
+    let more : c.push.new.self.items ≡ replies ++ c.in-Ok.answer ∷ [] = rw c.unwrap.ensures at c.push.ensures.items ∙ ap (λ rs. rs ++ c.in-Ok.answer ∷ []) c.reserve.ensures.items in
+    record {
+      driven = driven_more g.D.Disk.bytes g.D.Disk.size g.D.Disk.failures g.D.Disk.image g.D.Disk.moment g.D.Disk.image_since g.met.D.Disk.only_now c.args.spool.now c.args.events.items
+          replies c.loop-event.spool c.loop-event.invariant.driven c.loop-event.yielded c.in-Some.event next c.turn.new.spool
+          (record { counted = c.turn.ensures.counted; fixed = c.turn.ensures.fixed; told = c.turn.ensures.told.0; tells = c.turn.ensures.told.1; any_moment = c.turn.ensures.any_moment })
+          c.in-Ok.answer c.push.new.self.items more c.in-Ok.ensures.turn c.in-Ok.ensures.kept;
+      so_many = omega (arith, ap length more, length-append replies (c.in-Ok.answer ∷ []), length-append c.loop-event.yielded (c.in-Some.event ∷ []), c.loop-event.invariant.so_many);
+    }
+
+pub returns-in-Err : goal.returns-in-Err
+returns-in-Err g c =
+    let replies = c.loop-event.replies.items in
+    let events = sym c.into_iter-event-iterator.ensures.into_iter_gives.0 ∙ taken_front c.into_iter-event-iterator.result c.loop-event.yielded c.loop-event.event-iterator c.loop-event.yielded_by ∙ ap (λ (l : List Event). c.loop-event.yielded ++ l) c.in-Some.ensures.steps.0 in
+    let next = next_of c.args.events.items c.loop-event.yielded (into_iter_items c.next.new.self) c.in-Some.event (length replies) c.loop-event.invariant.so_many events in
+    same_replies g.D.Disk.bytes g.D.Disk.size g.D.Disk.failures g.D.Disk.image g.D.Disk.moment g.D.Disk.image_since g.met.D.Disk.only_now c.args.spool.now c.args.events.items
+    replies c.reserve.new.self.items c.in-Err.ending c.turn.new.spool c.reserve.ensures.items
+    (end_of_turn g.D.Disk.bytes g.D.Disk.size g.D.Disk.failures g.D.Disk.image g.D.Disk.moment g.D.Disk.image_since g.met.D.Disk.only_now c.args.spool.now c.args.events.items
+    replies c.loop-event.spool c.loop-event.invariant.driven c.loop-event.yielded c.in-Some.event next c.turn.new.spool
+    (record { counted = c.turn.ensures.counted; fixed = c.turn.ensures.fixed; told = c.turn.ensures.told.0; tells = c.turn.ensures.told.1; any_moment = c.turn.ensures.any_moment })
+    c.in-Err.ending c.in-Err.ensures.turn)

@@ -1,0 +1,11 @@
+use Rattle.spool_core.proofs.ReadingLaws.{one_table, table_or_fault, one_fault}
+use Rattle.spool_core.proofs.laws.one_reading.Goals as goal
+
+pub returns-clause-table : goal.returns-clause-table
+returns-clause-table f s t c a b = one_table c s t a b
+
+pub returns-clause-either : goal.returns-clause-either
+returns-clause-either f s g c a b = table_or_fault c g s a b
+
+pub returns-clause-fault : goal.returns-clause-fault
+returns-clause-fault h f g c a b = one_fault c f g a b

@@ -1,0 +1,60 @@
+-- The table of an image: what the bytes that a crash left stand for.
+use Rattle.std.specs.Prelude.{◌≡◌, ◌⊎◌, ℕ, List, [], ◌∷◌, ◌++◌, Err, None, ⊤}
+use Rattle.spool_types.specs.declared.event.Event.{Event}
+use Rattle.spool_types.specs.State.{State}
+use Rattle.spool_types.specs.Step.{refusal_of}
+use Rattle.spool_types.specs.Fold.{after_one}
+use Rattle.event_codec.specs.Spelling.{spelling, IsSpellable}
+use Rattle.spool_areas.specs.Header.{current_area}
+use Rattle.spool_areas.specs.Payloads.{HasPayloads, HasFirstPayloads, IsTornAfter, gate_after}
+use Rattle.spool_core.specs.History.{IsHistory}
+use Rattle.spool_areas.specs.declared.fault.OpenFault.{OpenFault}
+use Rattle.spool_areas.specs.declared.fault.OpenFault.TheVariants.{NotASpool, Damaged, Memory, Disk}
+
+-- The image has this table: the payloads of its current area, up to the first closed gate, are the spellings of events
+-- that are accepted in turn, and the table is the one after them.
+pub record HasTable (s : State) (image : List ℕ) : Type 0 where
+  pub base : ℕ
+  pub payloads : List (List ℕ)
+  pub area : HasPayloads base payloads image
+  pub history : IsHistory payloads s
+
+-- the payload isn't the spelling of an event that this table accepts
+abbrev pub IsNoEvent : State → List ℕ → Type 0
+IsNoEvent s payload = (e : Event) → IsSpellable e → payload ≡ spelling e → ¬ (refusal_of s e ≡ None)
+
+-- behind these payloads stands a whole record of one that is no event of the table
+pub record IsStrangeAfter (base : ℕ) (payloads : List (List ℕ)) (s : State) (image : List ℕ) : Type 0 where
+  pub payload : List ℕ
+  pub stands : HasFirstPayloads base (payloads ++ payload ∷ []) image
+  pub strange : IsNoEvent s payload
+
+-- The first record of the current area that leaves it, or isn't the spelling of an event that is accepted in turn, has
+-- its gate at this place.
+pub record IsDamagedAt (place : ℕ) (image : List ℕ) : Type 0 where
+  pub base : ℕ
+  pub payloads : List (List ℕ)
+  pub table : State
+  pub history : IsHistory payloads table
+  pub gate : place ≡ gate_after base payloads
+  pub damage : IsTornAfter base payloads image ⊎ IsStrangeAfter base payloads table image
+
+-- Any other image has this fault: that of its headers, or that of the first record that doesn't read. Want of memory and
+-- a failed device are no faults of an image.
+abbrev pub HasFault : OpenFault → List ℕ → Type 0
+HasFault NotASpool image = current_area image ≡ Err NotASpool
+HasFault (Damaged place) image = (current_area image ≡ Err (Damaged place)) ⊎ IsDamagedAt place image
+HasFault Memory image = ⊥
+HasFault Disk image = ⊥
+
+-- What a fault of an opening says of the bytes: one of the image is theirs, and want of memory and a failed device say
+-- nothing.
+abbrev pub IsFaultOf : List ℕ → OpenFault → Type 0
+IsFaultOf image NotASpool = HasFault NotASpool image
+IsFaultOf image (Damaged place) = HasFault (Damaged place) image
+IsFaultOf image Memory = ⊤
+IsFaultOf image Disk = ⊤
+
+-- the table, or the one after this event
+abbrev pub HasBeforeOrAfterEvent : State → Event → List ℕ → Type 0
+HasBeforeOrAfterEvent s e image = HasTable s image ⊎ HasTable (after_one s e) image

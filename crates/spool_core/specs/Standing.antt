@@ -1,0 +1,69 @@
+-- An opened spool as its callers see it.
+use Rattle.std.specs.Prelude.{◌≡◌, ◌<◌, ◌≤◌, ◌^◌, ℕ, ◌+◌, ◌-◌, List, [], length, Bool, true, false, IsTrue, Option, None, Some, Result, Ok, Err}
+use Rattle.spool_types.specs.declared.event.Event.{Event}
+use Rattle.spool_types.specs.declared.event.Reply.{Reply}
+use Rattle.spool_types.specs.State.{State, Job, job_at}
+use Rattle.spool_types.specs.Step.{refusal_of, step}
+use Rattle.event_codec.specs.Spelling.{spelling, IsSpellable}
+use Rattle.gate_journal.specs.Frame.{payload_of}
+use Rattle.spool_core.specs.declared.spool.apply_fault.ApplyFault.{ApplyFault}
+use Rattle.spool_core.specs.declared.spool.apply_fault.ApplyFault.TheVariants.{Dead, Refused, Memory, Full, Disk}
+
+-- the disk, the table, how many bytes there are from the closed gate to the area's end, and whether the device has failed
+pub record Standing (D : Type 0) : Type 0 where
+  pub disk : D
+  pub state : State
+  pub room : ℕ
+  pub dead : Bool
+
+-- how many bytes a record of this event takes
+abbrev pub record_len : Event → ℕ
+record_len e = 5 + length (spelling e)
+
+-- the event is accepted, and its record and the 7 bytes kept behind it lie in the area
+pub record Fits {D : Type 0} (spool : Standing D) (e : Event) : Type 0 where
+  pub alive : spool.dead ≡ false
+  pub accepted : refusal_of spool.state e ≡ None
+  pub room : record_len e + 7 ≤ spool.room
+
+pub record IsDone {D : Type 0} (old : Standing D) (e : Event) (reply : Reply) (new : Standing D) : Type 0 where
+  pub fits : Fits old e
+  pub step : step old.state e ≡ Ok (new.state, reply)
+  pub room : new.room ≡ old.room - record_len e
+  pub alive : new.dead ≡ false
+
+pub record IsFailed {D : Type 0} (failures : D → ℕ) (old : Standing D) (e : Event) (new : Standing D) : Type 0 where
+  pub fits : Fits old e
+  pub state : new.state ≡ old.state
+  pub room : new.room ≡ old.room
+  pub dead : new.dead ≡ true
+  pub cause : failures old.disk < failures new.disk
+
+pub record IsFull {D : Type 0} (old : Standing D) (e : Event) : Type 0 where
+  pub alive : old.dead ≡ false
+  pub accepted : refusal_of old.state e ≡ None
+  pub room : old.room < record_len e + 7
+
+-- Each answer of an apply, with its cause and what it leaves. In this order: dead, refused, no memory, full, failed.
+abbrev pub IsAnswer : {D : Type 0} → (D → ℕ) → Standing D → Event → Result Reply ApplyFault → Standing D → Type 0
+IsAnswer failures old e (Ok reply) new = IsDone old e reply new
+IsAnswer failures old e (Err Dead) new = IsTrue old.dead × (new ≡ old)
+IsAnswer failures old e (Err (Refused r)) new = (old.dead ≡ false) × (step old.state e ≡ Err r) × (new ≡ old)
+IsAnswer failures old e (Err Memory) new = (old.dead ≡ false) × (refusal_of old.state e ≡ None) × (new ≡ old)
+IsAnswer failures old e (Err Full) new = IsFull old e × (new ≡ old)
+IsAnswer failures old e (Err Disk) new = IsFailed failures old e new
+
+-- the frame of an event's record
+pub record IsFrameOf (e : Event) (frame : List ℕ) : Type 0 where
+  pub spellable : IsSpellable e
+  pub payload : payload_of frame ≡ spelling e
+  pub len : length frame ≡ record_len e
+  pub short : length frame < 2 ^ 32
+
+-- the document of a job that is found, and no bytes where none is
+abbrev pub document_found : Option Job → List ℕ
+document_found None = []
+document_found (Some r) = r.document
+
+abbrev pub document_at : State → ℕ → List ℕ
+document_at s j = document_found (job_at s j)

@@ -1,0 +1,34 @@
+-- One event of a run.
+use Rattle.std.specs.Prelude.{◌≡◌, ◌<◌, ℕ, Bool, true, false, IsTrue, Option, None, Result, Ok, Err}
+use Rattle.spool_types.specs.declared.event.Event.{Event}
+use Rattle.spool_types.specs.declared.event.Reply.{Reply}
+use Rattle.spool_types.specs.declared.refusal.Refusal.{Refusal}
+use Rattle.spool_types.specs.Step.{refusal_of}
+use Rattle.spool_types.specs.Fold.{after_one}
+use Rattle.spool_core.specs.Standing.{Standing, IsFull}
+use Rattle.spool_core.specs.Driving.{answer_to}
+use Rattle.spool_core.specs.declared.driving.Ending.{Ending}
+use Rattle.spool_core.specs.declared.driving.Ending.TheVariants.{End, Memory, Full, Disk, Dead}
+
+-- the event was answered
+pub record IsAnswered {D : Type 0} (old : Standing D) (e : Event) (answer : Result Reply Refusal) (new : Standing D) : Type 0 where
+  pub alive : old.dead ≡ false
+  pub answer_is : answer ≡ answer_to old.state e
+  pub table : new.state ≡ after_one old.state e
+  pub dead : new.dead ≡ false
+
+-- the device failed
+pub record IsBroken {D : Type 0} (failures : D → ℕ) (old : Standing D) (e : Event) (new : Standing D) : Type 0 where
+  pub alive : old.dead ≡ false
+  pub accepted : refusal_of old.state e ≡ None
+  pub table : new.state ≡ old.state
+  pub dead : new.dead ≡ true
+  pub cause : failures old.disk < failures new.disk
+
+abbrev pub IsTurn : {D : Type 0} → (D → ℕ) → Standing D → Event → Result (Result Reply Refusal) Ending → Standing D → Type 0
+IsTurn failures old e (Ok answer) new = IsAnswered old e answer new
+IsTurn failures old e (Err End) new = ⊥
+IsTurn failures old e (Err Memory) new = (old.dead ≡ false) × (new ≡ old)
+IsTurn failures old e (Err Full) new = IsFull old e × (new ≡ old)
+IsTurn failures old e (Err Disk) new = IsBroken failures old e new
+IsTurn failures old e (Err Dead) new = IsTrue old.dead × (new ≡ old)

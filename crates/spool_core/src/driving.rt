@@ -1,0 +1,123 @@
+//! A list of events, applied in turn.
+ghost use Rattle.std.specs.Prelude.{◌≡◌, ◌<◌, ◌≤◌, ◌+◌, ◌⊎◌, ◌↔◌, List, ℕ, Some, None, Ok, IsSome, IsTrue, false, length, take, OnOk, IfOk, IfErr, IsErrOf, slice_get};
+ghost use Rattle.spool_disk.specs.Disk.{LeavesOnly};
+ghost use Rattle.spool_types.specs.declared.event.Event.{Event as Change};
+ghost use Rattle.spool_types.specs.declared.event.NewJob.{NewJob};
+ghost use Rattle.spool_types.specs.declared.event.Event.TheVariants.{Create};
+ghost use Rattle.spool_types.specs.declared.refusal.Refusal.TheVariants.{JobEnded};
+ghost use Rattle.spool_types.specs.State.{Job, job_at};
+ghost use Rattle.spool_types.specs.Step.{refusal_of};
+ghost use Rattle.spool_types.specs.Fold.{after_all};
+ghost use Rattle.job_table.specs.Ended.{HasEndedJob, subject};
+ghost use Rattle.spool_core.specs.Image.{HasTable, HasBeforeOrAfterEvent};
+ghost use Rattle.spool_core.specs.Standing.{IsFull};
+ghost use Rattle.spool_core.specs.Driving.{replies_to, reach, HasPrefixTable, IsEnding, IsAcknowledged, KeepsImages, IsOutcome};
+ghost use Rattle.spool_core.specs.Turns.{IsTurn};
+
+use crate::spool::{ApplyFault, Spool};
+use job_table::ended_jobs_stay;
+use spool_disk::Disk;
+use spool_types::{Event, Refusal, Reply};
+use std::alloc::Global;
+
+/// Why a run of events ended.
+#[derive(Clone, Copy, Debug, PartialEq, Eq)]
+pub enum Ending {
+    /// Every event was answered.
+    End,
+    /// There was no memory for the next event, or for its reply.
+    Memory,
+    /// The record of the next event doesn't fit into the area.
+    Full,
+    /// The device has failed. The next event may be on it or not.
+    Disk,
+    /// The device had failed before.
+    Dead,
+}
+
+/// What a run of events was answered, and why it ended.
+#[derive(Debug, Drop)]
+pub struct Driven {
+    /// A reply or a refusal for each event, up to the end of the run.
+    pub replies: Vec<Result<Reply, Refusal>>,
+    pub ending: Ending,
+}
+
+// Applies one event. A refusal is an answer, and any other fault ends the run.
+fn turn<D: Disk>(spool: &mut Spool<D>, event: Event) -> Result<Result<Reply, Refusal>, Ending>
+    ensures turn { IsTurn D.failures spool.old event result spool.new }
+    ensures counted { D.failures spool.old.disk ≤ D.failures spool.new.disk }
+    ensures fixed { D.size spool.new.disk ≡ D.size spool.old.disk }
+    ensures told { IsSome (D.bytes spool.new.disk) ↔ IsSome (D.bytes spool.old.disk) }
+    ensures any_moment { spool.old.dead ≡ false → IsSome (D.bytes spool.old.disk) →
+        LeavesOnly D.moment D.image_since spool.old.disk spool.new.disk (HasBeforeOrAfterEvent spool.old.state event) }
+    ensures kept { OnOk result (IsSome (D.bytes spool.old.disk) → KeepsImages D.image spool.old → KeepsImages D.image spool.new) }
+{
+    match spool.apply(event) {
+        Ok(reply) => Ok(Ok(reply)),
+        Err(ApplyFault::Refused(refusal)) => Ok(Err(refusal)),
+        Err(ApplyFault::Memory) => Err(Ending::Memory),
+        Err(ApplyFault::Full) => Err(Ending::Full),
+        Err(ApplyFault::Disk) => Err(Ending::Disk),
+        Err(ApplyFault::Dead) => Err(Ending::Dead),
+    }
+}
+
+// What a crash leaves of a spool before anything is applied.
+fn look<D: Disk>(spool: &Spool<D>)
+    ensures { spool.now.dead ≡ false → IsSome (D.bytes spool.now.disk) → KeepsImages D.image spool.now }
+{
+    spool.table();
+}
+
+// Applies the events up to the end of the run. A reply's place is reserved before its event is applied.
+fn run<D: Disk>(alloc: Global, spool: &mut Spool<D>, events: Vec<Event>) -> Driven
+    ensures { IsOutcome D.bytes D.size D.failures D.image D.moment D.image_since spool.old events.items result.replies.items result.ending spool.new }
+{
+    let mut replies = Vec::new(alloc);
+    look(spool);
+    for event in events {
+        if replies.reserve(1).is_err() {
+            let ending = Ending::Memory;
+            return Driven { replies, ending };
+        }
+        match turn(spool, event) {
+            Ok(answer) => replies.push(answer).unwrap(),
+            Err(ending) => return Driven { replies, ending },
+        }
+    }
+    let ending = Ending::End;
+    Driven { replies, ending }
+}
+
+/// Applies the events in turn, and goes on after a refusal. It stops at the first event that isn't answered.
+pub fn drive<D: Disk>(alloc: Global, spool: &mut Spool<D>, events: Vec<Event>) -> Driven
+    // What was answered, and the table that it led to.
+    ensures replies { result.replies.items ≡ replies_to spool.old.state (take (length result.replies.items) events.items) }
+    ensures table { spool.new.state ≡ after_all spool.old.state (take (length result.replies.items) events.items) }
+    ensures ending { IsEnding D.failures spool.old events.items (length result.replies.items) result.ending spool.new }
+    ensures alive { 0 < length result.replies.items → spool.old.dead ≡ false }
+
+    // A crash at any moment leaves the table after some of the events.
+    ensures any_moment { spool.old.dead ≡ false → IsSome (D.bytes spool.old.disk) →
+        LeavesOnly D.moment D.image_since spool.old.disk spool.new.disk (HasPrefixTable spool.old.state events.items 0 (reach result.ending (length result.replies.items))) }
+
+    // No acknowledged event is lost: once the m-th reply was given, a crash leaves a table that holds the first m events.
+    ensures acknowledged { spool.old.dead ≡ false → IsSome (D.bytes spool.old.disk) → (m : ℕ) → m ≤ length result.replies.items →
+        IsAcknowledged D.moment D.image_since spool.old.state events.items spool.old.disk spool.new.disk m (reach result.ending (length result.replies.items)) }
+    ensures kept { spool.new.dead ≡ false → IsSome (D.bytes spool.old.disk) → (c : List ℕ) → D.image spool.new.disk c → HasTable spool.new.state c }
+    ensures after_fault { spool.old.dead ≡ false → IsSome (D.bytes spool.old.disk) → (c : List ℕ) → D.image spool.new.disk c →
+        HasPrefixTable spool.old.state events.items (length result.replies.items) (reach result.ending (length result.replies.items)) c }
+
+    // A job that has ended stays as it is, and what would change it is refused.
+    ensures ended { (j : ℕ) (job : Job) → HasEndedJob spool.old.state j job → job_at spool.new.state j ≡ Some job }
+    ensures refused { (j : ℕ) (job : Job) (e : Change) → HasEndedJob spool.old.state j job → subject e ≡ Some j → refusal_of spool.new.state e ≡ Some JobEnded }
+    ensures number { (j : ℕ) (job : Job) (n : NewJob) → HasEndedJob spool.old.state j job → n.job ≡ j → IsSome (refusal_of spool.new.state (Create n)) }
+
+    ensures counted { D.failures spool.old.disk ≤ D.failures spool.new.disk }
+    ensures fixed { D.size spool.new.disk ≡ D.size spool.old.disk }
+    ensures told { IsSome (D.bytes spool.new.disk) ↔ IsSome (D.bytes spool.old.disk) }
+{
+    ended_jobs_stay();
+    run(alloc, spool, events)
+}

@@ -1,0 +1,75 @@
+//! The spool: a table of queues and jobs that outlives crashes.
+//!
+//! A disk is made a spool once ([`make`]) and opened at each start. A [`Spool`] holds the disk and has the table in
+//! memory. [`Spool::apply`] writes an event down on the disk before it changes the table, and acknowledges it only once
+//! a crash can't take it away.
+//!
+//! # What table a disk has
+//!
+//! A disk has images, the bytes that a crash may leave. An image has a table where the records of its current area, up
+//! to the first closed gate, are the spellings of events that are accepted in turn, from the empty table on; its table
+//! is the one after them (`HasTable`). Any other image has a fault: no area is current, or the gate of the first record
+//! that leaves the area, or isn't such a spelling, stands at a place (`HasFault`). No image has two tables, two faults, or
+//! one of each ([`one_reading`]).
+//!
+//! # Promises, on every disk that meets `Disk`
+//!
+//! - *CrashSafeApply*: after [`make`] every image has the empty table (`made`). A crash at any moment of an
+//!   [`Spool::apply`] leaves the table before the event or the one after it, whatever the call answers (`any_moment`).
+//!   After Ok every image has the table after it (`kept`), nothing is unsynced (`durable`), the table shown is that one
+//!   and the reply is the event's (`answer`).
+//! - *EndedStaysEnded*: a table changes by accepted events only (`answer`), and none changes a job that has ended
+//!   (`ended_jobs_stay` of `job_table`).
+//! - *ExactRefusals*: each answer of `apply` comes with its cause, in the order of [`ApplyFault`] (`answer`). `make` is
+//!   `Full` exactly where the device is too short (`full`), and a document isn't read exactly where the spool is dead
+//!   (`dead`).
+//! - *UnchangedAfterRefusal*: after `Dead`, `Refused`, `Memory` and `Full` the disk and the table are as before
+//!   (`answer`), and after `Full` from `make` the disk (`untouched`).
+//!
+//! What is said of images and tables speaks of disks that tell their bytes; on any other the answers and their causes
+//! are the same.
+//!
+//! # How it keeps them
+//!
+//! `apply` does first what can fail and changes nothing that is seen: it looks whether the event is refused, reserves
+//! its memory in the table and spells it into a frame. Then it appends the frame to the area, with two syncs. Only then
+//! does it commit the event to the table, which takes no memory and can't fail. A fault of the device leaves open
+//! whether the event is on it: the table stays as it was, and the spool is dead, since what it would append next might
+//! stand behind an event that it doesn't know.
+//!
+//! # Invariants
+//!
+//! 1. The closed gate lies in the area or at its end.
+//! 2. As long as no device call has failed, each image has the table that is in memory (`IsStanding`).
+//!
+//! # Faults and what they leave
+//!
+//! - [`ApplyFault`]: after all but `Disk` nothing has changed. After `Disk`, which comes only where the device's count
+//!   of failures rose, each image has the table before the event or the one after it, and the spool is dead: every call
+//!   but `table` and `into_disk` answers `Dead`. A dead spool gives its disk back, and the disk is opened anew.
+//! - [`ReadFault`]: the spool is as before.
+//! - [`MakeFault`]: after `Full` nothing has changed. After `Disk` the device may hold no spool, and is made anew.
+#![tactic(auto)]
+
+mod driving;
+mod fold;
+mod laws;
+mod making;
+mod replaying;
+mod spool;
+
+pub use driving::{Driven, Ending, drive};
+pub use laws::one_reading;
+pub use making::make;
+pub use replaying::replay;
+pub use spool::{ApplyFault, Spool};
+pub use spool_areas::{MakeFault, OpenError, OpenFault, ReadFault};
+
+#[cfg(test)]
+mod apply_tests;
+#[cfg(test)]
+mod drive_tests;
+#[cfg(test)]
+mod open_tests;
+#[cfg(test)]
+mod samples;

@@ -1,0 +1,58 @@
+-- What a crash leaves of turns.
+use Rattle.std.proofs.Common.{◌≡◌, ℕ, List, [], ◌∷◌, ◌++◌, refl, ap, sym, ◌∙◌, subst, inl, inr, ⊎_elim, true, false, Bool, Option, None, Some, Result, Ok, Err}
+use Rattle.std.specs.Prelude.{IsSome}
+use Rattle.spool_types.specs.declared.event.Event.{Event}
+use Rattle.spool_types.specs.declared.event.Reply.{Reply}
+use Rattle.spool_types.specs.declared.refusal.Refusal.{Refusal}
+use Rattle.spool_types.specs.State.{State}
+use Rattle.spool_types.specs.Step.{step}
+use Rattle.spool_disk.specs.Disk.{LeavesOnly}
+use Rattle.spool_disk.proofs.Moments.{runs_on, weaker_run}
+use Rattle.spool_core.specs.Standing.{Standing}
+use Rattle.spool_engine.specs.Script.{event_of}
+use Rattle.spool_engine.specs.Runs.{Device, Outcome, Turn, served, no_memory, full, disk, dead, IsTaken, IsStep, IsTurn, IsOutcome, IsKept, IsAlong, HasBeforeOrAfterCommand, AreTurns, last_state}
+use Rattle.spool_engine.proofs.TurnLaws.{OnlyNow, unmoved}
+
+-- a dead spool takes no event
+dead_taken : {D : Type 0} (s : Standing D) (e : Event) (r : Result (State × Reply) Refusal) (s' : Standing D) → s.dead ≡ true → IsTaken s e r s' → s' ≡ s
+dead_taken s e (Ok r) s' is h = let alive = h.fits.alive in cc
+dead_taken s e (Err refusal) s' is h = h.1
+
+dead_step : {D : Type 0} (s : Standing D) (o : Option Event) (s' : Standing D) → s.dead ≡ true → IsStep s o s' → s' ≡ s
+dead_step s None s' is h = h
+dead_step s (Some e) s' is h = dead_taken s e (step s.state e) s' is h
+
+-- a dead spool stays as it is
+dead_still : {D : Type 0} (failures : D → ℕ) (s : Standing D) (t : Turn D) (o : Outcome) → s.dead ≡ true → IsOutcome failures s t o → t.next ≡ s
+dead_still failures s t served is h = dead_step s (event_of s.state t.command) t.next is h.step
+dead_still failures s t no_memory is h = h.cause.2
+dead_still failures s t full is h = h.cause.1
+dead_still failures s t disk is h = let alive = h.cause.fits.alive in cc
+dead_still failures s t dead is h = h.cause.1
+
+dead_last : {D : Type 0} (v : Device D) (s : Standing D) (ts : List (Turn D)) → s.dead ≡ true → AreTurns v s ts → last_state s ts ≡ s
+dead_last v s [] is h = refl
+dead_last v s (t ∷ ts) is h =
+    let same : t.next ≡ s = dead_still v.failures s t t.outcome is h.0.outcome in
+    dead_last v t.next ts (ap (λ x. x.dead) same ∙ is) h.1 ∙ same
+
+-- a turn, and then more turns, of which a crash leaves what is known where the spool lives on
+after_turn : {D : Type 0} (v : Device D) (m : Standing D) (t : Turn D) (ts : List (Turn D)) (b : Bool) → t.next.dead ≡ b → IsTurn v m t → AreTurns v t.next ts → m.dead ≡ false → IsSome (v.bytes m.disk)
+    → (t.next.dead ≡ false → LeavesOnly v.moment v.image_since t.next.disk (last_state t.next ts).disk (IsAlong t.next ts))
+    → LeavesOnly v.moment v.image_since m.disk (last_state t.next ts).disk (IsAlong m (t ∷ ts))
+after_turn v m t ts false is one more alive tells rest = runs_on v.moment v.image_since m.disk t.next.disk (last_state t.next ts).disk (IsAlong m (t ∷ ts)) (IsAlong t.next ts)
+    (weaker_run v.moment v.image_since m.disk t.next.disk (IsAlong m (t ∷ ts)) (HasBeforeOrAfterCommand m.state t.command) (one.crash alive tells) (λ c. ⊎_elim (λ before. inl before) (λ after. inr (inl after))))
+    (rest is)
+    (λ c along. inr (inr along))
+after_turn v m t ts true is one more alive tells rest = subst (λ x. LeavesOnly v.moment v.image_since m.disk x.disk (IsAlong m (t ∷ ts))) (sym (dead_last v t.next ts is more))
+    (weaker_run v.moment v.image_since m.disk t.next.disk (IsAlong m (t ∷ ts)) (HasBeforeOrAfterCommand m.state t.command) (one.crash alive tells) (λ c. ⊎_elim (λ before. inl before) (λ after. inr (inl after))))
+
+-- turns from an opened spool on
+along : {D : Type 0} (v : Device D) (m : Standing D) (ts : List (Turn D)) → OnlyNow v → IsKept v m → AreTurns v m ts → m.dead ≡ false → IsSome (v.bytes m.disk) → LeavesOnly v.moment v.image_since m.disk (last_state m ts).disk (IsAlong m ts)
+along v m [] now kept h alive tells = unmoved v m (IsAlong m []) now kept (λ c has. has) alive tells
+along v m (t ∷ ts) now kept h alive tells = after_turn v m t ts t.next.dead refl h.0 h.1 alive tells (λ lives. along v t.next ts now h.0.kept h.1 lives (h.0.told.1 tells))
+
+-- the same behind the first of them
+pub along_others : {D : Type 0} (v : Device D) (s : Standing D) (first others : List (Turn D)) → OnlyNow v → IsKept v s → AreTurns v s (first ++ others) → (last_state s first).dead ≡ false → IsSome (v.bytes (last_state s first).disk) → LeavesOnly v.moment v.image_since (last_state s first).disk (last_state s (first ++ others)).disk (IsAlong (last_state s first) others)
+along_others v s [] others now kept h alive tells = along v s others now kept h alive tells
+along_others v s (t ∷ first) others now kept h alive tells = along_others v t.next first others now h.0.kept h.1 alive tells

@@ -1,0 +1,18 @@
+//! What a crash leaves of a run.
+ghost use Rattle.std.specs.Prelude.{◌≡◌, false, List, ◌++◌, IsSome};
+ghost use Rattle.spool_disk.specs.Disk.{LeavesOnly};
+ghost use Rattle.spool_core.specs.Standing.{Standing};
+ghost use Rattle.spool_engine.specs.Runs.{Turn, device, AreTurns, IsKept, IsAlong, last_state};
+
+use spool_disk::Disk;
+
+/// After the replies to the first commands, and as long as the device hasn't failed, a crash leaves the table after all
+/// of these commands, and perhaps after some of the next: nothing that was answered is lost, and no event is left out.
+pub fn crashes_between_replies<D: Disk>()
+    ensures { (s : Standing D) (first others : List (Turn D)) →
+        IsKept (device D.bytes D.image D.moment D.image_since D.failures) s →
+        AreTurns (device D.bytes D.image D.moment D.image_since D.failures) s (first ++ others) →
+        (last_state s first).dead ≡ false → IsSome (D.bytes (last_state s first).disk) →
+        LeavesOnly D.moment D.image_since (last_state s first).disk (last_state s (first ++ others)).disk
+        (IsAlong (last_state s first) others) }
+{}

@@ -1,0 +1,67 @@
+-- What the words of the command line mean, as clap reads them.
+use Rattle.std.specs.Prelude.{◌≡◌, ◌≤◌, ℕ, ⊤, List, [], Option, Some, IfSome, codes, length}
+use Rattle.std.specs.Prelude.{option_map, unwrap_or}
+use Rattle.std.specs.Str.Parse.{digits_value, without_leading_plus}
+use Rattle.clap.specs.Words.{App, IsUnsignedIn, Row, Rule, Text, fault_of, first_of, found_of, matches_of}
+use Rattle.clap.specs.Words.{new_app, new_rule, one_of, one_text, with_rule}
+use Rattle.clap.specs.declared.builder.value_parser.ValueParser.{ValueParser}
+use Rattle.clap.specs.declared.builder.value_parser.ValueParser.TheVariants.{NonEmptyString, Unsigned}
+use Rattle.clap.specs.declared.parser.matches.ArgMatches.{ArgMatches}
+use Rattle.spool_shell.specs.declared.words.WordsFault.{WordsFault}
+use Rattle.spool_shell.specs.declared.words.WordsFault.TheVariants.{Refused, Memory}
+
+-- ---- the command: its name and its options
+
+-- a number from 4,096 to 1,073,741,824
+abbrev pub sizes : ValueParser
+sizes = Unsigned 4096 1073741824
+
+-- an option `--NAME` with one value
+abbrev pub option_of : Text → ValueParser → Rule
+option_of name parser =
+    record (new_rule name) { long = Some name; value_names = 1; parser = Some parser }
+
+-- `spool_shell [--root DIR] [--size BYTES]`, where DIR is not empty
+abbrev pub shell_app : App
+shell_app = with_rule (with_rule (new_app (codes "spool_shell")) (option_of (codes "root") NonEmptyString))
+    (option_of (codes "size") sizes)
+
+-- ---- what clap finds in words, of which the first is the program's name
+
+-- DIR, where it is given
+abbrev pub root_of : List Row → Option Text
+root_of found = first_of (codes "root") found
+
+-- the number that a text of digits stands for
+abbrev pub number_of : Text → ℕ
+number_of text = digits_value 10 (without_leading_plus text)
+
+-- BYTES, or 4,194,304 where they are not given
+abbrev pub size_of : List Row → ℕ
+size_of found = unwrap_or (option_map number_of (one_of (codes "size") found)) 4194304
+
+abbrev pub root_in : List Text → Option Text
+root_in words = root_of (matches_of shell_app words)
+
+abbrev pub size_in : List Text → ℕ
+size_in words = size_of (matches_of shell_app words)
+
+-- clap finds no fault in the words
+abbrev pub AreFaultless : List Text → Type 0
+AreFaultless words = fault_of shell_app words ≡ []
+
+-- clap finds no fault in the words, and DIR has at most 64 bytes
+abbrev pub AreTaken : List Text → Type 0
+AreTaken words = AreFaultless words × IfSome (root_in words) (λ dir. length dir ≤ 64)
+
+-- where the fault is no want of memory, the words are not so
+abbrev pub RefusesOnly : Type 0 → WordsFault → Type 0
+RefusesOnly p (Refused text) = p → ⊥
+RefusesOnly p Memory = ⊤
+
+-- ---- between the steps of reading them
+
+-- BYTES, where they are given, are in their range
+abbrev pub HasSizeInRange : ArgMatches → Type 0
+HasSizeInRange m =
+    (text : Text) → one_text (found_of m) (codes "size") ≡ Some text → IsUnsignedIn 4096 1073741824 text

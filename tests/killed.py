@@ -1,0 +1,195 @@
+#!/usr/bin/env python3
+"""Kills the shell at random moments, and looks whether the spool still has what was answered: killed.py [SEED]
+
+It runs crates/spool_shell/out/spool_shell (made by `rt run` in that folder) with `--root`, fifty times in a new folder,
+several lives in each. A life gets one command at a time, and is killed after some reply, inside the text of a command,
+or with a command under way. The next life's `jobs` has to list exactly what was answered, and beside it at most the
+command that was under way.
+
+What has to be listed is told by a table of this script's own. The last line is `50 of 50`, with status 0, or the first
+difference, with status 1.
+"""
+import copy
+import os
+import random
+import subprocess
+import sys
+import tempfile
+import time
+
+here = os.path.dirname(os.path.abspath(__file__))
+shell = os.path.join(here, "..", "crates", "spool_shell", "out", "spool_shell")
+
+RUNS = 50
+LIVES = 4
+TYPE = "application/octet-stream"
+
+
+class Lost(Exception):
+    """The spool doesn't hold what it has to."""
+
+
+class Job:
+    def __init__(self, title):
+        self.title = title
+        self.size = 0
+        self.shown = "4 job-incoming"
+
+
+class Table:
+    """The queues and jobs that the answered commands made."""
+
+    def __init__(self):
+        self.queues = []
+        self.jobs = []
+
+    def listing(self):
+        """What `jobs` answers."""
+        lines = [
+            f'job {n} lab {job.shown} "ann" {job.size} 0 "{job.title}"' for n, job in enumerate(self.jobs, 1)
+        ]
+        return lines + [f"ok {len(lines)}"]
+
+    def after(self, command):
+        """The table after a command, and the command's reply."""
+        table = copy.deepcopy(self)
+        return table, table.change(*command)
+
+    def change(self, name, *words):
+        if name == "queue":
+            self.queues.append(words[0])
+            return "ok"
+        if name == "create":
+            self.jobs.append(Job(words[0]))
+            return f"ok job {len(self.jobs)}"
+        job = self.jobs[words[0] - 1]
+        if name == "send":
+            job.size += words[1]
+            return f"ok bytes {job.size}"
+        if name == "close":
+            job.shown = "3 none"
+            return f"ok type {TYPE} stages 1"
+        job.shown = "7 canceled"
+        return "ok"
+
+
+def text_of(name, *words):
+    """A command as the shell reads it."""
+    if name == "queue":
+        return f"queue {words[0]} spoolfile:/out {TYPE} abort-job\n"
+    if name == "create":
+        return f'create lab ann "{words[0]}" 1 50 ""\n'
+    if name == "send":
+        return f"send {words[0]} {words[1]}\n{'x' * words[1]}\n"
+    if name == "close":
+        return f"close {words[0]} page.txt\n"
+    return f"cancel {words[0]}\n"
+
+
+def next_command(table, chance):
+    """A command that the table accepts."""
+    if not table.queues:
+        return ("queue", "lab")
+    number = chance.randrange(len(table.jobs) + 1)
+    if number == 0:
+        return ("create", f"Job {len(table.jobs) + 1}")
+    shown = table.jobs[number - 1].shown
+    if shown == "4 job-incoming":
+        return chance.choice([("send", number, chance.randrange(1, 3000)), ("close", number), ("cancel", number)])
+    if shown == "3 none":
+        return ("cancel", number)
+    return ("create", f"Job {len(table.jobs) + 1}")
+
+
+class Life:
+    """A running shell."""
+
+    def __init__(self, root):
+        words = [shell, "--root", "."]
+        self.child = subprocess.Popen(words, cwd=root, stdin=subprocess.PIPE, stdout=subprocess.PIPE, text=True)
+
+    def give(self, text):
+        self.child.stdin.write(text)
+        self.child.stdin.flush()
+
+    def reply(self):
+        return self.child.stdout.readline().rstrip("\n")
+
+    def jobs(self):
+        self.give("jobs\n")
+        lines = [self.reply()]
+        while lines[-1].startswith("job "):
+            lines.append(self.reply())
+        return lines
+
+    def kill(self):
+        """SIGKILL, as a crash would."""
+        self.child.kill()
+        self.child.wait()
+        self.child.stdout.close()
+        try:
+            self.child.stdin.close()
+        except BrokenPipeError:
+            pass
+
+
+def recognised(listed, tables):
+    """The table that is listed."""
+    for table in tables:
+        if table.listing() == listed:
+            return table
+    raise Lost(f"listed {listed}, answered {tables[0].listing()}")
+
+
+def live(root, tables, chance):
+    """One life: the tables that the next life may find."""
+    life = Life(root)
+    try:
+        table = recognised(life.jobs(), tables)
+        for _ in range(chance.randrange(12)):
+            command = next_command(table, chance)
+            after, reply = table.after(command)
+            life.give(text_of(*command))
+            answered = life.reply()
+            if answered != reply:
+                raise Lost(f"{command} was answered {answered!r}, not {reply!r}")
+            table = after
+        if chance.random() < 0.3:
+            return [table]
+        command = next_command(table, chance)
+        text = text_of(*command)
+        if chance.random() < 0.2:
+            life.give(text[: chance.randrange(len(text))])
+            return [table]
+        life.give(text)
+        time.sleep(chance.random() * 0.004)
+        return [table, table.after(command)[0]]
+    finally:
+        life.kill()
+
+
+def run(seed):
+    """Lives in one folder."""
+    chance = random.Random(seed)
+    with tempfile.TemporaryDirectory() as root:
+        tables = [Table()]
+        for _ in range(LIVES):
+            tables = live(root, tables, chance)
+        life = Life(root)
+        recognised(life.jobs(), tables)
+        life.kill()
+
+
+def main():
+    if not os.path.exists(shell):
+        sys.exit("no program: run `rt run` in crates/spool_shell first")
+    first = int(sys.argv[1]) if len(sys.argv) > 1 else random.randrange(1 << 32)
+    for turn in range(RUNS):
+        try:
+            run(first + turn)
+        except Lost as difference:
+            sys.exit(f"run {turn + 1}, `killed.py {first + turn}` begins with it: {difference}")
+    print(f"{RUNS} of {RUNS}")
+
+
+main()
