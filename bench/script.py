@@ -17,9 +17,11 @@ shell = os.path.join(here, "..", "crates", "spool_shell", "out", "spool_shell")
 def seconds(script):
     """The least time of three runs."""
     best = None
+    # A spool in memory with room for all of it.
+    size = str(max(4_194_304, 4 * len(script)))
     for _ in range(3):
         start = time.perf_counter()
-        run = subprocess.run([shell], input=script, stdout=subprocess.PIPE, check=True)
+        run = subprocess.run([shell, "--size", size], input=script, stdout=subprocess.PIPE, check=True)
         took = time.perf_counter() - start
         best = took if best is None else min(best, took)
         if b"error" in run.stdout:
