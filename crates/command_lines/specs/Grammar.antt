@@ -1,14 +1,16 @@
 -- What a line says: the table of commands, by their first words.
-use Rattle.std.specs.Prelude.{ℕ, Bool, true, ◌&&◌, cond, nat_lt, ◌==◌, List, [], ◌∷◌, length, codes, nat_eq, Option, None, Some}
+use Rattle.std.specs.Prelude.{ℕ, Bool, true, false, ◌&&◌, cond, nat_lt, ◌==◌, List, [], ◌∷◌, length, codes, nat_eq, Option, None, Some}
 use Rattle.std.specs.Cmp.Lexicographic.{pointwise}
+use Rattle.std.specs.Option.{option_map}
 use Rattle.std.specs.Str.{is_utf8, str_to_ascii_lowercase}
 use Rattle.spool_types.specs.Limits.{greatest_number, greatest_moment}
-use Rattle.spool_types.specs.Values.{is_queue_name, is_uri, is_media_type, is_user_name, is_title, is_options, is_file_name}
+use Rattle.spool_types.specs.Values.{is_queue_name, is_uri, is_media_type, is_user_name, is_title, is_options, is_note, is_file_name}
 use Rattle.spool_types.specs.declared.phase.Policy.{Policy}
 use Rattle.spool_types.specs.declared.phase.Policy.TheVariants.{AbortJob, RetryJob, RetryCurrentJob, StopPrinter}
+use Rattle.spool_types.specs.Phases.{policy_word}
 use Rattle.command_lines.specs.Words.{words_of}
 use Rattle.command_lines.specs.Numbers.{ranged}
-use Rattle.command_lines.specs.declared.command.Command.TheVariants.{Queue, Create, Close, Cancel, Clock, Jobs, Malformed}
+use Rattle.command_lines.specs.declared.command.Command.TheVariants.{Queue, Info, SetAccept, SetStop, Create, Close, Hold, Release, Cancel, Clock, Jobs, Queues, Malformed}
 use Rattle.command_lines.specs.declared.command.Kind.{Kind}
 use Rattle.command_lines.specs.declared.command.Kind.TheVariants.{Remark, Says, Takes}
 
@@ -28,10 +30,10 @@ media_in word = cond (is_utf8 word && is_media_type (str_to_ascii_lowercase word
 
 abbrev pub policy_in : List ℕ → Option Policy
 policy_in word =
-    cond (is_word word (codes "abort-job")) (Some AbortJob)
-    (cond (is_word word (codes "retry-job")) (Some RetryJob)
-    (cond (is_word word (codes "retry-current-job")) (Some RetryCurrentJob)
-    (cond (is_word word (codes "stop-printer")) (Some StopPrinter)
+    cond (is_word word (policy_word AbortJob)) (Some AbortJob)
+    (cond (is_word word (policy_word RetryJob)) (Some RetryJob)
+    (cond (is_word word (policy_word RetryCurrentJob)) (Some RetryCurrentJob)
+    (cond (is_word word (policy_word StopPrinter)) (Some StopPrinter)
     None)))
 
 abbrev pub job_in : List ℕ → Option ℕ
@@ -75,6 +77,33 @@ queue_line (name ∷ uri ∷ target ∷ policy ∷ interval ∷ limit ∷ []) =
     queue_of (text_in is_queue_name name) (text_in is_uri uri) (media_in target) (policy_in policy) (interval_in interval) (limit_in limit)
 queue_line words = None
 
+abbrev pub info_of : Option (List ℕ) → Option (List ℕ) → Option (List ℕ) → Option Kind
+info_of (Some queue) (Some info) (Some location) = Some (Says (Info (record { queue = queue; info = info; location = location })))
+info_of queue info location = None
+
+-- QUEUE INFO LOCATION
+abbrev pub info_line : List (List ℕ) → Option Kind
+info_line (queue ∷ info ∷ location ∷ []) = info_of (text_in is_queue_name queue) (text_in is_note info) (text_in is_note location)
+info_line words = None
+
+abbrev pub accept_of : Bool → Option (List ℕ) → Option Kind
+accept_of accepting (Some queue) = Some (Says (SetAccept queue accepting))
+accept_of accepting None = None
+
+-- QUEUE
+abbrev pub accept_line : Bool → List (List ℕ) → Option Kind
+accept_line accepting (queue ∷ []) = accept_of accepting (text_in is_queue_name queue)
+accept_line accepting words = None
+
+abbrev pub stop_of : Bool → Option (List ℕ) → Option Kind
+stop_of stopped (Some queue) = Some (Says (SetStop queue stopped))
+stop_of stopped None = None
+
+-- QUEUE
+abbrev pub stop_line : Bool → List (List ℕ) → Option Kind
+stop_line stopped (queue ∷ []) = stop_of stopped (text_in is_queue_name queue)
+stop_line stopped words = None
+
 abbrev pub creation_of : Option (List ℕ) → Option (List ℕ) → Option (List ℕ) → Option ℕ → Option ℕ → Option (List ℕ) → Option Kind
 creation_of (Some queue) (Some user) (Some title) (Some copies) (Some priority) (Some options) =
     Some (Says (Create (record { queue = queue; user = user; title = title; copies = copies; priority = priority; options = options })))
@@ -104,6 +133,28 @@ abbrev pub close_line : List (List ℕ) → Option Kind
 close_line (job ∷ name ∷ []) = close_of (job_in job) (text_in is_file_name name)
 close_line words = None
 
+-- a moment, or the word for none
+abbrev pub until_in : List ℕ → Option (Option ℕ)
+until_in word = cond (is_word word (codes "indefinite")) (Some None) (option_map (λ moment. Some moment) (moment_in word))
+
+abbrev pub hold_of : Option ℕ → Option (Option ℕ) → Option Kind
+hold_of (Some job) (Some until) = Some (Says (Hold job until))
+hold_of job until = None
+
+-- JOB MOMENT, or JOB indefinite
+abbrev pub hold_line : List (List ℕ) → Option Kind
+hold_line (job ∷ until ∷ []) = hold_of (job_in job) (until_in until)
+hold_line words = None
+
+abbrev pub release_of : Option ℕ → Option Kind
+release_of (Some job) = Some (Says (Release job))
+release_of None = None
+
+-- JOB
+abbrev pub release_line : List (List ℕ) → Option Kind
+release_line (job ∷ []) = release_of (job_in job)
+release_line words = None
+
 abbrev pub cancel_of : Option ℕ → Option Kind
 cancel_of (Some job) = Some (Says (Cancel job))
 cancel_of None = None
@@ -127,18 +178,41 @@ abbrev pub jobs_line : List (List ℕ) → Option Kind
 jobs_line [] = Some (Says Jobs)
 jobs_line words = None
 
+-- no more words
+abbrev pub queues_line : List (List ℕ) → Option Kind
+queues_line [] = Some (Says Queues)
+queues_line words = None
+
 -- ## The table
+
+-- commands about a job
+abbrev pub job_command : List ℕ → List (List ℕ) → Option Kind
+job_command name words =
+    cond (is_word name (codes "create")) (create_line words)
+    (cond (is_word name (codes "send")) (send_line words)
+    (cond (is_word name (codes "close")) (close_line words)
+    (cond (is_word name (codes "hold")) (hold_line words)
+    (cond (is_word name (codes "release")) (release_line words)
+    (cond (is_word name (codes "cancel")) (cancel_line words)
+    None)))))
+
+-- commands about a queue
+abbrev pub queue_command : List ℕ → List (List ℕ) → Option Kind
+queue_command name words =
+    cond (is_word name (codes "queue")) (queue_line words)
+    (cond (is_word name (codes "info")) (info_line words)
+    (cond (is_word name (codes "accept")) (accept_line true words)
+    (cond (is_word name (codes "reject")) (accept_line false words)
+    (cond (is_word name (codes "enable")) (stop_line false words)
+    (cond (is_word name (codes "disable")) (stop_line true words)
+    (job_command name words))))))
 
 abbrev pub line_of : List ℕ → List (List ℕ) → Option Kind
 line_of name words =
-    cond (is_word name (codes "queue")) (queue_line words)
-    (cond (is_word name (codes "create")) (create_line words)
-    (cond (is_word name (codes "send")) (send_line words)
-    (cond (is_word name (codes "close")) (close_line words)
-    (cond (is_word name (codes "cancel")) (cancel_line words)
-    (cond (is_word name (codes "clock")) (clock_line words)
+    cond (is_word name (codes "clock")) (clock_line words)
     (cond (is_word name (codes "jobs")) (jobs_line words)
-    None))))))
+    (cond (is_word name (codes "queues")) (queues_line words)
+    (queue_command name words)))
 
 -- a line of blanks is no command
 abbrev pub kind_in : List (List ℕ) → Option Kind

@@ -2,12 +2,14 @@
 use Rattle.std.specs.Prelude.{ℕ, Bool, ◌||◌, cond, ◌==◌, List, [], ◌∷◌, ◌++◌, length, codes, map, Option, None, Some}
 use Rattle.std.specs.List.{flat_map}
 use Rattle.std.specs.Fmt.{decimal}
-use Rattle.spool_types.specs.Phases.{job_state, job_reason}
+use Rattle.spool_types.specs.Next.{is_busy}
+use Rattle.spool_types.specs.Phases.{job_state, job_reason, printer_state, policy_word}
 use Rattle.spool_types.specs.Refusals.{refusal_number, refusal_name}
 use Rattle.spool_types.specs.State.{Job, job_of}
 use Rattle.spool_types.specs.declared.refusal.Refusal.{Refusal}
+use Rattle.spool_types.specs.declared.rows.QueueRow.{QueueRow}
 use Rattle.command_lines.specs.declared.reply.Answer.{Answer}
-use Rattle.command_lines.specs.declared.reply.Answer.TheVariants.{Done, Created, Sent, Closed, Jobs, Refused, Malformed, Dead, NoMemory, Full, Disk}
+use Rattle.command_lines.specs.declared.reply.Answer.TheVariants.{Done, Created, Sent, Closed, Jobs, Queues, Refused, Malformed, Dead, NoMemory, Full, Disk}
 
 -- a quote or a backslash, which a quoted text escapes
 abbrev pub is_escaped : ℕ → Bool
@@ -48,12 +50,36 @@ job_line now r = job_head now r ++ quoted r.user ++ job_sizes r ++ quoted r.titl
 abbrev pub jobs_text : ℕ → List Job → List ℕ
 jobs_text now jobs = flat_map (job_line now) jobs ++ codes "ok " ++ decimal (length jobs) ++ codes "\n"
 
+abbrev pub accepting_word : Bool → List ℕ
+accepting_word accepting = cond accepting (codes "accepting") (codes "rejecting")
+
+-- the reasons joined by commas
+abbrev pub reasons_word : List (List ℕ) → List ℕ
+reasons_word [] = codes "none"
+reasons_word (first ∷ others) = first ++ flat_map (λ reason. 44 ∷ reason) others
+
+-- a queue's name and state, whether it accepts, and what it prints on
+abbrev pub queue_head : List Job → QueueRow → List ℕ
+queue_head jobs q =
+    codes "queue " ++ q.name ++ codes " " ++ decimal (printer_state (is_busy jobs q.name) q.stopped) ++ codes " " ++ accepting_word q.accepting ++ codes " " ++ q.target ++ codes " "
+
+-- what it does with a job that fails
+abbrev pub queue_rules : QueueRow → List ℕ
+queue_rules q = policy_word q.policy ++ codes " " ++ decimal q.interval ++ codes " " ++ decimal q.limit ++ codes " "
+
+abbrev pub queue_text : List Job → QueueRow → List ℕ
+queue_text jobs q = queue_head jobs q ++ queue_rules q ++ reasons_word q.reasons ++ codes " " ++ quoted q.message ++ codes "\n"
+
+abbrev pub queues_text : List Job → List QueueRow → List ℕ
+queues_text jobs queues = flat_map (queue_text jobs) queues ++ codes "ok " ++ decimal (length queues) ++ codes "\n"
+
 abbrev pub answer_text : Answer → List ℕ
 answer_text Done = codes "ok\n"
 answer_text (Created job) = created_line job
 answer_text (Sent size) = sent_line size
 answer_text (Closed media stages) = closed_line media stages
 answer_text (Jobs rows now) = jobs_text now (map job_of rows.now)
+answer_text (Queues rows jobs) = queues_text (map job_of jobs.now) rows.now
 answer_text (Refused refusal) = refusal_line refusal
 answer_text Malformed = codes "error syntax\n"
 answer_text Dead = codes "error dead\n"

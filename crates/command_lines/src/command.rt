@@ -1,7 +1,7 @@
 //! What a text of commands says.
 use spool_types::{
-    Copies, FileName, JobId, Moment, NewQueue, OptionText, Piece, Priority, QueueName, Title,
-    UserName,
+    Copies, FileName, JobId, Moment, NewQueue, OptionText, Piece, Priority, QueueName, QueueNotes,
+    Title, UserName,
 };
 
 /// A job to be made, but for its number.
@@ -21,6 +21,12 @@ pub struct Creation {
 pub enum Command {
     /// Makes a queue.
     Queue(NewQueue),
+    /// Sets what is told of a queue.
+    Info(QueueNotes),
+    /// Opens a queue to new jobs, or closes it.
+    SetAccept { queue: QueueName, accepting: bool },
+    /// Stops a queue, or lets it go on.
+    SetStop { queue: QueueName, stopped: bool },
     /// Makes a job.
     Create(Creation),
     /// Adds bytes to a job's document.
@@ -29,12 +35,18 @@ pub enum Command {
     OversizedSend,
     /// Ends a job's document, which has this name.
     Close { job: JobId, name: FileName },
+    /// Holds a job until a moment has come, or with none until it is released.
+    Hold { job: JobId, until: Option<Moment> },
+    /// Releases a job that is held.
+    Release(JobId),
     /// Cancels a job.
     Cancel(JobId),
     /// Tells the moment now.
     Clock(Moment),
     /// Lists the jobs.
     Jobs,
+    /// Lists the queues.
+    Queues,
     /// A line that is no command, or bytes of a send that no line feed follows.
     Malformed,
 }

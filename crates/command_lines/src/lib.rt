@@ -12,9 +12,10 @@
 //! - `Words`: words stand between spaces and tabs. A word is bare, with no quote in it, or in quotes, where `\"` and `\\`
 //!   stand for a quote and a backslash and any other backslash for itself.
 //! - `Numbers`: a number has 1 to 13 digits and no sign.
-//! - `Grammar`: the table of commands. The first word chooses a row, and the row says which words follow and what each
-//!   may be. A further command is a further row. A line of more than 4,096 bytes is malformed; an empty line and
-//!   a line that begins with `#`, of any length, say nothing.
+//! - `Grammar`: the table of commands, those about a job and those about a queue each in a part of their own. The first
+//!   word chooses a row, and the row says which words follow and what each may be. A further command is a further row.
+//!   A line of more than 4,096 bytes is malformed; an empty line and a line that begins with `#`, of any length, say
+//!   nothing.
 //! - `Text`: the commands of a text, line after line, where a `send` takes raw bytes behind its line. Too many bytes are
 //!   one [`Command::OversizedSend`]. Bytes that no line feed follows are one `Malformed`, and reading goes on behind the
 //!   next line feed. [`line_by_line`] and [`word_by_word`] say the two definitions that count down without a count.

@@ -1,15 +1,15 @@
 //! What a line says.
 ghost use Rattle.std.specs.Prelude.{◌≡◌, IfOk, map};
-ghost use Rattle.spool_types.specs.Values.{is_queue_name, is_uri, is_user_name, is_title, is_options};
+ghost use Rattle.spool_types.specs.Values.{is_queue_name, is_uri, is_user_name, is_title, is_options, is_note};
 ghost use Rattle.command_lines.specs.Fronts.{bytes_of};
-ghost use Rattle.command_lines.specs.Grammar.{kind_of as line_kind, is_remark as remark, kind_in, line_of, queue_line as queues, queue_of, create_line as creates, creation_of, send_line as sends, send_of, close_line as closes, close_of, cancel_line as cancels, cancel_of, clock_line as clocks, jobs_line as lists, text_in, media_in, copies_in, priority_in, policy_in as policy_word};
+ghost use Rattle.command_lines.specs.Grammar.{kind_of as line_kind, is_remark as remark, kind_in, line_of, queue_command, job_command, queue_line as queues, queue_of, info_line as informs, info_of, accept_line as accepts, stop_line as stops, create_line as creates, creation_of, send_line as sends, send_of, close_line as closes, close_of, hold_line as holds, release_line as releases, cancel_line as cancels, cancel_of, clock_line as clocks, jobs_line as lists, queues_line as lists_queues, text_in, media_in, copies_in, priority_in, policy_in as policy_word};
 
 use crate::command::{Command, Creation, Kind};
 use crate::numbers::{job_number, moment_number, ranged_number, short_number, small_number};
 use crate::words::{Word, words_of};
 use spool_types::{
-    Copies, FileName, Interval, MediaType, NewQueue, OptionText, Policy, Priority, QueueName, Text,
-    TextFault, TextKind, Title, Uri, UserName,
+    Copies, FileName, Interval, MediaType, NewQueue, Note, OptionText, Policy, Priority, QueueName,
+    QueueNotes, Text, TextFault, TextKind, Title, Uri, UserName,
 };
 use std::alloc::{AllocError, Global};
 
@@ -72,9 +72,55 @@ fn line_of_command(
 ) -> Result<Option<Kind>, AllocError>
     ensures { IfOk result (λ kind. kind ≡ line_of name.now (map bytes_of words.now)) }
 {
+    if name == b"clock".as_slice() {
+        return Ok(clock_line(words));
+    }
+    if name == b"jobs".as_slice() {
+        return Ok(jobs_line(words));
+    }
+    if name == b"queues".as_slice() {
+        return Ok(queues_line(words));
+    }
+    line_of_queue_command(alloc, name, words)
+}
+
+// The same of a command about a queue or a job.
+fn line_of_queue_command(
+    alloc: Global,
+    name: &[u8],
+    words: &[Word<'_>],
+) -> Result<Option<Kind>, AllocError>
+    ensures { IfOk result (λ kind. kind ≡ queue_command name.now (map bytes_of words.now)) }
+{
     if name == b"queue".as_slice() {
         return queue_line(alloc, words);
     }
+    if name == b"info".as_slice() {
+        return info_line(alloc, words);
+    }
+    if name == b"accept".as_slice() {
+        return accept_line(alloc, true, words);
+    }
+    if name == b"reject".as_slice() {
+        return accept_line(alloc, false, words);
+    }
+    if name == b"enable".as_slice() {
+        return stop_line(alloc, false, words);
+    }
+    if name == b"disable".as_slice() {
+        return stop_line(alloc, true, words);
+    }
+    line_of_job_command(alloc, name, words)
+}
+
+// The same of a command about a job.
+fn line_of_job_command(
+    alloc: Global,
+    name: &[u8],
+    words: &[Word<'_>],
+) -> Result<Option<Kind>, AllocError>
+    ensures { IfOk result (λ kind. kind ≡ job_command name.now (map bytes_of words.now)) }
+{
     if name == b"create".as_slice() {
         return create_line(alloc, words);
     }
@@ -84,14 +130,14 @@ fn line_of_command(
     if name == b"close".as_slice() {
         return close_line(alloc, words);
     }
+    if name == b"hold".as_slice() {
+        return Ok(hold_line(words));
+    }
+    if name == b"release".as_slice() {
+        return Ok(release_line(words));
+    }
     if name == b"cancel".as_slice() {
         return Ok(cancel_line(words));
-    }
-    if name == b"clock".as_slice() {
-        return Ok(clock_line(words));
-    }
-    if name == b"jobs".as_slice() {
-        return Ok(jobs_line(words));
     }
     Ok(None)
 }
@@ -159,6 +205,72 @@ fn new_queue(
             }))))
         }
         _ => Ok(None),
+    }
+}
+
+// `info QUEUE INFO LOCATION`
+fn info_line(alloc: Global, words: &[Word<'_>]) -> Result<Option<Kind>, AllocError>
+    ensures { IfOk result (λ kind. kind ≡ informs (map bytes_of words.now)) }
+{
+    match words {
+        [queue, info, location] => notes(alloc, queue.bytes(), info.bytes(), location.bytes()),
+        _ => Ok(None),
+    }
+}
+
+// What these words tell of a queue.
+fn notes(
+    alloc: Global,
+    queue: &[u8],
+    info: &[u8],
+    location: &[u8],
+) -> Result<Option<Kind>, AllocError>
+    ensures { IfOk result (λ kind. kind ≡ info_of (text_in is_queue_name queue.now) (text_in is_note info.now) (text_in is_note location.now)) }
+{
+    let queue: Option<QueueName> = text_of(alloc, queue)?;
+    let info: Option<Note> = text_of(alloc, info)?;
+    let location: Option<Note> = text_of(alloc, location)?;
+    match (queue, info, location) {
+        (Some(queue), Some(info), Some(location)) => {
+            Ok(Some(Kind::Says(Command::Info(QueueNotes {
+                queue,
+                info,
+                location,
+            }))))
+        }
+        _ => Ok(None),
+    }
+}
+
+// `accept QUEUE` and `reject QUEUE`
+fn accept_line(
+    alloc: Global,
+    accepting: bool,
+    words: &[Word<'_>],
+) -> Result<Option<Kind>, AllocError>
+    ensures { IfOk result (λ kind. kind ≡ accepts accepting (map bytes_of words.now)) }
+{
+    let [queue] = words else {
+        return Ok(None);
+    };
+    let queue: Option<QueueName> = text_of(alloc, queue.bytes())?;
+    match queue {
+        Some(queue) => Ok(Some(Kind::Says(Command::SetAccept { queue, accepting }))),
+        None => Ok(None),
+    }
+}
+
+// `enable QUEUE` and `disable QUEUE`
+fn stop_line(alloc: Global, stopped: bool, words: &[Word<'_>]) -> Result<Option<Kind>, AllocError>
+    ensures { IfOk result (λ kind. kind ≡ stops stopped (map bytes_of words.now)) }
+{
+    let [queue] = words else {
+        return Ok(None);
+    };
+    let queue: Option<QueueName> = text_of(alloc, queue.bytes())?;
+    match queue {
+        Some(queue) => Ok(Some(Kind::Says(Command::SetStop { queue, stopped }))),
+        None => Ok(None),
     }
 }
 
@@ -240,6 +352,32 @@ fn close_line(alloc: Global, words: &[Word<'_>]) -> Result<Option<Kind>, AllocEr
     }
 }
 
+// `hold JOB MOMENT` and `hold JOB indefinite`
+fn hold_line(words: &[Word<'_>]) -> Option<Kind>
+    ensures { result ≡ holds (map bytes_of words.now) }
+{
+    let [job, until] = words else {
+        return None;
+    };
+    let job = job_number(job.bytes())?;
+    let until = if until.bytes() == b"indefinite".as_slice() {
+        None
+    } else {
+        Some(moment_number(until.bytes())?)
+    };
+    Some(Kind::Says(Command::Hold { job, until }))
+}
+
+// `release JOB`
+fn release_line(words: &[Word<'_>]) -> Option<Kind>
+    ensures { result ≡ releases (map bytes_of words.now) }
+{
+    match words {
+        [job] => Some(Kind::Says(Command::Release(job_number(job.bytes())?))),
+        _ => None,
+    }
+}
+
 // `cancel JOB`
 fn cancel_line(words: &[Word<'_>]) -> Option<Kind>
     ensures { result ≡ cancels (map bytes_of words.now) }
@@ -266,6 +404,16 @@ fn jobs_line(words: &[Word<'_>]) -> Option<Kind>
 {
     match words {
         [] => Some(Kind::Says(Command::Jobs)),
+        _ => None,
+    }
+}
+
+// `queues`
+fn queues_line(words: &[Word<'_>]) -> Option<Kind>
+    ensures { result ≡ lists_queues (map bytes_of words.now) }
+{
+    match words {
+        [] => Some(Kind::Says(Command::Queues)),
         _ => None,
     }
 }
@@ -301,16 +449,16 @@ fn media_of(alloc: Global, word: &[u8]) -> Result<Option<MediaType>, AllocError>
 fn policy_of(word: &[u8]) -> Option<Policy>
     ensures { result ≡ policy_word word.now }
 {
-    if word == b"abort-job".as_slice() {
+    if word == Policy::AbortJob.word().as_bytes() {
         return Some(Policy::AbortJob);
     }
-    if word == b"retry-job".as_slice() {
+    if word == Policy::RetryJob.word().as_bytes() {
         return Some(Policy::RetryJob);
     }
-    if word == b"retry-current-job".as_slice() {
+    if word == Policy::RetryCurrentJob.word().as_bytes() {
         return Some(Policy::RetryCurrentJob);
     }
-    if word == b"stop-printer".as_slice() {
+    if word == Policy::StopPrinter.word().as_bytes() {
         return Some(Policy::StopPrinter);
     }
     None

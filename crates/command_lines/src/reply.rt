@@ -1,9 +1,10 @@
 //! The texts of replies.
-ghost use Rattle.std.specs.Prelude.{◌≡◌, ◌++◌, IfOk, OnOk, map};
+ghost use Rattle.std.specs.Prelude.{◌≡◌, ◌++◌, IfOk, OnOk, codes, map};
+ghost use Rattle.std.specs.Fmt.{decimal};
 ghost use Rattle.spool_types.specs.State.{job_of};
-ghost use Rattle.command_lines.specs.Replies.{answer_text, quoted, job_line, job_head, job_sizes, jobs_text, refusal_line, created_line, sent_line, closed_line};
+ghost use Rattle.command_lines.specs.Replies.{answer_text, quoted, job_line, job_head, job_sizes, jobs_text, queue_head, queue_rules, reasons_word, queue_text, queues_text, refusal_line, created_line, sent_line, closed_line};
 
-use spool_types::{JobId, JobRow, MediaType, Moment, Refusal};
+use spool_types::{JobId, JobRow, MediaType, Moment, QueueRow, Reason, Refusal, is_busy};
 use std::alloc::{AllocError, Global};
 use std::io::Write;
 
@@ -23,6 +24,11 @@ pub enum Answer<'a> {
     Jobs {
         rows: &'a [JobRow],
         now: Moment,
+    },
+    /// The queues in ascending order of name, each processing where one of the jobs is.
+    Queues {
+        rows: &'a [QueueRow],
+        jobs: &'a [JobRow],
     },
     Refused(Refusal),
     /// The line isn't a command.
@@ -46,6 +52,7 @@ pub fn print_reply(alloc: Global, answer: &Answer<'_>) -> Result<Vec<u8>, AllocE
         Answer::Sent(size) => sent(alloc, *size),
         Answer::Closed { media, stages } => closed(alloc, media, *stages),
         Answer::Jobs { rows, now } => jobs(alloc, rows, *now),
+        Answer::Queues { rows, jobs } => queues(alloc, rows, jobs),
         Answer::Refused(refusal) => refused(alloc, *refusal),
         Answer::Malformed => Vec::from_slice(alloc, b"error syntax\n"),
         Answer::Dead => Vec::from_slice(alloc, b"error dead\n"),
@@ -93,11 +100,8 @@ fn jobs(alloc: Global, rows: &[JobRow], now: Moment) -> Result<Vec<u8>, AllocErr
     for row in rows {
         push_job(&mut text, row, &now)?;
     }
-    let count = rows.len();
-    match write!(text, "ok {count}\n") {
-        Ok(()) => Ok(text),
-        Err(_) => Err(AllocError),
-    }
+    push_count(&mut text, rows.len())?;
+    Ok(text)
 }
 
 fn push_job(text: &mut Vec<u8>, row: &JobRow, now: &Moment) -> Result<(), AllocError>
@@ -127,6 +131,74 @@ fn push_sizes(text: &mut Vec<u8>, row: &JobRow) -> Result<(), AllocError>
     let size = row.size;
     let pages = row.pages;
     write!(text, " {size} {pages} ").map_err(|_| AllocError)
+}
+
+fn queues(alloc: Global, rows: &[QueueRow], jobs: &[JobRow]) -> Result<Vec<u8>, AllocError>
+    ensures { IfOk result (λ text. text.items ≡ queues_text (map job_of jobs.now) rows.now) }
+{
+    let mut text = Vec::new(alloc);
+    for row in rows {
+        push_queue(&mut text, row, jobs)?;
+    }
+    push_count(&mut text, rows.len())?;
+    Ok(text)
+}
+
+fn push_queue(text: &mut Vec<u8>, row: &QueueRow, jobs: &[JobRow]) -> Result<(), AllocError>
+    ensures { OnOk result (text.new.items ≡ text.old.items ++ queue_text (map job_of jobs.now) row.now) }
+{
+    push_queue_head(text, row, jobs)?;
+    push_rules(text, row)?;
+    push_reasons(text, row.reasons.as_slice())?;
+    text.push(b' ')?;
+    push_quoted(text, row.message.as_str())?;
+    text.push(b'\n')?;
+    Ok(())
+}
+
+fn push_queue_head(text: &mut Vec<u8>, row: &QueueRow, jobs: &[JobRow]) -> Result<(), AllocError>
+    ensures { OnOk result (text.new.items ≡ text.old.items ++ queue_head (map job_of jobs.now) row.now) }
+{
+    let name = row.name.as_str();
+    let state = row.printer_state(is_busy(jobs, &row.name));
+    let accepting = if row.accepting {
+        "accepting"
+    } else {
+        "rejecting"
+    };
+    let target = row.target.as_str();
+    write!(text, "queue {name} {state} {accepting} {target} ").map_err(|_| AllocError)
+}
+
+fn push_rules(text: &mut Vec<u8>, row: &QueueRow) -> Result<(), AllocError>
+    ensures { OnOk result (text.new.items ≡ text.old.items ++ queue_rules row.now) }
+{
+    let policy = row.policy.word();
+    let interval = row.interval.get();
+    let limit = row.limit;
+    write!(text, "{policy} {interval} {limit} ").map_err(|_| AllocError)
+}
+
+// Adds the reasons, joined by commas.
+fn push_reasons(text: &mut Vec<u8>, reasons: &[Reason]) -> Result<(), AllocError>
+    ensures { OnOk result (text.new.items ≡ text.old.items ++ reasons_word reasons.now) }
+{
+    let [first, others @ ..] = reasons else {
+        return text.extend_from_slice(b"none");
+    };
+    text.extend_from_slice(first.as_str().as_bytes())?;
+    for reason in others {
+        text.push(b',')?;
+        text.extend_from_slice(reason.as_str().as_bytes())?;
+    }
+    Ok(())
+}
+
+// Ends a listing.
+fn push_count(text: &mut Vec<u8>, count: usize) -> Result<(), AllocError>
+    ensures { OnOk result (text.new.items ≡ text.old.items ++ (codes "ok " ++ decimal count ++ codes "\n")) }
+{
+    write!(text, "ok {count}\n").map_err(|_| AllocError)
 }
 
 // Adds a text in quotes, its quotes and backslashes escaped.

@@ -1,7 +1,10 @@
 ghost use Rattle.std.specs.Prelude.{◌<◌};
 
 use super::*;
-use spool_types::{JobId, MediaType, Refusal};
+use spool_types::{
+    Attributes, Copies, Filters, Interval, JobId, JobRow, MediaType, Message, Note, OptionText,
+    Phase, Policy, Priority, QueueName, QueueRow, Reason, Reasons, Refusal, Title, Uri, UserName,
+};
 use std::alloc::Global;
 use std::test::Fail;
 
@@ -30,20 +33,38 @@ fn shown(alloc: Global, text: &[u8], size: usize) -> Result<String, Fail>
 }
 
 const SCRIPT: &[u8] = b"queue lab spoolfile:/out Text/PLAIN abort-job\n\
+info lab \"Front desk\" \"Room 4\"\n\
+reject lab\n\
+disable lab\n\
+accept lab\n\
+enable lab\n\
 create lab ann \"First page\" 1 50 \"\"\n\
 send 1 3\na\nb\n\
 # a remark\n\
 \n\
 close 1 page.txt\n\
+hold 1 100\n\
+release 1\n\
 cancel 1\n\
+clock 7\n\
+queues\n\
 jobs";
 
 const SCRIPT_SHOWN: &str =
     "Queue(NewQueue { name: \"lab\", uri: \"spoolfile:/out\", target: MediaType { name: \"text/plain\" }, policy: AbortJob, interval: Ranged { number: 30 }, limit: 5 })\n\
+Info(QueueNotes { queue: \"lab\", info: \"Front desk\", location: \"Room 4\" })\n\
+SetAccept { queue: \"lab\", accepting: false }\n\
+SetStop { queue: \"lab\", stopped: true }\n\
+SetAccept { queue: \"lab\", accepting: true }\n\
+SetStop { queue: \"lab\", stopped: false }\n\
 Create(Creation { queue: \"lab\", user: \"ann\", title: \"First page\", copies: Ranged { number: 1 }, priority: Ranged { number: 50 }, options: \"\" })\n\
 Send { job: JobId { number: 1 }, bytes: Items { items: [97, 10, 98] } }\n\
 Close { job: JobId { number: 1 }, name: \"page.txt\" }\n\
+Hold { job: JobId { number: 1 }, until: Some(Moment { seconds: 100 }) }\n\
+Release(JobId { number: 1 })\n\
 Cancel(JobId { number: 1 })\n\
+Clock(Moment { seconds: 7 })\n\
+Queues\n\
 Jobs\n";
 
 #[test]
@@ -148,6 +169,75 @@ fn moments(rt: HostRuntime) -> Result<(), Fail> {
 }
 
 #[test]
+fn notes_of_a_queue(rt: HostRuntime) -> Result<(), Fail> {
+    let text = b"info lab \"Front desk\" \"\"\ninfo lab \"\" \"Room 4\"\ninfo lab a\n";
+    let lines = shown(rt.alloc(), text, 4096)?;
+    assert_eq!(rt;
+        lines.as_str(),
+        "Info(QueueNotes { queue: \"lab\", info: \"Front desk\", location: \"\" })\n\
+Info(QueueNotes { queue: \"lab\", info: \"\", location: \"Room 4\" })\n\
+Malformed\n"
+    );
+    Ok(())
+}
+
+#[test]
+fn queues_that_accept_or_reject(rt: HostRuntime) -> Result<(), Fail> {
+    let text = b"accept lab\nreject lab\naccept\naccept lab lab\n";
+    let lines = shown(rt.alloc(), text, 4096)?;
+    assert_eq!(rt;
+        lines.as_str(),
+        "SetAccept { queue: \"lab\", accepting: true }\n\
+SetAccept { queue: \"lab\", accepting: false }\n\
+Malformed\n\
+Malformed\n"
+    );
+    Ok(())
+}
+
+#[test]
+fn queues_that_stop_or_go_on(rt: HostRuntime) -> Result<(), Fail> {
+    let lines = shown(rt.alloc(), b"enable lab\ndisable lab\n", 4096)?;
+    assert_eq!(rt;
+        lines.as_str(),
+        "SetStop { queue: \"lab\", stopped: false }\nSetStop { queue: \"lab\", stopped: true }\n"
+    );
+    Ok(())
+}
+
+#[test]
+fn holds(rt: HostRuntime) -> Result<(), Fail> {
+    let text = b"hold 1 100\nhold 1 indefinite\nhold 1 \"indefinite\"\n\
+hold 1\nhold 1 Indefinite\nhold 1 4000000000001\nhold 0 indefinite\n";
+    let lines = shown(rt.alloc(), text, 4096)?;
+    assert_eq!(rt;
+        lines.as_str(),
+        "Hold { job: JobId { number: 1 }, until: Some(Moment { seconds: 100 }) }\n\
+Hold { job: JobId { number: 1 }, until: None }\n\
+Hold { job: JobId { number: 1 }, until: None }\n\
+Malformed\n\
+Malformed\n\
+Malformed\n\
+Malformed\n"
+    );
+    Ok(())
+}
+
+#[test]
+fn releases(rt: HostRuntime) -> Result<(), Fail> {
+    let lines = shown(rt.alloc(), b"release 1\nrelease x\n", 4096)?;
+    assert_eq!(rt; lines.as_str(), "Release(JobId { number: 1 })\nMalformed\n");
+    Ok(())
+}
+
+#[test]
+fn listings_take_no_words(rt: HostRuntime) -> Result<(), Fail> {
+    let lines = shown(rt.alloc(), b"queues\nqueues 1\n", 4096)?;
+    assert_eq!(rt; lines.as_str(), "Queues\nMalformed\n");
+    Ok(())
+}
+
+#[test]
 fn limits_of_a_creation(rt: HostRuntime) -> Result<(), Fail> {
     let text =
         b"create q u t 9999 100 o\ncreate q u t 10000 1 o\ncreate q u t 1 101 o\ncreate q u t 0 1 o\ncreate q \"\" t 1 1 o\n";
@@ -166,6 +256,26 @@ fn padded(alloc: Global, front: &[u8], b: u8, count: usize, end: &[u8]) -> Resul
     text.extend_from_slice(&padding)?;
     text.extend_from_slice(end)?;
     Ok(text)
+}
+
+#[test]
+fn longest_note(rt: HostRuntime) -> Result<(), Fail> {
+    let alloc = rt.alloc();
+    let text = padded(alloc, b"info lab \"\" ", b'x', 127, b"\n")?;
+    let front = b"Info(QueueNotes { queue: \"lab\", info: \"\", location: \"";
+    let want = padded(alloc, front, b'x', 127, b"\" })\n")?;
+    assert_eq!(rt; shown(alloc, &text, 4096)?.as_bytes(), want.as_slice());
+    Ok(())
+}
+
+#[test]
+fn longer_notes(rt: HostRuntime) -> Result<(), Fail> {
+    let alloc = rt.alloc();
+    let text = padded(alloc, b"info lab \"\" ", b'x', 128, b"\n")?;
+    assert_eq!(rt; shown(alloc, &text, 4096)?.as_str(), "Malformed\n");
+    let text = padded(alloc, b"info lab ", b'x', 128, b" \"\"\n")?;
+    assert_eq!(rt; shown(alloc, &text, 4096)?.as_str(), "Malformed\n");
+    Ok(())
 }
 
 #[test]
@@ -255,6 +365,126 @@ fn a_closed_job_is_told_by_its_type_and_stages(rt: HostRuntime) -> Result<(), Fa
     assert_eq!(rt;
         printed(alloc, &Answer::Closed { media, stages })?.as_str(),
         want
+    );
+    Ok(())
+}
+
+// The queue lab, which prints on a device that takes any bytes.
+fn queue(alloc: Global) -> Result<QueueRow, Fail> {
+    Ok(QueueRow {
+        name: QueueName::read(alloc, "lab")?,
+        uri: Uri::read(alloc, "spoolfile:/out")?,
+        target: MediaType::read(alloc, "application/octet-stream")?,
+        policy: Policy::AbortJob,
+        interval: Interval::new(30).ok_or("no interval")?,
+        limit: 5,
+        info: Note::empty(alloc),
+        location: Note::empty(alloc),
+        accepting: true,
+        stopped: false,
+        message: Message::empty(alloc),
+        reasons: Reasons::empty(alloc),
+        attributes: Attributes::empty(alloc),
+    })
+}
+
+// A job of the queue lab that is processing.
+fn processing(alloc: Global) -> Result<JobRow, Fail> {
+    Ok(JobRow {
+        id: JobId::new(1).ok_or("no number")?,
+        queue: QueueName::read(alloc, "lab")?,
+        user: UserName::read(alloc, "ann")?,
+        title: Title::read(alloc, "First page")?,
+        copies: Copies::new(1).ok_or("no copies")?,
+        priority: Priority::new(50).ok_or("no priority")?,
+        options: OptionText::empty(alloc),
+        media: Some(MediaType::read(alloc, "application/octet-stream")?),
+        filters: Filters::empty(alloc),
+        attempts: 1,
+        pages: 0,
+        size: 3,
+        phase: Phase::Processing {
+            attempt: 1,
+            stage: 1,
+            stages: 1,
+        },
+        document: Vec::from_slice(alloc, b"a\nb")?,
+    })
+}
+
+#[test]
+fn no_queues_are_counted(rt: HostRuntime) -> Result<(), Fail> {
+    let alloc = rt.alloc();
+    let answer = Answer::Queues {
+        rows: &[],
+        jobs: &[],
+    };
+    assert_eq!(rt; printed(alloc, &answer)?.as_str(), "ok 0\n");
+    Ok(())
+}
+
+#[test]
+fn an_idle_queue_is_listed(rt: HostRuntime) -> Result<(), Fail> {
+    let alloc = rt.alloc();
+    let rows = [queue(alloc)?];
+    assert_eq!(rt;
+        printed(
+            alloc,
+            &Answer::Queues {
+                rows: &rows,
+                jobs: &[]
+            }
+        )?
+        .as_str(),
+        "queue lab 3 accepting application/octet-stream abort-job 30 5 none \"\"\nok 1\n"
+    );
+    Ok(())
+}
+
+#[test]
+fn a_stopped_queue_is_listed_with_its_reasons(rt: HostRuntime) -> Result<(), Fail> {
+    let alloc = rt.alloc();
+    let mut row = queue(alloc)?;
+    row.accepting = false;
+    row.stopped = true;
+    row.message = Message::read(alloc, "a \"b\"")?;
+    let mut reasons = Vec::new(alloc);
+    reasons.push(Reason::read(alloc, "media-empty")?)?;
+    reasons.push(Reason::read(alloc, "toner-low")?)?;
+    row.reasons = Reasons::new(reasons).ok().ok_or("too many reasons")?;
+    assert_eq!(rt;
+        printed(
+            alloc,
+            &Answer::Queues {
+                rows: &[row],
+                jobs: &[]
+            }
+        )?
+        .as_str(),
+        "queue lab 5 rejecting application/octet-stream abort-job 30 5 media-empty,toner-low \"a \\\"b\\\"\"\nok 1\n"
+    );
+    Ok(())
+}
+
+#[test]
+fn a_queue_with_a_processing_job_is_listed_as_processing(rt: HostRuntime) -> Result<(), Fail> {
+    let alloc = rt.alloc();
+    let jobs = [processing(alloc)?];
+    let mut stopped = queue(alloc)?;
+    stopped.stopped = true;
+    let rows = [queue(alloc)?, stopped];
+    assert_eq!(rt;
+        printed(
+            alloc,
+            &Answer::Queues {
+                rows: &rows,
+                jobs: &jobs
+            }
+        )?
+        .as_str(),
+        "queue lab 4 accepting application/octet-stream abort-job 30 5 none \"\"\n\
+queue lab 4 accepting application/octet-stream abort-job 30 5 none \"\"\n\
+ok 2\n"
     );
     Ok(())
 }

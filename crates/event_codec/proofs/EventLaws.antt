@@ -1,23 +1,25 @@
 -- The two laws: what is read is spelled so, and what is spelled so is read.
-use Rattle.std.proofs.Common.{◌≡◌, ℕ, suc, ◌^◌, ◌<◌, ◌≤◌, true, cond, eqb, List, [], ◌∷◌, ◌++◌, length, Result, Ok, Err, refl, sym, ap, subst, ◌∙◌, append_assoc, arith, inl, inr}
+use Rattle.std.proofs.Common.{◌≡◌, ℕ, suc, ◌^◌, ◌<◌, ◌≤◌, Bool, true, cond, eqb, List, [], ◌∷◌, ◌++◌, length, Option, Result, Ok, Err, refl, sym, ap, subst, ◌∙◌, append_assoc, arith, inl, inr}
 use Rattle.std.specs.Int.{w8, w16, w32, w64, to_be_bytes}
 use Rattle.std.proofs.lemmas.Bool.{eqb-true}
 use Rattle.std.proofs.lemmas.List.{append-nil, nil_from_length}
 use Rattle.spool_types.specs.declared.event.NewQueue.{NewQueue}
+use Rattle.spool_types.specs.declared.event.QueueNotes.{QueueNotes}
 use Rattle.spool_types.specs.declared.event.NewJob.{NewJob}
 use Rattle.spool_types.specs.declared.event.Closing.{Closing}
 use Rattle.spool_types.specs.declared.event.Event.{Event}
-use Rattle.spool_types.specs.declared.event.Event.TheVariants.{AddQueue, Create, Send, Close, Cancel, Clock}
+use Rattle.spool_types.specs.declared.event.Event.TheVariants.{AddQueue, Info, SetAccept, SetStop, Create, Send, Close, Hold, Release, Cancel, Clock}
 use Rattle.spool_types.specs.Limits.{greatest_number, greatest_moment, longest_send}
-use Rattle.spool_types.specs.Values.{is_queue_name, is_uri, is_media_type, is_user_name, is_title, is_options}
+use Rattle.spool_types.specs.Values.{is_queue_name, is_uri, is_media_type, is_user_name, is_title, is_options, is_note}
 use Rattle.event_codec.specs.declared.fault.CodecFault.{CodecFault}
 use Rattle.event_codec.specs.declared.fault.CodecFault.TheVariants.{Kind, Length}
-use Rattle.event_codec.specs.Spelling.{text_code, filters_code, queue_code, job_code, send_code, closing_code, spelling, IsIn, IsJobNumber, IsText, IsQueue, IsJob, IsSend, IsClosing, AreFilters, IsSpellable}
+use Rattle.event_codec.specs.Spelling.{text_code, flag_code, until_code, filters_code, queue_code, notes_code, accept_code, stop_code, job_code, send_code, closing_code, hold_code, spelling, IsIn, IsJobNumber, IsText, IsQueue, AreNotes, IsJob, IsSend, IsClosing, IsHold, AreFilters, IsMoment, IsSpellable}
 use Rattle.std.specs.Prelude.{IfOk}
-use Rattle.event_codec.specs.Reading.{Gives, part_at, number_at, ranged_at, text_at, policy_at, maybe_filters_at, piece_at, queue_at, job_at, send_at, closing_at, cancel_at, clock_at, fields_at, event_at, whole, reading}
-use Rattle.event_codec.proofs.FieldLaws.{IsBytes, bind_ok, passed_ok, ok_is, Takes, Takes-then, Reads, got, again-step, again-last, part_takes, part_again, wide8, wide16, wide32, wide64, reads_number, reads_ranged}
-use Rattle.event_codec.proofs.TextLaws.{reads_queue_name, reads_uri, reads_media, reads_user_name, reads_title, reads_options}
+use Rattle.event_codec.specs.Reading.{Field, Gives, part_at, number_at, ranged_at, text_at, flag_at, until_at, policy_at, maybe_filters_at, piece_at, queue_at, notes_at, accept_at, stop_at, job_at, send_at, closing_at, hold_at, release_at, cancel_at, clock_at, fields_at, event_at, whole, reading}
+use Rattle.event_codec.proofs.FieldLaws.{IsBytes, bind_ok, passed_ok, ok_is, Takes, Takes-then, Reads, got, again-step, again-last, part_takes, part_again, wide8, wide16, wide32, reads_number, reads_ranged}
+use Rattle.event_codec.proofs.TextLaws.{reads_queue_name, reads_uri, reads_media, reads_user_name, reads_title, reads_options, reads_note}
 use Rattle.event_codec.proofs.FilterLaws.{Anything, chosen, refused, policy_code, reads_policy, reads_filters}
+use Rattle.event_codec.proofs.HoldLaws.{reads_flag, reads_moment, reads_until}
 
 abbrev reads_job_number : Reads (ranged_at 1 greatest_number w32) (to_be_bytes w32) IsJobNumber
 reads_job_number = reads_ranged 1 greatest_number w32 (2 ^ 32) wide32 (omega arith)
@@ -36,9 +38,6 @@ reads_priority = reads_ranged 1 100 w8 (2 ^ 8) wide8 (omega arith)
 
 abbrev reads_length : Reads (ranged_at 0 longest_send w32) (to_be_bytes w32) (IsIn 0 longest_send)
 reads_length = reads_ranged 0 longest_send w32 (2 ^ 32) wide32 (omega arith)
-
-abbrev reads_moment : Reads (ranged_at 0 greatest_moment w64) (to_be_bytes w64) (IsIn 0 greatest_moment)
-reads_moment = reads_ranged 0 greatest_moment w64 (2 ^ 64) wide64 (omega arith)
 
 -- an event that was read behind its first byte
 record Spelled (kind : ℕ) (bytes : List ℕ) (x : Event × List ℕ) : Type 0 where
@@ -102,6 +101,63 @@ queue_again q rest h =
     (again-step policy_at policy_code Anything reads_policy q.policy tf rest _ _ tt
     (again-step (ranged_at 0 86400 w32) (to_be_bytes w32) (IsIn 0 86400) reads_interval q.interval (to_be_bytes w16 q.limit) rest _ _ h.interval
     (again-last (number_at w16) (to_be_bytes w16) (λ n. n < 2 ^ 16) reads_limit q.limit rest _ (omega (arith, h.limit.at_most)))))))
+
+-- ---- what is told of a queue, and its flags
+
+notes_nested : (n : QueueNotes) → notes_code n ≡ text_code n.queue ++ (text_code n.info ++ text_code n.location)
+notes_nested n = nested3 (text_code n.queue) (text_code n.info) (text_code n.location)
+
+notes_taken : (n : QueueNotes) (r0 r1 r2 r3 : List ℕ) → Takes r0 (text_code n.queue) r1 → Takes r1 (text_code n.info) r2 → Takes r2 (text_code n.location) r3 → Takes r0 (notes_code n) r3
+notes_taken n r0 r1 r2 r3 a b d =
+    let t1 = text_code n.info ++ text_code n.location in
+    let p1 = Takes-then r1 (text_code n.info) r2 (text_code n.location) r3 b d in
+    subst (λ (t : List ℕ). Takes r0 t r3) (sym (notes_nested n)) (Takes-then r0 (text_code n.queue) r1 t1 r3 a p1)
+
+notes_takes : (bytes : List ℕ) (x : Event × List ℕ) → IsBytes bytes → notes_at bytes ≡ Ok x → Spelled 0x02 bytes x
+unfolding notes_at
+notes_takes bytes x fits e =
+    let a = got (text_at is_queue_name) text_code (IsText is_queue_name) reads_queue_name bytes _ x fits e in
+    let b = got (text_at is_note) text_code (IsText is_note) reads_note a.rest _ x a.taken.rest_fits a.then in
+    let c = got (text_at is_note) text_code (IsText is_note) reads_note b.rest _ x b.taken.rest_fits b.then in
+    let n : QueueNotes = record { queue = a.value; info = b.value; location = c.value } in
+    let are : AreNotes n = record { queue = a.legal; info = b.legal; location = c.legal } in
+    subst (Spelled 0x02 bytes) (ok_is (Info n, c.rest) x c.then) (record { taken = behind 0x02 bytes (notes_code n) c.rest (notes_taken n bytes a.rest b.rest c.rest a.taken b.taken c.taken); legal = are })
+
+notes_again : (n : QueueNotes) (rest : List ℕ) → AreNotes n → notes_at (notes_code n ++ rest) ≡ Ok (Info n, rest)
+unfolding notes_at
+notes_again n rest h =
+    ap (λ (t : List ℕ). notes_at (t ++ rest)) (notes_nested n) ∙
+    again-step (text_at is_queue_name) text_code (IsText is_queue_name) reads_queue_name n.queue (text_code n.info ++ text_code n.location) rest _ _ h.queue
+    (again-step (text_at is_note) text_code (IsText is_note) reads_note n.info (text_code n.location) rest _ _ h.info
+    (again-last (text_at is_note) text_code (IsText is_note) reads_note n.location rest _ h.location))
+
+accept_takes : (bytes : List ℕ) (x : Event × List ℕ) → IsBytes bytes → accept_at bytes ≡ Ok x → Spelled 0x03 bytes x
+unfolding accept_at
+accept_takes bytes x fits e =
+    let a = got (text_at is_queue_name) text_code (IsText is_queue_name) reads_queue_name bytes _ x fits e in
+    let b = got flag_at flag_code Anything reads_flag a.rest _ x a.taken.rest_fits a.then in
+    let both = Takes-then bytes (text_code a.value) a.rest (flag_code b.value) b.rest a.taken b.taken in
+    subst (Spelled 0x03 bytes) (ok_is (SetAccept a.value b.value, b.rest) x b.then) (record { taken = behind 0x03 bytes (accept_code a.value b.value) b.rest both; legal = a.legal })
+
+accept_again : (queue : List ℕ) (flag : Bool) (rest : List ℕ) → IsText is_queue_name queue → accept_at (accept_code queue flag ++ rest) ≡ Ok (SetAccept queue flag, rest)
+unfolding accept_at
+accept_again queue flag rest h =
+    again-step (text_at is_queue_name) text_code (IsText is_queue_name) reads_queue_name queue (flag_code flag) rest _ _ h
+    (again-last flag_at flag_code Anything reads_flag flag rest _ tt)
+
+stop_takes : (bytes : List ℕ) (x : Event × List ℕ) → IsBytes bytes → stop_at bytes ≡ Ok x → Spelled 0x04 bytes x
+unfolding stop_at
+stop_takes bytes x fits e =
+    let a = got (text_at is_queue_name) text_code (IsText is_queue_name) reads_queue_name bytes _ x fits e in
+    let b = got flag_at flag_code Anything reads_flag a.rest _ x a.taken.rest_fits a.then in
+    let both = Takes-then bytes (text_code a.value) a.rest (flag_code b.value) b.rest a.taken b.taken in
+    subst (Spelled 0x04 bytes) (ok_is (SetStop a.value b.value, b.rest) x b.then) (record { taken = behind 0x04 bytes (stop_code a.value b.value) b.rest both; legal = a.legal })
+
+stop_again : (queue : List ℕ) (flag : Bool) (rest : List ℕ) → IsText is_queue_name queue → stop_at (stop_code queue flag ++ rest) ≡ Ok (SetStop queue flag, rest)
+unfolding stop_at
+stop_again queue flag rest h =
+    again-step (text_at is_queue_name) text_code (IsText is_queue_name) reads_queue_name queue (flag_code flag) rest _ _ h
+    (again-last flag_at flag_code Anything reads_flag flag rest _ tt)
 
 -- ---- jobs
 
@@ -228,7 +284,34 @@ closing_again c rest h =
     (again-step (text_at is_media_type) text_code (IsText is_media_type) reads_media c.media (filters_code c.filters) rest _ _ h.media
     (again-last maybe_filters_at filters_code AreFilters reads_filters c.filters rest _ h.filters))
 
--- ---- cancels and clocks
+-- ---- holds
+
+hold_takes : (bytes : List ℕ) (x : Event × List ℕ) → IsBytes bytes → hold_at bytes ≡ Ok x → Spelled 0x08 bytes x
+unfolding hold_at
+hold_takes bytes x fits e =
+    let a = got (ranged_at 1 greatest_number w32) (to_be_bytes w32) IsJobNumber reads_job_number bytes _ x fits e in
+    let b = got until_at until_code IsMoment reads_until a.rest _ x a.taken.rest_fits a.then in
+    let both = Takes-then bytes (to_be_bytes w32 a.value) a.rest (until_code b.value) b.rest a.taken b.taken in
+    let is : IsHold a.value b.value = record { job = a.legal; moment = b.legal } in
+    subst (Spelled 0x08 bytes) (ok_is (Hold a.value b.value, b.rest) x b.then) (record { taken = behind 0x08 bytes (hold_code a.value b.value) b.rest both; legal = is })
+
+hold_again : (j : ℕ) (until : Option ℕ) (rest : List ℕ) → IsHold j until → hold_at (hold_code j until ++ rest) ≡ Ok (Hold j until, rest)
+unfolding hold_at
+hold_again j until rest h =
+    again-step (ranged_at 1 greatest_number w32) (to_be_bytes w32) IsJobNumber reads_job_number j (until_code until) rest _ _ h.job
+    (again-last until_at until_code IsMoment reads_until until rest _ h.moment)
+
+-- ---- releases, cancels and clocks
+
+release_takes : (bytes : List ℕ) (x : Event × List ℕ) → IsBytes bytes → release_at bytes ≡ Ok x → Spelled 0x09 bytes x
+unfolding release_at
+release_takes bytes x fits e =
+    let a = got (ranged_at 1 greatest_number w32) (to_be_bytes w32) IsJobNumber reads_job_number bytes _ x fits e in
+    subst (Spelled 0x09 bytes) (ok_is (Release a.value, a.rest) x a.then) (record { taken = behind 0x09 bytes (to_be_bytes w32 a.value) a.rest a.taken; legal = a.legal })
+
+release_again : (j : ℕ) (rest : List ℕ) → IsJobNumber j → release_at (to_be_bytes w32 j ++ rest) ≡ Ok (Release j, rest)
+unfolding release_at
+release_again j rest h = again-last (ranged_at 1 greatest_number w32) (to_be_bytes w32) IsJobNumber reads_job_number j rest _ h
 
 cancel_takes : (bytes : List ℕ) (x : Event × List ℕ) → IsBytes bytes → cancel_at bytes ≡ Ok x → Spelled 0x0A bytes x
 unfolding cancel_at
@@ -255,28 +338,30 @@ clock_again m rest h = again-last (ranged_at 0 greatest_moment w64) (to_be_bytes
 of_kind : (kind n : ℕ) (bytes : List ℕ) (x : Event × List ℕ) → eqb kind n ≡ true → Spelled n bytes x → Spelled kind bytes x
 of_kind kind n bytes x e s = subst (λ (k : ℕ). Spelled k bytes x) (sym (eqb-true kind n e)) s
 
+-- the fields of one kind, or else those of the others
+by_kind : (kind n : ℕ) (read : List ℕ → Field Event) (others : Field Event) (bytes : List ℕ) (x : Event × List ℕ) → (read bytes ≡ Ok x → Spelled n bytes x) → (others ≡ Ok x → Spelled kind bytes x)
+    → cond (eqb kind n) (read bytes) others ≡ Ok x → Spelled kind bytes x
+by_kind kind n read others bytes x this other e =
+    elim (chosen (eqb kind n) (read bytes) others (Ok x) e) [
+      | inl h ↦ of_kind kind n bytes x h.0 (this h.1)
+      | inr h ↦ other h.1
+    ]
+
 fields_take : (kind : ℕ) (bytes : List ℕ) (x : Event × List ℕ) → IsBytes bytes → fields_at kind bytes ≡ Ok x → Spelled kind bytes x
 unfolding fields_at
 fields_take kind bytes x fits e =
-    elim (chosen (eqb kind 0x01) (queue_at bytes) _ (Ok x) e) [
-      | inl a ↦ of_kind kind 0x01 bytes x a.0 (queue_takes bytes x fits a.1)
-      | inr a ↦ elim (chosen (eqb kind 0x05) (job_at bytes) _ (Ok x) a.1) [
-        | inl b ↦ of_kind kind 0x05 bytes x b.0 (job_takes bytes x fits b.1)
-        | inr b ↦ elim (chosen (eqb kind 0x06) (send_at bytes) _ (Ok x) b.1) [
-          | inl c ↦ of_kind kind 0x06 bytes x c.0 (send_takes bytes x fits c.1)
-          | inr c ↦ elim (chosen (eqb kind 0x07) (closing_at bytes) _ (Ok x) c.1) [
-            | inl d ↦ of_kind kind 0x07 bytes x d.0 (closing_takes bytes x fits d.1)
-            | inr d ↦ elim (chosen (eqb kind 0x0A) (cancel_at bytes) _ (Ok x) d.1) [
-              | inl f ↦ of_kind kind 0x0A bytes x f.0 (cancel_takes bytes x fits f.1)
-              | inr f ↦ elim (chosen (eqb kind 0x0B) (clock_at bytes) (Err Kind) (Ok x) f.1) [
-                | inl g ↦ of_kind kind 0x0B bytes x g.0 (clock_takes bytes x fits g.1)
-                | inr g ↦ absurd (refused Kind x g.1)
-              ]
-            ]
-          ]
-        ]
-      ]
-    ]
+    by_kind kind 0x01 queue_at _ bytes x (queue_takes bytes x fits)
+    (by_kind kind 0x02 notes_at _ bytes x (notes_takes bytes x fits)
+    (by_kind kind 0x03 accept_at _ bytes x (accept_takes bytes x fits)
+    (by_kind kind 0x04 stop_at _ bytes x (stop_takes bytes x fits)
+    (by_kind kind 0x05 job_at _ bytes x (job_takes bytes x fits)
+    (by_kind kind 0x06 send_at _ bytes x (send_takes bytes x fits)
+    (by_kind kind 0x07 closing_at _ bytes x (closing_takes bytes x fits)
+    (by_kind kind 0x08 hold_at _ bytes x (hold_takes bytes x fits)
+    (by_kind kind 0x09 release_at _ bytes x (release_takes bytes x fits)
+    (by_kind kind 0x0A cancel_at _ bytes x (cancel_takes bytes x fits)
+    (by_kind kind 0x0B clock_at _ bytes x (clock_takes bytes x fits)
+    (λ refusal. absurd (refused Kind x refusal)))))))))))) e
 
 pub record Found (bytes : List ℕ) (x : Event × List ℕ) : Type 0 where
   pub taken : Takes bytes (spelling x.0) x.1
@@ -292,9 +377,14 @@ event_takes (kind ∷ bytes) x fits e =
 pub event_again : (e : Event) (rest : List ℕ) → IsSpellable e → event_at (spelling e ++ rest) ≡ Ok (e, rest)
 unfolding event_at fields_at
 event_again (AddQueue q) rest h = queue_again q rest h
+event_again (Info notes) rest h = notes_again notes rest h
+event_again (SetAccept queue accepting) rest h = accept_again queue accepting rest h
+event_again (SetStop queue stopped) rest h = stop_again queue stopped rest h
 event_again (Create n) rest h = job_again n rest h
 event_again (Send j bytes) rest h = send_again j bytes rest h
 event_again (Close c) rest h = closing_again c rest h
+event_again (Hold j until) rest h = hold_again j until rest h
+event_again (Release j) rest h = release_again j rest h
 event_again (Cancel j) rest h = cancel_again j rest h
 event_again (Clock m) rest h = clock_again m rest h
 

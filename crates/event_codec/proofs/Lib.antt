@@ -3,4 +3,5 @@ pub mod Loop
 pub mod FieldLaws
 pub mod TextLaws
 pub mod FilterLaws
+pub mod HoldLaws
 pub mod EventLaws

@@ -2,7 +2,7 @@
 use Rattle.std.proofs.Common.{◌≡◌, ℕ, ◌<◌, ◌^◌, Bool, true, false, length, refl, arith}
 use Rattle.std.specs.Prelude.{nat_le, ◌&&◌}
 use Rattle.std.proofs.lemmas.Bool.Decides.{nat_tests}
-use Rattle.spool_types.specs.Values.{is_text_of, is_queue_name, is_uri, is_media_type, is_user_name, is_title, is_options, is_filter_name}
+use Rattle.spool_types.specs.Values.{is_text_of, is_queue_name, is_uri, is_media_type, is_user_name, is_title, is_options, is_note, is_filter_name}
 use Rattle.event_codec.specs.Spelling.{text_code, IsText}
 use Rattle.event_codec.specs.Reading.{text_at}
 use Rattle.event_codec.proofs.FieldLaws.{IsShort, Reads, reads_text}
@@ -28,6 +28,9 @@ short_title = short_of _ 0 255 (omega arith)
 
 pub short_options : IsShort is_options
 short_options = short_of _ 0 2048 (omega arith)
+
+pub short_note : IsShort is_note
+short_note = short_of _ 0 127 (omega arith)
 
 pub short_filter_name : IsShort is_filter_name
 short_filter_name = short_of _ 1 127 (omega arith)
@@ -55,6 +58,9 @@ reads_title = reads_text is_title short_title
 
 pub reads_options : Reads (text_at is_options) text_code (IsText is_options)
 reads_options = reads_text is_options short_options
+
+pub reads_note : Reads (text_at is_note) text_code (IsText is_note)
+reads_note = reads_text is_note short_note
 
 pub reads_filter_name : Reads (text_at is_filter_name) text_code (IsText is_filter_name)
 reads_filter_name = reads_text is_filter_name short_filter_name

@@ -1,13 +1,13 @@
 -- Reading an event from left to right, with the first fault that is met.
-use Rattle.std.specs.Prelude.{◌≡◌, ℕ, zero, suc, List, [], ◌∷◌, length, take, drop, Bool, ◌&&◌, Option, Some, None, Result, Ok, Err, nat_lt, nat_le, ◌==◌, if◌then◌else◌}
+use Rattle.std.specs.Prelude.{◌≡◌, ℕ, zero, suc, List, [], ◌∷◌, length, take, drop, Bool, true, false, ◌&&◌, Option, Some, None, Result, Ok, Err, nat_lt, nat_le, ◌==◌, if◌then◌else◌}
 use Rattle.std.specs.Int.{Width, w8, w16, w32, w64, byte_len, from_be_bytes}
 use Rattle.std.specs.Str.{is_utf8}
 use Rattle.spool_types.specs.declared.phase.Policy.{Policy}
 use Rattle.spool_types.specs.declared.phase.Policy.TheVariants.{AbortJob, RetryJob, RetryCurrentJob, StopPrinter}
 use Rattle.spool_types.specs.declared.event.Event.{Event}
-use Rattle.spool_types.specs.declared.event.Event.TheVariants.{AddQueue, Create, Send, Close, Cancel, Clock}
+use Rattle.spool_types.specs.declared.event.Event.TheVariants.{AddQueue, Info, SetAccept, SetStop, Create, Send, Close, Hold, Release, Cancel, Clock}
 use Rattle.spool_types.specs.Limits.{greatest_number, greatest_moment, longest_send}
-use Rattle.spool_types.specs.Values.{is_queue_name, is_uri, is_media_type, is_user_name, is_title, is_options, is_filter_name}
+use Rattle.spool_types.specs.Values.{is_queue_name, is_uri, is_media_type, is_user_name, is_title, is_options, is_note, is_filter_name}
 use Rattle.spool_types.specs.declared.text.TextFault.{TextFault}
 use Rattle.spool_types.specs.declared.text.TextFault.TheVariants.{Bad}
 use Rattle.spool_types.specs.declared.text.TextFault.TheVariants as text_faults
@@ -69,6 +69,35 @@ text_at allowed bytes = do
   text ← utf8_of part.0
   checked (allowed text) (text, part.1)
 
+unfoldable pub flag_of : ℕ → Result Bool CodecFault
+flag_of n =
+    if n == 0 then Ok false
+    else if n == 1 then Ok true
+    else Err Range
+
+unfoldable pub flag_at : List ℕ → Field Bool
+flag_at bytes = do
+  n ← number_at w8 bytes
+  flag ← flag_of n.0
+  Ok (flag, n.1)
+
+unfoldable pub moment_at : List ℕ → Field (Option ℕ)
+moment_at bytes = do
+  moment ← ranged_at 0 greatest_moment w64 bytes
+  Ok (Some moment.0, moment.1)
+
+-- 1 where no moment ends the hold, and 2 before one that does
+unfoldable pub flagged_until_at : ℕ → List ℕ → Field (Option ℕ)
+flagged_until_at flag bytes =
+    if flag == 1 then Ok (None, bytes)
+    else if flag == 2 then moment_at bytes
+    else Err Range
+
+unfoldable pub until_at : List ℕ → Field (Option ℕ)
+until_at bytes = do
+  flag ← number_at w8 bytes
+  flagged_until_at flag.0 flag.1
+
 unfoldable pub policy_of : ℕ → Result Policy CodecFault
 policy_of n =
     if n == 0 then Ok AbortJob
@@ -120,6 +149,25 @@ queue_at bytes = do
   limit ← number_at w16 interval.1
   Ok (AddQueue (record { name = name.0; uri = uri.0; target = target.0; policy = policy.0; interval = interval.0; limit = limit.0 }), limit.1)
 
+unfoldable pub notes_at : List ℕ → Field Event
+notes_at bytes = do
+  queue ← text_at is_queue_name bytes
+  info ← text_at is_note queue.1
+  location ← text_at is_note info.1
+  Ok (Info (record { queue = queue.0; info = info.0; location = location.0 }), location.1)
+
+unfoldable pub accept_at : List ℕ → Field Event
+accept_at bytes = do
+  queue ← text_at is_queue_name bytes
+  accepting ← flag_at queue.1
+  Ok (SetAccept queue.0 accepting.0, accepting.1)
+
+unfoldable pub stop_at : List ℕ → Field Event
+stop_at bytes = do
+  queue ← text_at is_queue_name bytes
+  stopped ← flag_at queue.1
+  Ok (SetStop queue.0 stopped.0, stopped.1)
+
 unfoldable pub job_at : List ℕ → Field Event
 job_at bytes = do
   queue ← text_at is_queue_name bytes
@@ -150,6 +198,17 @@ closing_at bytes = do
   filters ← maybe_filters_at media.1
   Ok (Close (record { job = job.0; media = media.0; filters = filters.0 }), filters.1)
 
+unfoldable pub hold_at : List ℕ → Field Event
+hold_at bytes = do
+  job ← ranged_at 1 greatest_number w32 bytes
+  until ← until_at job.1
+  Ok (Hold job.0 until.0, until.1)
+
+unfoldable pub release_at : List ℕ → Field Event
+release_at bytes = do
+  job ← ranged_at 1 greatest_number w32 bytes
+  Ok (Release job.0, job.1)
+
 unfoldable pub cancel_at : List ℕ → Field Event
 cancel_at bytes = do
   job ← ranged_at 1 greatest_number w32 bytes
@@ -164,9 +223,14 @@ clock_at bytes = do
 unfoldable pub fields_at : ℕ → List ℕ → Field Event
 fields_at kind bytes =
     if kind == 0x01 then queue_at bytes
+    else if kind == 0x02 then notes_at bytes
+    else if kind == 0x03 then accept_at bytes
+    else if kind == 0x04 then stop_at bytes
     else if kind == 0x05 then job_at bytes
     else if kind == 0x06 then send_at bytes
     else if kind == 0x07 then closing_at bytes
+    else if kind == 0x08 then hold_at bytes
+    else if kind == 0x09 then release_at bytes
     else if kind == 0x0A then cancel_at bytes
     else if kind == 0x0B then clock_at bytes
     else Err Kind

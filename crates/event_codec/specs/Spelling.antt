@@ -1,17 +1,18 @@
 -- The one spelling of each event in bytes.
-use Rattle.std.specs.Prelude.{◌≡◌, ℕ, ◌≤◌, Bool, true, List, ◌∷◌, ◌++◌, length, Option, None, Some}
+use Rattle.std.specs.Prelude.{◌≡◌, ℕ, ◌≤◌, Bool, true, cond, List, ◌∷◌, ◌++◌, length, Option, None, Some}
 use Rattle.std.specs.List.{flat_map, AllByRecursion}
 use Rattle.std.specs.Int.{w8, w16, w32, w64, to_be_bytes}
 use Rattle.std.specs.Str.{is_utf8}
 use Rattle.spool_types.specs.declared.phase.Policy.{Policy}
 use Rattle.spool_types.specs.declared.phase.Policy.TheVariants.{AbortJob, RetryJob, RetryCurrentJob, StopPrinter}
 use Rattle.spool_types.specs.declared.event.NewQueue.{NewQueue}
+use Rattle.spool_types.specs.declared.event.QueueNotes.{QueueNotes}
 use Rattle.spool_types.specs.declared.event.NewJob.{NewJob}
 use Rattle.spool_types.specs.declared.event.Closing.{Closing}
 use Rattle.spool_types.specs.declared.event.Event.{Event}
-use Rattle.spool_types.specs.declared.event.Event.TheVariants.{AddQueue, Create, Send, Close, Cancel, Clock}
+use Rattle.spool_types.specs.declared.event.Event.TheVariants.{AddQueue, Info, SetAccept, SetStop, Create, Send, Close, Hold, Release, Cancel, Clock}
 use Rattle.spool_types.specs.Limits.{greatest_number, greatest_moment, longest_send}
-use Rattle.spool_types.specs.Values.{is_queue_name, is_uri, is_media_type, is_user_name, is_title, is_options, is_filter_name}
+use Rattle.spool_types.specs.Values.{is_queue_name, is_uri, is_media_type, is_user_name, is_title, is_options, is_note, is_filter_name}
 
 -- ---- fields. Numbers are big-endian
 
@@ -24,6 +25,15 @@ policy_number AbortJob = 0
 policy_number RetryJob = 1
 policy_number RetryCurrentJob = 2
 policy_number StopPrinter = 3
+
+-- yes or no
+abbrev pub flag_code : Bool → List ℕ
+flag_code flag = to_be_bytes w8 (cond flag 1 0)
+
+-- 1 where a job is held until it is released; or 2, and the moment until which it is
+abbrev pub until_code : Option ℕ → List ℕ
+until_code None = to_be_bytes w8 1
+until_code (Some m) = to_be_bytes w8 2 ++ to_be_bytes w64 m
 
 -- 0 where nothing prints the document; else 1, how many filters there are, and each of them
 abbrev pub filters_code : Option (List (List ℕ)) → List ℕ
@@ -41,6 +51,15 @@ queue_code q =
     ++ to_be_bytes w32 q.interval
     ++ to_be_bytes w16 q.limit
 
+abbrev pub notes_code : QueueNotes → List ℕ
+notes_code notes = text_code notes.queue ++ text_code notes.info ++ text_code notes.location
+
+abbrev pub accept_code : List ℕ → Bool → List ℕ
+accept_code queue accepting = text_code queue ++ flag_code accepting
+
+abbrev pub stop_code : List ℕ → Bool → List ℕ
+stop_code queue stopped = text_code queue ++ flag_code stopped
+
 abbrev pub job_code : NewJob → List ℕ
 job_code n =
     text_code n.queue
@@ -57,12 +76,20 @@ send_code j bytes = to_be_bytes w32 j ++ to_be_bytes w32 (length bytes) ++ bytes
 abbrev pub closing_code : Closing → List ℕ
 closing_code c = to_be_bytes w32 c.job ++ text_code c.media ++ filters_code c.filters
 
+abbrev pub hold_code : ℕ → Option ℕ → List ℕ
+hold_code j until = to_be_bytes w32 j ++ until_code until
+
 -- the event's kind in one byte, its fields in order, and nothing else
 abbrev pub spelling : Event → List ℕ
 spelling (AddQueue q) = 0x01 ∷ queue_code q
+spelling (Info notes) = 0x02 ∷ notes_code notes
+spelling (SetAccept queue accepting) = 0x03 ∷ accept_code queue accepting
+spelling (SetStop queue stopped) = 0x04 ∷ stop_code queue stopped
 spelling (Create n) = 0x05 ∷ job_code n
 spelling (Send j bytes) = 0x06 ∷ send_code j bytes
 spelling (Close c) = 0x07 ∷ closing_code c
+spelling (Hold j until) = 0x08 ∷ hold_code j until
+spelling (Release j) = 0x09 ∷ to_be_bytes w32 j
 spelling (Cancel j) = 0x0A ∷ to_be_bytes w32 j
 spelling (Clock m) = 0x0B ∷ to_be_bytes w64 m
 
@@ -86,6 +113,11 @@ pub record IsQueue (q : NewQueue) : Type 0 where
   pub interval : IsIn 0 86400 q.interval
   pub limit : IsIn 0 65535 q.limit
 
+pub record AreNotes (notes : QueueNotes) : Type 0 where
+  pub queue : IsText is_queue_name notes.queue
+  pub info : IsText is_note notes.info
+  pub location : IsText is_note notes.location
+
 pub record IsJob (n : NewJob) : Type 0 where
   pub queue : IsText is_queue_name n.queue
   pub job : IsJobNumber n.job
@@ -108,10 +140,23 @@ pub record IsClosing (c : Closing) : Type 0 where
   pub media : IsText is_media_type c.media
   pub filters : AreFilters c.filters
 
+abbrev pub IsMoment : Option ℕ → Type 0
+IsMoment None = Unit {0}
+IsMoment (Some m) = IsIn 0 greatest_moment m
+
+pub record IsHold (j : ℕ) (until : Option ℕ) : Type 0 where
+  pub job : IsJobNumber j
+  pub moment : IsMoment until
+
 abbrev pub IsSpellable : Event → Type 0
 IsSpellable (AddQueue q) = IsQueue q
+IsSpellable (Info notes) = AreNotes notes
+IsSpellable (SetAccept queue accepting) = IsText is_queue_name queue
+IsSpellable (SetStop queue stopped) = IsText is_queue_name queue
 IsSpellable (Create n) = IsJob n
 IsSpellable (Send j bytes) = IsSend j bytes
 IsSpellable (Close c) = IsClosing c
+IsSpellable (Hold j until) = IsHold j until
+IsSpellable (Release j) = IsJobNumber j
 IsSpellable (Cancel j) = IsJobNumber j
 IsSpellable (Clock m) = IsIn 0 greatest_moment m

@@ -7,9 +7,14 @@
 //! | Byte | Event | Fields |
 //! |---|---|---|
 //! | 01 | AddQueue | name, URI, target, policy in 1 byte, interval in 4, limit in 2 |
+//! | 02 | Info | queue, info, location |
+//! | 03 | SetAccept | queue, 0 or 1 in 1 byte |
+//! | 04 | SetStop | queue, 0 or 1 in 1 byte |
 //! | 05 | Create | queue, job in 4 bytes, user, title, copies in 2, priority in 1, options |
 //! | 06 | Send | job in 4 bytes, length in 4, so many bytes |
 //! | 07 | Close | job in 4 bytes, media type, then 0, or 1, the number of filters in 1 byte, and each filter |
+//! | 08 | Hold | job in 4 bytes, then 1 where no moment ends it, or 2 and a moment in 8 bytes |
+//! | 09 | Release | job in 4 bytes |
 //! | 0A | Cancel | job in 4 bytes |
 //! | 0B | Clock | moment in 8 bytes |
 //!

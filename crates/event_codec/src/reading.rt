@@ -4,14 +4,44 @@ ghost use Rattle.std.specs.Int.{w8, w16, w32};
 ghost use Rattle.spool_types.specs.declared.event.Event.{Event as Change};
 ghost use Rattle.spool_types.specs.Values.{is_media_type};
 ghost use Rattle.event_codec.specs.Spelling.{IsSpellable, spelling};
-ghost use Rattle.event_codec.specs.Reading.{Gives, text_at as text, policy_at as policy, filters_at as filters, counted_filters_at as counted_filters, maybe_filters_at as maybe_filters, piece_at as piece, queue_at, job_at, send_at, closing_at, cancel_at, clock_at, whole, reading};
+ghost use Rattle.event_codec.specs.Reading.{Gives, text_at as text, flag_at as flagged, until_at as until, policy_at as policy, filters_at as filters, counted_filters_at as counted_filters, maybe_filters_at as maybe_filters, piece_at as piece, queue_at, notes_at, accept_at, stop_at, job_at, send_at, closing_at, hold_at, release_at, cancel_at, clock_at, whole, reading};
 
 use crate::fault::CodecFault;
 use crate::fields::{job_id, moment, part_at, ranged, text_at, u8_at, u16_at, u32_at, u64_at};
 use spool_types::{
-    Closing, Event, FilterName, Filters, MediaType, MediaTypeKind, NewJob, NewQueue, Piece, Policy,
+    Closing, Event, FilterName, Filters, MediaType, MediaTypeKind, Moment, NewJob, NewQueue, Piece,
+    Policy, QueueNotes,
 };
 use std::alloc::Global;
+
+#[tactic(auto, unfolding(crate::specs::Reading::flag_at, crate::specs::Reading::flag_of))]
+fn flag_at(bytes: &[u8]) -> Result<(bool, &[u8]), CodecFault>
+    ensures { Gives (λ x. (x.0, x.1.now)) result (flagged bytes.now) }
+{
+    let (number, rest) = u8_at(bytes)?;
+    match number {
+        0 => Ok((false, rest)),
+        1 => Ok((true, rest)),
+        _ => Err(CodecFault::Range),
+    }
+}
+
+/// Until when a job is held: a moment, or none where it is held until it is released.
+#[tactic(auto, unfolding(crate::specs::Reading::until_at, crate::specs::Reading::flagged_until_at, crate::specs::Reading::moment_at, crate::specs::Reading::ranged_at))]
+fn until_at(bytes: &[u8]) -> Result<(Option<Moment>, &[u8]), CodecFault>
+    ensures { Gives (λ x. (x.0, x.1.now)) result (until bytes.now) }
+{
+    let (flag, rest) = u8_at(bytes)?;
+    match flag {
+        1 => Ok((None, rest)),
+        2 => {
+            let (seconds, rest) = u64_at(rest)?;
+            let moment = moment(seconds)?;
+            Ok((Some(moment), rest))
+        }
+        _ => Err(CodecFault::Range),
+    }
+}
 
 #[tactic(auto, unfolding(crate::specs::Reading::policy_at, crate::specs::Reading::policy_of))]
 fn policy_at(bytes: &[u8]) -> Result<(Policy, &[u8]), CodecFault>
@@ -130,6 +160,41 @@ fn queue_of(alloc: Global, fields: &[u8]) -> Result<Event, CodecFault>
     }))
 }
 
+#[tactic(auto, unfolding(crate::specs::Reading::notes_at, crate::specs::Reading::whole))]
+fn notes_of(alloc: Global, fields: &[u8]) -> Result<Event, CodecFault>
+    ensures { Gives (λ e. e) result (whole (notes_at fields.now)) }
+{
+    let (queue, rest) = text_at(alloc, fields)?;
+    let (info, rest) = text_at(alloc, rest)?;
+    let (location, rest) = text_at(alloc, rest)?;
+    ended(rest)?;
+    Ok(Event::Info(QueueNotes {
+        queue,
+        info,
+        location,
+    }))
+}
+
+#[tactic(auto, unfolding(crate::specs::Reading::accept_at, crate::specs::Reading::whole))]
+fn accept_of(alloc: Global, fields: &[u8]) -> Result<Event, CodecFault>
+    ensures { Gives (λ e. e) result (whole (accept_at fields.now)) }
+{
+    let (queue, rest) = text_at(alloc, fields)?;
+    let (accepting, rest) = flag_at(rest)?;
+    ended(rest)?;
+    Ok(Event::SetAccept { queue, accepting })
+}
+
+#[tactic(auto, unfolding(crate::specs::Reading::stop_at, crate::specs::Reading::whole))]
+fn stop_of(alloc: Global, fields: &[u8]) -> Result<Event, CodecFault>
+    ensures { Gives (λ e. e) result (whole (stop_at fields.now)) }
+{
+    let (queue, rest) = text_at(alloc, fields)?;
+    let (stopped, rest) = flag_at(rest)?;
+    ended(rest)?;
+    Ok(Event::SetStop { queue, stopped })
+}
+
 #[tactic(auto, unfolding(crate::specs::Reading::job_at, crate::specs::Reading::ranged_at, crate::specs::Reading::whole))]
 fn job_of(alloc: Global, fields: &[u8]) -> Result<Event, CodecFault>
     ensures { Gives (λ e. e) result (whole (job_at fields.now)) }
@@ -183,6 +248,32 @@ fn closing_of(alloc: Global, fields: &[u8]) -> Result<Event, CodecFault>
     }))
 }
 
+#[tactic(auto, unfolding(crate::specs::Reading::hold_at, crate::specs::Reading::ranged_at, crate::specs::Reading::whole))]
+fn hold_of(fields: &[u8]) -> Result<Event, CodecFault>
+    ensures { Gives (λ e. e) result (whole (hold_at fields.now)) }
+{
+    let (number, rest) = u32_at(fields)?;
+    let job = job_id(number)?;
+    // `?` isn't proved here: a moment that may be missing stands beside a slice.
+    match until_at(rest) {
+        Ok((until, rest)) => {
+            ended(rest)?;
+            Ok(Event::Hold { job, until })
+        }
+        Err(fault) => Err(fault),
+    }
+}
+
+#[tactic(auto, unfolding(crate::specs::Reading::release_at, crate::specs::Reading::ranged_at, crate::specs::Reading::whole))]
+fn release_of(fields: &[u8]) -> Result<Event, CodecFault>
+    ensures { Gives (λ e. e) result (whole (release_at fields.now)) }
+{
+    let (number, rest) = u32_at(fields)?;
+    let job = job_id(number)?;
+    ended(rest)?;
+    Ok(Event::Release(job))
+}
+
 #[tactic(auto, unfolding(crate::specs::Reading::cancel_at, crate::specs::Reading::ranged_at, crate::specs::Reading::whole))]
 fn cancel_of(fields: &[u8]) -> Result<Event, CodecFault>
     ensures { Gives (λ e. e) result (whole (cancel_at fields.now)) }
@@ -210,9 +301,14 @@ fn event_of(alloc: Global, payload: &[u8]) -> Result<Event, CodecFault>
     match payload {
         [] => Err(CodecFault::Length),
         [0x01, fields @ ..] => queue_of(alloc, fields),
+        [0x02, fields @ ..] => notes_of(alloc, fields),
+        [0x03, fields @ ..] => accept_of(alloc, fields),
+        [0x04, fields @ ..] => stop_of(alloc, fields),
         [0x05, fields @ ..] => job_of(alloc, fields),
         [0x06, fields @ ..] => send_of(alloc, fields),
         [0x07, fields @ ..] => closing_of(alloc, fields),
+        [0x08, fields @ ..] => hold_of(fields),
+        [0x09, fields @ ..] => release_of(fields),
         [0x0A, fields @ ..] => cancel_of(fields),
         [0x0B, fields @ ..] => clock_of(fields),
         [_, ..] => Err(CodecFault::Kind),

@@ -1,25 +1,35 @@
 use super::*;
 use spool_types::{
-    Closing, Copies, Event, Filters, Interval, JobId, MediaType, Moment, NewJob, NewQueue,
-    OptionText, Piece, Policy, Priority, QueueName, Title, Uri, UserName,
+    Closing, Copies, Event, Filters, Interval, JobId, MediaType, Moment, NewJob, NewQueue, Note,
+    OptionText, Piece, Policy, Priority, QueueName, QueueNotes, Title, Uri, UserName,
 };
 use std::alloc::Global;
+use std::process::Abort;
 use std::test::Fail;
+
+/// An event is spelled so, and is read there.
+fn is_spelled(rt: &impl Abort, alloc: Global, event: Event, want: &[u8]) -> Result<(), Fail> {
+    let bytes = encode(alloc, &event)?;
+    assert_eq!(rt; bytes.as_slice(), want);
+    assert!(rt; decode(alloc, want) == Ok(event));
+    Ok(())
+}
+
+fn first_job() -> Result<JobId, Fail> {
+    Ok(JobId::new(1).ok_or("no")?)
+}
 
 #[test]
 fn a_cancel_is_spelled_in_five_bytes(rt: HostRuntime) -> Result<(), Fail> {
     let alloc = rt.alloc();
-    let cancel = Event::Cancel(JobId::new(1).ok_or("no")?);
-    let bytes = encode(alloc, &cancel)?;
-    assert_eq!(rt; bytes.as_slice(), [0x0A, 0, 0, 0, 1].as_slice());
-    assert!(rt; decode(alloc, &bytes) == Ok(cancel));
-    Ok(())
+    let cancel = Event::Cancel(first_job()?);
+    is_spelled(&rt, alloc, cancel, &[0x0A, 0, 0, 0, 1])
 }
 
 #[test]
 fn a_spelling_is_added_to_what_is_there(rt: HostRuntime) -> Result<(), Fail> {
     let alloc = rt.alloc();
-    let cancel = Event::Cancel(JobId::new(1).ok_or("no")?);
+    let cancel = Event::Cancel(first_job()?);
     let mut bytes = Vec::from_slice(alloc, &[7, 8])?;
     encode_onto(&cancel, &mut bytes)?;
     assert_eq!(rt; bytes.as_slice(), [7, 8, 0x0A, 0, 0, 0, 1].as_slice());
@@ -50,12 +60,9 @@ fn new_queue(alloc: Global) -> Result<Event, Fail> {
 fn a_new_queue_is_spelled_in_21_bytes(rt: HostRuntime) -> Result<(), Fail> {
     let alloc = rt.alloc();
     let event = new_queue(alloc)?;
-    let bytes = encode(alloc, &event)?;
     let want = b"\x01\x00\x01q\x00\x03s:/\x00\x03a/b\x00\x00\x00\x00\x1e\x00\x05";
-    assert_eq!(rt; bytes.as_slice(), want.as_slice());
-    assert_eq!(rt; bytes.len(), 21);
-    assert!(rt; decode(alloc, &bytes) == Ok(event));
-    Ok(())
+    assert_eq!(rt; want.len(), 21);
+    is_spelled(&rt, alloc, event, want.as_slice())
 }
 
 #[test]
@@ -70,7 +77,7 @@ fn a_media_type_with_a_capital_is_out_of_range(rt: HostRuntime) {
 fn new_job(alloc: Global) -> Result<Event, Fail> {
     Ok(Event::Create(NewJob {
         queue: QueueName::read(alloc, "q")?,
-        job: JobId::new(1).ok_or("no")?,
+        job: first_job()?,
         user: UserName::read(alloc, "u")?,
         title: Title::read(alloc, "")?,
         copies: Copies::new(1).ok_or("no")?,
@@ -83,45 +90,140 @@ fn new_job(alloc: Global) -> Result<Event, Fail> {
 fn a_new_job_is_spelled_in_18_bytes(rt: HostRuntime) -> Result<(), Fail> {
     let alloc = rt.alloc();
     let event = new_job(alloc)?;
-    let bytes = encode(alloc, &event)?;
     let want = b"\x05\x00\x01q\x00\x00\x00\x01\x00\x01u\x00\x00\x00\x01\x32\x00\x00";
-    assert_eq!(rt; bytes.as_slice(), want.as_slice());
-    assert_eq!(rt; bytes.len(), 18);
-    assert!(rt; decode(alloc, &bytes) == Ok(event));
-    Ok(())
+    assert_eq!(rt; want.len(), 18);
+    is_spelled(&rt, alloc, event, want.as_slice())
 }
 
 #[test]
 fn a_closing_is_spelled_in_12_bytes(rt: HostRuntime) -> Result<(), Fail> {
     let alloc = rt.alloc();
     let event = Event::Close(Closing {
-        job: JobId::new(1).ok_or("no")?,
+        job: first_job()?,
         media: MediaType::read(alloc, "a/b")?,
         filters: Some(Filters::empty(alloc)),
     });
-    let bytes = encode(alloc, &event)?;
     let want = b"\x07\x00\x00\x00\x01\x00\x03a/b\x01\x00";
-    assert_eq!(rt; bytes.as_slice(), want.as_slice());
-    assert_eq!(rt; bytes.len(), 12);
-    assert!(rt; decode(alloc, &bytes) == Ok(event));
-    Ok(())
+    assert_eq!(rt; want.len(), 12);
+    is_spelled(&rt, alloc, event, want.as_slice())
 }
 
 #[test]
-fn a_send_and_a_clock_are_read_again(rt: HostRuntime) -> Result<(), Fail> {
+fn a_send_is_spelled_in_11_bytes(rt: HostRuntime) -> Result<(), Fail> {
     let alloc = rt.alloc();
     let bytes = Piece::new(Vec::from_slice(alloc, b"ab".as_slice())?);
     let send = Event::Send {
-        job: JobId::new(1).ok_or("no")?,
+        job: first_job()?,
         bytes: bytes.ok().ok_or("no")?,
     };
-    assert!(rt; decode(alloc, &encode(alloc, &send)?) == Ok(send));
+    let want = b"\x06\x00\x00\x00\x01\x00\x00\x00\x02ab";
+    is_spelled(&rt, alloc, send, want.as_slice())
+}
+
+#[test]
+fn a_clock_is_spelled_in_nine_bytes(rt: HostRuntime) -> Result<(), Fail> {
+    let alloc = rt.alloc();
     let clock = Event::Clock(Moment::new(1_000).ok_or("no")?);
-    let bytes = encode(alloc, &clock)?;
-    assert_eq!(rt;
-        bytes.as_slice(),
-        [0x0B, 0, 0, 0, 0, 0, 0, 3, 0xE8].as_slice()
-    );
-    assert!(rt; decode(alloc, &bytes) == Ok(clock));
-    Ok(())
+    is_spelled(&rt, alloc, clock, &[0x0B, 0, 0, 0, 0, 0, 0, 3, 0xE8])
+}
+
+#[test]
+fn a_release_is_spelled_in_five_bytes(rt: HostRuntime) -> Result<(), Fail> {
+    let alloc = rt.alloc();
+    let release = Event::Release(first_job()?);
+    is_spelled(&rt, alloc, release, &[0x09, 0, 0, 0, 1])
+}
+
+fn held(until: Option<Moment>) -> Result<Event, Fail> {
+    Ok(Event::Hold {
+        job: first_job()?,
+        until,
+    })
+}
+
+#[test]
+fn a_hold_without_an_end_is_spelled_in_six_bytes(rt: HostRuntime) -> Result<(), Fail> {
+    let alloc = rt.alloc();
+    is_spelled(&rt, alloc, held(None)?, &[0x08, 0, 0, 0, 1, 1])
+}
+
+#[test]
+fn a_hold_until_a_moment_is_spelled_in_14_bytes(rt: HostRuntime) -> Result<(), Fail> {
+    let alloc = rt.alloc();
+    let hold = held(Moment::new(100))?;
+    let want = [0x08, 0, 0, 0, 1, 2, 0, 0, 0, 0, 0, 0, 0, 100];
+    is_spelled(&rt, alloc, hold, &want)
+}
+
+#[test]
+fn a_queue_that_is_opened_is_spelled_with_a_1(rt: HostRuntime) -> Result<(), Fail> {
+    let alloc = rt.alloc();
+    let accept = Event::SetAccept {
+        queue: QueueName::read(alloc, "q")?,
+        accepting: true,
+    };
+    is_spelled(&rt, alloc, accept, b"\x03\x00\x01q\x01".as_slice())
+}
+
+#[test]
+fn a_queue_that_goes_on_is_spelled_with_a_0(rt: HostRuntime) -> Result<(), Fail> {
+    let alloc = rt.alloc();
+    let go_on = Event::SetStop {
+        queue: QueueName::read(alloc, "q")?,
+        stopped: false,
+    };
+    is_spelled(&rt, alloc, go_on, b"\x04\x00\x01q\x00".as_slice())
+}
+
+#[test]
+fn the_info_is_spelled_before_the_location(rt: HostRuntime) -> Result<(), Fail> {
+    let alloc = rt.alloc();
+    let info = Event::Info(QueueNotes {
+        queue: QueueName::read(alloc, "q")?,
+        info: Note::read(alloc, "")?,
+        location: Note::read(alloc, "a")?,
+    });
+    let want = b"\x02\x00\x01q\x00\x00\x00\x01a";
+    is_spelled(&rt, alloc, info, want.as_slice())
+}
+
+fn fault(alloc: Global, payload: &[u8]) -> Option<CodecFault> {
+    decode(alloc, payload).err()
+}
+
+#[test]
+fn a_flag_is_0_or_1(rt: HostRuntime) {
+    let alloc = rt.alloc();
+    let accept = b"\x03\x00\x01q\x02";
+    assert!(rt; fault(alloc, accept.as_slice()) == Some(CodecFault::Range));
+    let stop = b"\x04\x00\x01q\x02";
+    assert!(rt; fault(alloc, stop.as_slice()) == Some(CodecFault::Range));
+}
+
+#[test]
+fn a_hold_has_its_end_behind_1_or_2(rt: HostRuntime) {
+    let alloc = rt.alloc();
+    assert!(rt; fault(alloc, &[0x08, 0, 0, 0, 1, 0]) == Some(CodecFault::Range));
+    assert!(rt; fault(alloc, &[0x08, 0, 0, 0, 1, 3]) == Some(CodecFault::Range));
+    assert!(rt; fault(alloc, &[0x08, 0, 0, 0, 1, 2]) == Some(CodecFault::Length));
+}
+
+#[test]
+fn a_hold_until_more_than_the_greatest_moment_is_out_of_range(rt: HostRuntime) {
+    let alloc = rt.alloc();
+    let hold = b"\x08\x00\x00\x00\x01\x02\x00\x00\x03\xa3\x52\x94\x40\x01";
+    assert!(rt; fault(alloc, hold.as_slice()) == Some(CodecFault::Range));
+}
+
+#[test]
+fn a_byte_that_is_left_over_is_a_wrong_length(rt: HostRuntime) {
+    let alloc = rt.alloc();
+    assert!(rt; fault(alloc, &[0x09, 0, 0, 0, 1, 0]) == Some(CodecFault::Length));
+    assert!(rt; fault(alloc, &[0x08, 0, 0, 0, 1, 1, 0]) == Some(CodecFault::Length));
+    assert!(rt; fault(alloc, b"\x03\x00\x01q\x01\x00".as_slice()) == Some(CodecFault::Length));
+}
+
+#[test]
+fn no_event_is_of_kind_12(rt: HostRuntime) {
+    assert!(rt; fault(rt.alloc(), &[0x0C]) == Some(CodecFault::Kind));
 }

@@ -2,12 +2,12 @@
 ghost use Rattle.std.specs.Prelude.{◌≡◌, ◌+◌, ◌<◌, ◌≤◌, ◌^◌, ◌++◌, List, ℕ, true, length, IfOk, OnOk};
 ghost use Rattle.std.specs.Int.{w8};
 ghost use Rattle.std.specs.List.{flat_map, AllByRecursion};
-ghost use Rattle.spool_types.specs.Values.{is_media_type, is_filter_name};
-ghost use Rattle.event_codec.specs.Spelling.{text_code, filters_code, queue_code, job_code, send_code, closing_code, policy_number, spelling, IsText, IsQueue, IsJob, IsSend, IsClosing, AreFilters, IsSpellable};
+ghost use Rattle.spool_types.specs.Values.{is_media_type, is_filter_name, is_queue_name};
+ghost use Rattle.event_codec.specs.Spelling.{text_code, flag_code, until_code, filters_code, queue_code, notes_code, accept_code, stop_code, job_code, send_code, closing_code, hold_code, policy_number, spelling, IsText, IsQueue, AreNotes, IsJob, IsSend, IsClosing, IsHold, AreFilters, IsSpellable};
 
 use spool_types::{
-    Closing, Event, FilterName, Filters, JobId, MediaType, NewJob, NewQueue, Piece, Policy, Text,
-    TextKind,
+    Closing, Event, FilterName, Filters, JobId, MediaType, Moment, NewJob, NewQueue, Piece, Policy,
+    QueueName, QueueNotes, Text, TextKind,
 };
 use std::alloc::{AllocError, Global};
 
@@ -34,6 +34,12 @@ fn put_media(out: &mut Vec<u8>, media: &MediaType) -> Result<(), AllocError>
     put_str(out, media.as_str())
 }
 
+fn put_flag(out: &mut Vec<u8>, flag: bool) -> Result<(), AllocError>
+    ensures written { OnOk result (out.new.items ≡ out.old.items ++ flag_code flag) }
+{
+    out.extend_from_slice(&u8::from(flag).to_be_bytes())
+}
+
 fn policy_byte(policy: Policy) -> u8
     ensures { result ≡ policy_number policy }
 {
@@ -55,6 +61,31 @@ fn put_queue(out: &mut Vec<u8>, queue: &NewQueue) -> Result<(), AllocError>
     out.extend_from_slice(&policy_byte(queue.policy).to_be_bytes())?;
     out.extend_from_slice(&queue.interval.get().to_be_bytes())?;
     out.extend_from_slice(&queue.limit.to_be_bytes())
+}
+
+fn put_notes(out: &mut Vec<u8>, notes: &QueueNotes) -> Result<(), AllocError>
+    ensures written { OnOk result (out.new.items ≡ out.old.items ++ notes_code notes.now) }
+    ensures legal { OnOk result (AreNotes notes.now) }
+{
+    put_text(out, &notes.queue)?;
+    put_text(out, &notes.info)?;
+    put_text(out, &notes.location)
+}
+
+fn put_accept(out: &mut Vec<u8>, queue: &QueueName, accepting: bool) -> Result<(), AllocError>
+    ensures written { OnOk result (out.new.items ≡ out.old.items ++ accept_code queue.now accepting) }
+    ensures legal { OnOk result (IsText is_queue_name queue.now) }
+{
+    put_text(out, queue)?;
+    put_flag(out, accepting)
+}
+
+fn put_stop(out: &mut Vec<u8>, queue: &QueueName, stopped: bool) -> Result<(), AllocError>
+    ensures written { OnOk result (out.new.items ≡ out.old.items ++ stop_code queue.now stopped) }
+    ensures legal { OnOk result (IsText is_queue_name queue.now) }
+{
+    put_text(out, queue)?;
+    put_flag(out, stopped)
 }
 
 fn put_job(out: &mut Vec<u8>, job: &NewJob) -> Result<(), AllocError>
@@ -114,6 +145,26 @@ fn put_closing(out: &mut Vec<u8>, closing: &Closing) -> Result<(), AllocError>
     put_filters(out, &closing.filters)
 }
 
+fn put_until(out: &mut Vec<u8>, until: Option<Moment>) -> Result<(), AllocError>
+    ensures written { OnOk result (out.new.items ≡ out.old.items ++ until_code until) }
+{
+    match until {
+        None => out.extend_from_slice(&1u8.to_be_bytes()),
+        Some(moment) => {
+            out.extend_from_slice(&2u8.to_be_bytes())?;
+            out.extend_from_slice(&moment.get().to_be_bytes())
+        }
+    }
+}
+
+fn put_hold(out: &mut Vec<u8>, job: JobId, until: Option<Moment>) -> Result<(), AllocError>
+    ensures written { OnOk result (out.new.items ≡ out.old.items ++ hold_code job until) }
+    ensures legal { OnOk result (IsHold job until) }
+{
+    out.extend_from_slice(&job.get().to_be_bytes())?;
+    put_until(out, until)
+}
+
 fn put_event(out: &mut Vec<u8>, event: &Event) -> Result<(), AllocError>
     ensures written { OnOk result (out.new.items ≡ out.old.items ++ spelling event.now) }
     ensures legal { OnOk result (IsSpellable event.now) }
@@ -122,6 +173,18 @@ fn put_event(out: &mut Vec<u8>, event: &Event) -> Result<(), AllocError>
         Event::AddQueue(queue) => {
             out.push(0x01)?;
             put_queue(out, queue)
+        }
+        Event::Info(notes) => {
+            out.push(0x02)?;
+            put_notes(out, notes)
+        }
+        Event::SetAccept { queue, accepting } => {
+            out.push(0x03)?;
+            put_accept(out, queue, *accepting)
+        }
+        Event::SetStop { queue, stopped } => {
+            out.push(0x04)?;
+            put_stop(out, queue, *stopped)
         }
         Event::Create(job) => {
             out.push(0x05)?;
@@ -134,6 +197,14 @@ fn put_event(out: &mut Vec<u8>, event: &Event) -> Result<(), AllocError>
         Event::Close(closing) => {
             out.push(0x07)?;
             put_closing(out, closing)
+        }
+        Event::Hold { job, until } => {
+            out.push(0x08)?;
+            put_hold(out, *job, *until)
+        }
+        Event::Release(job) => {
+            out.push(0x09)?;
+            out.extend_from_slice(&job.get().to_be_bytes())
         }
         Event::Cancel(job) => {
             out.push(0x0A)?;
@@ -166,6 +237,13 @@ fn queue_len(queue: &NewQueue) -> usize
     ensures small { result < 2 ^ 24 }
 {
     text_len(&queue.name) + text_len(&queue.uri) + media_len(&queue.target) + 7
+}
+
+fn notes_len(notes: &QueueNotes) -> usize
+    ensures value { result ≡ length (notes_code notes.now) }
+    ensures small { result < 2 ^ 24 }
+{
+    text_len(&notes.queue) + text_len(&notes.info) + text_len(&notes.location)
 }
 
 fn job_len(job: &NewJob) -> usize
@@ -202,6 +280,16 @@ fn filters_len(filters: &Option<Filters>) -> usize
     }
 }
 
+fn until_len(until: Option<Moment>) -> usize
+    ensures value { result ≡ length (until_code until) }
+    ensures small { result < 2 ^ 24 }
+{
+    match until {
+        None => 1,
+        Some(_) => 9,
+    }
+}
+
 /// How many bytes the spelling of an event has.
 fn spelled_len(event: &Event) -> usize
     ensures value { result ≡ length (spelling event.now) }
@@ -209,10 +297,13 @@ fn spelled_len(event: &Event) -> usize
 {
     match event {
         Event::AddQueue(queue) => 1 + queue_len(queue),
+        Event::Info(notes) => 1 + notes_len(notes),
+        Event::SetAccept { queue, .. } | Event::SetStop { queue, .. } => 2 + text_len(queue),
         Event::Create(job) => 1 + job_len(job),
         Event::Send { bytes, .. } => 9 + bytes.as_slice().len(),
         Event::Close(closing) => 5 + media_len(&closing.media) + filters_len(&closing.filters),
-        Event::Cancel(_) => 5,
+        Event::Hold { until, .. } => 5 + until_len(*until),
+        Event::Release(_) | Event::Cancel(_) => 5,
         Event::Clock(_) => 9,
     }
 }

@@ -4,11 +4,11 @@ use Rattle.std.specs.Prelude.{nat_le, nat_lt, is_some, is_none}
 use Rattle.std.specs.FinMap as finite
 use Rattle.std.proofs.lemmas.Bool.Decides.{nat_tests}
 use Rattle.spool_types.specs.Limits.{most_queues, longest_document}
-use Rattle.spool_types.specs.Phases.{is_incoming}
+use Rattle.spool_types.specs.Phases.{is_incoming, is_processing}
 use Rattle.spool_types.specs.declared.event.NewQueue.{NewQueue}
 use Rattle.spool_types.specs.declared.event.NewJob.{NewJob}
 use Rattle.spool_types.specs.declared.event.Closing.{Closing}
-use Rattle.spool_types.specs.declared.event.Event.TheVariants.{AddQueue, Create, Send, Close}
+use Rattle.spool_types.specs.declared.event.Event.TheVariants.{AddQueue, Create, Send, Close, Hold as HoldJob, Release}
 use Rattle.spool_types.specs.declared.refusal.Refusal.{Refusal}
 use Rattle.spool_types.specs.State.{State, Job, queue_at, job_at}
 use Rattle.spool_types.specs.Step.{refusal_of, causes, first_cause, passes}
@@ -75,3 +75,11 @@ accepted_short s j bytes r there e =
 pub accepted_close_incoming : (s : State) (c : Closing) (r : Job) → job_at s c.job ≡ Some r → refusal_of s (Close c) ≡ None → is_incoming r.phase ≡ true
 accepted_close_incoming s c r there e =
     true_from _ (subst (λ o. passes (λ (r : Job). not (is_incoming r.phase)) o ≡ false) there (none_stand (causes s (Close c)) e).1.1.0)
+
+pub accepted_hold_idle : (s : State) (j : ℕ) (until : Option ℕ) (r : Job) → job_at s j ≡ Some r → refusal_of s (HoldJob j until) ≡ None → is_processing r.phase ≡ false
+accepted_hold_idle s j until r there e =
+    subst (λ o. passes (λ (r : Job). is_processing r.phase) o ≡ false) there (none_stand (causes s (HoldJob j until)) e).1.1.0
+
+pub accepted_release_idle : (s : State) (j : ℕ) (r : Job) → job_at s j ≡ Some r → refusal_of s (Release j) ≡ None → is_processing r.phase ≡ false
+accepted_release_idle s j r there e =
+    subst (λ o. passes (λ (r : Job). is_processing r.phase) o ≡ false) there (none_stand (causes s (Release j)) e).1.1.0

@@ -1,5 +1,6 @@
 -- Each event that isn't refused leads from a legal state to a legal one.
 use Rattle.std.proofs.Common.{◌≡◌, ℕ, ◌+◌, ◌<◌, ◌≤◌, Bool, true, false, cond, List, [], ◌∷◌, length, Some, None, Option, IsSome, inl, inr, refl, sym, ap, subst, ◌∙◌, arith, rules}
+use Rattle.std.specs.Prelude.{is_some}
 use Rattle.std.specs.Ordering.{nat_cmp, eq_by_cmp}
 use Rattle.std.specs.Cmp.{nat_cmp_total}
 use Rattle.std.specs.Cmp.Lexicographic.{slice_cmp, nat_list_cmp_total}
@@ -9,20 +10,22 @@ use Rattle.std.proofs.lemmas.List.{length-append}
 use Rattle.std.proofs.lemmas.Map.Lookups.{exact_bytes}
 use Rattle.std.proofs.lemmas.Map.Views.{tells_apart}
 use Rattle.spool_types.specs.Limits.{most_queues, longest_document}
-use Rattle.spool_types.specs.Phases.{has_ended, is_incoming, is_processing}
+use Rattle.spool_types.specs.Phases.{has_ended, is_incoming, is_processing, with_hold, hold_until}
 use Rattle.spool_types.specs.declared.rows.QueueRow.{QueueRow}
+use Rattle.spool_types.specs.declared.phase.Hold.{Hold}
+use Rattle.spool_types.specs.declared.phase.Hold.TheVariants.{Free}
 use Rattle.spool_types.specs.declared.phase.Phase.{Phase}
 use Rattle.spool_types.specs.declared.phase.Phase.TheVariants.{Incoming, Waiting, Processing, Completed, Canceled, Aborted}
 use Rattle.spool_types.specs.declared.refusal.Refusal.{Refusal}
 use Rattle.spool_types.specs.declared.event.NewJob.{NewJob}
 use Rattle.spool_types.specs.declared.event.Closing.{Closing}
 use Rattle.spool_types.specs.declared.event.Event.{Event}
-use Rattle.spool_types.specs.declared.event.Event.TheVariants.{AddQueue, Create, Send, Close, Cancel, Clock}
-use Rattle.spool_types.specs.State.{State, Job, Queues, nothing, job_at}
+use Rattle.spool_types.specs.declared.event.Event.TheVariants.{AddQueue, Info, SetAccept, SetStop, Create, Send, Close, Hold as HoldJob, Release, Cancel, Clock}
+use Rattle.spool_types.specs.State.{State, Job, Queues, nothing, queue_at, job_at}
 use Rattle.spool_types.specs.Legal.{IsLegal, IsLegalJob, IsUntyped, Fits}
-use Rattle.spool_types.specs.Step.{refusal_of, after, change_found, new_queue, new_job, with_bytes, ended, closed}
+use Rattle.spool_types.specs.Step.{refusal_of, after, change_found, change_found_queue, new_queue, with_notes, with_accepting, with_stopped, new_job, with_bytes, ended, closed, held}
 use Rattle.spool_types.specs.Fold.{unless_refused, after_one, after_all}
-use Rattle.job_table.proofs.Accepted.{accepted_few, accepted_create, accepted_create_queue, accepted_short, accepted_send_incoming, accepted_close_incoming}
+use Rattle.job_table.proofs.Accepted.{accepted_few, accepted_create, accepted_create_queue, accepted_short, accepted_send_incoming, accepted_close_incoming, accepted_hold_idle, accepted_release_idle}
 
 not_both : {X : Type 0} (o : Option X) (x : X) → o ≡ None → o ≡ Some x → ⊥
 not_both o x p q = cc
@@ -69,9 +72,16 @@ one_more queues k x few = rw (finite.len-insert nat_list_cmp_total queues k x) (
     either true = omega arith
     either false = omega arith
 
-pub legal_queue : (s : State) (x : QueueRow) → finite.len s.queues < most_queues → IsLegal s → IsLegal (record s { queues = finite.insert s.queues x.name x })
+-- no more queues where one of the name is there
+no_more : (queues : Queues) (k : List ℕ) (x q : QueueRow) → finite.get queues k ≡ Some q → finite.len (finite.insert queues k x) ≡ finite.len queues
+no_more queues k x q there =
+    finite.len-insert nat_list_cmp_total queues k x
+    ∙ ap (λ o. cond (is_some o) (finite.len queues) (finite.len queues + 1)) there
+
+-- a queue is put in
+legal_queue : (s : State) (x : QueueRow) → finite.len (finite.insert s.queues x.name x) ≤ most_queues → IsLegal s → IsLegal (record s { queues = finite.insert s.queues x.name x })
 legal_queue s x few legal = record {
-  few_queues = one_more s.queues x.name x few;
+  few_queues = few;
   names = named s.queues x legal.names;
   numbers = legal.numbers;
   jobs = λ j r e.
@@ -79,6 +89,14 @@ legal_queue s x few legal = record {
       record { id = old.id; queue = still_there s.queues x.name r.queue x old.queue; phase = old.phase; size = old.size; document = old.document };
   one_processing = legal.one_processing;
 }
+
+-- a queue that is there is changed, and keeps its name
+legal_change_queue : (s : State) (k : List ℕ) (f : QueueRow → QueueRow) → ((x : QueueRow) → (f x).name ≡ x.name) → (o : Option QueueRow) → queue_at s k ≡ o → IsLegal s → IsLegal (change_found_queue s k f o)
+legal_change_queue s k f keeps None is legal = legal
+legal_change_queue s k f keeps (Some x) is legal =
+    let same = keeps x ∙ legal.names k x is in
+    let few = no_more s.queues (f x).name (f x) x (ap (queue_at s) same ∙ is) in
+    subst (λ name. IsLegal (record s { queues = finite.insert s.queues name (f x) })) same (legal_queue s (f x) (rw few legal.few_queues) legal)
 
 -- which number a test of it says
 pub same_number : (j k : ℕ) → eq_by_cmp nat_cmp k j ≡ true → k ≡ j
@@ -188,6 +206,50 @@ legal_bytes queues j bytes x coming short fine =
 legal_canceled : (queues : Queues) (j : ℕ) (x : Job) → IsLegalJob queues j x → IsLegalJob queues j (ended Canceled x)
 legal_canceled queues j x fine = record { id = fine.id; queue = fine.queue; phase = tt; size = fine.size; document = refl }
 
+-- nor from the hold
+fits_hold : (hold : Hold) (x : Job) (after p : Phase) → Fits x p → Fits (record x { phase = after }) (with_hold hold p)
+fits_hold hold x after (Incoming before) fits = record { media = fits.media; filters = fits.filters; attempts = fits.attempts }
+fits_hold hold x after (Waiting before not_before first) fits = record { media = fits.media; attempts = fits.attempts }
+fits_hold hold x after (Processing attempt stage stages) fits = record {
+  media = fits.media;
+  started = fits.started;
+  newest = fits.newest;
+  from_first = fits.from_first;
+  to_last = fits.to_last;
+  of_all = fits.of_all;
+}
+fits_hold hold x after Completed fits = tt
+fits_hold hold x after Canceled fits = tt
+fits_hold hold x after (Aborted reason) fits = tt
+
+ended_hold : (hold : Hold) (p : Phase) → has_ended (with_hold hold p) ≡ has_ended p
+ended_hold hold (Incoming before) = refl
+ended_hold hold (Waiting before not_before first) = refl
+ended_hold hold (Processing attempt stage stages) = refl
+ended_hold hold Completed = refl
+ended_hold hold Canceled = refl
+ended_hold hold (Aborted reason) = refl
+
+processing_hold : (hold : Hold) (p : Phase) → is_processing (with_hold hold p) ≡ is_processing p
+processing_hold hold (Incoming before) = refl
+processing_hold hold (Waiting before not_before first) = refl
+processing_hold hold (Processing attempt stage stages) = refl
+processing_hold hold Completed = refl
+processing_hold hold Canceled = refl
+processing_hold hold (Aborted reason) = refl
+
+legal_held : (queues : Queues) (j : ℕ) (hold : Hold) (x : Job) → is_processing x.phase ≡ false → IsLegalJob queues j x → (is_processing (held hold x).phase ≡ false) × IsLegalJob queues j (held hold x)
+legal_held queues j hold x idle fine = (
+  processing_hold hold x.phase ∙ idle,
+  record {
+    id = fine.id;
+    queue = fine.queue;
+    phase = fits_hold hold x (with_hold hold x.phase) x.phase fine.phase;
+    size = fine.size;
+    document = fine.document ∙ sym (ap (λ b. cond b 0 x.size) (ended_hold hold x.phase));
+  },
+)
+
 legal_closed : (queues : Queues) (j : ℕ) (c : Closing) (x : Job) → is_incoming x.phase ≡ true → IsLegalJob queues j x → (is_processing (closed c x).phase ≡ false) × IsLegalJob queues j (closed c x)
 legal_closed queues j c x coming fine = either c.filters
   where
@@ -205,7 +267,10 @@ legal_closed queues j c x coming fine = either c.filters
     )
 
 pub legal_after : (s : State) (e : Event) → refusal_of s e ≡ None → IsLegal s → IsLegal (after s e)
-legal_after s (AddQueue q) accepted legal = legal_queue s (new_queue q) (accepted_few s q accepted) legal
+legal_after s (AddQueue q) accepted legal = legal_queue s (new_queue q) (one_more s.queues q.name (new_queue q) (accepted_few s q accepted)) legal
+legal_after s (Info notes) accepted legal = legal_change_queue s notes.queue (with_notes notes) (λ x. refl) _ refl legal
+legal_after s (SetAccept queue accepting) accepted legal = legal_change_queue s queue (with_accepting accepting) (λ x. refl) _ refl legal
+legal_after s (SetStop queue stopped) accepted legal = legal_change_queue s queue (with_stopped stopped) (λ x. refl) _ refl legal
 legal_after s (Create n) accepted legal =
     let above = accepted_create s n accepted in
     legal_put s n.job n.job (new_job n) refl legal (omega arith) (omega arith) (legal_created s.queues n (accepted_create_queue s n accepted))
@@ -213,6 +278,9 @@ legal_after s (Send j bytes) accepted legal = legal_change s j (with_bytes bytes
     let coming = accepted_send_incoming s j bytes x there accepted in
     (not_processing x.phase coming, legal_bytes s.queues j bytes x coming (accepted_short s j bytes x there accepted) fine)) legal
 legal_after s (Close c) accepted legal = legal_change s c.job (closed c) _ refl (λ x there fine. legal_closed s.queues c.job c x (accepted_close_incoming s c x there accepted) fine) legal
+legal_after s (HoldJob j until) accepted legal =
+    legal_change s j (held (hold_until until)) _ refl (λ x there fine. legal_held s.queues j (hold_until until) x (accepted_hold_idle s j until x there accepted) fine) legal
+legal_after s (Release j) accepted legal = legal_change s j (held Free) _ refl (λ x there fine. legal_held s.queues j Free x (accepted_release_idle s j x there accepted) fine) legal
 legal_after s (Cancel j) accepted legal = legal_change s j (ended Canceled) _ refl (λ x there fine. (refl, legal_canceled s.queues j x fine)) legal
 legal_after s (Clock m) accepted legal = record { few_queues = legal.few_queues; names = legal.names; numbers = legal.numbers; jobs = legal.jobs; one_processing = legal.one_processing }
 

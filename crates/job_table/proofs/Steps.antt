@@ -19,11 +19,11 @@ use Rattle.std.proofs.lemmas.List.{get_or-set_same, length-set}
 use Rattle.job_table.specs.Places.{IsPlace}
 use Rattle.job_table.specs.Rows.{document_entry, job_entry}
 use Rattle.job_table.specs.Contents.{document_room}
-use Rattle.spool_types.specs.Step.{new_queue, new_job, change_job, change_found, after}
+use Rattle.spool_types.specs.Step.{new_queue, new_job, change_queue, change_found_queue, change_job, change_found, after}
 use Rattle.job_table.specs.Seen.{contents_of, IsOrdered}
 use Rattle.job_table.specs.declared.table.Table.TheInside.{Inside}
 use Rattle.job_table.proofs.Rows as rows
-use Rattle.job_table.proofs.Tables.{IsQueueGap, IsJobGap, IsJobPlace, insert_queue, sorted_insert_queue, insert_job, sorted_insert_job, set_job, sorted_set_job, get_job, get_no_job, jobs_of}
+use Rattle.job_table.proofs.Tables.{IsQueueGap, IsQueuePlace, IsJobGap, IsJobPlace, insert_queue, sorted_insert_queue, set_queue, sorted_set_queue, get_queue, get_no_queue, queues_of, insert_job, sorted_insert_job, set_job, sorted_set_job, get_job, get_no_job, jobs_of}
 
 -- the room of a job's document stands beside its row
 pub document_room_at : (ys : List JobRow) → IsTrue (finite.is_sorted nat_cmp (map (λ r. (r.id, job_of r)) ys)) → (j at : ℕ) (d : JobRow) → IsJobPlace ys j at → finite.find nat_cmp j (map document_entry ys) ≡ Some (vec_capacity (get_or ys at d).document - vec_len (get_or ys at d).document)
@@ -61,6 +61,28 @@ module _ (a : Inside) (ordered : IsOrdered a) where
       jobs = ordered.jobs;
       highest = ordered.highest;
       legal = subst IsLegal (sym add_queue_state) legal;
+    }
+
+  -- the row of a queue is changed where it stands
+  module _ (name : List ℕ) (at : ℕ) (d row : QueueRow) (place : IsQueuePlace a.queues.items name at) (f : QueueRow → QueueRow) (keeps : (x : QueueRow) → (f x).name ≡ x.name) (is : row ≡ f (get_or a.queues.items at d)) where
+    same_name : (get_or a.queues.items at d).name ≡ row.name
+    same_name = sym (ap (λ x. x.name) is ∙ keeps _)
+
+    found_queue : finite.get (queues_of a.queues.items) name ≡ Some (get_or a.queues.items at d)
+    found_queue = get_queue a.queues.items ordered.queues name at d place
+
+    inserted_queue : (contents_of (record a { queues = with_item a.queues at row })).state ≡ record state { queues = finite.insert state.queues name (f (get_or a.queues.items at d)) }
+    inserted_queue = ap (λ qs. record state { queues = qs }) (set_queue a.queues.items ordered.queues row name at d place same_name ∙ ap (finite.insert (queues_of a.queues.items) name) is)
+
+    pub change_queue_state : (contents_of (record a { queues = with_item a.queues at row })).state ≡ change_queue state name f
+    change_queue_state = inserted_queue ∙ sym (ap (change_found_queue state name f) found_queue)
+
+    pub change_queue_ordered : IsLegal (change_queue state name f) → IsOrdered (record a { queues = with_item a.queues at row })
+    change_queue_ordered legal = record {
+      queues = sorted_set_queue a.queues.items ordered.queues row name at d place same_name;
+      jobs = ordered.jobs;
+      highest = ordered.highest;
+      legal = subst IsLegal (sym change_queue_state) legal;
     }
 
   -- a new job in its gap
@@ -124,3 +146,7 @@ module _ (a : Inside) (ordered : IsOrdered a) where
   -- there is no such job
   pub no_change : (j at : ℕ) → IsJobGap a.jobs.items j at → (f : Job → Job) → state ≡ change_job state j f
   no_change j at gap f = sym (ap (change_found state j f) (get_no_job a.jobs.items ordered.jobs j at gap))
+
+  -- there is no such queue
+  pub no_queue_change : (name : List ℕ) (at : ℕ) → IsQueueGap a.queues.items name at → (f : QueueRow → QueueRow) → state ≡ change_queue state name f
+  no_queue_change name at gap f = sym (ap (change_found_queue state name f) (get_no_queue a.queues.items ordered.queues name at gap))

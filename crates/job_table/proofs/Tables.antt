@@ -46,6 +46,12 @@ module _ (ys : List QueueRow) (h : IsTrue (finite.is_sorted (slice_cmp nat_cmp) 
   pub sorted_insert_queue : (y : QueueRow) (i : ℕ) → IsQueueGap ys y.name i → IsTrue (finite.is_sorted (slice_cmp nat_cmp) (map queue_entry (insert ys i y)))
   sorted_insert_queue = rows.sorted_insert (slice_cmp nat_cmp) nat_list_cmp_total (λ r. r.name) (λ r. r) ys h
 
+  pub set_queue : (y : QueueRow) (k : List ℕ) (i : ℕ) (d : QueueRow) → IsQueuePlace ys k i → (get_or ys i d).name ≡ y.name → queues_of (set ys i y) ≡ finite.insert (queues_of ys) k y
+  set_queue = rows.map_set (slice_cmp nat_cmp) nat_list_cmp_total (λ r. r.name) (λ r. r) ys h
+
+  pub sorted_set_queue : (y : QueueRow) (k : List ℕ) (i : ℕ) (d : QueueRow) → IsQueuePlace ys k i → (get_or ys i d).name ≡ y.name → IsTrue (finite.is_sorted (slice_cmp nat_cmp) (map queue_entry (set ys i y)))
+  sorted_set_queue = rows.sorted_set (slice_cmp nat_cmp) nat_list_cmp_total (λ r. r.name) (λ r. r) ys h
+
   pub len_queues : finite.len (queues_of ys) ≡ length ys
   len_queues = rows.len_map (slice_cmp nat_cmp) nat_list_cmp_total (λ r. r.name) (λ r. r) ys h
 

@@ -5,7 +5,7 @@ use Rattle.std.specs.FinMap.{find}
 use Rattle.spool_types.specs.State.{State}
 use Rattle.spool_types.specs.Step.{refusal_of}
 use Rattle.spool_types.specs.declared.event.Event.{Event}
-use Rattle.spool_types.specs.declared.event.Event.TheVariants.{AddQueue, Create, Send, Close, Cancel, Clock}
+use Rattle.spool_types.specs.declared.event.Event.TheVariants.{AddQueue, Info, SetAccept, SetStop, Create, Send, Close, Hold, Release, Cancel, Clock}
 
 -- how many rows, and how many bytes of each job's document, can be added with no further memory
 pub record Room : Type 0 where
@@ -23,9 +23,14 @@ document_room room j = unwrap_or (find nat_cmp j room.documents) 0
 -- the event takes no further memory
 abbrev pub HasRoom : Room → Event → Type 0
 HasRoom room (AddQueue q) = 0 < room.queues
+HasRoom room (Info notes) = Unit {0}
+HasRoom room (SetAccept queue accepting) = Unit {0}
+HasRoom room (SetStop queue stopped) = Unit {0}
 HasRoom room (Create n) = 0 < room.jobs
 HasRoom room (Send j bytes) = length bytes ≤ document_room room j
 HasRoom room (Close c) = Unit {0}
+HasRoom room (Hold j until) = Unit {0}
+HasRoom room (Release j) = Unit {0}
 HasRoom room (Cancel j) = Unit {0}
 HasRoom room (Clock m) = Unit {0}
 

@@ -1,8 +1,8 @@
 use super::{PrepareFault, Table};
 use spool_types::{
-    Closing, Copies, Event, FilterName, Filters, Hold, Interval, JobId, JobRow, MediaType, Moment,
-    NewJob, NewQueue, OptionText, Phase, Piece, Policy, Priority, QueueName, Refusal, Reply, Title,
-    Uri, UserName,
+    Closing, Copies, Event, FilterName, Filters, Hold, HoldReason, Interval, JobId, JobRow,
+    MediaType, Moment, NewJob, NewQueue, Note, OptionText, Phase, Piece, Policy, Priority,
+    QueueName, QueueNotes, QueueRow, Refusal, Reply, Title, Uri, UserName,
 };
 use std::alloc::{AllocError, Global};
 use std::test::Fail;
@@ -52,6 +52,39 @@ fn close(alloc: Global, number: u32, filters: Option<Filters>) -> Result<Event, 
     }))
 }
 
+fn info(alloc: Global, queue: &str, info: &str, location: &str) -> Result<Event, Fail> {
+    Ok(Event::Info(QueueNotes {
+        queue: QueueName::read(alloc, queue)?,
+        info: Note::read(alloc, info)?,
+        location: Note::read(alloc, location)?,
+    }))
+}
+
+fn set_accept(alloc: Global, queue: &str, accepting: bool) -> Result<Event, Fail> {
+    Ok(Event::SetAccept {
+        queue: QueueName::read(alloc, queue)?,
+        accepting,
+    })
+}
+
+fn set_stop(alloc: Global, queue: &str, stopped: bool) -> Result<Event, Fail> {
+    Ok(Event::SetStop {
+        queue: QueueName::read(alloc, queue)?,
+        stopped,
+    })
+}
+
+fn hold(number: u32, until: Option<Moment>) -> Result<Event, Fail> {
+    Ok(Event::Hold {
+        job: id(number)?,
+        until,
+    })
+}
+
+fn release(number: u32) -> Result<Event, Fail> {
+    Ok(Event::Release(id(number)?))
+}
+
 fn cancel(number: u32) -> Result<Event, Fail> {
     Ok(Event::Cancel(id(number)?))
 }
@@ -84,6 +117,17 @@ fn with_job(alloc: Global) -> Result<Table, Fail> {
         .ok()
         .ok_or("no bytes")?;
     Ok(table)
+}
+
+// The moment that is so many seconds after the moment 0.
+fn moment(seconds: u64) -> Result<Moment, Fail> {
+    Ok(Moment::new(seconds).ok_or("no moment")?)
+}
+
+// The row of the queue lab.
+fn lab(table: &Table, alloc: Global) -> Result<&QueueRow, Fail> {
+    let name = QueueName::read(alloc, "lab")?;
+    Ok(table.queue(&name).ok_or("no such queue")?)
 }
 
 fn row(table: &Table, number: u32) -> Result<&JobRow, Fail> {
@@ -186,7 +230,7 @@ fn a_row_is_found_by_its_key(rt: HostRuntime) -> Result<(), Fail> {
 #[test]
 fn the_clock_never_goes_back(rt: HostRuntime) -> Result<(), Fail> {
     let mut table = Table::new(rt.alloc());
-    let noon = Moment::new(43_200).ok_or("no moment")?;
+    let noon = moment(43_200)?;
     assert_eq!(rt; apply(&mut table, Event::Clock(noon))?, Ok(Reply::Done));
     assert_eq!(rt;
         apply(&mut table, Event::Clock(Moment::ZERO))?,
@@ -365,5 +409,177 @@ fn a_job_that_no_filters_print_is_aborted(rt: HostRuntime) -> Result<(), Fail> {
     assert!(rt; job.phase.has_ended());
     assert!(rt; job.document.is_empty());
     assert_eq!(rt; job.size, 5);
+    Ok(())
+}
+
+#[test]
+fn a_queue_that_rejects_takes_no_jobs(rt: HostRuntime) -> Result<(), Fail> {
+    let alloc = rt.alloc();
+    let mut table = with_queue(alloc)?;
+    assert_eq!(rt;
+        apply(&mut table, set_accept(alloc, "lab", false)?)?,
+        Ok(Reply::Done)
+    );
+    assert_eq!(rt;
+        apply(&mut table, create(alloc, "lab", 1)?)?,
+        Err(Refusal::NotAccepting)
+    );
+    assert!(rt; table.jobs().is_empty());
+    assert_eq!(rt;
+        apply(&mut table, set_accept(alloc, "lab", true)?)?,
+        Ok(Reply::Done)
+    );
+    assert_eq!(rt;
+        apply(&mut table, create(alloc, "lab", 1)?)?,
+        Ok(Reply::Number(id(1)?))
+    );
+    Ok(())
+}
+
+#[test]
+fn what_is_told_of_a_queue_is_kept(rt: HostRuntime) -> Result<(), Fail> {
+    let alloc = rt.alloc();
+    let mut table = with_queue(alloc)?;
+    assert_eq!(rt;
+        apply(&mut table, info(alloc, "lab", "Laser", "Room 5")?)?,
+        Ok(Reply::Done)
+    );
+    let lab = lab(&table, alloc)?;
+    assert_eq!(rt; lab.info.as_str(), "Laser");
+    assert_eq!(rt; lab.location.as_str(), "Room 5");
+    assert_eq!(rt; lab.name.as_str(), "lab");
+    assert_eq!(rt; lab.uri.as_str(), "socket://printer");
+    assert_eq!(rt; lab.target.as_str(), "application/postscript");
+    assert_eq!(rt; lab.policy, Policy::RetryJob);
+    assert_eq!(rt; lab.limit, 5);
+    assert!(rt; lab.accepting);
+    assert!(rt; !lab.stopped);
+    assert_eq!(rt; lab.message.as_str(), "");
+    Ok(())
+}
+
+#[test]
+fn a_queue_is_stopped_and_started(rt: HostRuntime) -> Result<(), Fail> {
+    let alloc = rt.alloc();
+    let mut table = with_queue(alloc)?;
+    assert_eq!(rt;
+        apply(&mut table, set_stop(alloc, "lab", true)?)?,
+        Ok(Reply::Done)
+    );
+    assert!(rt; lab(&table, alloc)?.stopped);
+    assert!(rt; lab(&table, alloc)?.accepting);
+    assert_eq!(rt;
+        apply(&mut table, set_stop(alloc, "lab", false)?)?,
+        Ok(Reply::Done)
+    );
+    assert!(rt; !lab(&table, alloc)?.stopped);
+    Ok(())
+}
+
+#[test]
+fn a_queue_that_is_not_there_is_not_changed(rt: HostRuntime) -> Result<(), Fail> {
+    let alloc = rt.alloc();
+    let mut table = Table::new(alloc);
+    assert_eq!(rt;
+        apply(&mut table, info(alloc, "lab", "Laser", "Room 5")?)?,
+        Err(Refusal::NoQueue)
+    );
+    assert_eq!(rt;
+        apply(&mut table, set_accept(alloc, "lab", false)?)?,
+        Err(Refusal::NoQueue)
+    );
+    assert_eq!(rt;
+        apply(&mut table, set_stop(alloc, "lab", true)?)?,
+        Err(Refusal::NoQueue)
+    );
+    assert_eq!(rt;
+        apply(&mut table, add_queue(alloc, "lab")?)?,
+        Ok(Reply::Done)
+    );
+    let lab = lab(&table, alloc)?;
+    assert_eq!(rt; lab.info.as_str(), "");
+    assert!(rt; lab.accepting);
+    assert!(rt; !lab.stopped);
+    Ok(())
+}
+
+#[test]
+fn a_closed_job_keeps_its_hold_until_its_release(rt: HostRuntime) -> Result<(), Fail> {
+    let alloc = rt.alloc();
+    let mut table = with_job(alloc)?;
+    let indefinite = Hold::Indefinite(HoldReason::Unspecified);
+    assert_eq!(rt; apply(&mut table, hold(1, None)?)?, Ok(Reply::Done));
+    assert_eq!(rt; row(&table, 1)?.phase, Phase::Incoming(indefinite));
+    let none = Filters::empty(alloc);
+    assert_eq!(rt;
+        apply(&mut table, close(alloc, 1, Some(none))?)?,
+        Ok(Reply::Done)
+    );
+    let held = Phase::Waiting {
+        hold: indefinite,
+        not_before: Moment::ZERO,
+        first: false,
+    };
+    assert_eq!(rt; row(&table, 1)?.phase, held);
+    assert_eq!(rt; apply(&mut table, release(1)?)?, Ok(Reply::Done));
+    let free = Phase::Waiting {
+        hold: Hold::Free,
+        not_before: Moment::ZERO,
+        first: false,
+    };
+    assert_eq!(rt; row(&table, 1)?.phase, free);
+    Ok(())
+}
+
+#[test]
+fn a_job_is_released_before_its_hold_is_over(rt: HostRuntime) -> Result<(), Fail> {
+    let mut table = with_job(rt.alloc())?;
+    let until = moment(100)?;
+    assert_eq!(rt; apply(&mut table, hold(1, Some(until))?)?, Ok(Reply::Done));
+    assert_eq!(rt; row(&table, 1)?.phase, Phase::Incoming(Hold::Until(until)));
+    assert_eq!(rt;
+        apply(&mut table, Event::Clock(moment(99)?))?,
+        Ok(Reply::Done)
+    );
+    assert_eq!(rt; apply(&mut table, release(1)?)?, Ok(Reply::Done));
+    assert_eq!(rt; row(&table, 1)?.phase, Phase::Incoming(Hold::Free));
+    Ok(())
+}
+
+#[test]
+fn a_hold_is_over_at_its_moment(rt: HostRuntime) -> Result<(), Fail> {
+    let mut table = with_job(rt.alloc())?;
+    let until = moment(100)?;
+    assert_eq!(rt; apply(&mut table, hold(1, Some(until))?)?, Ok(Reply::Done));
+    assert_eq!(rt; apply(&mut table, Event::Clock(until))?, Ok(Reply::Done));
+    assert_eq!(rt; apply(&mut table, release(1)?)?, Err(Refusal::NotHeld));
+    assert_eq!(rt; row(&table, 1)?.phase, Phase::Incoming(Hold::Until(until)));
+    Ok(())
+}
+
+#[test]
+fn a_free_job_is_not_released(rt: HostRuntime) -> Result<(), Fail> {
+    let mut table = with_job(rt.alloc())?;
+    assert_eq!(rt; apply(&mut table, release(1)?)?, Err(Refusal::NotHeld));
+    assert_eq!(rt; row(&table, 1)?.phase, Phase::Incoming(Hold::Free));
+    Ok(())
+}
+
+#[test]
+fn a_job_that_is_not_there_is_not_held(rt: HostRuntime) -> Result<(), Fail> {
+    let mut table = with_job(rt.alloc())?;
+    assert_eq!(rt; apply(&mut table, hold(9, None)?)?, Err(Refusal::NoJob));
+    assert_eq!(rt; apply(&mut table, release(9)?)?, Err(Refusal::NoJob));
+    assert_eq!(rt; row(&table, 1)?.phase, Phase::Incoming(Hold::Free));
+    Ok(())
+}
+
+#[test]
+fn a_canceled_job_is_not_held(rt: HostRuntime) -> Result<(), Fail> {
+    let mut table = with_job(rt.alloc())?;
+    assert_eq!(rt; apply(&mut table, cancel(1)?)?, Ok(Reply::Done));
+    assert_eq!(rt; apply(&mut table, hold(1, None)?)?, Err(Refusal::JobEnded));
+    assert_eq!(rt; apply(&mut table, release(1)?)?, Err(Refusal::JobEnded));
+    assert_eq!(rt; row(&table, 1)?.phase, Phase::Canceled);
     Ok(())
 }

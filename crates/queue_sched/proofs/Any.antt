@@ -6,10 +6,6 @@ use Rattle.std.proofs.lemmas.List.Folds.{list_any_none, list_any_at}
 use Rattle.std.specs.List.{list_any, Contains}
 
 module _ {X : Type 0} (p : X → Bool) where
-  pub list_any-map : {Y : Type 0} (f : Y → X) (ys : List Y) → list_any p (map f ys) ≡ list_any (λ y. p (f y)) ys
-  list_any-map f [] = refl
-  list_any-map f (y ∷ ys) = ap (λ b. p (f y) || b) (list_any-map f ys)
-
   pub one_passes : (xs : List X) (x : X) → Contains xs x → p x ≡ true → list_any p xs ≡ true
   one_passes xs x there passes = list_any_at p xs there.0 x there.1 (ap p there.2 ∙ passes)
 

@@ -1,13 +1,12 @@
 //! The choice of the next job.
-ghost use Rattle.std.specs.Prelude.{◌≡◌, ◌&&◌, true, false, map, MatchOption, IfSome};
+ghost use Rattle.std.specs.Prelude.{◌≡◌, true, false, map, MatchOption, IfSome};
 ghost use Rattle.std.specs.Option.{IsNone, option_copied, option_map};
-ghost use Rattle.std.specs.List.{Contains, list_any};
+ghost use Rattle.std.specs.List.{Contains};
 ghost use Rattle.spool_types.specs.State.{Job, job_of};
-ghost use Rattle.spool_types.specs.Phases.{is_processing as is_processing_phase};
-ghost use Rattle.spool_types.specs.Next.{is_ready as is_ready_phase, is_marked as is_marked_phase, is_of, is_ready_of as is_ready_job, is_free as is_free_queue, is_eligible, beats_job, IsNextJob};
+ghost use Rattle.spool_types.specs.Next.{is_ready as is_ready_phase, is_marked as is_marked_phase, is_ready_of as is_ready_job, is_free as is_free_queue, is_eligible, beats_job, IsNextJob};
 ghost use Rattle.queue_sched.specs.Best.{BestOf};
 
-use spool_types::{JobId, JobRow, Moment, Phase, QueueName, QueueRow};
+use spool_types::{JobId, JobRow, Moment, Phase, QueueName, QueueRow, is_busy};
 
 /// Whether one job goes before another: it alone is marked first, or else by the higher priority, or else by the lower
 /// number.
@@ -63,23 +62,11 @@ fn is_ready_of(row: &JobRow, name: &QueueName, now: Moment) -> bool
     row.queue == *name && is_ready(row.phase, now)
 }
 
-fn is_processing_of(row: &JobRow, name: &QueueName) -> bool
-    ensures { result ≡ (is_of name.now (job_of row.now) && is_processing_phase row.now.phase) }
-{
-    row.queue == *name && row.phase.is_processing()
-}
-
 // Whether a job of the queue may be started at all.
 fn is_free(rows: &[JobRow], queue: &QueueRow) -> bool
     ensures { result ≡ is_free_queue (map job_of rows.now) queue.now.name queue.now.stopped }
 {
-    !queue.stopped && !has_processing(rows, &queue.name)
-}
-
-fn has_processing(rows: &[JobRow], name: &QueueName) -> bool
-    ensures { result ≡ list_any (λ r. is_of name.now r && is_processing_phase r.phase) (map job_of rows.now) }
-{
-    rows.iter().any(|row| is_processing_of(row, name))
+    !queue.stopped && !is_busy(rows, &queue.name)
 }
 
 // The ready job of the queue that no other ready one beats.

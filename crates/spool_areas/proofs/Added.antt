@@ -21,6 +21,12 @@ pub ok_fits : {T E A B : Type 0} (r : Result T E) (fault : E) → OnOk r A → (
 ok_fits (Ok x) fault has then = then (λ is. absurd (cc is)) has
 ok_fits (Err e) fault has then = tt
 
+-- what a run leaves that changes bytes in a range is as long as the device
+pub as_long : {D : Type 0} (size : D → ℕ) (image : D → List ℕ → Type 0) → ((d : D) (c : List ℕ) → image d c → length c ≡ size d) → (moment : D → ℕ) (image_since : D → ℕ → List ℕ → Type 0) (old new : D) (at n : ℕ)
+    → LeavesOnly moment image_since old new (IsOldOutside (image old) at n) → LeavesOnly moment image_since old new (λ c. length c ≡ size old)
+as_long size image image_size moment image_since old new at n run =
+    weaker_run moment image_since old new (λ c. length c ≡ size old) (IsOldOutside (image old) at n) run (λ c outside. outside.2.size ∙ image_size old outside.0 outside.1)
+
 module _ {D : Type 0} (size : D → ℕ) (bytes : D → Option (List ℕ)) (image : D → List ℕ → Type 0) (image_size : (d : D) (c : List ℕ) → image d c → length c ≡ size d)
     (old : Current D) (start : ℕ) (payloads : List (List ℕ)) (starts : start ≡ old.base + header_len) (ends : old.end ≡ old.base + half (size old.disk)) (keeps : KeepsPayloads bytes image old payloads) where
   pub entries_kept : KeepsEntries bytes image old.disk start old.gate payloads

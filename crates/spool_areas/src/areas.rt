@@ -71,8 +71,10 @@ impl<D: Disk> Areas<D> {
         ensures same { (self.new.base ≡ self.old.base) × (self.new.end ≡ self.old.end) }
         ensures fixed { D.size self.new.disk ≡ D.size self.old.disk }
 
-        // All but the gate and the frame's range behind it stays, and a disk that tells nothing goes on so.
+        // All but the gate and the frame's range behind it stays, and a disk that tells nothing goes on so. What a crash
+        // leaves is as long as the device.
         ensures stays { Tells (SameOutside self.old.gate (1 + length frame.old)) (D.bytes self.old.disk) (D.bytes self.new.disk) }
+        ensures as_long { LeavesOnly D.moment D.image_since self.old.disk self.new.disk (λ c. length c ≡ D.size self.old.disk) }
 
         // Where each image has these payloads and no others, it adds one, and a crash meanwhile leaves these or one more.
         ensures added { OnOk result ((payloads : List (List ℕ)) →
@@ -106,8 +108,10 @@ impl<D: Disk> Areas<D> {
         ensures same { (self.new.base ≡ self.old.base) × (self.new.end ≡ self.old.end) }
         ensures fixed { D.size self.new.disk ≡ D.size self.old.disk }
 
-        // All but the gate and the frame's range behind it stays, and a disk that tells nothing goes on so.
+        // All but the gate and the frame's range behind it stays, and a disk that tells nothing goes on so. What a crash
+        // leaves is as long as the device.
         ensures stays { Tells (SameOutside self.old.gate (1 + length frame.old)) (D.bytes self.old.disk) (D.bytes self.new.disk) }
+        ensures as_long { LeavesOnly D.moment D.image_since self.old.disk self.new.disk (λ c. length c ≡ D.size self.old.disk) }
 
         // Where each image has these payloads and no others, it adds one, and a crash meanwhile leaves these or one more.
         ensures added { OnOk result ((payloads : List (List ℕ)) →

@@ -1,5 +1,5 @@
 //! Opening the areas of a device.
-ghost use Rattle.std.specs.Prelude.{◌≡◌, ◌<◌, ◌≤◌, ◌+◌, List, ℕ, Some, None, Ok, false, IfOk, IfErr, IsErrOf, OnOk};
+ghost use Rattle.std.specs.Prelude.{◌≡◌, ◌<◌, ◌≤◌, ◌+◌, ◌-◌, List, ℕ, Some, None, Ok, false, IfOk, IfErr, IsErrOf, OnOk};
 ghost use Rattle.spool_disk.specs.Disk.{LeavesOnly, HasCause, IsSynced};
 ghost use Rattle.spool_areas.specs.Header.{half, least_area, header_len, header_at, current_area};
 ghost use Rattle.spool_areas.specs.Payloads.{gate_after};
@@ -22,6 +22,10 @@ pub struct Opened<D: Disk> {
     pub payloads: Vec<Extent>,
     /// The gate of a record behind them that leaves the area, if there is one.
     pub damage: Option<u64>,
+    /// The gate behind them, whatever it is.
+    pub gate: u64,
+    /// How many bytes lie from that gate to the area's end.
+    pub room: u64,
 }
 
 // Where an area begins, and where it ends.
@@ -53,6 +57,7 @@ impl<D: Disk> Areas<D> {
         ensures alive { IfOk result (λ o. o.areas.dead ≡ false) }
         ensures area { IfOk result (λ o. (o.areas.end ≡ o.areas.base + half (D.size disk)) × (o.areas.end ≤ D.size disk) × (least_area ≤ half (D.size disk))) }
         ensures lie { IfOk result (λ o. Follow (o.areas.base + header_len) o.payloads.items o.areas.gate × (o.areas.gate < o.areas.end) × IsGate o.areas.gate o.damage) }
+        ensures room { IfOk result (λ o. (o.gate ≡ o.areas.gate) × (o.room ≡ o.areas.end - o.areas.gate)) }
         ensures cause { IfErr result (λ e. e.fault ≡ OpenFault.Disk → D.failures disk < D.failures e.disk) }
         ensures counted { IfOk result (λ o. D.failures disk ≤ D.failures o.areas.disk) }
         ensures counted_back { IfErr result (λ e. D.failures disk ≤ D.failures e.disk) }
@@ -67,11 +72,16 @@ impl<D: Disk> Areas<D> {
             × LeavesOnly D.moment D.image_since disk e.disk (D.image disk)) }
     {
         match read_current(alloc, &mut disk) {
-            Ok(found) => Ok(Opened {
-                areas: Areas::resume(disk, found.base, found.end, found.records.gate),
-                payloads: found.records.payloads,
-                damage: found.records.damage,
-            }),
+            Ok(found) => {
+                let gate = found.records.gate;
+                Ok(Opened {
+                    areas: Areas::resume(disk, found.base, found.end, gate),
+                    payloads: found.records.payloads,
+                    damage: found.records.damage,
+                    gate,
+                    room: found.end - gate,
+                })
+            }
             Err(fault) => Err(OpenError { disk, fault }),
         }
     }

@@ -1,6 +1,6 @@
 -- Events that are applied in turn.
-use Rattle.std.proofs.Common.{◌≡◌, ◌<◌, ◌≤◌, inl, inr, ⊎_elim, ℕ, zero, suc, ◌+◌, List, [], ◌∷◌, ◌++◌, length, take, drop, Bool, true, false, Option, None, Some, IsSome, IsTrue, Result, Ok, Err, refl, sym, subst, ap, ◌∙◌, arith, append_assoc, length-append}
-use Rattle.std.proofs.lemmas.List.{take_at, take-append-le, length-take-le}
+use Rattle.std.proofs.Common.{◌≡◌, ◌<◌, ◌≤◌, ⊎_elim, ℕ, ◌+◌, List, [], ◌∷◌, ◌++◌, length, take, Some, Result, refl, sym, subst, ap, ◌∙◌, arith, append_assoc, length-append}
+use Rattle.std.proofs.lemmas.List.{take_at}
 use Rattle.std.specs.Prelude.{slice_get}
 use Rattle.spool_types.specs.declared.event.Event.{Event}
 use Rattle.spool_types.specs.declared.event.Reply.{Reply}
@@ -10,8 +10,7 @@ use Rattle.spool_types.specs.Fold.{after_one, after_all}
 use Rattle.spool_disk.specs.Disk.{LeavesOnly}
 use Rattle.spool_disk.proofs.Moments.{started, runs_on, weaker_run}
 use Rattle.spool_core.specs.Image.{HasTable, HasBeforeOrAfterEvent}
-use Rattle.spool_core.specs.Standing.{Standing}
-use Rattle.spool_core.specs.Driving.{answer_to, replies_to, HasPrefixTable, IsInHand, IsAcknowledged, KeepsImages, IsDriven}
+use Rattle.spool_core.specs.Driving.{answer_to, replies_to, HasPrefixTable, IsInHand, IsAcknowledged}
 
 pub after_all_last : (s : State) (es : List Event) (e : Event) → after_all s (es ++ e ∷ []) ≡ after_one (after_all s es) e
 after_all_last s [] e = refl

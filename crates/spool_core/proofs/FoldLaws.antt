@@ -1,11 +1,9 @@
 -- Payloads that are read as events one after another.
-use Rattle.std.proofs.Common.{◌≡◌, ◌<◌, ◌≤◌, ℕ, zero, suc, ◌+◌, ◌-◌, List, [], ◌∷◌, ◌++◌, length, get_or, take, drop, map, Option, None, Some, refl, sym, subst, ap, ◌∙◌, arith, append_assoc}
+use Rattle.std.proofs.Common.{◌≡◌, ◌<◌, ◌≤◌, ℕ, zero, suc, ◌+◌, ◌-◌, List, [], ◌∷◌, ◌++◌, length, get_or, take, drop, Option, None, refl, sym, subst, ap, ◌∙◌, arith}
 use Rattle.std.proofs.lemmas.List.{map-append, take_more, drop_more, take-append-drop, take_all, drop_all}
 use Rattle.spool_types.specs.declared.event.Event.{Event}
 use Rattle.spool_types.specs.State.{State, nothing}
 use Rattle.spool_types.specs.Step.{refusal_of, after}
-use Rattle.event_codec.specs.Spelling.{spelling, IsSpellable}
-use Rattle.gate_journal.specs.Entries.{records}
 use Rattle.gate_journal.proofs.Steps.{length-records-push}
 use Rattle.spool_areas.specs.declared.extent.Extent.{Extent}
 use Rattle.spool_areas.specs.declared.fault.OpenFault.{OpenFault}
@@ -15,7 +13,7 @@ use Rattle.spool_areas.specs.Payloads.{gate_after}
 use Rattle.spool_areas.specs.Extents.{bytes_of, payloads_at, Follow}
 use Rattle.spool_core.specs.History.{IsHistory}
 use Rattle.spool_core.specs.Image.{IsNoEvent}
-use Rattle.spool_core.specs.Folding.{IsEventAt, IsNoEventAt, IsReadFault, IsTakeFault, StopsAt, IsFoldFault, IsFolded, IsRead}
+use Rattle.spool_core.specs.Folding.{IsEventAt, IsReadFault, IsTakeFault, StopsAt, IsFoldFault, IsFolded, IsRead}
 use Rattle.spool_areas.specs.Current.{Current}
 use Rattle.spool_core.proofs.HistoryLaws.{history_more}
 

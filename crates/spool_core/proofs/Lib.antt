@@ -2,6 +2,7 @@ pub mod HistoryLaws
 pub mod ImageLaws
 pub mod ReadingLaws
 pub mod IdleLaws
+pub mod BusyLaws
 pub mod FoldLaws
 pub mod OpenLaws
 pub mod ReadLaws

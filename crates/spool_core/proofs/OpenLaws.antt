@@ -1,5 +1,5 @@
 -- What the payloads of the areas say of the bytes.
-use Rattle.std.proofs.Common.{◌≡◌, ◌<◌, ◌≤◌, inl, inr, ℕ, ◌+◌, List, [], ◌∷◌, ◌++◌, length, Option, None, Some, refl, sym, subst, ap, ◌∙◌, arith, append_assoc, length-append}
+use Rattle.std.proofs.Common.{◌≡◌, ◌<◌, ◌≤◌, inl, inr, ℕ, ◌+◌, ◌-◌, List, [], ◌∷◌, ◌++◌, length, Option, None, Some, refl, sym, subst, ap, ◌∙◌, arith, append_assoc, length-append}
 use Rattle.std.proofs.lemmas.List.{map-append}
 use Rattle.spool_types.specs.State.{State, nothing}
 use Rattle.gate_journal.specs.Entries.{AreShort, records}
@@ -7,10 +7,12 @@ use Rattle.gate_journal.proofs.Places.{records-append}
 use Rattle.spool_areas.specs.declared.extent.Extent.{Extent}
 use Rattle.spool_areas.specs.declared.fault.OpenFault.{OpenFault}
 use Rattle.spool_areas.specs.declared.fault.OpenFault.TheVariants.{NotASpool, Damaged, Memory, Disk}
+use Rattle.spool_areas.specs.Header.{half}
 use Rattle.spool_areas.specs.Payloads.{HasPayloads, HasFirstPayloads, gate_after}
 use Rattle.spool_areas.specs.Extents.{bytes_of, payloads_at, EndsSo, IsHeaderFault}
 use Rattle.spool_core.specs.History.{IsHistory}
-use Rattle.spool_core.specs.Image.{HasTable, IsDamagedAt, IsFaultOf}
+use Rattle.spool_core.specs.Idle.{HasNoProcessing}
+use Rattle.spool_core.specs.Image.{HasTable, IsDamagedAt, IsFaultOf, area_end, kept_room, HasRoom}
 use Rattle.spool_core.specs.Folding.{StopsAt, IsFoldFault}
 
 pub history_none : IsHistory [] nothing
@@ -68,7 +70,7 @@ stopped base extents bytes place has stops =
 
 pub fold_fault : (base : ℕ) (extents : List Extent) (bytes : List ℕ) (damage : Option ℕ) → EndsSo base (payloads_at bytes extents) bytes damage → (fault : OpenFault) → IsFoldFault base extents bytes fault → IsFaultOf bytes fault
 fold_fault base extents bytes damage ends NotASpool is = absurd is
-fold_fault base extents bytes damage ends (Damaged place) is = inr (stopped base extents bytes place (ends_first base (payloads_at bytes extents) bytes damage ends) is)
+fold_fault base extents bytes damage ends (Damaged place) is = inr (inl (stopped base extents bytes place (ends_first base (payloads_at bytes extents) bytes damage ends) is))
 fold_fault base extents bytes damage ends Memory is = tt
 fold_fault base extents bytes damage ends Disk is = tt
 
@@ -80,7 +82,34 @@ header_fault bytes Disk is = tt
 
 -- the record behind the payloads leaves the area
 pub torn_fault : (base : ℕ) (payloads : List (List ℕ)) (bytes : List ℕ) (s : State) (place : ℕ) → EndsSo base payloads bytes (Some place) → IsHistory payloads s → place ≡ gate_after base payloads → IsFaultOf bytes (Damaged place)
-torn_fault base payloads bytes s place torn history gate = inr (record { base = base; payloads = payloads; table = s; history = history; gate = gate; damage = inl torn })
+torn_fault base payloads bytes s place torn history gate = inr (inl (record { base = base; payloads = payloads; table = s; history = history; gate = gate; damage = inl torn }))
 
-pub table_of : (base : ℕ) (payloads : List (List ℕ)) (bytes : List ℕ) (s : State) → HasPayloads base payloads bytes → IsHistory payloads s → HasTable s bytes
-table_of base payloads bytes s area history = record { base = base; payloads = payloads; area = area; history = history }
+module _ (base end gate size room : ℕ) (payloads : List (List ℕ)) (bytes : List ℕ) (s : State) (area : HasPayloads base payloads bytes) (history : IsHistory payloads s)
+    (at : gate ≡ gate_after base payloads) (ends : end ≡ base + half size) (long : length bytes ≡ size) (room_is : room ≡ end - gate) where
+  end_in_bytes : end ≡ area_end base bytes
+  end_in_bytes = ends ∙ ap (λ (n : ℕ). base + half n) (sym long)
+
+  pub table_of : (¬ (HasNoProcessing s) → kept_room ≤ room) → HasTable s bytes
+  table_of roomy = record { base = base; payloads = payloads; area = area; history = history; room = λ busy. omega (arith, roomy busy, room_is, at, end_in_bytes) }
+
+  -- a job is processing, and the room behind the payloads is too small
+  pub cramped_fault : (place : ℕ) → place ≡ gate → ¬ (HasNoProcessing s) → room < kept_room → IsFaultOf bytes (Damaged place)
+  cramped_fault place is busy cramped = inr (inr (record {
+    base = base;
+    payloads = payloads;
+    table = s;
+    area = area;
+    history = history;
+    processing = busy;
+    gate = is ∙ at;
+    cramped = omega (arith, is, cramped, room_is, end_in_bytes);
+  }))
+
+pub room_of : (base end gate size : ℕ) (payloads : List (List ℕ)) (bytes : List ℕ) → HasPayloads base payloads bytes
+    → gate ≡ gate_after base payloads → end ≡ base + half size → length bytes ≡ size → HasRoom (end - gate) bytes
+room_of base end gate size payloads bytes area at ends long = record {
+  base = base;
+  payloads = payloads;
+  area = area;
+  room_is = (λ i. ends i - at i) ∙ ap (λ (n : ℕ). (base + half n) - gate_after base payloads) (sym long);
+}

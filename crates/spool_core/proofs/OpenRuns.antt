@@ -1,5 +1,5 @@
 -- What a crash leaves while a spool is opened, and after it.
-use Rattle.std.proofs.Common.{◌≡◌, ◌<◌, ◌≤◌, ℕ, List, Option, None, Some, IsSome, false, refl, sym, subst, ap, ◌∙◌, arith}
+use Rattle.std.proofs.Common.{◌≡◌, ◌≤◌, ℕ, List, Option, None, Some, IsSome, refl, sym, subst, ap, ◌∙◌}
 use Rattle.spool_types.specs.State.{State}
 use Rattle.spool_disk.specs.Disk.{LeavesOnly}
 use Rattle.spool_disk.proofs.Moments.{runs_on, at_return, weaker_run}

@@ -1,15 +1,14 @@
 -- One payload that is read.
-use Rattle.std.proofs.Common.{◌≡◌, ◌<◌, ◌≤◌, ℕ, ◌+◌, ◌-◌, List, [], ◌∷◌, length, take, drop, Option, None, Some, Result, Ok, Err, refl, sym, subst, ap, ◌∙◌, arith}
+use Rattle.std.proofs.Common.{◌≡◌, ◌≤◌, ℕ, ◌+◌, ◌-◌, List, length, take, drop, Option, Some, Result, Ok, Err, refl, sym, ap, ◌∙◌, arith}
 use Rattle.spool_types.specs.declared.event.Event.{Event}
 use Rattle.event_codec.specs.Spelling.{spelling, IsSpellable}
-use Rattle.event_codec.specs.Reading.{Gives, Fails}
+use Rattle.event_codec.specs.Reading.{Fails}
 use Rattle.event_codec.specs.declared.fault.CodecFault.{CodecFault}
 use Rattle.event_codec.specs.declared.fault.CodecFault.TheVariants.{Kind, Length, Range, Utf8, Memory}
 use Rattle.spool_disk.specs.Disk.{Reads, LeavesOnly}
 use Rattle.spool_disk.proofs.Moments.{runs_on, at_return}
 use Rattle.gate_journal.proofs.Places.{read_told}
 use Rattle.spool_areas.specs.declared.extent.Extent.{Extent}
-use Rattle.spool_areas.specs.declared.fault.OpenFault.{OpenFault}
 use Rattle.spool_areas.specs.declared.fault.OpenFault.TheVariants as open_fault
 use Rattle.spool_areas.specs.declared.fault.ReadFault.{ReadFault}
 use Rattle.spool_areas.specs.declared.fault.ReadFault.TheVariants as read_fault

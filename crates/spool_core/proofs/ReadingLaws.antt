@@ -1,5 +1,5 @@
 -- An image has one table or one fault.
-use Rattle.std.proofs.Common.{◌≡◌, ◌⊎◌, inl, inr, ⊎_elim, ℕ, List, [], ◌∷◌, ◌++◌, map, Option, None, Some, Result, Ok, Err, refl, sym, subst, ap, ◌∙◌, append_assoc}
+use Rattle.std.proofs.Common.{◌≡◌, ◌⊎◌, inl, inr, ⊎_elim, ℕ, ◌+◌, List, [], ◌∷◌, ◌++◌, map, Option, None, Some, Result, Ok, Err, refl, sym, subst, ap, ◌∙◌, arith, append_assoc, ◌-◌, length}
 use Rattle.std.specs.List.{AllByRecursion}
 use Rattle.spool_types.specs.declared.event.Event.{Event}
 use Rattle.spool_types.specs.State.{State, nothing}
@@ -8,10 +8,11 @@ use Rattle.spool_types.specs.Fold.{after_all}
 use Rattle.event_codec.specs.Spelling.{spelling, IsSpellable}
 use Rattle.event_codec.proofs.EventLaws.{one_event}
 use Rattle.std.proofs.lemmas.List.{append-nil}
-use Rattle.spool_areas.specs.Header.{current_area}
-use Rattle.spool_areas.specs.Payloads.{HasPayloads, HasFirstPayloads, IsTornAfter, gate_after}
+use Rattle.spool_areas.specs.Header.{half, current_area}
+use Rattle.spool_areas.specs.Payloads.{HasPayloads, IsTornAfter, gate_after}
 use Rattle.spool_core.specs.History.{AreAccepted, IsHistory}
-use Rattle.spool_core.specs.Image.{HasTable, IsNoEvent, IsStrangeAfter, IsDamagedAt, HasFault}
+use Rattle.spool_core.specs.Idle.{HasNoProcessing}
+use Rattle.spool_core.specs.Image.{HasTable, IsNoEvent, IsStrangeAfter, IsDamagedAt, IsCrampedAt, HasFault, area_end, HasRoom}
 use Rattle.spool_areas.specs.declared.fault.OpenFault.{OpenFault}
 use Rattle.spool_areas.specs.declared.fault.OpenFault.TheVariants.{NotASpool, Damaged, Memory, Disk}
 use Rattle.spool_core.proofs.HistoryLaws.{after_accepted}
@@ -143,25 +144,67 @@ module _ (c : List ℕ) where
       let lists = same_damage p q a b in
       a.gate ∙ (λ i. gate_after (bases i) (lists i)) ∙ sym b.gate
 
+  -- the payloads of an area lead to one table
+  same_table : (base place : ℕ) (some others : List (List ℕ)) (s t : State) → HasPayloads base some c → HasPayloads place others c → IsHistory some s → IsHistory others t → s ≡ t
+  same_table base place some others s t a b p q = one_history others s t (subst (λ (l : List (List ℕ)). IsHistory l s) (same_payloads base place c some others a b) p) q
+
   pub one_table : (s t : State) → HasTable s c → HasTable t c → s ≡ t
-  one_table s t a b =
-      one_history b.payloads s t (subst (λ (l : List (List ℕ)). IsHistory l s) (same_payloads a.base b.base c a.payloads b.payloads a.area b.area) a.history) b.history
+  one_table s t a b = same_table a.base b.base a.payloads b.payloads s t a.area b.area a.history b.history
+
+  -- an area whose payloads lead to a table isn't damaged
+  whole_or_damaged : (base place : ℕ) (payloads : List (List ℕ)) (s : State) → HasPayloads base payloads c → IsHistory payloads s → IsDamagedAt place c → ⊥
+  whole_or_damaged base place payloads s area history d =
+      ⊎_elim
+      (λ torn. whole_or_torn base d.base c payloads d.payloads area torn)
+      (λ strange. strange_in_table d.base base payloads d.payloads s d.table area history d.history strange) d.damage
+
+  -- nor is it cramped, where its table is that of the image
+  roomy_or_cramped : (s : State) (place : ℕ) → HasTable s c → IsCrampedAt place c → ⊥
+  roomy_or_cramped s place t d =
+      let lists = same_payloads t.base d.base c t.payloads d.payloads t.area d.area in
+      let bases = same_ok _ t.base d.base t.area.current d.area.current in
+      let tables = same_table t.base d.base t.payloads d.payloads s d.table t.area d.area t.history d.history in
+      let gates : gate_after t.base t.payloads ≡ gate_after d.base d.payloads = λ i. gate_after (bases i) (lists i) in
+      omega (arith, t.room (λ idle. d.processing (subst HasNoProcessing tables idle)), d.cramped, d.gate, gates, ap (λ (b : ℕ). area_end b c) bases)
+
+  pub one_room : (m n : ℕ) → HasRoom m c → HasRoom n c → m ≡ n
+  one_room m n a b =
+      let bases = same_ok _ a.base b.base a.area.current b.area.current in
+      let lists = same_payloads a.base b.base c a.payloads b.payloads a.area b.area in
+      a.room_is ∙ (λ i. (bases i + half (length c)) - gate_after (bases i) (lists i)) ∙ sym b.room_is
 
   pub table_or_fault : (f : OpenFault) (s : State) → HasTable s c → HasFault f c → ⊥
   table_or_fault NotASpool s t is = ok_or_err _ t.base _ t.area.current is
   table_or_fault (Damaged place) s t is =
       ⊎_elim
       (λ header. ok_or_err _ t.base _ t.area.current header)
-      (λ d.
-      ⊎_elim
-      (λ torn. whole_or_torn t.base d.base c t.payloads d.payloads t.area torn)
-      (λ strange. strange_in_table d.base t.base t.payloads d.payloads s d.table t.area t.history d.history strange) d.damage)
+      (⊎_elim (whole_or_damaged t.base place t.payloads s t.area t.history) (roomy_or_cramped s place t))
       is
   table_or_fault Memory s t is = is
   table_or_fault Disk s t is = is
 
-  header_or_area : (f : OpenFault) (place : ℕ) → current_area c ≡ Err f → IsDamagedAt place c → ⊥
-  header_or_area f place is d = ok_or_err _ d.base f (damaged_current place d) is
+  -- the fault isn't that of the headers
+  abbrev InArea : ℕ → Type 0
+  InArea place = IsDamagedAt place c ⊎ IsCrampedAt place c
+
+  header_or_area : (f : OpenFault) (place : ℕ) → current_area c ≡ Err f → InArea place → ⊥
+  header_or_area f place is = ⊎_elim (λ d. ok_or_err _ d.base f (damaged_current place d) is) (λ d. ok_or_err _ d.base f d.area.current is)
+
+  same_gate : (p q : ℕ) → IsCrampedAt p c → IsCrampedAt q c → p ≡ q
+  same_gate p q a b =
+      let bases = same_ok _ a.base b.base a.area.current b.area.current in
+      let lists = same_payloads a.base b.base c a.payloads b.payloads a.area b.area in
+      a.gate ∙ (λ i. gate_after (bases i) (lists i)) ∙ sym b.gate
+
+  cramped_or_damaged : (p q : ℕ) → IsCrampedAt p c → IsDamagedAt q c → ⊥
+  cramped_or_damaged p q a b = whole_or_damaged a.base q a.payloads a.table a.area a.history b
+
+  one_place : (p q : ℕ) → InArea p → InArea q → p ≡ q
+  one_place p q a b =
+      ⊎_elim
+      (λ d. ⊎_elim (same_place p q d) (λ other. absurd (cramped_or_damaged q p other d)) b)
+      (λ d. ⊎_elim (λ other. absurd (cramped_or_damaged p q d other)) (same_gate p q d) b)
+      a
 
   pub one_fault : (f g : OpenFault) → HasFault f c → HasFault g c → f ≡ g
   one_fault NotASpool NotASpool a b = refl
@@ -172,7 +215,7 @@ module _ (c : List ℕ) where
   one_fault (Damaged p) (Damaged q) a b =
       ⊎_elim
       (λ header. ⊎_elim (λ other. same_err _ _ _ header other) (λ d. absurd (header_or_area (Damaged p) q header d)) b)
-      (λ d. ⊎_elim (λ header. absurd (header_or_area (Damaged q) p header d)) (λ other. ap Damaged (same_place p q d other)) b)
+      (λ d. ⊎_elim (λ header. absurd (header_or_area (Damaged q) p header d)) (λ other. ap Damaged (one_place p q d other)) b)
       a
   one_fault (Damaged p) Memory a b = absurd b
   one_fault (Damaged p) Disk a b = absurd b

@@ -1,5 +1,5 @@
 -- A list of events, applied in turn.
-use Rattle.std.specs.Prelude.{◌≡◌, ◌<◌, ◌≤◌, ℕ, ◌+◌, List, [], ◌∷◌, length, take, Bool, true, false, Option, Some, None, IsSome, IsTrue, Result, Ok, Err, slice_get}
+use Rattle.std.specs.Prelude.{◌≡◌, ◌<◌, ◌≤◌, ℕ, ◌+◌, List, [], ◌∷◌, length, take, true, false, Option, Some, None, IsSome, IsTrue, Result, Ok, Err, slice_get}
 use Rattle.spool_types.specs.declared.event.Event.{Event}
 use Rattle.spool_types.specs.declared.event.Reply.{Reply}
 use Rattle.spool_types.specs.declared.refusal.Refusal.{Refusal}
@@ -7,8 +7,8 @@ use Rattle.spool_types.specs.State.{State}
 use Rattle.spool_types.specs.Step.{refusal_of, reply_to}
 use Rattle.spool_types.specs.Fold.{after_one, after_all}
 use Rattle.spool_disk.specs.Disk.{LeavesOnly}
-use Rattle.spool_core.specs.Image.{HasTable, HasBeforeOrAfterEvent}
-use Rattle.spool_core.specs.Standing.{Standing, Fits, IsFull}
+use Rattle.spool_core.specs.Image.{HasTable}
+use Rattle.spool_core.specs.Standing.{Standing, IsFull}
 use Rattle.spool_core.specs.declared.driving.Ending.{Ending}
 use Rattle.spool_core.specs.declared.driving.Ending.TheVariants.{End, Memory, Full, Disk, Dead}
 

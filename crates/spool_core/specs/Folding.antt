@@ -1,12 +1,11 @@
 -- The payloads of an area, read as events one after another.
-use Rattle.std.specs.Prelude.{◌≡◌, ◌≤◌, ◌<◌, ℕ, ◌+◌, ◌-◌, List, [], ◌∷◌, ◌++◌, length, take, drop, Bool, false, Option, Some, ⊤, None}
+use Rattle.std.specs.Prelude.{◌≡◌, ◌≤◌, ℕ, ◌-◌, List, ◌∷◌, ◌++◌, length, take, drop, Option, ⊤, None}
 use Rattle.spool_types.specs.declared.event.Event.{Event}
 use Rattle.spool_types.specs.State.{State}
 use Rattle.spool_types.specs.Step.{refusal_of}
 use Rattle.event_codec.specs.Spelling.{spelling, IsSpellable}
 use Rattle.event_codec.specs.declared.fault.CodecFault.{CodecFault}
 use Rattle.event_codec.specs.declared.fault.CodecFault.TheVariants as codec
-use Rattle.spool_disk.specs.Disk.{LeavesOnly}
 use Rattle.spool_areas.specs.declared.extent.Extent.{Extent}
 use Rattle.spool_areas.specs.declared.fault.OpenFault.{OpenFault}
 use Rattle.spool_areas.specs.declared.fault.OpenFault.TheVariants.{NotASpool, Damaged, Memory, Disk}
@@ -14,7 +13,6 @@ use Rattle.spool_areas.specs.Payloads.{gate_after}
 use Rattle.spool_areas.specs.Current.{Current}
 use Rattle.spool_areas.specs.Extents.{bytes_of, payloads_at, Follow}
 use Rattle.spool_core.specs.History.{IsHistory}
-use Rattle.spool_core.specs.Idle.{HasNoProcessing}
 use Rattle.spool_core.specs.Image.{IsNoEvent}
 
 -- the extent lies in the bytes, and they spell this event there and no other

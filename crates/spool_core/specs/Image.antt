@@ -1,23 +1,41 @@
 -- The table of an image: what the bytes that a crash left stand for.
-use Rattle.std.specs.Prelude.{◌≡◌, ◌⊎◌, ℕ, List, [], ◌∷◌, ◌++◌, Err, None, ⊤}
+use Rattle.std.specs.Prelude.{◌≡◌, ◌⊎◌, ◌<◌, ◌≤◌, ℕ, ◌+◌, List, [], ◌∷◌, ◌++◌, length, Err, None, ⊤, ◌-◌}
 use Rattle.spool_types.specs.declared.event.Event.{Event}
 use Rattle.spool_types.specs.State.{State}
 use Rattle.spool_types.specs.Step.{refusal_of}
 use Rattle.spool_types.specs.Fold.{after_one}
 use Rattle.event_codec.specs.Spelling.{spelling, IsSpellable}
-use Rattle.spool_areas.specs.Header.{current_area}
+use Rattle.spool_areas.specs.Header.{half, current_area}
 use Rattle.spool_areas.specs.Payloads.{HasPayloads, HasFirstPayloads, IsTornAfter, gate_after}
 use Rattle.spool_core.specs.History.{IsHistory}
+use Rattle.spool_core.specs.Idle.{HasNoProcessing}
 use Rattle.spool_areas.specs.declared.fault.OpenFault.{OpenFault}
 use Rattle.spool_areas.specs.declared.fault.OpenFault.TheVariants.{NotASpool, Damaged, Memory, Disk}
 
+-- where the area that begins at base ends in this image
+abbrev pub area_end : ℕ → List ℕ → ℕ
+area_end base image = base + half (length image)
+
+-- room for the record of one reopening, whose payload is one byte, and the gate behind it
+abbrev pub kept_room : ℕ
+kept_room = 7
+
 -- The image has this table: the payloads of its current area, up to the first closed gate, are the spellings of events
--- that are accepted in turn, and the table is the one after them.
+-- that are accepted in turn, and the table is the one after them. Where a job is processing in it, the room for the
+-- record of a reopening is left behind that gate.
 pub record HasTable (s : State) (image : List ℕ) : Type 0 where
   pub base : ℕ
   pub payloads : List (List ℕ)
   pub area : HasPayloads base payloads image
   pub history : IsHistory payloads s
+  pub room : ¬ (HasNoProcessing s) → gate_after base payloads + kept_room ≤ area_end base image
+
+-- So many bytes lie from the closed gate behind the payloads of the current area to the area's end.
+pub record HasRoom (room : ℕ) (image : List ℕ) : Type 0 where
+  pub base : ℕ
+  pub payloads : List (List ℕ)
+  pub area : HasPayloads base payloads image
+  pub room_is : room ≡ area_end base image - gate_after base payloads
 
 -- the payload isn't the spelling of an event that this table accepts
 abbrev pub IsNoEvent : State → List ℕ → Type 0
@@ -39,11 +57,23 @@ pub record IsDamagedAt (place : ℕ) (image : List ℕ) : Type 0 where
   pub gate : place ≡ gate_after base payloads
   pub damage : IsTornAfter base payloads image ⊎ IsStrangeAfter base payloads table image
 
--- Any other image has this fault: that of its headers, or that of the first record that doesn't read. Want of memory and
--- a failed device are no faults of an image.
+-- The payloads of the current area, up to the first closed gate, lead to a table in which a job is processing. That gate
+-- is at this place, and the room for the record of a reopening isn't left behind it.
+pub record IsCrampedAt (place : ℕ) (image : List ℕ) : Type 0 where
+  pub base : ℕ
+  pub payloads : List (List ℕ)
+  pub table : State
+  pub area : HasPayloads base payloads image
+  pub history : IsHistory payloads table
+  pub processing : ¬ (HasNoProcessing table)
+  pub gate : place ≡ gate_after base payloads
+  pub cramped : area_end base image < place + kept_room
+
+-- Any other image has this fault: that of its headers, or that of the first record that doesn't read, or want of room
+-- behind them all. Want of memory and a failed device are no faults of an image.
 abbrev pub HasFault : OpenFault → List ℕ → Type 0
 HasFault NotASpool image = current_area image ≡ Err NotASpool
-HasFault (Damaged place) image = (current_area image ≡ Err (Damaged place)) ⊎ IsDamagedAt place image
+HasFault (Damaged place) image = (current_area image ≡ Err (Damaged place)) ⊎ (IsDamagedAt place image ⊎ IsCrampedAt place image)
 HasFault Memory image = ⊥
 HasFault Disk image = ⊥
 

@@ -1,13 +1,20 @@
 -- What the fields of a spool mean.
-use Rattle.std.specs.Prelude.{◌≡◌, ◌≤◌, ℕ, ◌-◌, List, false, Option, IsSome}
+use Rattle.std.specs.Prelude.{◌≡◌, ◌≤◌, ℕ, ◌+◌, ◌-◌, List, false, Option, IsSome}
 use Rattle.spool_types.specs.State.{State}
+use Rattle.spool_areas.specs.Header.{half}
 use Rattle.spool_areas.specs.Current.{Current, KeepsPayloads}
 use Rattle.spool_core.specs.History.{IsHistory}
+use Rattle.spool_core.specs.Idle.{HasNoProcessing}
+use Rattle.spool_core.specs.Image.{kept_room}
 use Rattle.spool_core.specs.Standing.{Standing}
 use Rattle.spool_core.specs.declared.spool.Spool.TheInside.{Inside}
 
+-- the areas and the table beside them
+abbrev pub standing_at : {D : Type 0} → Current D → State → Standing D
+standing_at areas s = record { disk = areas.disk; state = s; room = areas.end - areas.gate; dead = areas.dead }
+
 abbrev pub standing_of : {D : Type 0} → Inside D → Standing D
-standing_of a = record { disk = a.areas.disk; state = a.table.state; room = a.areas.end - a.areas.gate; dead = a.areas.dead }
+standing_of a = standing_at a.areas a.table.state
 
 -- each image of the disk has the history of the table in its current area
 pub record KeepsTable {D : Type 0} (bytes : D → Option (List ℕ)) (image : D → List ℕ → Type 0) (areas : Current D) (s : State) : Type 0 where
@@ -15,7 +22,14 @@ pub record KeepsTable {D : Type 0} (bytes : D → Option (List ℕ)) (image : D 
   pub kept : KeepsPayloads bytes image areas payloads
   pub history : IsHistory payloads s
 
--- The gate lies in the area; and as long as the device hasn't failed, its images have the table, where it tells them.
-pub record IsStanding {D : Type 0} (bytes : D → Option (List ℕ)) (image : D → List ℕ → Type 0) (a : Inside D) : Type 0 where
-  pub inside : a.areas.gate ≤ a.areas.end
-  pub table : a.areas.dead ≡ false → IsSome (bytes a.areas.disk) → KeepsTable bytes image a.areas a.table.state
+-- The area ends at half of the disk's bytes from its base on, and the gate lies in it; where a job is processing, the room
+-- for the record of a reopening lies behind the gate. As long as the device hasn't failed, its images have the table,
+-- where it tells them.
+pub record IsStandingAt {D : Type 0} (bytes : D → Option (List ℕ)) (size : D → ℕ) (image : D → List ℕ → Type 0) (areas : Current D) (s : State) : Type 0 where
+  pub ends : areas.end ≡ areas.base + half (size areas.disk)
+  pub inside : areas.gate ≤ areas.end
+  pub roomy : ¬ (HasNoProcessing s) → areas.gate + kept_room ≤ areas.end
+  pub table : areas.dead ≡ false → IsSome (bytes areas.disk) → KeepsTable bytes image areas s
+
+abbrev pub IsStanding : {D : Type 0} → (D → Option (List ℕ)) → (D → ℕ) → (D → List ℕ → Type 0) → Inside D → Type 0
+IsStanding bytes size image a = IsStandingAt bytes size image a.areas a.table.state

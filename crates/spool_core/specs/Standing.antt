@@ -53,6 +53,18 @@ IsAnswer failures old e (Err Memory) new = (old.dead ≡ false) × (refusal_of o
 IsAnswer failures old e (Err Full) new = IsFull old e × (new ≡ old)
 IsAnswer failures old e (Err Disk) new = IsFailed failures old e new
 
+-- The event is journalled: its record fitted, and its room is taken.
+pub record IsRecorded {D : Type 0} (old : Standing D) (e : Event) (new : Standing D) : Type 0 where
+  pub fits : Fits old e
+  pub state : new.state ≡ old.state
+  pub room : new.room ≡ old.room - record_len e
+  pub alive : new.dead ≡ false
+
+-- the same answers before the event is committed to the table
+abbrev pub IsJournalled : {D : Type 0} → (D → ℕ) → Standing D → Event → Result ℕ ApplyFault → Standing D → Type 0
+IsJournalled failures old e (Ok place) new = IsRecorded old e new
+IsJournalled failures old e (Err fault) new = IsAnswer failures old e (Err fault) new
+
 -- the frame of an event's record
 pub record IsFrameOf (e : Event) (frame : List ℕ) : Type 0 where
   pub spellable : IsSpellable e

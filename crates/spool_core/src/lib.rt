@@ -1,28 +1,44 @@
 //! The spool: a table of queues and jobs that outlives crashes.
 //!
 //! A disk is made a spool once ([`make`]) and opened at each start. A [`Spool`] holds the disk and has the table in
-//! memory. [`Spool::apply`] writes an event down on the disk before it changes the table, and acknowledges it only once
-//! a crash can't take it away.
+//! memory. [`Spool::apply`] writes an event down on the disk before it changes the table, and acknowledges it only
+//! once a crash can't take it away.
 //!
 //! # What table a disk has
 //!
 //! A disk has images, the bytes that a crash may leave. An image has a table where the records of its current area, up
 //! to the first closed gate, are the spellings of events that are accepted in turn, from the empty table on; its table
-//! is the one after them (`HasTable`). Any other image has a fault: no area is current, or the gate of the first record
-//! that leaves the area, or isn't such a spelling, stands at a place (`HasFault`). No image has two tables, two faults, or
-//! one of each ([`one_reading`]).
+//! is the one after them. Where a job is processing in it, 7 bytes of the area or more are left from that gate on
+//! (`HasTable`). Its room is the bytes from that gate to the area's end (`HasRoom`). Any other image has a fault: no area
+//! is current, or the gate of the first record that leaves the area, or isn't such a spelling, stands at a place, or the
+//! closed gate does, where those 7 bytes aren't left (`HasFault`). No image has two tables, two faults, or one of each, nor
+//! two rooms ([`one_reading`]).
 //!
 //! # Promises, on every disk that meets `Disk`
 //!
 //! - *CrashSafeApply*: after [`make`] every image has the empty table (`made`). A crash at any moment of an
 //!   [`Spool::apply`] leaves the table before the event or the one after it, whatever the call answers (`any_moment`).
-//!   After Ok every image has the table after it (`kept`), nothing is unsynced (`durable`), the table shown is that one
-//!   and the reply is the event's (`answer`).
+//!   After Ok every image has the table after it (`kept`), nothing is unsynced (`durable`), the table shown is that
+//!   one and the reply is the event's (`answer`).
+//! - *CrashSafeOpen*: [`Spool::open`] gives the table and the room of the bytes (`opened`, `room`), with no job
+//!   processing (`idle`), and writes nothing (`stays`). Until its first sync has answered a crash leaves what it was
+//!   handed, and from then on an image with this table (`synced`); once it has returned every image has it (`kept`).
+//!   After an error the disk is handed back, reads as before and has no new image (`back`).
+//! - *CrashSafeDrive*, with the headline: [`drive`] answers each event up to its end as the step does (`replies`), its
+//!   table is the fold of these events (`table`), and it says why it ended (`ending`). A crash at any moment leaves
+//!   the table after the first so many events, the one in hand among them only where the device failed (`any_moment`).
+//!   No acknowledged event is lost: for each m up to the number of replies there is a moment such that a crash before
+//!   it leaves the table of at most the first m events, and a crash after it one that holds these m (`acknowledged`).
+//!   Once it has returned every image has the table that is shown (`kept`), or after a fault that one or the one with
+//!   the event in hand (`after_fault`). [`replay`] is the same fold from the empty table on, with no disk.
 //! - *EndedStaysEnded*: a table changes by accepted events only (`answer`), and none changes a job that has ended
-//!   (`ended_jobs_stay` of `job_table`).
-//! - *ExactRefusals*: each answer of `apply` comes with its cause, in the order of [`ApplyFault`] (`answer`). `make` is
-//!   `Full` exactly where the device is too short (`full`), and a document isn't read exactly where the spool is dead
-//!   (`dead`).
+//!   (`ended_jobs_stay` of `job_table`). [`drive`] says it of its events: such a job stays as it is (`ended`), what
+//!   would change it is refused (`refused`), and its number is not given again (`number`).
+//! - *ExactRefusals*: each answer of `apply` comes with its cause, in the order of [`ApplyFault`] (`answer`). `open`
+//!   answers `NotASpool` or `Damaged` only for bytes with that fault (`fault`), and `Disk` only where the device's
+//!   count of failures rose (`cause`). Want of memory is the one answer without a cause that a clause can see. `make`
+//!   is `Full` exactly where the device is too short (`full`), and a document isn't read exactly where the spool is
+//!   dead (`dead`).
 //! - *UnchangedAfterRefusal*: after `Dead`, `Refused`, `Memory` and `Full` the disk and the table are as before
 //!   (`answer`), and after `Full` from `make` the disk (`untouched`).
 //!
@@ -32,21 +48,25 @@
 //! # How it keeps them
 //!
 //! `apply` does first what can fail and changes nothing that is seen: it looks whether the event is refused, reserves
-//! its memory in the table and spells it into a frame. Then it appends the frame to the area, with two syncs. Only then
-//! does it commit the event to the table, which takes no memory and can't fail. A fault of the device leaves open
+//! its memory in the table and spells it into a frame. Then it appends the frame to the area, with two syncs. Only
+//! then does it commit the event to the table, which takes no memory and can't fail. A fault of the device leaves open
 //! whether the event is on it: the table stays as it was, and the spool is dead, since what it would append next might
 //! stand behind an event that it doesn't know.
 //!
 //! # Invariants
 //!
-//! 1. The closed gate lies in the area or at its end.
+//! 1. The closed gate lies in the area or at its end, and 7 bytes or more before it where a job is processing: room for
+//!    the record of a reopening.
 //! 2. As long as no device call has failed, each image has the table that is in memory (`IsStanding`).
 //!
 //! # Faults and what they leave
 //!
 //! - [`ApplyFault`]: after all but `Disk` nothing has changed. After `Disk`, which comes only where the device's count
-//!   of failures rose, each image has the table before the event or the one after it, and the spool is dead: every call
-//!   but `table` and `into_disk` answers `Dead`. A dead spool gives its disk back, and the disk is opened anew.
+//!   of failures rose, each image has the table before the event or the one after it, and the spool is dead: every
+//!   call but `table` and `into_disk` answers `Dead`. A dead spool gives its disk back, and the disk is opened anew.
+//! - [`OpenError`] hands the disk back, which reads as before, with its [`OpenFault`]. `NotASpool` and `Damaged` are
+//!   faults of the bytes, which have no table. `Memory` and `Disk` say nothing of the bytes, and the disk may be
+//!   opened again.
 //! - [`ReadFault`]: the spool is as before.
 //! - [`MakeFault`]: after `Full` nothing has changed. After `Disk` the device may hold no spool, and is made anew.
 #![tactic(auto)]

@@ -3,18 +3,17 @@ ghost use Rattle.std.specs.Prelude.{◌≡◌, ◌≤◌, ◌↔◌, ℕ, ◌+�
 ghost use Rattle.spool_types.specs.State.{job_at};
 ghost use Rattle.spool_disk.specs.Disk.{IsSynced, LeavesOnly};
 ghost use Rattle.spool_core.specs.Image.{HasTable, HasBeforeOrAfterEvent};
-ghost use Rattle.spool_core.specs.Standing.{IsAnswer, IsFrameOf, document_at};
+ghost use Rattle.spool_core.specs.Standing.{IsAnswer, document_at};
 
-use event_codec::encode_onto;
-use gate_journal::JournalFault;
-use job_table::{PrepareFault, Table};
+use job_table::Table;
+use journalling::journal;
 use spool_areas::{Areas, ReadFault};
 use spool_disk::Disk;
 use spool_types::{Event, JobId, Reply};
-use std::alloc::{AllocError, Global};
 use std::marker::Model;
 
 mod apply_fault;
+mod journalling;
 mod open;
 
 pub use apply_fault::ApplyFault;
@@ -41,7 +40,7 @@ impl<D: Disk> Model for Spool<D> {
 
     ghost view = { standing_of };
 
-    ghost invariant = { IsStanding D.bytes D.image };
+    ghost invariant = { IsStanding D.bytes D.size D.image };
 }
 
 impl<D: Disk> Spool<D> {
@@ -62,23 +61,9 @@ impl<D: Disk> Spool<D> {
         ensures kept { OnOk result (IsSome (D.bytes self.old.disk) → (c : List ℕ) → D.image self.new.disk c → HasTable self.new.state c) }
         ensures durable { OnOk result (IsSynced (D.bytes self.new.disk) (D.image self.new.disk)) }
     {
-        if self.areas.is_dead() {
-            return Err(ApplyFault::Dead);
-        }
-        match self.table.prepare(&event) {
-            Ok(()) => {}
-            Err(PrepareFault::Refused(refusal)) => return Err(ApplyFault::Refused(refusal)),
-            Err(PrepareFault::Memory) => return Err(ApplyFault::Memory),
-        }
-        match fill_frame(&mut self.frame, &event) {
-            Ok(()) => {}
-            Err(_) => return Err(ApplyFault::Memory),
-        }
-        match self.areas.append(&mut self.frame) {
+        match journal(&mut self.areas, &mut self.table, &mut self.frame, &event) {
             Ok(place) => Ok(self.table.commit(event, place)),
-            Err(JournalFault::Full) => Err(ApplyFault::Full),
-            Err(JournalFault::Disk) => Err(ApplyFault::Disk),
-            Err(JournalFault::Dead) => Err(ApplyFault::Dead),
+            Err(fault) => Err(fault),
         }
     }
 
@@ -126,13 +111,4 @@ impl<D: Disk> Spool<D> {
         let Spool { areas, .. } = self;
         areas.into_disk()
     }
-}
-// Makes the frame of an event: four free bytes, its spelling and one free byte.
-fn fill_frame(frame: &mut Vec<u8>, event: &Event) -> Result<(), AllocError>
-    ensures { OnOk result (IsFrameOf event.now frame.new.items) }
-{
-    frame.clear();
-    frame.extend_from_slice(&[0; 4])?;
-    encode_onto(event, frame)?;
-    frame.extend_from_slice(&[0])
 }

@@ -10,7 +10,7 @@ use Rattle.spool_disk.specs.Disk.{LeavesOnly}
 use Rattle.spool_disk.proofs.Moments.{runs_on, weaker_run}
 use Rattle.spool_core.specs.Standing.{Standing}
 use Rattle.spool_engine.specs.Script.{event_of}
-use Rattle.spool_engine.specs.Runs.{Device, Outcome, Turn, served, no_memory, full, disk, dead, IsTaken, IsStep, IsTurn, IsOutcome, IsKept, IsAlong, HasBeforeOrAfterCommand, AreTurns, last_state}
+use Rattle.spool_engine.specs.Runs.{Device, Outcome, Turn, served, no_memory, full, disk, dead, IsTaken, IsStep, IsTurn, IsOutcome, IsKept, IsAlong, HasBeforeOrAfterCommand, AreTurns, last_standing}
 use Rattle.spool_engine.proofs.TurnLaws.{OnlyNow, unmoved}
 
 -- a dead spool takes no event
@@ -30,7 +30,7 @@ dead_still failures s t full is h = h.cause.1
 dead_still failures s t disk is h = let alive = h.cause.fits.alive in cc
 dead_still failures s t dead is h = h.cause.1
 
-dead_last : {D : Type 0} (v : Device D) (s : Standing D) (ts : List (Turn D)) → s.dead ≡ true → AreTurns v s ts → last_state s ts ≡ s
+dead_last : {D : Type 0} (v : Device D) (s : Standing D) (ts : List (Turn D)) → s.dead ≡ true → AreTurns v s ts → last_standing s ts ≡ s
 dead_last v s [] is h = refl
 dead_last v s (t ∷ ts) is h =
     let same : t.next ≡ s = dead_still v.failures s t t.outcome is h.0.outcome in
@@ -38,9 +38,9 @@ dead_last v s (t ∷ ts) is h =
 
 -- a turn, and then more turns, of which a crash leaves what is known where the spool lives on
 after_turn : {D : Type 0} (v : Device D) (m : Standing D) (t : Turn D) (ts : List (Turn D)) (b : Bool) → t.next.dead ≡ b → IsTurn v m t → AreTurns v t.next ts → m.dead ≡ false → IsSome (v.bytes m.disk)
-    → (t.next.dead ≡ false → LeavesOnly v.moment v.image_since t.next.disk (last_state t.next ts).disk (IsAlong t.next ts))
-    → LeavesOnly v.moment v.image_since m.disk (last_state t.next ts).disk (IsAlong m (t ∷ ts))
-after_turn v m t ts false is one more alive tells rest = runs_on v.moment v.image_since m.disk t.next.disk (last_state t.next ts).disk (IsAlong m (t ∷ ts)) (IsAlong t.next ts)
+    → (t.next.dead ≡ false → LeavesOnly v.moment v.image_since t.next.disk (last_standing t.next ts).disk (IsAlong t.next ts))
+    → LeavesOnly v.moment v.image_since m.disk (last_standing t.next ts).disk (IsAlong m (t ∷ ts))
+after_turn v m t ts false is one more alive tells rest = runs_on v.moment v.image_since m.disk t.next.disk (last_standing t.next ts).disk (IsAlong m (t ∷ ts)) (IsAlong t.next ts)
     (weaker_run v.moment v.image_since m.disk t.next.disk (IsAlong m (t ∷ ts)) (HasBeforeOrAfterCommand m.state t.command) (one.crash alive tells) (λ c. ⊎_elim (λ before. inl before) (λ after. inr (inl after))))
     (rest is)
     (λ c along. inr (inr along))
@@ -48,11 +48,11 @@ after_turn v m t ts true is one more alive tells rest = subst (λ x. LeavesOnly 
     (weaker_run v.moment v.image_since m.disk t.next.disk (IsAlong m (t ∷ ts)) (HasBeforeOrAfterCommand m.state t.command) (one.crash alive tells) (λ c. ⊎_elim (λ before. inl before) (λ after. inr (inl after))))
 
 -- turns from an opened spool on
-along : {D : Type 0} (v : Device D) (m : Standing D) (ts : List (Turn D)) → OnlyNow v → IsKept v m → AreTurns v m ts → m.dead ≡ false → IsSome (v.bytes m.disk) → LeavesOnly v.moment v.image_since m.disk (last_state m ts).disk (IsAlong m ts)
+along : {D : Type 0} (v : Device D) (m : Standing D) (ts : List (Turn D)) → OnlyNow v → IsKept v m → AreTurns v m ts → m.dead ≡ false → IsSome (v.bytes m.disk) → LeavesOnly v.moment v.image_since m.disk (last_standing m ts).disk (IsAlong m ts)
 along v m [] now kept h alive tells = unmoved v m (IsAlong m []) now kept (λ c has. has) alive tells
 along v m (t ∷ ts) now kept h alive tells = after_turn v m t ts t.next.dead refl h.0 h.1 alive tells (λ lives. along v t.next ts now h.0.kept h.1 lives (h.0.told.1 tells))
 
 -- the same behind the first of them
-pub along_others : {D : Type 0} (v : Device D) (s : Standing D) (first others : List (Turn D)) → OnlyNow v → IsKept v s → AreTurns v s (first ++ others) → (last_state s first).dead ≡ false → IsSome (v.bytes (last_state s first).disk) → LeavesOnly v.moment v.image_since (last_state s first).disk (last_state s (first ++ others)).disk (IsAlong (last_state s first) others)
+pub along_others : {D : Type 0} (v : Device D) (s : Standing D) (first others : List (Turn D)) → OnlyNow v → IsKept v s → AreTurns v s (first ++ others) → (last_standing s first).dead ≡ false → IsSome (v.bytes (last_standing s first).disk) → LeavesOnly v.moment v.image_since (last_standing s first).disk (last_standing s (first ++ others)).disk (IsAlong (last_standing s first) others)
 along_others v s [] others now kept h alive tells = along v s others now kept h alive tells
 along_others v s (t ∷ first) others now kept h alive tells = along_others v t.next first others now h.0.kept h.1 alive tells

@@ -21,7 +21,7 @@ use Rattle.spool_core.specs.Standing.{Standing, IsAnswer}
 use Rattle.spool_core.specs.declared.spool.apply_fault.ApplyFault.{ApplyFault}
 use Rattle.spool_core.specs.declared.spool.apply_fault.ApplyFault.TheVariants.{Dead, Refused, Memory, Full, Disk}
 use Rattle.spool_engine.specs.Script.{reply_of, after_command, said_of, event_of, step_line, step_state, accepted_line, reply_line, script_text, script_events, event_then}
-use Rattle.spool_engine.specs.Runs.{Device, Outcome, Turn, served, no_memory, full, disk, dead, IsServed, IsTaken, IsStep, IsTurn, IsOutcome, IsKept, HasBeforeOrAfterCommand, AreTurns, last_state, texts_of, commands_in, AllServed, Wrote, WroteSome, Lead, Serves, Drains, DrainsEnd}
+use Rattle.spool_engine.specs.Runs.{Device, Outcome, Turn, served, no_memory, full, disk, dead, IsServed, IsTaken, IsStep, IsTurn, IsOutcome, IsKept, HasBeforeOrAfterCommand, AreTurns, last_standing, texts_of, commands_in, AllServed, Wrote, WroteSome, Lead, Serves, Drains, DrainsEnd}
 use Rattle.spool_engine.specs.Answers.{answer_line, plain_line, IsApplied, Takes}
 use Rattle.spool_engine.specs.declared.fault.RunFault.{RunFault}
 use Rattle.spool_engine.specs.declared.fault.RunFault.TheVariants.{Read, Write, Memory as Wanted}
@@ -163,11 +163,11 @@ spool_applied v s s' e a h counted told crash ok kept = record {
 }
 
 -- a turn is put behind turns
-are_more : {D : Type 0} (v : Device D) (s : Standing D) (ts : List (Turn D)) (t : Turn D) → AreTurns v s ts → IsTurn v (last_state s ts) t → AreTurns v s (ts ++ t ∷ [])
+are_more : {D : Type 0} (v : Device D) (s : Standing D) (ts : List (Turn D)) (t : Turn D) → AreTurns v s ts → IsTurn v (last_standing s ts) t → AreTurns v s (ts ++ t ∷ [])
 are_more v s [] t h k = (k, tt)
 are_more v s (u ∷ ts) t h k = (h.0, are_more v u.next ts t h.1 k)
 
-last_more : {D : Type 0} (s : Standing D) (ts : List (Turn D)) (t : Turn D) → last_state s (ts ++ t ∷ []) ≡ t.next
+last_more : {D : Type 0} (s : Standing D) (ts : List (Turn D)) (t : Turn D) → last_standing s (ts ++ t ∷ []) ≡ t.next
 last_more s [] t = refl
 last_more s (u ∷ ts) t = last_more u.next ts t
 
@@ -184,18 +184,18 @@ lead_none v s = record { legal = tt; last = refl }
 lead_more : {D : Type 0} (v : Device D) (s m s' : Standing D) (ts : List (Turn D)) (t : Turn D) → Lead v s ts m → IsTurn v m t → t.next ≡ s' → Lead v s (ts ++ t ∷ []) s'
 lead_more v s m s' ts t l is e = record { legal = are_more v s ts t l.legal (subst (λ x. IsTurn v x t) (sym l.last) is); last = last_more s ts t ∙ e }
 
-are_both : {D : Type 0} (v : Device D) (s : Standing D) (ts us : List (Turn D)) → AreTurns v s ts → AreTurns v (last_state s ts) us → AreTurns v s (ts ++ us)
+are_both : {D : Type 0} (v : Device D) (s : Standing D) (ts us : List (Turn D)) → AreTurns v s ts → AreTurns v (last_standing s ts) us → AreTurns v s (ts ++ us)
 are_both v s [] us h k = k
 are_both v s (t ∷ ts) us h k = (h.0, are_both v t.next ts us h.1 k)
 
-last_both : {D : Type 0} (s : Standing D) (ts us : List (Turn D)) → last_state s (ts ++ us) ≡ last_state (last_state s ts) us
+last_both : {D : Type 0} (s : Standing D) (ts us : List (Turn D)) → last_standing s (ts ++ us) ≡ last_standing (last_standing s ts) us
 last_both s [] us = refl
 last_both s (t ∷ ts) us = last_both t.next ts us
 
 pub lead_both : {D : Type 0} (v : Device D) (s m s' : Standing D) (ts us : List (Turn D)) → Lead v s ts m → Lead v m us s' → Lead v s (ts ++ us) s'
 lead_both v s m s' ts us l k = record {
   legal = are_both v s ts us l.legal (subst (λ x. AreTurns v x us) (sym l.last) k.legal);
-  last = last_both s ts us ∙ ap (λ x. last_state x us) l.last ∙ k.last;
+  last = last_both s ts us ∙ ap (λ x. last_standing x us) l.last ∙ k.last;
 }
 
 take_past : (xs ys : List ℕ) (n : ℕ) → take (length xs + n) (xs ++ ys) ≡ xs ++ take n ys
@@ -291,7 +291,7 @@ command_folds s None es = refl
 command_folds s (Some e) es = ap (λ v. after_all v es) (sym (step_folds s e (refusal_of s e)))
 
 -- where nothing failed, the replies are the script's, and the last table is the fold of its events
-pub served_all : {D : Type 0} (v : Device D) (s : Standing D) (ts : List (Turn D)) → AreTurns v s ts → AllServed ts → (texts_of ts ≡ script_text s.state (commands_in ts)) × ((last_state s ts).state ≡ after_all s.state (script_events s.state (commands_in ts)))
+pub served_all : {D : Type 0} (v : Device D) (s : Standing D) (ts : List (Turn D)) → AreTurns v s ts → AllServed ts → (texts_of ts ≡ script_text s.state (commands_in ts)) × ((last_standing s ts).state ≡ after_all s.state (script_events s.state (commands_in ts)))
 served_all v s [] h k = (refl, refl)
 served_all v s (t ∷ ts) h k =
     let one : IsServed s t = subst (IsOutcome v.failures s t) k.0 h.0.outcome in

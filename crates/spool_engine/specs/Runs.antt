@@ -99,9 +99,9 @@ abbrev pub AreTurns : {D : Type 0} → Device D → Standing D → List (Turn D)
 AreTurns device s [] = Unit {0}
 AreTurns device s (t ∷ ts) = IsTurn device s t × AreTurns device t.next ts
 
-abbrev pub last_state : {D : Type 0} → Standing D → List (Turn D) → Standing D
-last_state s [] = s
-last_state s (t ∷ ts) = last_state t.next ts
+abbrev pub last_standing : {D : Type 0} → Standing D → List (Turn D) → Standing D
+last_standing s [] = s
+last_standing s (t ∷ ts) = last_standing t.next ts
 
 abbrev pub texts_of : {D : Type 0} → List (Turn D) → List ℕ
 texts_of ts = flat_map (λ t. t.text) ts
@@ -143,7 +143,7 @@ Wrote (Err Memory) old new turns = WroteBefore old new turns
 -- turns that lead from one spool to another
 pub record Lead {D : Type 0} (device : Device D) (s : Standing D) (turns : List (Turn D)) (s' : Standing D) : Type 0 where
   pub legal : AreTurns device s turns
-  pub last : last_state s turns ≡ s'
+  pub last : last_standing s turns ≡ s'
 
 -- the one turn of a command
 pub record Serves {D : Type 0} (device : Device D) (s : Standing D) (c : Command) (t : Turn D) (s' : Standing D) (result : Result (Unit {0}) RunFault) (old new : Option (List ℕ)) : Type 0 where

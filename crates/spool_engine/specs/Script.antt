@@ -15,7 +15,7 @@ use Rattle.spool_types.specs.declared.rows.QueueRow.{QueueRow}
 use Rattle.spool_types.specs.Limits.{greatest_number}
 use Rattle.spool_types.specs.State.{State, Job, queue_at, job_at}
 use Rattle.spool_types.specs.Step.{step}
-use Rattle.command_lines.specs.Replies.{refusal_line, created_line, sent_line, closed_line, jobs_text}
+use Rattle.command_lines.specs.Replies.{refusal_line, created_line, sent_line, closed_line, jobs_text, queues_text}
 use Rattle.command_lines.specs.Text.{commands_of}
 use Rattle.command_lines.specs.declared.command.Creation.{Creation}
 use Rattle.command_lines.specs.declared.command.Command.{Command}
@@ -46,25 +46,37 @@ closing_of s j = record { job = j; media = document_type; filters = option_and_t
 -- the event of a command, if it is one
 abbrev pub event_of : State → Command → Option Event
 event_of s (commands.Queue q) = Some (events.AddQueue q)
+event_of s (commands.Info notes) = Some (events.Info notes)
+event_of s (commands.SetAccept queue accepting) = Some (events.SetAccept queue accepting)
+event_of s (commands.SetStop queue stopped) = Some (events.SetStop queue stopped)
 event_of s (commands.Create c) = Some (events.Create (job_of_creation s c))
 event_of s (commands.Send job bytes) = Some (events.Send job bytes)
 event_of s (commands.Close job name) = Some (events.Close (closing_of s job))
+event_of s (commands.Hold job until) = Some (events.Hold job until)
+event_of s (commands.Release job) = Some (events.Release job)
 event_of s (commands.Cancel job) = Some (events.Cancel job)
 event_of s (commands.Clock moment) = Some (events.Clock moment)
 event_of s commands.OversizedSend = None
 event_of s commands.Jobs = None
+event_of s commands.Queues = None
 event_of s commands.Malformed = None
 
 -- the reply of a command that is no event
 abbrev pub said_of : State → Command → List ℕ
 said_of s (commands.Queue q) = []
+said_of s (commands.Info notes) = []
+said_of s (commands.SetAccept queue accepting) = []
+said_of s (commands.SetStop queue stopped) = []
 said_of s (commands.Create c) = []
 said_of s (commands.Send job bytes) = []
 said_of s (commands.Close job name) = []
+said_of s (commands.Hold job until) = []
+said_of s (commands.Release job) = []
 said_of s (commands.Cancel job) = []
 said_of s (commands.Clock moment) = []
 said_of s commands.OversizedSend = refusal_line TooLong
 said_of s commands.Jobs = jobs_text s.moment (map.values s.jobs)
+said_of s commands.Queues = queues_text (map.values s.jobs) (map.values s.queues)
 said_of s commands.Malformed = codes "error syntax\n"
 
 abbrev pub reply_line : Reply → List ℕ
@@ -80,9 +92,14 @@ stages_of filters = option_map (λ fs. length fs + 1) filters
 -- a closed job is told by its type and its stages
 abbrev pub accepted_line : Event → Reply → List ℕ
 accepted_line (events.AddQueue q) reply = reply_line reply
+accepted_line (events.Info notes) reply = reply_line reply
+accepted_line (events.SetAccept queue accepting) reply = reply_line reply
+accepted_line (events.SetStop queue stopped) reply = reply_line reply
 accepted_line (events.Create n) reply = reply_line reply
 accepted_line (events.Send job bytes) reply = reply_line reply
 accepted_line (events.Close c) reply = closed_line c.media (stages_of c.filters)
+accepted_line (events.Hold job until) reply = reply_line reply
+accepted_line (events.Release job) reply = reply_line reply
 accepted_line (events.Cancel job) reply = reply_line reply
 accepted_line (events.Clock moment) reply = reply_line reply
 

@@ -3,7 +3,7 @@ ghost use Rattle.std.specs.Prelude.{◌≡◌, ℕ, List, Option, Some, Result, 
 ghost use Rattle.std.specs.Option.{option_and_then};
 ghost use Rattle.std.specs.FinMap as finite;
 ghost use Rattle.spool_types.specs.declared.event.Reply.{Reply};
-ghost use Rattle.command_lines.specs.Replies.{jobs_text};
+ghost use Rattle.command_lines.specs.Replies.{jobs_text, queues_text};
 ghost use Rattle.command_lines.specs.declared.command.Command.{Command};
 ghost use Rattle.spool_engine.specs.Script.{closing_of, filters_to, queue_of, stages_of};
 ghost use Rattle.spool_engine.specs.Script.{document_type as every_type, next_number as number_after};
@@ -195,16 +195,26 @@ impl<D: Disk> Engine<D> {
     {
         match command {
             Command::Queue(queue) => self.serve_event(Event::AddQueue(queue)),
+            Command::Info(notes) => self.serve_event(Event::Info(notes)),
+            Command::SetAccept { queue, accepting } => {
+                self.serve_event(Event::SetAccept { queue, accepting })
+            }
+            Command::SetStop { queue, stopped } => {
+                self.serve_event(Event::SetStop { queue, stopped })
+            }
             Command::Create(creation) => {
                 let job = new_job(self.next_number(), creation);
                 self.serve_event(Event::Create(job))
             }
             Command::Send { job, bytes } => self.serve_event(Event::Send { job, bytes }),
             Command::Close { job, .. } => self.close(job),
+            Command::Hold { job, until } => self.serve_event(Event::Hold { job, until }),
+            Command::Release(job) => self.serve_event(Event::Release(job)),
             Command::Cancel(job) => self.serve_event(Event::Cancel(job)),
             Command::Clock(moment) => self.serve_event(Event::Clock(moment)),
             Command::OversizedSend => print_reply(self.alloc, &Answer::Refused(Refusal::TooLong)),
             Command::Jobs => self.jobs(),
+            Command::Queues => self.queues(),
             Command::Malformed => print_reply(self.alloc, &Answer::Malformed),
         }
     }
@@ -219,6 +229,23 @@ impl<D: Disk> Engine<D> {
         let rows = self.table().jobs();
         let now = self.table().now();
         print_reply(self.alloc, &Answer::Jobs { rows, now })
+    }
+
+    // The text that lists the queues.
+    fn queues(&self) -> Result<Vec<u8>, AllocError>
+        ensures text { IfOk result (λ text.
+            text.items ≡ queues_text (finite.values self.now.state.jobs) (finite.values self.now.state.queues)) }
+        // Until the device has failed a crash leaves what is listed.
+        ensures kept { IsKept (device D.bytes D.image D.moment D.image_since D.failures) self.now }
+    {
+        let table = self.table();
+        print_reply(
+            self.alloc,
+            &Answer::Queues {
+                rows: table.queues(),
+                jobs: table.jobs(),
+            },
+        )
     }
 
     // Serves a command, and writes its reply.

@@ -2,7 +2,7 @@
 ghost use Rattle.std.specs.Prelude.{◌≡◌, false, List, ◌++◌, IsSome};
 ghost use Rattle.spool_disk.specs.Disk.{LeavesOnly};
 ghost use Rattle.spool_core.specs.Standing.{Standing};
-ghost use Rattle.spool_engine.specs.Runs.{Turn, device, AreTurns, IsKept, IsAlong, last_state};
+ghost use Rattle.spool_engine.specs.Runs.{Turn, device, AreTurns, IsKept, IsAlong, last_standing};
 
 use spool_disk::Disk;
 
@@ -12,7 +12,7 @@ pub fn crashes_between_replies<D: Disk>()
     ensures { (s : Standing D) (first others : List (Turn D)) →
         IsKept (device D.bytes D.image D.moment D.image_since D.failures) s →
         AreTurns (device D.bytes D.image D.moment D.image_since D.failures) s (first ++ others) →
-        (last_state s first).dead ≡ false → IsSome (D.bytes (last_state s first).disk) →
-        LeavesOnly D.moment D.image_since (last_state s first).disk (last_state s (first ++ others)).disk
-        (IsAlong (last_state s first) others) }
+        (last_standing s first).dead ≡ false → IsSome (D.bytes (last_standing s first).disk) →
+        LeavesOnly D.moment D.image_since (last_standing s first).disk (last_standing s (first ++ others)).disk
+        (IsAlong (last_standing s first) others) }
 {}

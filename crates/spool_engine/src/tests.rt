@@ -414,3 +414,61 @@ fn a_writer_that_fails_ends_the_run(rt: HostRuntime) -> Result<(), Fail> {
     assert_eq!(rt; engine.into_parts().table().queues().len(), 1);
     Ok(())
 }
+
+#[test]
+fn a_job_is_held_and_released(rt: HostRuntime) -> Result<(), Fail> {
+    let script = "queue lab spoolfile:/out application/octet-stream abort-job\n\
+create lab ann \"a\" 1 50 \"\"\n\
+hold 1 indefinite\n\
+close 1 a\n\
+jobs\n\
+release 1\n\
+jobs\n\
+hold 1 100\n\
+jobs\n\
+clock 100\n\
+jobs\n\
+release 1\n";
+    assert_eq!(rt;
+        reply_text(rt.alloc(), script)?.as_str(),
+        "ok\nok job 1\nok\nok type application/octet-stream stages 1\n\
+job 1 lab 4 job-hold-until-specified \"ann\" 0 0 \"a\"\nok 1\n\
+ok\n\
+job 1 lab 3 none \"ann\" 0 0 \"a\"\nok 1\n\
+ok\n\
+job 1 lab 4 job-hold-until-specified \"ann\" 0 0 \"a\"\nok 1\n\
+ok\n\
+job 1 lab 3 none \"ann\" 0 0 \"a\"\nok 1\n\
+error 15 NotHeld\n"
+    );
+    Ok(())
+}
+
+#[test]
+fn queues_are_listed_closed_and_stopped(rt: HostRuntime) -> Result<(), Fail> {
+    let script = "queue lab spoolfile:/out application/octet-stream abort-job\n\
+queues\n\
+info lab \"Front desk\" \"\"\n\
+reject lab\n\
+disable lab\n\
+queues\n\
+create lab ann \"a\" 1 50 \"\"\n\
+accept lab\n\
+enable lab\n\
+queues\n\
+create lab ann \"a\" 1 50 \"\"\n\
+reject hall\n";
+    assert_eq!(rt;
+        reply_text(rt.alloc(), script)?.as_str(),
+        "ok\n\
+queue lab 3 accepting application/octet-stream abort-job 30 5 none \"\"\nok 1\n\
+ok\nok\nok\n\
+queue lab 5 rejecting application/octet-stream abort-job 30 5 none \"\"\nok 1\n\
+error 4 NotAccepting\n\
+ok\nok\n\
+queue lab 3 accepting application/octet-stream abort-job 30 5 none \"\"\nok 1\n\
+ok job 1\n\
+error 1 NoQueue\n"
+    );
+    Ok(())
+}

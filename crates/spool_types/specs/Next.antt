@@ -40,9 +40,13 @@ is_of name r = pointwise nat_eq r.queue name
 abbrev pub is_ready_of : List ℕ → ℕ → Job → Bool
 is_ready_of name now r = is_of name r && is_ready now r.phase
 
+-- a job of the queue is processing
+abbrev pub is_busy : List Job → List ℕ → Bool
+is_busy jobs name = list_any (λ r. is_of name r && is_processing r.phase) jobs
+
 -- the queue isn't stopped, and none of its jobs is processing
 abbrev pub is_free : List Job → List ℕ → Bool → Bool
-is_free jobs name stopped = not stopped && not (list_any (λ r. is_of name r && is_processing r.phase) jobs)
+is_free jobs name stopped = not stopped && not (is_busy jobs name)
 
 -- a job of the queue that may be started now
 abbrev pub is_eligible : List Job → List ℕ → Bool → ℕ → Job → Bool

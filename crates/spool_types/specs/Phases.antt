@@ -1,7 +1,9 @@
 -- What the phases of a job tell, and how a job is shown.
-use Rattle.std.specs.Prelude.{ℕ, Bool, true, false, nat_lt, cond, List, codes}
+use Rattle.std.specs.Prelude.{ℕ, Bool, true, false, nat_lt, cond, List, codes, Option, None, Some}
 use Rattle.spool_types.specs.declared.phase.Phase.{Phase}
 use Rattle.spool_types.specs.declared.phase.Phase.TheVariants.{Incoming, Waiting, Processing, Completed, Canceled, Aborted}
+use Rattle.spool_types.specs.declared.phase.Policy.{Policy}
+use Rattle.spool_types.specs.declared.phase.Policy.TheVariants.{AbortJob, RetryJob, RetryCurrentJob, StopPrinter}
 use Rattle.spool_types.specs.declared.phase.Hold.{Hold}
 use Rattle.spool_types.specs.declared.phase.Hold.TheVariants.{Free, Indefinite, Until}
 use Rattle.spool_types.specs.declared.phase.HoldReason.{HoldReason}
@@ -47,6 +49,30 @@ abbrev pub is_in_force : ℕ → Hold → Bool
 is_in_force now Free = false
 is_in_force now (Indefinite reason) = true
 is_in_force now (Until moment) = nat_lt now moment
+
+-- an incoming or waiting job with this hold; no other has one
+abbrev pub with_hold : Hold → Phase → Phase
+with_hold hold (Incoming before) = Incoming hold
+with_hold hold (Waiting before not_before first) = Waiting hold not_before first
+with_hold hold (Processing attempt stage stages) = Processing attempt stage stages
+with_hold hold Completed = Completed
+with_hold hold Canceled = Canceled
+with_hold hold (Aborted reason) = Aborted reason
+
+-- until a moment, or with none until it is released
+abbrev pub hold_until : Option ℕ → Hold
+hold_until None = Indefinite Unspecified
+hold_until (Some moment) = Until moment
+
+abbrev pub policy_word : Policy → List ℕ
+policy_word AbortJob = codes "abort-job"
+policy_word RetryJob = codes "retry-job"
+policy_word RetryCurrentJob = codes "retry-current-job"
+policy_word StopPrinter = codes "stop-printer"
+
+-- the printer-state number of RFC 8011: 4 processing, where a job of the queue is; else 5 stopped, or 3 idle
+abbrev pub printer_state : Bool → Bool → ℕ
+printer_state busy stopped = cond busy 4 (cond stopped 5 3)
 
 -- the job-state number of RFC 8011: 3 pending, 4 held, 5 processing, 7 canceled, 8 aborted, 9 completed
 abbrev pub job_state : ℕ → Phase → ℕ

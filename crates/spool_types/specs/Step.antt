@@ -3,20 +3,22 @@ use Rattle.std.specs.Prelude.{ℕ, ◌+◌, Bool, true, false, not, cond, List, 
 use Rattle.std.specs.FinMap as map
 use Rattle.spool_types.specs.declared.phase.Phase.{Phase}
 use Rattle.spool_types.specs.declared.phase.Phase.TheVariants.{Incoming, Waiting, Canceled, Aborted}
+use Rattle.spool_types.specs.declared.phase.Hold.{Hold}
 use Rattle.spool_types.specs.declared.phase.Hold.TheVariants.{Free}
 use Rattle.spool_types.specs.declared.phase.AbortReason.TheVariants.{NoFilter}
 use Rattle.spool_types.specs.declared.rows.QueueRow.{QueueRow}
 use Rattle.spool_types.specs.declared.event.NewQueue.{NewQueue}
+use Rattle.spool_types.specs.declared.event.QueueNotes.{QueueNotes}
 use Rattle.spool_types.specs.declared.event.NewJob.{NewJob}
 use Rattle.spool_types.specs.declared.event.Closing.{Closing}
 use Rattle.spool_types.specs.declared.event.Event.{Event}
-use Rattle.spool_types.specs.declared.event.Event.TheVariants.{AddQueue, Create, Send, Close, Cancel, Clock}
+use Rattle.spool_types.specs.declared.event.Event.TheVariants.{AddQueue, Info, SetAccept, SetStop, Create, Send, Close, Hold as HoldJob, Release, Cancel, Clock}
 use Rattle.spool_types.specs.declared.event.Reply.{Reply}
 use Rattle.spool_types.specs.declared.event.Reply.TheVariants.{Done, Number, Size}
 use Rattle.spool_types.specs.declared.refusal.Refusal.{Refusal}
-use Rattle.spool_types.specs.declared.refusal.Refusal.TheVariants.{NoQueue, QueueExists, TooManyQueues, NotAccepting, NoJob, NotIncoming, TooLong, OldNumber, NoNumberLeft, JobEnded}
+use Rattle.spool_types.specs.declared.refusal.Refusal.TheVariants.{NoQueue, QueueExists, TooManyQueues, NotAccepting, NoJob, NotIncoming, TooLong, OldNumber, NoNumberLeft, JobEnded, NotWaiting, NotHeld}
 use Rattle.spool_types.specs.Limits.{most_queues, longest_document, greatest_number}
-use Rattle.spool_types.specs.Phases.{has_ended, is_incoming, hold_of}
+use Rattle.spool_types.specs.Phases.{has_ended, is_incoming, is_processing, hold_of, is_in_force, with_hold, hold_until}
 use Rattle.spool_types.specs.State.{State, Job, queue_at, job_at}
 
 -- whether there is a value, and it passes
@@ -35,6 +37,15 @@ causes s (AddQueue q) =
     (is_some (queue_at s q.name), QueueExists)
     ∷ (nat_le most_queues (map.len s.queues), TooManyQueues)
     ∷ []
+causes s (Info notes) =
+    (is_none (queue_at s notes.queue), NoQueue)
+    ∷ []
+causes s (SetAccept queue accepting) =
+    (is_none (queue_at s queue), NoQueue)
+    ∷ []
+causes s (SetStop queue stopped) =
+    (is_none (queue_at s queue), NoQueue)
+    ∷ []
 causes s (Create n) =
     (is_none (queue_at s n.queue), NoQueue)
     ∷ (passes (λ q. not q.accepting) (queue_at s n.queue), NotAccepting)
@@ -51,6 +62,17 @@ causes s (Close c) =
     (is_none (job_at s c.job), NoJob)
     ∷ (passes (λ r. has_ended r.phase) (job_at s c.job), JobEnded)
     ∷ (passes (λ r. not (is_incoming r.phase)) (job_at s c.job), NotIncoming)
+    ∷ []
+causes s (HoldJob j until) =
+    (is_none (job_at s j), NoJob)
+    ∷ (passes (λ r. has_ended r.phase) (job_at s j), JobEnded)
+    ∷ (passes (λ r. is_processing r.phase) (job_at s j), NotWaiting)
+    ∷ []
+causes s (Release j) =
+    (is_none (job_at s j), NoJob)
+    ∷ (passes (λ r. has_ended r.phase) (job_at s j), JobEnded)
+    ∷ (passes (λ r. is_processing r.phase) (job_at s j), NotWaiting)
+    ∷ (passes (λ r. not (is_in_force s.moment (hold_of r.phase))) (job_at s j), NotHeld)
     ∷ []
 causes s (Cancel j) =
     (is_none (job_at s j), NoJob)
@@ -78,6 +100,15 @@ new_queue q = record {
   reasons = [];
   attributes = [];
 }
+
+abbrev pub with_notes : QueueNotes → QueueRow → QueueRow
+with_notes notes q = record q { info = notes.info; location = notes.location }
+
+abbrev pub with_accepting : Bool → QueueRow → QueueRow
+with_accepting accepting q = record q { accepting = accepting }
+
+abbrev pub with_stopped : Bool → QueueRow → QueueRow
+with_stopped stopped q = record q { stopped = stopped }
 
 -- a new job is incoming and free, and has no bytes
 abbrev pub new_job : NewJob → Job
@@ -112,6 +143,17 @@ closed c r = elim c.filters [
   | Some filters ↦ record r { media = Some c.media; filters = filters; phase = Waiting (hold_of r.phase) 0 false }
 ]
 
+abbrev pub held : Hold → Job → Job
+held hold r = record r { phase = with_hold hold r.phase }
+
+-- the queue that the event speaks of is changed, if there is one
+abbrev pub change_found_queue : State → List ℕ → (QueueRow → QueueRow) → Option QueueRow → State
+change_found_queue s name f None = s
+change_found_queue s name f (Some q) = record s { queues = map.insert s.queues name (f q) }
+
+abbrev pub change_queue : State → List ℕ → (QueueRow → QueueRow) → State
+change_queue s name f = change_found_queue s name f (queue_at s name)
+
 -- the job that the event speaks of is changed, if there is one
 abbrev pub change_found : State → ℕ → (Job → Job) → Option Job → State
 change_found s j f None = s
@@ -123,9 +165,14 @@ change_job s j f = change_found s j f (job_at s j)
 -- the state after an event that isn't refused
 abbrev pub after : State → Event → State
 after s (AddQueue q) = record s { queues = map.insert s.queues q.name (new_queue q) }
+after s (Info notes) = change_queue s notes.queue (with_notes notes)
+after s (SetAccept queue accepting) = change_queue s queue (with_accepting accepting)
+after s (SetStop queue stopped) = change_queue s queue (with_stopped stopped)
 after s (Create n) = record s { jobs = map.insert s.jobs n.job (new_job n); highest = n.job }
 after s (Send j bytes) = change_job s j (with_bytes bytes)
 after s (Close c) = change_job s c.job (closed c)
+after s (HoldJob j until) = change_job s j (held (hold_until until))
+after s (Release j) = change_job s j (held Free)
 after s (Cancel j) = change_job s j (ended Canceled)
 after s (Clock m) = record s { moment = max s.moment m }
 
@@ -136,9 +183,14 @@ size_found (Some r) = r.size
 -- what is answered to an event that isn't refused
 abbrev pub reply_to : State → Event → Reply
 reply_to s (AddQueue q) = Done
+reply_to s (Info notes) = Done
+reply_to s (SetAccept queue accepting) = Done
+reply_to s (SetStop queue stopped) = Done
 reply_to s (Create n) = Number n.job
 reply_to s (Send j bytes) = Size (size_found (job_at s j) + length bytes)
 reply_to s (Close c) = Done
+reply_to s (HoldJob j until) = Done
+reply_to s (Release j) = Done
 reply_to s (Cancel j) = Done
 reply_to s (Clock m) = Done
 

@@ -2,7 +2,7 @@
 ghost use Rattle.std.specs.Prelude.{◌≡◌, IfOk};
 
 use crate::items::{Filters, Piece};
-use crate::kinds::{OptionText, QueueName, Title, Uri, UserName};
+use crate::kinds::{Note, OptionText, QueueName, Title, Uri, UserName};
 use crate::media::MediaType;
 use crate::numbers::{JobId, Moment};
 use crate::phase::{Phase, Policy};
@@ -18,6 +18,14 @@ pub struct NewQueue {
     pub policy: Policy,
     pub interval: Interval,
     pub limit: u16,
+}
+
+/// What is told of a queue (printer-info and printer-location, RFC 8011).
+#[derive(Clone, Debug, PartialEq, Eq, Drop)]
+pub struct QueueNotes {
+    pub queue: QueueName,
+    pub info: Note,
+    pub location: Note,
 }
 
 /// A job to be made.
@@ -44,9 +52,18 @@ pub struct Closing {
 #[derive(Clone, Debug, PartialEq, Eq, Drop)]
 pub enum Event {
     AddQueue(NewQueue),
+    /// Sets what is told of a queue.
+    Info(QueueNotes),
+    /// Opens a queue to new jobs, or closes it (cupsaccept(8)).
+    SetAccept { queue: QueueName, accepting: bool },
+    /// Stops a queue, or lets it go on (cupsenable(8)).
+    SetStop { queue: QueueName, stopped: bool },
     Create(NewJob),
     Send { job: JobId, bytes: Piece },
     Close(Closing),
+    /// Holds a job until a moment has come, or with none until it is released.
+    Hold { job: JobId, until: Option<Moment> },
+    Release(JobId),
     Cancel(JobId),
     Clock(Moment),
 }

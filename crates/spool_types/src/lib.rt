@@ -35,7 +35,7 @@ mod text;
 mod verdict;
 
 pub use effect::{Attribute, Effect, Exit, Level};
-pub use event::{Closing, Event, NewJob, NewQueue, Reply};
+pub use event::{Closing, Event, NewJob, NewQueue, QueueNotes, Reply};
 pub use items::{Attributes, Filters, Items, Piece, Reasons, Words};
 pub use kinds::{
     AttributeName, AttributeNameKind, FileName, FileNameKind, FilterName, FilterNameKind, Message,
@@ -47,7 +47,7 @@ pub use numbers::{JobId, Moment};
 pub use phase::{AbortReason, Hold, HoldReason, Phase, Policy};
 pub use ranged::{Copies, Interval, Priority, Ranged};
 pub use refusal::Refusal;
-pub use rows::{JobRow, QueueRow};
+pub use rows::{JobRow, QueueRow, is_busy};
 pub use text::{Text, TextFault, TextKind};
 pub use verdict::Verdict;
 

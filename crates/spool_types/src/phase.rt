@@ -1,6 +1,6 @@
 //! Phases of a job, what holds it, and what a queue does with a job that fails.
 ghost use Rattle.std.specs.Prelude.{◌≡◌};
-ghost use Rattle.spool_types.specs.Phases.{has_ended, is_incoming, is_processing, hold_of, is_in_force, job_state, job_reason, hold_reason_word, hold_word, abort_reason_word, waiting_word};
+ghost use Rattle.spool_types.specs.Phases.{has_ended, is_incoming, is_processing, hold_of, is_in_force, with_hold, hold_until, job_state, job_reason, policy_word, hold_reason_word, hold_word, abort_reason_word, waiting_word};
 
 use crate::numbers::Moment;
 
@@ -11,6 +11,20 @@ pub enum Policy {
     RetryJob,
     RetryCurrentJob,
     StopPrinter,
+}
+
+impl Policy {
+    /// The word that stands for the policy.
+    pub fn word(self) -> &'static str
+        ensures { result.now ≡ policy_word self }
+    {
+        match self {
+            Policy::AbortJob => "abort-job",
+            Policy::RetryJob => "retry-job",
+            Policy::RetryCurrentJob => "retry-current-job",
+            Policy::StopPrinter => "stop-printer",
+        }
+    }
 }
 
 /// Why a job is held until it is released.
@@ -76,6 +90,16 @@ pub enum Hold {
 }
 
 impl Hold {
+    /// The hold by a command: until a moment, or with none until the job is released.
+    pub fn until(moment: Option<Moment>) -> Hold
+        ensures { result ≡ hold_until moment }
+    {
+        match moment {
+            Some(moment) => Hold::Until(moment),
+            None => Hold::Indefinite(HoldReason::Unspecified),
+        }
+    }
+
     /// Whether the hold is in force at the moment now.
     pub fn is_in_force(self, now: Moment) -> bool
         ensures { result ≡ is_in_force now self }
@@ -150,6 +174,25 @@ impl Phase {
         match self {
             Phase::Incoming(hold) | Phase::Waiting { hold, .. } => hold,
             _ => Hold::Free,
+        }
+    }
+
+    /// The phase with this hold, if it is one that has a hold.
+    pub fn with_hold(self, hold: Hold) -> Phase
+        ensures { result ≡ with_hold hold self }
+    {
+        match self {
+            Phase::Incoming(_) => Phase::Incoming(hold),
+            Phase::Waiting {
+                not_before,
+                first,
+                ..
+            } => Phase::Waiting {
+                hold,
+                not_before,
+                first,
+            },
+            other => other,
         }
     }
 

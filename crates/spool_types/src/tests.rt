@@ -178,3 +178,74 @@ fn a_list_gives_its_items_back(rt: HostRuntime) -> Result<(), Fail> {
     assert_eq!(rt; piece.into_vec().as_slice(), b"ab".as_slice());
     Ok(())
 }
+
+#[test]
+fn a_hold_is_set_where_a_phase_has_one(rt: HostRuntime) -> Result<(), Fail> {
+    let moment = Moment::new(100).ok_or("no")?;
+    let hold = Hold::until(Some(moment));
+    assert_eq!(rt; hold, Hold::Until(moment));
+    assert_eq!(rt;
+        Hold::until(None),
+        Hold::Indefinite(HoldReason::Unspecified)
+    );
+    assert_eq!(rt;
+        Phase::Incoming(Hold::Free).with_hold(hold),
+        Phase::Incoming(hold)
+    );
+    let waiting = |hold: Hold| Phase::Waiting {
+        hold,
+        not_before: moment,
+        first: true,
+    };
+    assert_eq!(rt; waiting(Hold::Free).with_hold(hold), waiting(hold));
+    assert_eq!(rt; Phase::Canceled.with_hold(hold), Phase::Canceled);
+    Ok(())
+}
+
+#[test]
+fn policies_have_their_words(rt: HostRuntime) -> Result<(), Fail> {
+    for (policy, word) in [
+        (Policy::AbortJob, "abort-job"),
+        (Policy::RetryJob, "retry-job"),
+        (Policy::RetryCurrentJob, "retry-current-job"),
+        (Policy::StopPrinter, "stop-printer"),
+    ] {
+        assert_eq!(rt; policy.word(), word);
+    }
+    Ok(())
+}
+
+// A job of the queue lab in this phase.
+fn job_in(alloc: Global, phase: Phase) -> Result<JobRow, Fail> {
+    Ok(JobRow {
+        id: JobId::new(1).ok_or("no")?,
+        queue: QueueName::read(alloc, "lab")?,
+        user: UserName::read(alloc, "ann")?,
+        title: Title::read(alloc, "report")?,
+        copies: Copies::new(1).ok_or("no")?,
+        priority: Priority::new(50).ok_or("no")?,
+        options: OptionText::read(alloc, "")?,
+        media: None,
+        filters: Items::empty(alloc),
+        attempts: 1,
+        pages: 0,
+        size: 0,
+        phase,
+        document: Vec::new(alloc),
+    })
+}
+
+#[test]
+fn a_queue_is_busy_while_a_job_of_it_is_processing(rt: HostRuntime) -> Result<(), Fail> {
+    let alloc = rt.alloc();
+    let processing = Phase::Processing {
+        attempt: 1,
+        stage: 1,
+        stages: 1,
+    };
+    let jobs = vec![in alloc; job_in(alloc, Phase::Canceled)?, job_in(alloc, processing)?]?;
+    assert!(rt; is_busy(&jobs, &QueueName::read(alloc, "lab")?));
+    assert!(rt; !is_busy(&jobs, &QueueName::read(alloc, "hall")?));
+    assert!(rt; !is_busy(&jobs[..1], &QueueName::read(alloc, "lab")?));
+    Ok(())
+}

@@ -5,8 +5,14 @@ ghost use Rattle.job_table.specs.Contents.{IsPrepared, document_room};
 
 use super::Table;
 use super::lookup::{job_place, queue_place};
-use super::row_changes::{add_bytes, close_row, end_row, new_job_row, new_queue_row};
-use spool_types::{Closing, Event, JobId, Moment, NewJob, NewQueue, Phase, Piece, Reply};
+use super::row_changes::{
+    add_bytes, close_row, end_row, hold_row, new_job_row, new_queue_row, set_accepting, set_notes,
+    set_stopped,
+};
+use spool_types::{
+    Closing, Event, Hold, JobId, Moment, NewJob, NewQueue, Phase, Piece, QueueName, QueueNotes,
+    Reply,
+};
 
 impl Table {
     /// Changes the rows by the event just prepared. It takes no memory and always succeeds. `at` is where the event
@@ -20,6 +26,18 @@ impl Table {
                 self.add_queue(queue);
                 Reply::Done
             }
+            Event::Info(notes) => {
+                self.info(notes);
+                Reply::Done
+            }
+            Event::SetAccept { queue, accepting } => {
+                self.set_accept(queue, accepting);
+                Reply::Done
+            }
+            Event::SetStop { queue, stopped } => {
+                self.set_stop(queue, stopped);
+                Reply::Done
+            }
             Event::Create(job) => {
                 let number = job.job;
                 self.create(job);
@@ -28,6 +46,14 @@ impl Table {
             Event::Send { job, bytes } => Reply::Size(self.send(job, bytes)),
             Event::Close(closing) => {
                 self.close(closing);
+                Reply::Done
+            }
+            Event::Hold { job, until } => {
+                self.hold(job, until);
+                Reply::Done
+            }
+            Event::Release(job) => {
+                self.release(job);
                 Reply::Done
             }
             Event::Cancel(job) => {
@@ -53,6 +79,33 @@ impl Table {
                 let row = new_queue_row(alloc, queue);
                 self.queues.insert(at, row).unwrap();
             }
+        }
+    }
+
+    fn info(&mut self, notes: QueueNotes)
+        requires { refusal_of self.old.state (Event.Info notes) ≡ None }
+        ensures { self.new.state ≡ after self.old.state (Event.Info notes) }
+    {
+        if let Ok(at) = queue_place(&self.queues, &notes.queue) {
+            set_notes(&mut self.queues[at], notes);
+        }
+    }
+
+    fn set_accept(&mut self, queue: QueueName, accepting: bool)
+        requires { refusal_of self.old.state (Event.SetAccept queue accepting) ≡ None }
+        ensures { self.new.state ≡ after self.old.state (Event.SetAccept queue accepting) }
+    {
+        if let Ok(at) = queue_place(&self.queues, &queue) {
+            set_accepting(&mut self.queues[at], accepting);
+        }
+    }
+
+    fn set_stop(&mut self, queue: QueueName, stopped: bool)
+        requires { refusal_of self.old.state (Event.SetStop queue stopped) ≡ None }
+        ensures { self.new.state ≡ after self.old.state (Event.SetStop queue stopped) }
+    {
+        if let Ok(at) = queue_place(&self.queues, &queue) {
+            set_stopped(&mut self.queues[at], stopped);
         }
     }
 
@@ -92,6 +145,24 @@ impl Table {
     {
         if let Ok(at) = job_place(&self.jobs, closing.job) {
             close_row(&mut self.jobs[at], closing);
+        }
+    }
+
+    fn hold(&mut self, job: JobId, until: Option<Moment>)
+        requires { refusal_of self.old.state (Event.Hold job until) ≡ None }
+        ensures { self.new.state ≡ after self.old.state (Event.Hold job until) }
+    {
+        if let Ok(at) = job_place(&self.jobs, job) {
+            hold_row(&mut self.jobs[at], Hold::until(until));
+        }
+    }
+
+    fn release(&mut self, job: JobId)
+        requires { refusal_of self.old.state (Event.Release job) ≡ None }
+        ensures { self.new.state ≡ after self.old.state (Event.Release job) }
+    {
+        if let Ok(at) = job_place(&self.jobs, job) {
+            hold_row(&mut self.jobs[at], Hold::Free);
         }
     }
 

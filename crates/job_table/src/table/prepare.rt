@@ -58,7 +58,14 @@ impl Table {
             Event::AddQueue(_) => self.reserve_queue(),
             Event::Create(_) => self.reserve_job(),
             Event::Send { job, bytes } => self.reserve_bytes(*job, bytes.as_slice().len()),
-            Event::Close(_) | Event::Cancel(_) | Event::Clock(_) => Ok(()),
+            Event::Info(_)
+            | Event::SetAccept { .. }
+            | Event::SetStop { .. }
+            | Event::Close(_)
+            | Event::Hold { .. }
+            | Event::Release(_)
+            | Event::Cancel(_)
+            | Event::Clock(_) => Ok(()),
         }
     }
 

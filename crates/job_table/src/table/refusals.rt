@@ -1,9 +1,14 @@
 //! Why an event is refused: its causes in order, of which the first that stands decides.
-ghost use Rattle.std.specs.Prelude.{◌≡◌};
-ghost use Rattle.spool_types.specs.Step.{refusal_of};
+ghost use Rattle.std.specs.Prelude.{◌≡◌, Bool, true, false, not, List, [], ◌∷◌, Some, is_none, IfOk, IfErr};
+ghost use Rattle.spool_types.specs.declared.refusal.Refusal.{Refusal};
+ghost use Rattle.spool_types.specs.Phases.{has_ended, is_incoming, is_processing};
+ghost use Rattle.spool_types.specs.State.{job_of, queue_at, job_at};
+ghost use Rattle.spool_types.specs.Step.{first_cause, passes, refusal_of};
 
 use super::Table;
-use spool_types::{Closing, Event, JobId, NewJob, NewQueue, Piece, Refusal};
+use spool_types::{
+    Closing, Event, JobId, JobRow, Moment, NewJob, NewQueue, Piece, QueueName, QueueNotes, Refusal,
+};
 
 /// The most queues of a table.
 const MOST_QUEUES: usize = 64;
@@ -18,9 +23,14 @@ impl Table {
     {
         match event {
             Event::AddQueue(queue) => self.add_queue_refusal(queue),
+            Event::Info(notes) => self.info_refusal(notes),
+            Event::SetAccept { queue, accepting } => self.set_accept_refusal(queue, *accepting),
+            Event::SetStop { queue, stopped } => self.set_stop_refusal(queue, *stopped),
             Event::Create(job) => self.create_refusal(job),
             Event::Send { job, bytes } => self.send_refusal(*job, bytes),
             Event::Close(closing) => self.close_refusal(closing),
+            Event::Hold { job, until } => self.hold_refusal(*job, *until),
+            Event::Release(job) => self.release_refusal(*job),
             Event::Cancel(job) => self.cancel_refusal(*job),
             Event::Clock(_) => None,
         }
@@ -36,6 +46,34 @@ impl Table {
             return Some(Refusal::TooManyQueues);
         }
         None
+    }
+
+    fn info_refusal(&self, notes: &QueueNotes) -> Option<Refusal>
+        ensures { result ≡ refusal_of self.now.state (Event.Info notes.now) }
+    {
+        self.no_queue_refusal(&notes.queue)
+    }
+
+    fn set_accept_refusal(&self, queue: &QueueName, accepting: bool) -> Option<Refusal>
+        ensures { result ≡ refusal_of self.now.state (Event.SetAccept queue.now accepting) }
+    {
+        self.no_queue_refusal(queue)
+    }
+
+    fn set_stop_refusal(&self, queue: &QueueName, stopped: bool) -> Option<Refusal>
+        ensures { result ≡ refusal_of self.now.state (Event.SetStop queue.now stopped) }
+    {
+        self.no_queue_refusal(queue)
+    }
+
+    // Of an event about a queue that is refused only where the queue isn't there.
+    fn no_queue_refusal(&self, queue: &QueueName) -> Option<Refusal>
+        ensures { result ≡ first_cause ((is_none (queue_at self.now.state queue.now), Refusal.NoQueue) ∷ []) }
+    {
+        match self.queue(queue) {
+            Some(_) => None,
+            None => Some(Refusal::NoQueue),
+        }
     }
 
     fn create_refusal(&self, job: &NewJob) -> Option<Refusal>
@@ -59,45 +97,90 @@ impl Table {
     fn send_refusal(&self, job: JobId, bytes: &Piece) -> Option<Refusal>
         ensures { result ≡ refusal_of self.now.state (Event.Send job bytes.now) }
     {
-        let Some(row) = self.job(job) else {
-            return Some(Refusal::NoJob);
-        };
-        if row.phase.has_ended() {
-            return Some(Refusal::JobEnded);
+        match self.incoming_job(job) {
+            Ok(row) if LONGEST_DOCUMENT < row.size as usize + bytes.as_slice().len() => {
+                Some(Refusal::TooLong)
+            }
+            Ok(_) => None,
+            Err(refusal) => Some(refusal),
         }
-        if !row.phase.is_incoming() {
-            return Some(Refusal::NotIncoming);
-        }
-        if LONGEST_DOCUMENT < row.size as usize + bytes.as_slice().len() {
-            return Some(Refusal::TooLong);
-        }
-        None
     }
 
     fn close_refusal(&self, closing: &Closing) -> Option<Refusal>
         ensures { result ≡ refusal_of self.now.state (Event.Close closing.now) }
     {
-        let Some(row) = self.job(closing.job) else {
-            return Some(Refusal::NoJob);
-        };
-        if row.phase.has_ended() {
-            return Some(Refusal::JobEnded);
+        self.incoming_job(closing.job).err()
+    }
+
+    fn hold_refusal(&self, job: JobId, until: Option<Moment>) -> Option<Refusal>
+        ensures { result ≡ refusal_of self.now.state (Event.Hold job until) }
+    {
+        self.idle_job(job).err()
+    }
+
+    fn release_refusal(&self, job: JobId) -> Option<Refusal>
+        ensures { result ≡ refusal_of self.now.state (Event.Release job) }
+    {
+        match self.idle_job(job) {
+            Ok(row) if row.phase.hold().is_in_force(self.now()) => None,
+            Ok(_) => Some(Refusal::NotHeld),
+            Err(refusal) => Some(refusal),
         }
-        if !row.phase.is_incoming() {
-            return Some(Refusal::NotIncoming);
-        }
-        None
     }
 
     fn cancel_refusal(&self, job: JobId) -> Option<Refusal>
         ensures { result ≡ refusal_of self.now.state (Event.Cancel job) }
     {
-        let Some(row) = self.job(job) else {
-            return Some(Refusal::NoJob);
-        };
-        if row.phase.has_ended() {
-            return Some(Refusal::JobEnded);
+        self.live_job(job).err()
+    }
+
+    // The row of a job that is still incoming, or why there is none.
+    fn incoming_job(&self, job: JobId) -> Result<&JobRow, Refusal>
+        ensures found { IfOk result (λ r. job_at self.now.state job ≡ Some (job_of r.now)) }
+        ensures live { IfOk result (λ r. has_ended r.now.phase ≡ false) }
+        ensures incoming { IfOk result (λ r. is_incoming r.now.phase ≡ true) }
+        ensures refused { (rest : List (Bool × Refusal)) → IfErr result (λ x. first_cause (
+            (is_none (job_at self.now.state job), Refusal.NoJob)
+            ∷ (passes (λ r. has_ended r.phase) (job_at self.now.state job), Refusal.JobEnded)
+            ∷ (passes (λ r. not (is_incoming r.phase)) (job_at self.now.state job), Refusal.NotIncoming)
+            ∷ rest) ≡ Some x) }
+    {
+        match self.live_job(job) {
+            Ok(row) if !row.phase.is_incoming() => Err(Refusal::NotIncoming),
+            found => found,
         }
-        None
+    }
+
+    // The row of a job that waits or is still incoming, or why there is none.
+    fn idle_job(&self, job: JobId) -> Result<&JobRow, Refusal>
+        ensures found { IfOk result (λ r. job_at self.now.state job ≡ Some (job_of r.now)) }
+        ensures live { IfOk result (λ r. has_ended r.now.phase ≡ false) }
+        ensures idle { IfOk result (λ r. is_processing r.now.phase ≡ false) }
+        ensures refused { (rest : List (Bool × Refusal)) → IfErr result (λ x. first_cause (
+            (is_none (job_at self.now.state job), Refusal.NoJob)
+            ∷ (passes (λ r. has_ended r.phase) (job_at self.now.state job), Refusal.JobEnded)
+            ∷ (passes (λ r. is_processing r.phase) (job_at self.now.state job), Refusal.NotWaiting)
+            ∷ rest) ≡ Some x) }
+    {
+        match self.live_job(job) {
+            Ok(row) if row.phase.is_processing() => Err(Refusal::NotWaiting),
+            found => found,
+        }
+    }
+
+    // The row of a job that hasn't ended, or why there is none.
+    fn live_job(&self, job: JobId) -> Result<&JobRow, Refusal>
+        ensures found { IfOk result (λ r. job_at self.now.state job ≡ Some (job_of r.now)) }
+        ensures live { IfOk result (λ r. has_ended r.now.phase ≡ false) }
+        ensures refused { (rest : List (Bool × Refusal)) → IfErr result (λ x. first_cause (
+            (is_none (job_at self.now.state job), Refusal.NoJob)
+            ∷ (passes (λ r. has_ended r.phase) (job_at self.now.state job), Refusal.JobEnded)
+            ∷ rest) ≡ Some x) }
+    {
+        match self.job(job) {
+            None => Err(Refusal::NoJob),
+            Some(row) if row.phase.has_ended() => Err(Refusal::JobEnded),
+            Some(row) => Ok(row),
+        }
     }
 }

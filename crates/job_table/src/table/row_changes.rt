@@ -2,11 +2,11 @@
 ghost use Rattle.std.specs.Prelude.{◌≡◌, ◌+◌, ◌≤◌, length, vec_len, vec_capacity};
 ghost use Rattle.spool_types.specs.Limits.{longest_document};
 ghost use Rattle.spool_types.specs.State.{job_of};
-ghost use Rattle.spool_types.specs.Step.{new_queue, new_job, with_bytes, ended, closed};
+ghost use Rattle.spool_types.specs.Step.{new_queue, with_notes, with_accepting, with_stopped, new_job, with_bytes, ended, closed, held};
 
 use spool_types::{
-    AbortReason, Closing, Hold, Items, JobRow, Moment, NewJob, NewQueue, Phase, Piece, QueueRow,
-    Text,
+    AbortReason, Closing, Hold, Items, JobRow, Moment, NewJob, NewQueue, Phase, Piece, QueueNotes,
+    QueueRow, Text,
 };
 use std::alloc::Global;
 
@@ -29,6 +29,25 @@ pub(super) fn new_queue_row(alloc: Global, queue: NewQueue) -> QueueRow
         reasons: Items::empty(alloc),
         attributes: Items::empty(alloc),
     }
+}
+
+pub(super) fn set_notes(row: &mut QueueRow, notes: QueueNotes)
+    ensures { row.new ≡ with_notes notes row.old }
+{
+    row.info = notes.info;
+    row.location = notes.location;
+}
+
+pub(super) fn set_accepting(row: &mut QueueRow, accepting: bool)
+    ensures { row.new ≡ with_accepting accepting row.old }
+{
+    row.accepting = accepting;
+}
+
+pub(super) fn set_stopped(row: &mut QueueRow, stopped: bool)
+    ensures { row.new ≡ with_stopped stopped row.old }
+{
+    row.stopped = stopped;
 }
 
 // A new job is incoming and free, and has no bytes.
@@ -91,4 +110,11 @@ pub(super) fn close_row(row: &mut JobRow, closing: Closing)
         }
         None => end_row(row, Phase::Aborted(AbortReason::NoFilter)),
     }
+}
+
+// A job that waits or is still incoming gets this hold.
+pub(super) fn hold_row(row: &mut JobRow, hold: Hold)
+    ensures { job_of row.new ≡ held hold (job_of row.old) }
+{
+    row.phase = row.phase.with_hold(hold);
 }

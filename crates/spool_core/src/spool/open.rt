@@ -1,21 +1,27 @@
 //! Opening a spool.
-ghost use Rattle.std.specs.Prelude.{◌≡◌, ◌<◌, ◌≤◌, List, ℕ, Some, IsSome, false, IfOk, IfErr};
+ghost use Rattle.std.specs.Prelude.{◌≡◌, ◌<◌, ◌≤◌, List, ℕ, Some, IsSome, IsTrue, false, IfOk, IfErr};
 ghost use Rattle.spool_disk.specs.Disk.{LeavesOnly};
-ghost use Rattle.spool_core.specs.Image.{HasTable, IsFaultOf};
+ghost use Rattle.spool_core.specs.Image.{HasTable, IsFaultOf, kept_room, HasRoom};
 ghost use Rattle.spool_core.specs.Idle.{HasNoProcessing};
 
 use super::Spool;
 use crate::fold::fold;
+use job_table::Table;
 use spool_areas::{Areas, OpenError, OpenFault, Opened};
 use spool_disk::Disk;
 use std::alloc::Global;
 
+/// Room for the record of one reopening, whose payload is one byte, and the gate behind it.
+const KEPT_ROOM: u64 = 7;
+
 impl<D: Disk> Spool<D> {
     /// Opens the spool on a disk: syncs it, and makes the table anew from the events of its current area. It writes
-    /// nothing. Of several faults it tells the first in the order of the records.
+    /// nothing. Of several faults it tells the first in the order of the records. Last it looks whether a job is
+    /// processing and the area has no room for the record of its reopening: that is damage at the closed gate.
     pub fn open(alloc: Global, disk: D) -> Result<Spool<D>, OpenError<D>>
-        // The table is that of the bytes, and a fault of the bytes is theirs.
+        // The table and the room are those of the bytes, and a fault of the bytes is theirs.
         ensures opened { IfOk result (λ spool. (r : List ℕ) → D.bytes disk ≡ Some r → HasTable spool.state r) }
+        ensures room { IfOk result (λ spool. (r : List ℕ) → D.bytes disk ≡ Some r → HasRoom spool.room r) }
         ensures fault { IfErr result (λ e. (r : List ℕ) → D.bytes disk ≡ Some r → IsFaultOf r e.fault) }
         ensures alive { IfOk result (λ spool. spool.dead ≡ false) }
         ensures cause { IfErr result (λ e. e.fault ≡ OpenFault.Disk → D.failures disk < D.failures e.disk) }
@@ -38,6 +44,8 @@ impl<D: Disk> Spool<D> {
             mut areas,
             payloads,
             damage,
+            gate,
+            room,
         } = match Areas::open(alloc, disk) {
             Ok(opened) => opened,
             Err(error) => return Err(error),
@@ -57,6 +65,11 @@ impl<D: Disk> Spool<D> {
                 return Err(OpenError { disk, fault });
             }
         }
+        if is_cramped(&table, room) {
+            let disk = areas.into_disk();
+            let fault = OpenFault::Damaged(gate);
+            return Err(OpenError { disk, fault });
+        }
         let frame = Vec::new(alloc);
         Ok(Spool {
             areas,
@@ -64,4 +77,20 @@ impl<D: Disk> Spool<D> {
             frame,
         })
     }
+}
+
+// Whether a job is processing, and so many bytes are no room for the record of its reopening.
+fn is_cramped(table: &Table, room: u64) -> bool
+    ensures cramped { IsTrue result → ¬ (HasNoProcessing table.now.state) × (room < kept_room) }
+    ensures roomy { result ≡ false → ¬ (HasNoProcessing table.now.state) → kept_room ≤ room }
+{
+    room < KEPT_ROOM && !is_idle(table)
+}
+
+// Whether no job is processing.
+fn is_idle(table: &Table) -> bool
+    ensures idle { IsTrue result → HasNoProcessing table.now.state }
+    ensures busy { result ≡ false → ¬ (HasNoProcessing table.now.state) }
+{
+    !table.jobs().iter().any(|row| row.phase.is_processing())
 }

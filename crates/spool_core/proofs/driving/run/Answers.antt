@@ -4,7 +4,7 @@ use Rattle.std.specs.declared.vec.IntoIter.{IntoIter}
 use Rattle.std.specs.Iterator.{Yields}
 use Rattle.spool_types.specs.declared.event.Event.{Event}
 use Rattle.spool_core.proofs.DriveLaws.{next_of}
-use Rattle.spool_core.proofs.TurnLaws.{driven_none, driven_more, end_of_memory, end_of_all, end_of_turn, same_replies}
+use Rattle.spool_core.proofs.TurnLaws.{driven_none, driven_more, end_of_memory, end_of_turn, same_replies}
 use Rattle.spool_core.proofs.driving.run.Goals as goal
 
 -- what the iterator of a vector has given is a front of its items

@@ -1,4 +1,4 @@
-use Rattle.spool_core.proofs.ReadingLaws.{one_table, table_or_fault, one_fault}
+use Rattle.spool_core.proofs.ReadingLaws.{one_table, table_or_fault, one_fault, one_room}
 use Rattle.spool_core.proofs.laws.one_reading.Goals as goal
 
 pub returns-clause-table : goal.returns-clause-table
@@ -9,3 +9,6 @@ returns-clause-either f s g c a b = table_or_fault c g s a b
 
 pub returns-clause-fault : goal.returns-clause-fault
 returns-clause-fault h f g c a b = one_fault c f g a b
+
+pub returns-clause-room : goal.returns-clause-room
+returns-clause-room f m n c a b = one_room c m n a b

@@ -1,4 +1,4 @@
-use Rattle.std.proofs.Common.{◌+◌, inl, inr, ◌∷◌, [], ◌++◌, ℕ, ⊎_elim, List, length, OnOk, refl, subst, arith}
+use Rattle.std.proofs.Common.{◌≡◌, ◌+◌, inl, inr, ◌∷◌, [], ◌++◌, ℕ, ⊎_elim, List, length, OnOk, refl, subst, arith}
 use Rattle.gate_journal.specs.declared.journal.JournalFault.TheVariants.{Full}
 use Rattle.gate_journal.specs.Frame.{payload_of}
 use Rattle.spool_disk.specs.Disk.{LeavesOnly}
@@ -6,13 +6,27 @@ use Rattle.spool_disk.proofs.Moments.{started, at_return}
 use Rattle.spool_areas.specs.Payloads.{HasBeforeOrAfter}
 use Rattle.spool_areas.specs.Current.{KeepsPayloads}
 use Rattle.spool_areas.specs.Seen.{current_of}
-use Rattle.spool_areas.proofs.Added.{same_or_fits, ok_fits, entries_kept, run, added}
+use Rattle.spool_areas.proofs.Added.{same_or_fits, ok_fits, entries_kept, run, added, as_long}
 use Rattle.spool_areas.proofs.areas.Areas.append_kept.Goals as goal
 
 pub returns-then-self-clause-any_moment : goal.returns-then-self-clause-any_moment
 returns-then-self-clause-any_moment g c payloads keeps =
     started g.D.Disk.moment g.D.Disk.image_since c.args.self.now.disk (HasBeforeOrAfter c.args.self.now.base payloads (payload_of c.args.frame.now))
     (λ b left. inl (keeps.each b (g.met.D.Disk.only_now c.args.self.now.disk b left)))
+
+pub returns-then-self-clause-as_long : goal.returns-then-self-clause-as_long
+returns-then-self-clause-as_long g c =
+    started g.D.Disk.moment g.D.Disk.image_since c.args.self.now.disk (λ b. length b ≡ g.D.Disk.size c.args.self.now.disk)
+    (λ b left. g.met.D.Disk.image_size c.args.self.now.disk b (g.met.D.Disk.only_now c.args.self.now.disk b left))
+
+pub returns-clause-as_long : goal.returns-clause-as_long
+returns-clause-as_long g c =
+    let disk = g.D.Disk in
+    let old = c.self.inside in
+    let step = c.append_kept-added in
+    subst (λ areas. LeavesOnly disk.moment disk.image_since areas.disk step.new.disk (λ b. length b ≡ disk.size areas.disk))
+    c.self.view_is
+    (as_long disk.size disk.image g.met.D.Disk.image_size disk.moment disk.image_since old.disk step.new.disk _ _ step.ensures.inside)
 
 pub returns-clause-added : goal.returns-clause-added
 returns-clause-added g c =

@@ -1,9 +1,9 @@
 -- each command is told as it went
 use Rattle.std.proofs.Common.{ap, ◌∙◌, sym, refl, Some, codes}
 use Rattle.std.specs.FinMap as finite
-use Rattle.spool_types.specs.declared.event.Event.TheVariants.{AddQueue, Create, Send, Close, Cancel, Clock}
+use Rattle.spool_types.specs.declared.event.Event.TheVariants.{AddQueue, Info, SetAccept, SetStop, Create, Send, Close, Hold, Release, Cancel, Clock}
 use Rattle.spool_types.specs.declared.refusal.Refusal.TheVariants.{TooLong}
-use Rattle.command_lines.specs.Replies.{jobs_text, refusal_line}
+use Rattle.command_lines.specs.Replies.{jobs_text, queues_text, refusal_line}
 use Rattle.spool_engine.specs.Answers.{plain_line, answer_line}
 use Rattle.spool_engine.specs.Runs.{device}
 use Rattle.spool_engine.specs.Script.{said_of, event_of, closing_of}
@@ -14,6 +14,24 @@ pub returns-in-Queue : goal.returns-in-Queue
 returns-in-Queue g c =
     let s = c.args.self.now in
     event_told (λ v. v.items) c.serve_event.result _ s _ c.args.command (AddQueue c.in-Queue.queue) plain_line (plain (AddQueue c.in-Queue.queue) (λ r. refl)) (ap (event_of s.state) c.in-Queue.is) c.serve_event.ensures
+
+pub returns-in-Info : goal.returns-in-Info
+returns-in-Info g c =
+    let s = c.args.self.now in
+    let e = Info c.in-Info.notes in
+    event_told (λ v. v.items) c.serve_event-in-Info.result _ s _ c.args.command e plain_line (plain e (λ r. refl)) (ap (event_of s.state) c.in-Info.is) c.serve_event-in-Info.ensures
+
+pub returns-in-SetAccept : goal.returns-in-SetAccept
+returns-in-SetAccept g c =
+    let s = c.args.self.now in
+    let e = SetAccept c.in-SetAccept.queue c.in-SetAccept.accepting in
+    event_told (λ v. v.items) c.serve_event-in-SetAccept.result _ s _ c.args.command e plain_line (plain e (λ r. refl)) (ap (event_of s.state) c.in-SetAccept.is) c.serve_event-in-SetAccept.ensures
+
+pub returns-in-SetStop : goal.returns-in-SetStop
+returns-in-SetStop g c =
+    let s = c.args.self.now in
+    let e = SetStop c.in-SetStop.queue c.in-SetStop.stopped in
+    event_told (λ v. v.items) c.serve_event-in-SetStop.result _ s _ c.args.command e plain_line (plain e (λ r. refl)) (ap (event_of s.state) c.in-SetStop.is) c.serve_event-in-SetStop.ensures
 
 pub returns-in-Create : goal.returns-in-Create
 returns-in-Create g c =
@@ -35,6 +53,18 @@ returns-in-Close g c =
     let e = Close (closing_of s.state c.in-Close.job) in
     event_told (λ v. v.items) c.close.result _ s _ c.args.command e (answer_line e) (λ a. refl) (ap (event_of s.state) c.in-Close.is) c.close.ensures
 
+pub returns-in-Hold : goal.returns-in-Hold
+returns-in-Hold g c =
+    let s = c.args.self.now in
+    let e = Hold c.in-Hold.job c.in-Hold.until in
+    event_told (λ v. v.items) c.serve_event-in-Hold.result _ s _ c.args.command e plain_line (plain e (λ r. refl)) (ap (event_of s.state) c.in-Hold.is) c.serve_event-in-Hold.ensures
+
+pub returns-in-Release : goal.returns-in-Release
+returns-in-Release g c =
+    let s = c.args.self.now in
+    let e = Release c.in-Release.job in
+    event_told (λ v. v.items) c.serve_event-in-Release.result _ s _ c.args.command e plain_line (plain e (λ r. refl)) (ap (event_of s.state) c.in-Release.is) c.serve_event-in-Release.ensures
+
 pub returns-in-Cancel : goal.returns-in-Cancel
 returns-in-Cancel g c =
     let s = c.args.self.now in
@@ -54,6 +84,11 @@ pub returns-in-Jobs : goal.returns-in-Jobs
 returns-in-Jobs g c =
     let s = c.args.self.now in
     said_told (λ v. v.items) c.jobs.result (device g.D.Disk.bytes g.D.Disk.image g.D.Disk.moment g.D.Disk.image_since g.D.Disk.failures) s c.args.command (jobs_text s.state.moment (finite.values s.state.jobs)) g.met.D.Disk.only_now c.jobs.ensures.kept (ap (event_of s.state) c.in-Jobs.is) (ap (said_of s.state) (sym c.in-Jobs.is)) c.jobs.ensures.text
+
+pub returns-in-Queues : goal.returns-in-Queues
+returns-in-Queues g c =
+    let s = c.args.self.now in
+    said_told (λ v. v.items) c.queues.result (device g.D.Disk.bytes g.D.Disk.image g.D.Disk.moment g.D.Disk.image_since g.D.Disk.failures) s c.args.command (queues_text (finite.values s.state.jobs) (finite.values s.state.queues)) g.met.D.Disk.only_now c.queues.ensures.kept (ap (event_of s.state) c.in-Queues.is) (ap (said_of s.state) (sym c.in-Queues.is)) c.queues.ensures.text
 
 pub returns : goal.returns
 returns g c =
