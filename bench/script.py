@@ -37,6 +37,14 @@ def jobs(count):
     return b"".join(lines), 3 * count
 
 
+def held(count):
+    """Jobs are made, and each is held and released."""
+    lines = [b"queue lab spoolfile:/out application/octet-stream abort-job\n"]
+    lines += [b'create lab ann "A title" 1 50 ""\n'] * count
+    lines += [b"hold %d indefinite\nrelease %d\n" % (n, n) for n in range(1, count + 1)]
+    return b"".join(lines), 3 * count
+
+
 def listed(count):
     """Jobs are made, and listed once."""
     lines = [b"queue lab spoolfile:/out application/octet-stream abort-job\n"]
@@ -66,7 +74,7 @@ def remarks(count):
 def main():
     if not os.path.exists(shell):
         sys.exit("no program: run `rt run` in crates/spool_shell first")
-    for make, counts in ((jobs, (1000, 10000, 100000)), (listed, (1000, 10000, 100000)), (sends, (16, 160, 1600)), (remarks, (1000, 10000, 100000))):
+    for make, counts in ((jobs, (1000, 10000, 100000)), (held, (1000, 10000, 100000)), (listed, (1000, 10000, 100000)), (sends, (16, 160, 1600)), (remarks, (1000, 10000, 100000))):
         first = None
         print(make.__doc__)
         for count in counts:

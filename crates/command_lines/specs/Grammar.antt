@@ -10,7 +10,7 @@ use Rattle.spool_types.specs.declared.phase.Policy.TheVariants.{AbortJob, RetryJ
 use Rattle.spool_types.specs.Phases.{policy_word}
 use Rattle.command_lines.specs.Words.{words_of}
 use Rattle.command_lines.specs.Numbers.{ranged}
-use Rattle.command_lines.specs.declared.command.Command.TheVariants.{Queue, Info, SetAccept, SetStop, Create, Close, Hold, Release, Cancel, Clock, Jobs, Queues, Malformed}
+use Rattle.command_lines.specs.declared.command.Command.TheVariants.{Queue, Info, SetAccept, SetStop, Create, Close, Hold, Release, Abandon, Cancel, Clock, Jobs, Queues, Malformed}
 use Rattle.command_lines.specs.declared.command.Kind.{Kind}
 use Rattle.command_lines.specs.declared.command.Kind.TheVariants.{Remark, Says, Takes}
 
@@ -155,6 +155,15 @@ abbrev pub release_line : List (List ℕ) → Option Kind
 release_line (job ∷ []) = release_of (job_in job)
 release_line words = None
 
+abbrev pub abandon_of : Option ℕ → Option Kind
+abandon_of (Some job) = Some (Says (Abandon job))
+abandon_of None = None
+
+-- JOB
+abbrev pub abandon_line : List (List ℕ) → Option Kind
+abandon_line (job ∷ []) = abandon_of (job_in job)
+abandon_line words = None
+
 abbrev pub cancel_of : Option ℕ → Option Kind
 cancel_of (Some job) = Some (Says (Cancel job))
 cancel_of None = None
@@ -194,7 +203,8 @@ job_command name words =
     (cond (is_word name (codes "hold")) (hold_line words)
     (cond (is_word name (codes "release")) (release_line words)
     (cond (is_word name (codes "cancel")) (cancel_line words)
-    None)))))
+    (cond (is_word name (codes "abandon")) (abandon_line words)
+    None))))))
 
 -- commands about a queue
 abbrev pub queue_command : List ℕ → List (List ℕ) → Option Kind

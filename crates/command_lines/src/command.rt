@@ -39,6 +39,8 @@ pub enum Command {
     Hold { job: JobId, until: Option<Moment> },
     /// Releases a job that is held.
     Release(JobId),
+    /// Gives up the attempt at a job that is processing.
+    Abandon(JobId),
     /// Cancels a job.
     Cancel(JobId),
     /// Tells the moment now.

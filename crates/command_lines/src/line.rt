@@ -2,7 +2,7 @@
 ghost use Rattle.std.specs.Prelude.{◌≡◌, IfOk, map};
 ghost use Rattle.spool_types.specs.Values.{is_queue_name, is_uri, is_user_name, is_title, is_options, is_note};
 ghost use Rattle.command_lines.specs.Fronts.{bytes_of};
-ghost use Rattle.command_lines.specs.Grammar.{kind_of as line_kind, is_remark as remark, kind_in, line_of, queue_command, job_command, queue_line as queues, queue_of, info_line as informs, info_of, accept_line as accepts, stop_line as stops, create_line as creates, creation_of, send_line as sends, send_of, close_line as closes, close_of, hold_line as holds, release_line as releases, cancel_line as cancels, cancel_of, clock_line as clocks, jobs_line as lists, queues_line as lists_queues, text_in, media_in, copies_in, priority_in, policy_in as policy_word};
+ghost use Rattle.command_lines.specs.Grammar.{kind_of as line_kind, is_remark as remark, kind_in, line_of, queue_command, job_command, queue_line as queues, queue_of, info_line as informs, info_of, accept_line as accepts, stop_line as stops, create_line as creates, creation_of, send_line as sends, send_of, close_line as closes, close_of, hold_line as holds, release_line as releases, abandon_line as abandons, cancel_line as cancels, cancel_of, clock_line as clocks, jobs_line as lists, queues_line as lists_queues, text_in, media_in, copies_in, priority_in, policy_in as policy_word};
 
 use crate::command::{Command, Creation, Kind};
 use crate::numbers::{job_number, moment_number, ranged_number, short_number, small_number};
@@ -138,6 +138,9 @@ fn line_of_job_command(
     }
     if name == b"cancel".as_slice() {
         return Ok(cancel_line(words));
+    }
+    if name == b"abandon".as_slice() {
+        return Ok(abandon_line(words));
     }
     Ok(None)
 }
@@ -374,6 +377,16 @@ fn release_line(words: &[Word<'_>]) -> Option<Kind>
 {
     match words {
         [job] => Some(Kind::Says(Command::Release(job_number(job.bytes())?))),
+        _ => None,
+    }
+}
+
+// `abandon JOB`
+fn abandon_line(words: &[Word<'_>]) -> Option<Kind>
+    ensures { result ≡ abandons (map bytes_of words.now) }
+{
+    match words {
+        [job] => Some(Kind::Says(Command::Abandon(job_number(job.bytes())?))),
         _ => None,
     }
 }

@@ -45,6 +45,7 @@ send 1 3\na\nb\n\
 close 1 page.txt\n\
 hold 1 100\n\
 release 1\n\
+abandon 1\n\
 cancel 1\n\
 clock 7\n\
 queues\n\
@@ -62,6 +63,7 @@ Send { job: JobId { number: 1 }, bytes: Items { items: [97, 10, 98] } }\n\
 Close { job: JobId { number: 1 }, name: \"page.txt\" }\n\
 Hold { job: JobId { number: 1 }, until: Some(Moment { seconds: 100 }) }\n\
 Release(JobId { number: 1 })\n\
+Abandon(JobId { number: 1 })\n\
 Cancel(JobId { number: 1 })\n\
 Clock(Moment { seconds: 7 })\n\
 Queues\n\

@@ -7,19 +7,21 @@ use Rattle.spool_types.specs.declared.event.NewQueue.{NewQueue}
 use Rattle.spool_types.specs.declared.event.QueueNotes.{QueueNotes}
 use Rattle.spool_types.specs.declared.event.NewJob.{NewJob}
 use Rattle.spool_types.specs.declared.event.Closing.{Closing}
+use Rattle.spool_types.specs.declared.event.StageEnd.{StageEnd}
 use Rattle.spool_types.specs.declared.event.Event.{Event}
-use Rattle.spool_types.specs.declared.event.Event.TheVariants.{AddQueue, Info, SetAccept, SetStop, Create, Send, Close, Hold, Release, Cancel, Clock}
-use Rattle.spool_types.specs.Limits.{greatest_number, greatest_moment, longest_send}
+use Rattle.spool_types.specs.declared.event.Event.TheVariants.{AddQueue, Info, SetAccept, SetStop, Create, Send, Close, Hold, Release, Cancel, Clock, Start, Stage, Abandon, Reopen}
+use Rattle.spool_types.specs.Limits.{greatest_number, greatest_moment, greatest_attempts, longest_send}
 use Rattle.spool_types.specs.Values.{is_queue_name, is_uri, is_media_type, is_user_name, is_title, is_options, is_note}
 use Rattle.event_codec.specs.declared.fault.CodecFault.{CodecFault}
 use Rattle.event_codec.specs.declared.fault.CodecFault.TheVariants.{Kind, Length}
-use Rattle.event_codec.specs.Spelling.{text_code, flag_code, until_code, filters_code, queue_code, notes_code, accept_code, stop_code, job_code, send_code, closing_code, hold_code, spelling, IsIn, IsJobNumber, IsText, IsQueue, AreNotes, IsJob, IsSend, IsClosing, IsHold, AreFilters, IsMoment, IsSpellable}
+use Rattle.event_codec.specs.Spelling.{text_code, flag_code, until_code, filters_code, queue_code, notes_code, accept_code, stop_code, job_code, send_code, closing_code, hold_code, exit_code, no_effects, stage_code, spelling, IsIn, IsJobNumber, IsText, IsQueue, AreNotes, IsJob, IsSend, IsClosing, IsHold, AreFilters, IsMoment, IsExit, IsStageEnd, IsSpellable}
 use Rattle.std.specs.Prelude.{IfOk}
-use Rattle.event_codec.specs.Reading.{Field, Gives, part_at, number_at, ranged_at, text_at, flag_at, until_at, policy_at, maybe_filters_at, piece_at, queue_at, notes_at, accept_at, stop_at, job_at, send_at, closing_at, hold_at, release_at, cancel_at, clock_at, fields_at, event_at, whole, reading}
-use Rattle.event_codec.proofs.FieldLaws.{IsBytes, bind_ok, passed_ok, ok_is, Takes, Takes-then, Reads, got, again-step, again-last, part_takes, part_again, wide8, wide16, wide32, reads_number, reads_ranged}
+use Rattle.event_codec.specs.Reading.{Field, Gives, part_at, number_at, ranged_at, text_at, flag_at, until_at, exit_at, policy_at, maybe_filters_at, piece_at, queue_at, notes_at, accept_at, stop_at, job_at, send_at, closing_at, hold_at, release_at, cancel_at, clock_at, start_at, stage_at, abandon_at, fields_at, event_at, whole, reading}
+use Rattle.event_codec.proofs.FieldLaws.{IsBytes, bind_ok, passed_ok, done, ok_is, Takes, Takes-then, Reads, got, again-step, again-last, part_takes, part_again, wide8, wide16, wide32, reads_number, reads_ranged}
 use Rattle.event_codec.proofs.TextLaws.{reads_queue_name, reads_uri, reads_media, reads_user_name, reads_title, reads_options, reads_note}
 use Rattle.event_codec.proofs.FilterLaws.{Anything, chosen, refused, policy_code, reads_policy, reads_filters}
 use Rattle.event_codec.proofs.HoldLaws.{reads_flag, reads_moment, reads_until}
+use Rattle.event_codec.proofs.ExitLaws.{reads_exit}
 
 abbrev reads_job_number : Reads (ranged_at 1 greatest_number w32) (to_be_bytes w32) IsJobNumber
 reads_job_number = reads_ranged 1 greatest_number w32 (2 ^ 32) wide32 (omega arith)
@@ -38,6 +40,18 @@ reads_priority = reads_ranged 1 100 w8 (2 ^ 8) wide8 (omega arith)
 
 abbrev reads_length : Reads (ranged_at 0 longest_send w32) (to_be_bytes w32) (IsIn 0 longest_send)
 reads_length = reads_ranged 0 longest_send w32 (2 ^ 32) wide32 (omega arith)
+
+abbrev reads_attempt : Reads (ranged_at 1 greatest_attempts w32) (to_be_bytes w32) (IsIn 1 greatest_attempts)
+reads_attempt = reads_ranged 1 greatest_attempts w32 (2 ^ 32) wide32 (omega arith)
+
+abbrev reads_stage_number : Reads (ranged_at 1 16 w8) (to_be_bytes w8) (IsIn 1 16)
+reads_stage_number = reads_ranged 1 16 w8 (2 ^ 8) wide8 (omega arith)
+
+abbrev reads_dropped : Reads (number_at w32) (to_be_bytes w32) (λ n. n < 2 ^ 32)
+reads_dropped = reads_number w32 (2 ^ 32) wide32
+
+abbrev reads_no_effects : Reads (ranged_at 0 0 w16) (to_be_bytes w16) (IsIn 0 0)
+reads_no_effects = reads_ranged 0 0 w16 (2 ^ 16) wide16 (omega arith)
 
 -- an event that was read behind its first byte
 record Spelled (kind : ℕ) (bytes : List ℕ) (x : Event × List ℕ) : Type 0 where
@@ -333,6 +347,76 @@ clock_again : (m : ℕ) (rest : List ℕ) → IsIn 0 greatest_moment m → clock
 unfolding clock_at
 clock_again m rest h = again-last (ranged_at 0 greatest_moment w64) (to_be_bytes w64) (IsIn 0 greatest_moment) reads_moment m rest _ h
 
+-- ---- attempts
+
+start_takes : (bytes : List ℕ) (x : Event × List ℕ) → IsBytes bytes → start_at bytes ≡ Ok x → Spelled 0x0C bytes x
+unfolding start_at
+start_takes bytes x fits e =
+    let a = got (ranged_at 1 greatest_number w32) (to_be_bytes w32) IsJobNumber reads_job_number bytes _ x fits e in
+    subst (Spelled 0x0C bytes) (ok_is (Start a.value, a.rest) x a.then) (record { taken = behind 0x0C bytes (to_be_bytes w32 a.value) a.rest a.taken; legal = a.legal })
+
+start_again : (j : ℕ) (rest : List ℕ) → IsJobNumber j → start_at (to_be_bytes w32 j ++ rest) ≡ Ok (Start j, rest)
+unfolding start_at
+start_again j rest h = again-last (ranged_at 1 greatest_number w32) (to_be_bytes w32) IsJobNumber reads_job_number j rest _ h
+
+stage_nested : (e : StageEnd) → stage_code e ≡ to_be_bytes w32 e.job ++ (to_be_bytes w32 e.attempt ++ (to_be_bytes w8 e.stage ++ (exit_code e.exit ++ (to_be_bytes w32 e.dropped ++ no_effects))))
+stage_nested e = nested6 (to_be_bytes w32 e.job) (to_be_bytes w32 e.attempt) (to_be_bytes w8 e.stage) (exit_code e.exit) (to_be_bytes w32 e.dropped) no_effects
+
+stage_taken : (e : StageEnd) (r0 r1 r2 r3 r4 r5 r6 : List ℕ) → Takes r0 (to_be_bytes w32 e.job) r1 → Takes r1 (to_be_bytes w32 e.attempt) r2 → Takes r2 (to_be_bytes w8 e.stage) r3 → Takes r3 (exit_code e.exit) r4 → Takes r4 (to_be_bytes w32 e.dropped) r5 → Takes r5 no_effects r6 → Takes r0 (stage_code e) r6
+stage_taken e r0 r1 r2 r3 r4 r5 r6 a b c d f g =
+    let t4 = to_be_bytes w32 e.dropped ++ no_effects in
+    let t3 = exit_code e.exit ++ t4 in
+    let t2 = to_be_bytes w8 e.stage ++ t3 in
+    let t1 = to_be_bytes w32 e.attempt ++ t2 in
+    let p4 = Takes-then r4 (to_be_bytes w32 e.dropped) r5 no_effects r6 f g in
+    let p3 = Takes-then r3 (exit_code e.exit) r4 t4 r6 d p4 in
+    let p2 = Takes-then r2 (to_be_bytes w8 e.stage) r3 t3 r6 c p3 in
+    let p1 = Takes-then r1 (to_be_bytes w32 e.attempt) r2 t2 r6 b p2 in
+    subst (λ (t : List ℕ). Takes r0 t r6) (sym (stage_nested e)) (Takes-then r0 (to_be_bytes w32 e.job) r1 t1 r6 a p1)
+
+stage_takes : (bytes : List ℕ) (x : Event × List ℕ) → IsBytes bytes → stage_at bytes ≡ Ok x → Spelled 0x0D bytes x
+unfolding stage_at
+stage_takes bytes x fits e =
+    let a = got (ranged_at 1 greatest_number w32) (to_be_bytes w32) IsJobNumber reads_job_number bytes _ x fits e in
+    let b = got (ranged_at 1 greatest_attempts w32) (to_be_bytes w32) (IsIn 1 greatest_attempts) reads_attempt a.rest _ x a.taken.rest_fits a.then in
+    let c = got (ranged_at 1 16 w8) (to_be_bytes w8) (IsIn 1 16) reads_stage_number b.rest _ x b.taken.rest_fits b.then in
+    let d = got exit_at exit_code IsExit reads_exit c.rest _ x c.taken.rest_fits c.then in
+    let f = got (number_at w32) (to_be_bytes w32) (λ n. n < 2 ^ 32) reads_dropped d.rest _ x d.taken.rest_fits d.then in
+    let g = got (ranged_at 0 0 w16) (to_be_bytes w16) (IsIn 0 0) reads_no_effects f.rest _ x f.taken.rest_fits f.then in
+    let none : g.value ≡ 0 = omega (arith, g.legal.at_most) in
+    let nothing : Takes f.rest no_effects g.rest = subst (λ (n : ℕ). Takes f.rest (to_be_bytes w16 n) g.rest) none g.taken in
+    let s : StageEnd = record { job = a.value; attempt = b.value; stage = c.value; exit = d.value; dropped = f.value } in
+    let is : IsStageEnd s = record { job = a.legal; attempt = b.legal; stage = c.legal; exit = d.legal; dropped = record { at_least = omega arith; at_most = omega (arith, f.legal) } } in
+    subst (Spelled 0x0D bytes) (ok_is (Stage s, g.rest) x g.then) (record { taken = behind 0x0D bytes (stage_code s) g.rest (stage_taken s bytes a.rest b.rest c.rest d.rest f.rest g.rest a.taken b.taken c.taken d.taken f.taken nothing); legal = is })
+
+stage_again : (e : StageEnd) (rest : List ℕ) → IsStageEnd e → stage_at (stage_code e ++ rest) ≡ Ok (Stage e, rest)
+unfolding stage_at
+stage_again e rest h =
+    let t4 = to_be_bytes w32 e.dropped ++ no_effects in
+    let t3 = exit_code e.exit ++ t4 in
+    let t2 = to_be_bytes w8 e.stage ++ t3 in
+    let t1 = to_be_bytes w32 e.attempt ++ t2 in
+    ap (λ (t : List ℕ). stage_at (t ++ rest)) (stage_nested e) ∙
+    again-step (ranged_at 1 greatest_number w32) (to_be_bytes w32) IsJobNumber reads_job_number e.job t1 rest _ _ h.job
+    (again-step (ranged_at 1 greatest_attempts w32) (to_be_bytes w32) (IsIn 1 greatest_attempts) reads_attempt e.attempt t2 rest _ _ h.attempt
+    (again-step (ranged_at 1 16 w8) (to_be_bytes w8) (IsIn 1 16) reads_stage_number e.stage t3 rest _ _ h.stage
+    (again-step exit_at exit_code IsExit reads_exit e.exit t4 rest _ _ h.exit
+    (again-step (number_at w32) (to_be_bytes w32) (λ n. n < 2 ^ 32) reads_dropped e.dropped no_effects rest _ _ (omega (arith, h.dropped.at_most))
+    (again-last (ranged_at 0 0 w16) (to_be_bytes w16) (IsIn 0 0) reads_no_effects 0 rest _ (record { at_least = omega arith; at_most = omega arith }))))))
+
+abandon_takes : (bytes : List ℕ) (x : Event × List ℕ) → IsBytes bytes → abandon_at bytes ≡ Ok x → Spelled 0x0E bytes x
+unfolding abandon_at
+abandon_takes bytes x fits e =
+    let a = got (ranged_at 1 greatest_number w32) (to_be_bytes w32) IsJobNumber reads_job_number bytes _ x fits e in
+    subst (Spelled 0x0E bytes) (ok_is (Abandon a.value, a.rest) x a.then) (record { taken = behind 0x0E bytes (to_be_bytes w32 a.value) a.rest a.taken; legal = a.legal })
+
+abandon_again : (j : ℕ) (rest : List ℕ) → IsJobNumber j → abandon_at (to_be_bytes w32 j ++ rest) ≡ Ok (Abandon j, rest)
+unfolding abandon_at
+abandon_again j rest h = again-last (ranged_at 1 greatest_number w32) (to_be_bytes w32) IsJobNumber reads_job_number j rest _ h
+
+reopen_takes : (bytes : List ℕ) (x : Event × List ℕ) → IsBytes bytes → done (Reopen, bytes) ≡ Ok x → Spelled 0x0F bytes x
+reopen_takes bytes x fits e = subst (Spelled 0x0F bytes) (ok_is (Reopen, bytes) x e) (record { taken = record { parts = refl; rest_fits = fits }; legal = tt })
+
 -- ---- events
 
 of_kind : (kind n : ℕ) (bytes : List ℕ) (x : Event × List ℕ) → eqb kind n ≡ true → Spelled n bytes x → Spelled kind bytes x
@@ -361,7 +445,11 @@ fields_take kind bytes x fits e =
     (by_kind kind 0x09 release_at _ bytes x (release_takes bytes x fits)
     (by_kind kind 0x0A cancel_at _ bytes x (cancel_takes bytes x fits)
     (by_kind kind 0x0B clock_at _ bytes x (clock_takes bytes x fits)
-    (λ refusal. absurd (refused Kind x refusal)))))))))))) e
+    (by_kind kind 0x0C start_at _ bytes x (start_takes bytes x fits)
+    (by_kind kind 0x0D stage_at _ bytes x (stage_takes bytes x fits)
+    (by_kind kind 0x0E abandon_at _ bytes x (abandon_takes bytes x fits)
+    (by_kind kind 0x0F (λ fields. Ok (Reopen, fields)) _ bytes x (reopen_takes bytes x fits)
+    (λ refusal. absurd (refused Kind x refusal)))))))))))))))) e
 
 pub record Found (bytes : List ℕ) (x : Event × List ℕ) : Type 0 where
   pub taken : Takes bytes (spelling x.0) x.1
@@ -387,6 +475,10 @@ event_again (Hold j until) rest h = hold_again j until rest h
 event_again (Release j) rest h = release_again j rest h
 event_again (Cancel j) rest h = cancel_again j rest h
 event_again (Clock m) rest h = clock_again m rest h
+event_again (Start j) rest h = start_again j rest h
+event_again (Stage e) rest h = stage_again e rest h
+event_again (Abandon j) rest h = abandon_again j rest h
+event_again Reopen rest h = refl
 
 pub reading_takes : (bytes : List ℕ) (e : Event) → IsBytes bytes → reading bytes ≡ Ok e → IsSpellable e × (bytes ≡ spelling e)
 unfolding whole

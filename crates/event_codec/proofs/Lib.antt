@@ -4,4 +4,5 @@ pub mod FieldLaws
 pub mod TextLaws
 pub mod FilterLaws
 pub mod HoldLaws
+pub mod ExitLaws
 pub mod EventLaws

@@ -4,9 +4,11 @@ use Rattle.std.specs.Int.{Width, w8, w16, w32, w64, byte_len, from_be_bytes}
 use Rattle.std.specs.Str.{is_utf8}
 use Rattle.spool_types.specs.declared.phase.Policy.{Policy}
 use Rattle.spool_types.specs.declared.phase.Policy.TheVariants.{AbortJob, RetryJob, RetryCurrentJob, StopPrinter}
+use Rattle.spool_types.specs.declared.effect.Exit.{Exit}
+use Rattle.spool_types.specs.declared.effect.Exit.TheVariants.{Code, Signal, NoStart, Lost}
 use Rattle.spool_types.specs.declared.event.Event.{Event}
-use Rattle.spool_types.specs.declared.event.Event.TheVariants.{AddQueue, Info, SetAccept, SetStop, Create, Send, Close, Hold, Release, Cancel, Clock}
-use Rattle.spool_types.specs.Limits.{greatest_number, greatest_moment, longest_send}
+use Rattle.spool_types.specs.declared.event.Event.TheVariants.{AddQueue, Info, SetAccept, SetStop, Create, Send, Close, Hold, Release, Cancel, Clock, Start, Stage, Abandon, Reopen}
+use Rattle.spool_types.specs.Limits.{greatest_number, greatest_moment, greatest_attempts, longest_send}
 use Rattle.spool_types.specs.Values.{is_queue_name, is_uri, is_media_type, is_user_name, is_title, is_options, is_note, is_filter_name}
 use Rattle.spool_types.specs.declared.text.TextFault.{TextFault}
 use Rattle.spool_types.specs.declared.text.TextFault.TheVariants.{Bad}
@@ -97,6 +99,24 @@ unfoldable pub until_at : List ℕ → Field (Option ℕ)
 until_at bytes = do
   flag ← number_at w8 bytes
   flagged_until_at flag.0 flag.1
+
+unfoldable pub status_at : List ℕ → Field Exit
+status_at bytes = do
+  status ← number_at w8 bytes
+  Ok (Code status.0, status.1)
+
+unfoldable pub kind_of_exit : ℕ → List ℕ → Field Exit
+kind_of_exit kind bytes =
+    if kind == 0 then status_at bytes
+    else if kind == 1 then Ok (Signal, bytes)
+    else if kind == 2 then Ok (NoStart, bytes)
+    else if kind == 3 then Ok (Lost, bytes)
+    else Err Range
+
+unfoldable pub exit_at : List ℕ → Field Exit
+exit_at bytes = do
+  kind ← number_at w8 bytes
+  kind_of_exit kind.0 kind.1
 
 unfoldable pub policy_of : ℕ → Result Policy CodecFault
 policy_of n =
@@ -219,6 +239,27 @@ clock_at bytes = do
   moment ← ranged_at 0 greatest_moment w64 bytes
   Ok (Clock moment.0, moment.1)
 
+unfoldable pub start_at : List ℕ → Field Event
+start_at bytes = do
+  job ← ranged_at 1 greatest_number w32 bytes
+  Ok (Start job.0, job.1)
+
+-- no effect can be spelled yet
+unfoldable pub stage_at : List ℕ → Field Event
+stage_at bytes = do
+  job ← ranged_at 1 greatest_number w32 bytes
+  attempt ← ranged_at 1 greatest_attempts w32 job.1
+  stage ← ranged_at 1 16 w8 attempt.1
+  exit ← exit_at stage.1
+  dropped ← number_at w32 exit.1
+  effects ← ranged_at 0 0 w16 dropped.1
+  Ok (Stage (record { job = job.0; attempt = attempt.0; stage = stage.0; exit = exit.0; dropped = dropped.0 }), effects.1)
+
+unfoldable pub abandon_at : List ℕ → Field Event
+abandon_at bytes = do
+  job ← ranged_at 1 greatest_number w32 bytes
+  Ok (Abandon job.0, job.1)
+
 -- the fields of an event of this kind
 unfoldable pub fields_at : ℕ → List ℕ → Field Event
 fields_at kind bytes =
@@ -233,6 +274,10 @@ fields_at kind bytes =
     else if kind == 0x09 then release_at bytes
     else if kind == 0x0A then cancel_at bytes
     else if kind == 0x0B then clock_at bytes
+    else if kind == 0x0C then start_at bytes
+    else if kind == 0x0D then stage_at bytes
+    else if kind == 0x0E then abandon_at bytes
+    else if kind == 0x0F then Ok (Reopen, bytes)
     else Err Kind
 
 unfoldable pub event_at : List ℕ → Field Event

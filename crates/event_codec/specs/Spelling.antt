@@ -1,17 +1,20 @@
 -- The one spelling of each event in bytes.
-use Rattle.std.specs.Prelude.{◌≡◌, ℕ, ◌≤◌, Bool, true, cond, List, ◌∷◌, ◌++◌, length, Option, None, Some}
+use Rattle.std.specs.Prelude.{◌≡◌, ℕ, ◌≤◌, Bool, true, cond, List, [], ◌∷◌, ◌++◌, length, Option, None, Some}
 use Rattle.std.specs.List.{flat_map, AllByRecursion}
 use Rattle.std.specs.Int.{w8, w16, w32, w64, to_be_bytes}
 use Rattle.std.specs.Str.{is_utf8}
 use Rattle.spool_types.specs.declared.phase.Policy.{Policy}
 use Rattle.spool_types.specs.declared.phase.Policy.TheVariants.{AbortJob, RetryJob, RetryCurrentJob, StopPrinter}
+use Rattle.spool_types.specs.declared.effect.Exit.{Exit}
+use Rattle.spool_types.specs.declared.effect.Exit.TheVariants.{Code, Signal, NoStart, Lost}
 use Rattle.spool_types.specs.declared.event.NewQueue.{NewQueue}
 use Rattle.spool_types.specs.declared.event.QueueNotes.{QueueNotes}
 use Rattle.spool_types.specs.declared.event.NewJob.{NewJob}
 use Rattle.spool_types.specs.declared.event.Closing.{Closing}
+use Rattle.spool_types.specs.declared.event.StageEnd.{StageEnd}
 use Rattle.spool_types.specs.declared.event.Event.{Event}
-use Rattle.spool_types.specs.declared.event.Event.TheVariants.{AddQueue, Info, SetAccept, SetStop, Create, Send, Close, Hold, Release, Cancel, Clock}
-use Rattle.spool_types.specs.Limits.{greatest_number, greatest_moment, longest_send}
+use Rattle.spool_types.specs.declared.event.Event.TheVariants.{AddQueue, Info, SetAccept, SetStop, Create, Send, Close, Hold, Release, Cancel, Clock, Start, Stage, Abandon, Reopen}
+use Rattle.spool_types.specs.Limits.{greatest_number, greatest_moment, greatest_attempts, longest_send}
 use Rattle.spool_types.specs.Values.{is_queue_name, is_uri, is_media_type, is_user_name, is_title, is_options, is_note, is_filter_name}
 
 -- ---- fields. Numbers are big-endian
@@ -79,6 +82,26 @@ closing_code c = to_be_bytes w32 c.job ++ text_code c.media ++ filters_code c.fi
 abbrev pub hold_code : ℕ → Option ℕ → List ℕ
 hold_code j until = to_be_bytes w32 j ++ until_code until
 
+-- how a child ended, and its status where it has one
+abbrev pub exit_code : Exit → List ℕ
+exit_code (Code status) = to_be_bytes w8 0 ++ to_be_bytes w8 status
+exit_code Signal = to_be_bytes w8 1
+exit_code NoStart = to_be_bytes w8 2
+exit_code Lost = to_be_bytes w8 3
+
+-- how many effects a stage has: none yet
+abbrev pub no_effects : List ℕ
+no_effects = to_be_bytes w16 0
+
+abbrev pub stage_code : StageEnd → List ℕ
+stage_code e =
+    to_be_bytes w32 e.job
+    ++ to_be_bytes w32 e.attempt
+    ++ to_be_bytes w8 e.stage
+    ++ exit_code e.exit
+    ++ to_be_bytes w32 e.dropped
+    ++ no_effects
+
 -- the event's kind in one byte, its fields in order, and nothing else
 abbrev pub spelling : Event → List ℕ
 spelling (AddQueue q) = 0x01 ∷ queue_code q
@@ -92,6 +115,10 @@ spelling (Hold j until) = 0x08 ∷ hold_code j until
 spelling (Release j) = 0x09 ∷ to_be_bytes w32 j
 spelling (Cancel j) = 0x0A ∷ to_be_bytes w32 j
 spelling (Clock m) = 0x0B ∷ to_be_bytes w64 m
+spelling (Start j) = 0x0C ∷ to_be_bytes w32 j
+spelling (Stage e) = 0x0D ∷ stage_code e
+spelling (Abandon j) = 0x0E ∷ to_be_bytes w32 j
+spelling Reopen = 0x0F ∷ []
 
 -- ---- what has a spelling: an event whose fields are within their limits, as the event of each value of the type is
 
@@ -148,6 +175,20 @@ pub record IsHold (j : ℕ) (until : Option ℕ) : Type 0 where
   pub job : IsJobNumber j
   pub moment : IsMoment until
 
+-- the status of a child is a byte
+abbrev pub IsExit : Exit → Type 0
+IsExit (Code status) = IsIn 0 255 status
+IsExit Signal = Unit {0}
+IsExit NoStart = Unit {0}
+IsExit Lost = Unit {0}
+
+pub record IsStageEnd (e : StageEnd) : Type 0 where
+  pub job : IsJobNumber e.job
+  pub attempt : IsIn 1 greatest_attempts e.attempt
+  pub stage : IsIn 1 16 e.stage
+  pub exit : IsExit e.exit
+  pub dropped : IsIn 0 4294967295 e.dropped
+
 abbrev pub IsSpellable : Event → Type 0
 IsSpellable (AddQueue q) = IsQueue q
 IsSpellable (Info notes) = AreNotes notes
@@ -160,3 +201,7 @@ IsSpellable (Hold j until) = IsHold j until
 IsSpellable (Release j) = IsJobNumber j
 IsSpellable (Cancel j) = IsJobNumber j
 IsSpellable (Clock m) = IsIn 0 greatest_moment m
+IsSpellable (Start j) = IsJobNumber j
+IsSpellable (Stage e) = IsStageEnd e
+IsSpellable (Abandon j) = IsJobNumber j
+IsSpellable Reopen = Unit {0}

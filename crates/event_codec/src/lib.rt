@@ -17,6 +17,13 @@
 //! | 09 | Release | job in 4 bytes |
 //! | 0A | Cancel | job in 4 bytes |
 //! | 0B | Clock | moment in 8 bytes |
+//! | 0C | Start | job in 4 bytes |
+//! | 0D | Stage | job in 4 bytes, attempt in 4, stage in 1, exit, dropped lines in 4, the number of effects in 2 |
+//! | 0E | Abandon | job in 4 bytes |
+//! | 0F | Reopen | none |
+//!
+//! An exit is 0 and a status in 1 byte; or 1 after a signal, 2 where nothing was started, 3 where the end or the output
+//! isn't known. The number of effects is 0, as no effect can be spelled yet.
 //!
 //! # Promises
 //!

@@ -4,13 +4,13 @@ ghost use Rattle.std.specs.Int.{w8, w16, w32};
 ghost use Rattle.spool_types.specs.declared.event.Event.{Event as Change};
 ghost use Rattle.spool_types.specs.Values.{is_media_type};
 ghost use Rattle.event_codec.specs.Spelling.{IsSpellable, spelling};
-ghost use Rattle.event_codec.specs.Reading.{Gives, text_at as text, flag_at as flagged, until_at as until, policy_at as policy, filters_at as filters, counted_filters_at as counted_filters, maybe_filters_at as maybe_filters, piece_at as piece, queue_at, notes_at, accept_at, stop_at, job_at, send_at, closing_at, hold_at, release_at, cancel_at, clock_at, whole, reading};
+ghost use Rattle.event_codec.specs.Reading.{Gives, ranged_at as ranged_number_at, text_at as text, flag_at as flagged, until_at as until, exit_at as exit, policy_at as policy, filters_at as filters, counted_filters_at as counted_filters, maybe_filters_at as maybe_filters, piece_at as piece, queue_at, notes_at, accept_at, stop_at, job_at, send_at, closing_at, hold_at, release_at, cancel_at, clock_at, start_at, stage_at, abandon_at, whole, reading};
 
 use crate::fault::CodecFault;
 use crate::fields::{job_id, moment, part_at, ranged, text_at, u8_at, u16_at, u32_at, u64_at};
 use spool_types::{
-    Closing, Event, FilterName, Filters, MediaType, MediaTypeKind, Moment, NewJob, NewQueue, Piece,
-    Policy, QueueNotes,
+    Closing, Event, Exit, FilterName, Filters, MediaType, MediaTypeKind, Moment, NewJob, NewQueue,
+    Piece, Policy, QueueNotes, StageEnd,
 };
 use std::alloc::Global;
 
@@ -39,6 +39,23 @@ fn until_at(bytes: &[u8]) -> Result<(Option<Moment>, &[u8]), CodecFault>
             let moment = moment(seconds)?;
             Ok((Some(moment), rest))
         }
+        _ => Err(CodecFault::Range),
+    }
+}
+
+#[tactic(auto, unfolding(crate::specs::Reading::exit_at, crate::specs::Reading::kind_of_exit, crate::specs::Reading::status_at))]
+fn exit_at(bytes: &[u8]) -> Result<(Exit, &[u8]), CodecFault>
+    ensures { Gives (λ x. (x.0, x.1.now)) result (exit bytes.now) }
+{
+    let (kind, rest) = u8_at(bytes)?;
+    match kind {
+        0 => {
+            let (status, rest) = u8_at(rest)?;
+            Ok((Exit::Code(status), rest))
+        }
+        1 => Ok((Exit::Signal, rest)),
+        2 => Ok((Exit::NoStart, rest)),
+        3 => Ok((Exit::Lost, rest)),
         _ => Err(CodecFault::Range),
     }
 }
@@ -294,6 +311,69 @@ fn clock_of(fields: &[u8]) -> Result<Event, CodecFault>
     Ok(Event::Clock(moment))
 }
 
+#[tactic(auto, unfolding(crate::specs::Reading::start_at, crate::specs::Reading::ranged_at, crate::specs::Reading::whole))]
+fn start_of(fields: &[u8]) -> Result<Event, CodecFault>
+    ensures { Gives (λ e. e) result (whole (start_at fields.now)) }
+{
+    let (number, rest) = u32_at(fields)?;
+    let job = job_id(number)?;
+    ended(rest)?;
+    Ok(Event::Start(job))
+}
+
+/// No effect can be spelled yet.
+#[tactic(auto, unfolding(crate::specs::Reading::ranged_at, crate::specs::Reading::ranged, crate::specs::Reading::checked))]
+fn no_effects_at(bytes: &[u8]) -> Result<&[u8], CodecFault>
+    ensures { Gives (λ rest. (0, rest.now)) result (ranged_number_at 0 0 w16 bytes.now) }
+{
+    let (count, rest) = u16_at(bytes)?;
+    if count != 0 {
+        return Err(CodecFault::Range);
+    }
+    Ok(rest)
+}
+
+#[tactic(auto, unfolding(crate::specs::Reading::stage_at, crate::specs::Reading::ranged_at, crate::specs::Reading::whole))]
+fn stage_of(fields: &[u8]) -> Result<Event, CodecFault>
+    ensures { Gives (λ e. e) result (whole (stage_at fields.now)) }
+{
+    let (number, rest) = u32_at(fields)?;
+    let job = job_id(number)?;
+    let (attempt, rest) = u32_at(rest)?;
+    let attempt = ranged(attempt)?;
+    let (stage, rest) = u8_at(rest)?;
+    let stage = ranged(stage as u32)?;
+    let (exit, rest) = exit_at(rest)?;
+    let (dropped, rest) = u32_at(rest)?;
+    let rest = no_effects_at(rest)?;
+    ended(rest)?;
+    Ok(Event::Stage(StageEnd {
+        job,
+        attempt,
+        stage,
+        exit,
+        dropped,
+    }))
+}
+
+#[tactic(auto, unfolding(crate::specs::Reading::abandon_at, crate::specs::Reading::ranged_at, crate::specs::Reading::whole))]
+fn abandon_of(fields: &[u8]) -> Result<Event, CodecFault>
+    ensures { Gives (λ e. e) result (whole (abandon_at fields.now)) }
+{
+    let (number, rest) = u32_at(fields)?;
+    let job = job_id(number)?;
+    ended(rest)?;
+    Ok(Event::Abandon(job))
+}
+
+#[tactic(auto, unfolding(crate::specs::Reading::whole))]
+fn reopen_of(fields: &[u8]) -> Result<Event, CodecFault>
+    ensures { Gives (λ e. e) result (whole (Ok (Event.Reopen, fields.now))) }
+{
+    ended(fields)?;
+    Ok(Event::Reopen)
+}
+
 #[tactic(auto, unfolding(crate::specs::Reading::event_at, crate::specs::Reading::fields_at, crate::specs::Reading::whole))]
 fn event_of(alloc: Global, payload: &[u8]) -> Result<Event, CodecFault>
     ensures { Gives (λ e. e) result (reading payload.now) }
@@ -311,6 +391,10 @@ fn event_of(alloc: Global, payload: &[u8]) -> Result<Event, CodecFault>
         [0x09, fields @ ..] => release_of(fields),
         [0x0A, fields @ ..] => cancel_of(fields),
         [0x0B, fields @ ..] => clock_of(fields),
+        [0x0C, fields @ ..] => start_of(fields),
+        [0x0D, fields @ ..] => stage_of(fields),
+        [0x0E, fields @ ..] => abandon_of(fields),
+        [0x0F, fields @ ..] => reopen_of(fields),
         [_, ..] => Err(CodecFault::Kind),
     }
 }

@@ -1,7 +1,8 @@
 use super::*;
 use spool_types::{
-    Closing, Copies, Event, Filters, Interval, JobId, MediaType, Moment, NewJob, NewQueue, Note,
-    OptionText, Piece, Policy, Priority, QueueName, QueueNotes, Title, Uri, UserName,
+    AttemptNumber, Closing, Copies, Event, Exit, Filters, Interval, JobId, MediaType, Moment,
+    NewJob, NewQueue, Note, OptionText, Piece, Policy, Priority, QueueName, QueueNotes, StageEnd,
+    StageNumber, Title, Uri, UserName,
 };
 use std::alloc::Global;
 use std::process::Abort;
@@ -224,6 +225,88 @@ fn a_byte_that_is_left_over_is_a_wrong_length(rt: HostRuntime) {
 }
 
 #[test]
-fn no_event_is_of_kind_12(rt: HostRuntime) {
-    assert!(rt; fault(rt.alloc(), &[0x0C]) == Some(CodecFault::Kind));
+fn no_event_is_of_kind_16_or_17(rt: HostRuntime) {
+    let alloc = rt.alloc();
+    assert!(rt; fault(alloc, &[0x10]) == Some(CodecFault::Kind));
+    assert!(rt; fault(alloc, &[0x11]) == Some(CodecFault::Kind));
+}
+
+#[test]
+fn a_start_is_spelled_in_five_bytes(rt: HostRuntime) -> Result<(), Fail> {
+    let alloc = rt.alloc();
+    let start = Event::Start(first_job()?);
+    is_spelled(&rt, alloc, start, &[0x0C, 0, 0, 0, 1])
+}
+
+#[test]
+fn an_abandon_is_spelled_in_five_bytes(rt: HostRuntime) -> Result<(), Fail> {
+    let alloc = rt.alloc();
+    let abandon = Event::Abandon(first_job()?);
+    is_spelled(&rt, alloc, abandon, &[0x0E, 0, 0, 0, 1])
+}
+
+#[test]
+fn a_reopen_is_spelled_in_one_byte(rt: HostRuntime) -> Result<(), Fail> {
+    let alloc = rt.alloc();
+    is_spelled(&rt, alloc, Event::Reopen, &[0x0F])?;
+    assert!(rt; fault(alloc, &[0x0F, 0]) == Some(CodecFault::Length));
+    Ok(())
+}
+
+fn first_stage(exit: Exit) -> Result<Event, Fail> {
+    Ok(Event::Stage(StageEnd {
+        job: first_job()?,
+        attempt: AttemptNumber::new(1).ok_or("no")?,
+        stage: StageNumber::new(1).ok_or("no")?,
+        exit,
+        dropped: 0,
+    }))
+}
+
+#[test]
+fn a_stage_with_a_status_is_spelled_in_18_bytes(rt: HostRuntime) -> Result<(), Fail> {
+    let alloc = rt.alloc();
+    let event = first_stage(Exit::Code(0))?;
+    let want = b"\x0d\x00\x00\x00\x01\x00\x00\x00\x01\x01\x00\x00\x00\x00\x00\x00\x00\x00";
+    assert_eq!(rt; want.len(), 18);
+    is_spelled(&rt, alloc, event, want.as_slice())
+}
+
+#[test]
+fn a_stage_with_a_signal_is_spelled_in_17_bytes(rt: HostRuntime) -> Result<(), Fail> {
+    let alloc = rt.alloc();
+    let event = first_stage(Exit::Signal)?;
+    let want = b"\x0d\x00\x00\x00\x01\x00\x00\x00\x01\x01\x01\x00\x00\x00\x00\x00\x00";
+    assert_eq!(rt; want.len(), 17);
+    is_spelled(&rt, alloc, event, want.as_slice())
+}
+
+#[test]
+fn an_attempt_is_at_least_1(rt: HostRuntime) {
+    let bytes = b"\x0d\x00\x00\x00\x01\x00\x00\x00\x00\x01\x01\x00\x00\x00\x00\x00\x00";
+    assert!(rt; fault(rt.alloc(), bytes.as_slice()) == Some(CodecFault::Range));
+}
+
+#[test]
+fn a_stage_is_at_least_1(rt: HostRuntime) {
+    let bytes = b"\x0d\x00\x00\x00\x01\x00\x00\x00\x01\x00\x01\x00\x00\x00\x00\x00\x00";
+    assert!(rt; fault(rt.alloc(), bytes.as_slice()) == Some(CodecFault::Range));
+}
+
+#[test]
+fn a_stage_is_at_most_16(rt: HostRuntime) {
+    let bytes = b"\x0d\x00\x00\x00\x01\x00\x00\x00\x01\x11\x01\x00\x00\x00\x00\x00\x00";
+    assert!(rt; fault(rt.alloc(), bytes.as_slice()) == Some(CodecFault::Range));
+}
+
+#[test]
+fn a_stage_has_no_end_of_kind_4(rt: HostRuntime) {
+    let bytes = b"\x0d\x00\x00\x00\x01\x00\x00\x00\x01\x01\x04\x00\x00\x00\x00\x00\x00";
+    assert!(rt; fault(rt.alloc(), bytes.as_slice()) == Some(CodecFault::Range));
+}
+
+#[test]
+fn a_stage_has_no_effects_yet(rt: HostRuntime) {
+    let bytes = b"\x0d\x00\x00\x00\x01\x00\x00\x00\x01\x01\x01\x00\x00\x00\x00\x00\x01";
+    assert!(rt; fault(rt.alloc(), bytes.as_slice()) == Some(CodecFault::Range));
 }

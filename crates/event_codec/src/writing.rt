@@ -1,15 +1,19 @@
 //! Writing events.
-ghost use Rattle.std.specs.Prelude.{◌≡◌, ◌+◌, ◌<◌, ◌≤◌, ◌^◌, ◌++◌, List, ℕ, true, length, IfOk, OnOk};
-ghost use Rattle.std.specs.Int.{w8};
+ghost use Rattle.std.specs.Prelude.{◌≡◌, ◌+◌, ◌<◌, ◌≤◌, ◌^◌, ◌∷◌, ◌++◌, List, ℕ, [], true, length, take, IfOk, OnOk};
+ghost use Rattle.std.specs.Int.{w8, w32, w64, to_be_bytes};
 ghost use Rattle.std.specs.List.{flat_map, AllByRecursion};
+ghost use Rattle.spool_types.specs.Limits.{greatest_moment};
 ghost use Rattle.spool_types.specs.Values.{is_media_type, is_filter_name, is_queue_name};
-ghost use Rattle.event_codec.specs.Spelling.{text_code, flag_code, until_code, filters_code, queue_code, notes_code, accept_code, stop_code, job_code, send_code, closing_code, hold_code, policy_number, spelling, IsText, IsQueue, AreNotes, IsJob, IsSend, IsClosing, IsHold, AreFilters, IsSpellable};
+ghost use Rattle.event_codec.specs.Spelling.{text_code, flag_code, until_code, filters_code, queue_code, notes_code, accept_code, stop_code, job_code, send_code, closing_code, hold_code, exit_code, stage_code, policy_number, spelling, IsText, IsQueue, AreNotes, IsIn, IsJobNumber, IsJob, IsSend, IsClosing, IsHold, IsExit, IsStageEnd, AreFilters, IsSpellable};
 
 use spool_types::{
-    Closing, Event, FilterName, Filters, JobId, MediaType, Moment, NewJob, NewQueue, Piece, Policy,
-    QueueName, QueueNotes, Text, TextKind,
+    Closing, Event, Exit, FilterName, Filters, JobId, MediaType, Moment, NewJob, NewQueue, Piece,
+    Policy, QueueName, QueueNotes, StageEnd, Text, TextKind,
 };
 use std::alloc::{AllocError, Global};
+
+// How many effects a stage has: none can be spelled yet.
+const NO_EFFECTS: u16 = 0;
 
 fn put_str(out: &mut Vec<u8>, text: &str) -> Result<(), AllocError>
     requires { length text.now < 2 ^ 16 }
@@ -165,55 +169,91 @@ fn put_hold(out: &mut Vec<u8>, job: JobId, until: Option<Moment>) -> Result<(), 
     put_until(out, until)
 }
 
+fn put_exit(out: &mut Vec<u8>, exit: Exit) -> Result<(), AllocError>
+    ensures written { OnOk result (out.new.items ≡ out.old.items ++ exit_code exit) }
+    ensures legal { OnOk result (IsExit exit) }
+{
+    match exit {
+        Exit::Code(status) => {
+            out.extend_from_slice(&0u8.to_be_bytes())?;
+            out.extend_from_slice(&status.to_be_bytes())
+        }
+        Exit::Signal => out.extend_from_slice(&1u8.to_be_bytes()),
+        Exit::NoStart => out.extend_from_slice(&2u8.to_be_bytes()),
+        Exit::Lost => out.extend_from_slice(&3u8.to_be_bytes()),
+    }
+}
+
+fn put_stage(out: &mut Vec<u8>, end: StageEnd) -> Result<(), AllocError>
+    ensures written { OnOk result (out.new.items ≡ out.old.items ++ stage_code end) }
+    ensures legal { OnOk result (IsStageEnd end) }
+{
+    out.extend_from_slice(&end.job.get().to_be_bytes())?;
+    out.extend_from_slice(&end.attempt.get().to_be_bytes())?;
+    out.extend_from_slice(&(end.stage.get() as u8).to_be_bytes())?;
+    put_exit(out, end.exit)?;
+    out.extend_from_slice(&end.dropped.to_be_bytes())?;
+    out.extend_from_slice(&NO_EFFECTS.to_be_bytes())
+}
+
+fn put_number(out: &mut Vec<u8>, job: JobId) -> Result<(), AllocError>
+    ensures written { OnOk result (out.new.items ≡ out.old.items ++ to_be_bytes w32 job) }
+    ensures legal { OnOk result (IsJobNumber job) }
+{
+    out.extend_from_slice(&job.get().to_be_bytes())
+}
+
+fn put_moment(out: &mut Vec<u8>, moment: Moment) -> Result<(), AllocError>
+    ensures written { OnOk result (out.new.items ≡ out.old.items ++ to_be_bytes w64 moment) }
+    ensures legal { OnOk result (IsIn 0 greatest_moment moment) }
+{
+    out.extend_from_slice(&moment.get().to_be_bytes())
+}
+
+// The byte that an event's spelling begins with.
+fn kind_byte(event: &Event) -> u8
+    ensures first { take 1 (spelling event.now) ≡ result ∷ [] }
+{
+    match event {
+        Event::AddQueue(_) => 0x01,
+        Event::Info(_) => 0x02,
+        Event::SetAccept { .. } => 0x03,
+        Event::SetStop { .. } => 0x04,
+        Event::Create(_) => 0x05,
+        Event::Send { .. } => 0x06,
+        Event::Close(_) => 0x07,
+        Event::Hold { .. } => 0x08,
+        Event::Release(_) => 0x09,
+        Event::Cancel(_) => 0x0A,
+        Event::Clock(_) => 0x0B,
+        Event::Start(_) => 0x0C,
+        Event::Stage(_) => 0x0D,
+        Event::Abandon(_) => 0x0E,
+        Event::Reopen => 0x0F,
+    }
+}
+
 fn put_event(out: &mut Vec<u8>, event: &Event) -> Result<(), AllocError>
     ensures written { OnOk result (out.new.items ≡ out.old.items ++ spelling event.now) }
     ensures legal { OnOk result (IsSpellable event.now) }
 {
+    out.push(kind_byte(event))?;
     match event {
-        Event::AddQueue(queue) => {
-            out.push(0x01)?;
-            put_queue(out, queue)
-        }
-        Event::Info(notes) => {
-            out.push(0x02)?;
-            put_notes(out, notes)
-        }
-        Event::SetAccept { queue, accepting } => {
-            out.push(0x03)?;
-            put_accept(out, queue, *accepting)
-        }
-        Event::SetStop { queue, stopped } => {
-            out.push(0x04)?;
-            put_stop(out, queue, *stopped)
-        }
-        Event::Create(job) => {
-            out.push(0x05)?;
-            put_job(out, job)
-        }
-        Event::Send { job, bytes } => {
-            out.push(0x06)?;
-            put_send(out, *job, bytes)
-        }
-        Event::Close(closing) => {
-            out.push(0x07)?;
-            put_closing(out, closing)
-        }
-        Event::Hold { job, until } => {
-            out.push(0x08)?;
-            put_hold(out, *job, *until)
-        }
-        Event::Release(job) => {
-            out.push(0x09)?;
-            out.extend_from_slice(&job.get().to_be_bytes())
-        }
-        Event::Cancel(job) => {
-            out.push(0x0A)?;
-            out.extend_from_slice(&job.get().to_be_bytes())
-        }
-        Event::Clock(moment) => {
-            out.push(0x0B)?;
-            out.extend_from_slice(&moment.get().to_be_bytes())
-        }
+        Event::AddQueue(queue) => put_queue(out, queue),
+        Event::Info(notes) => put_notes(out, notes),
+        Event::SetAccept { queue, accepting } => put_accept(out, queue, *accepting),
+        Event::SetStop { queue, stopped } => put_stop(out, queue, *stopped),
+        Event::Create(job) => put_job(out, job),
+        Event::Send { job, bytes } => put_send(out, *job, bytes),
+        Event::Close(closing) => put_closing(out, closing),
+        Event::Hold { job, until } => put_hold(out, *job, *until),
+        Event::Release(job) => put_number(out, *job),
+        Event::Cancel(job) => put_number(out, *job),
+        Event::Clock(moment) => put_moment(out, *moment),
+        Event::Start(job) => put_number(out, *job),
+        Event::Stage(end) => put_stage(out, *end),
+        Event::Abandon(job) => put_number(out, *job),
+        Event::Reopen => Ok(()),
     }
 }
 
@@ -290,6 +330,16 @@ fn until_len(until: Option<Moment>) -> usize
     }
 }
 
+fn exit_len(exit: Exit) -> usize
+    ensures value { result ≡ length (exit_code exit) }
+    ensures small { result < 2 ^ 24 }
+{
+    match exit {
+        Exit::Code(_) => 2,
+        Exit::Signal | Exit::NoStart | Exit::Lost => 1,
+    }
+}
+
 /// How many bytes the spelling of an event has.
 fn spelled_len(event: &Event) -> usize
     ensures value { result ≡ length (spelling event.now) }
@@ -303,8 +353,10 @@ fn spelled_len(event: &Event) -> usize
         Event::Send { bytes, .. } => 9 + bytes.as_slice().len(),
         Event::Close(closing) => 5 + media_len(&closing.media) + filters_len(&closing.filters),
         Event::Hold { until, .. } => 5 + until_len(*until),
-        Event::Release(_) | Event::Cancel(_) => 5,
+        Event::Release(_) | Event::Cancel(_) | Event::Start(_) | Event::Abandon(_) => 5,
         Event::Clock(_) => 9,
+        Event::Stage(end) => 16 + exit_len(end.exit),
+        Event::Reopen => 1,
     }
 }
 

@@ -2,5 +2,10 @@ pub mod Rows
 pub mod Tables
 pub mod Steps
 pub mod Accepted
+pub mod Changes
+pub mod Rules
+pub mod Keys
 pub mod Legal
 pub mod Ended
+pub mod Reopened
+pub mod Choice

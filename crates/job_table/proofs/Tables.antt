@@ -1,5 +1,5 @@
 -- The lemmas on rows, for queues by their names and for jobs by their numbers.
-use Rattle.std.proofs.Common.{◌≡◌, ℕ, IsTrue, List, [], ◌∷◌, length, get_or, set, map, Option, Some, None, IsSome, refl, ap}
+use Rattle.std.proofs.Common.{◌≡◌, ℕ, IsTrue, List, [], ◌∷◌, length, get_or, set, map, Option, Some, None, IsSome, refl, ap, ◌∙◌}
 use Rattle.std.specs.List.{insert}
 use Rattle.std.specs.Ordering.{nat_cmp}
 use Rattle.std.specs.Cmp.{nat_cmp_total}
@@ -82,6 +82,13 @@ module _ (ys : List JobRow) (h : IsTrue (finite.is_sorted nat_cmp (map job_entry
 
   pub values_jobs : finite.values (jobs_of ys) ≡ map job_of ys
   values_jobs = rows.values_map nat_cmp nat_cmp_total (λ r. r.id) job_of ys h
+
+  pub keys_jobs : finite.keys (jobs_of ys) ≡ map (λ r. r.id) ys
+  keys_jobs = ap (map (λ e. e.0)) (rows.entries_map nat_cmp nat_cmp_total (λ r. r.id) job_of ys h) ∙ firsts ys
+    where
+      firsts : (zs : List JobRow) → map (λ e. e.0) (map job_entry zs) ≡ map (λ r. r.id) zs
+      firsts [] = refl
+      firsts (z ∷ zs) = ap (λ ks. z.id ∷ ks) (firsts zs)
 
 pub map-same : {X : Type 0} (xs : List X) → map (λ x. x) xs ≡ xs
 map-same [] = refl

@@ -5,7 +5,7 @@ use Rattle.std.specs.FinMap.{find}
 use Rattle.spool_types.specs.State.{State}
 use Rattle.spool_types.specs.Step.{refusal_of}
 use Rattle.spool_types.specs.declared.event.Event.{Event}
-use Rattle.spool_types.specs.declared.event.Event.TheVariants.{AddQueue, Info, SetAccept, SetStop, Create, Send, Close, Hold, Release, Cancel, Clock}
+use Rattle.spool_types.specs.declared.event.Event.TheVariants.{AddQueue, Info, SetAccept, SetStop, Create, Send, Close, Hold, Release, Cancel, Clock, Start, Stage, Abandon, Reopen}
 
 -- how many rows, and how many bytes of each job's document, can be added with no further memory
 pub record Room : Type 0 where
@@ -33,6 +33,10 @@ HasRoom room (Hold j until) = Unit {0}
 HasRoom room (Release j) = Unit {0}
 HasRoom room (Cancel j) = Unit {0}
 HasRoom room (Clock m) = Unit {0}
+HasRoom room (Start j) = Unit {0}
+HasRoom room (Stage e) = Unit {0}
+HasRoom room (Abandon j) = Unit {0}
+HasRoom room Reopen = Unit {0}
 
 -- the event isn't refused, and takes no further memory
 pub record IsPrepared (c : Contents) (e : Event) : Type 0 where

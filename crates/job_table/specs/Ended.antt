@@ -2,7 +2,7 @@
 use Rattle.std.specs.Prelude.{◌≡◌, ℕ, Option, None, Some, IsTrue}
 use Rattle.spool_types.specs.Phases.{has_ended}
 use Rattle.spool_types.specs.declared.event.Event.{Event}
-use Rattle.spool_types.specs.declared.event.Event.TheVariants.{AddQueue, Info, SetAccept, SetStop, Create, Send, Close, Hold, Release, Cancel, Clock}
+use Rattle.spool_types.specs.declared.event.Event.TheVariants.{AddQueue, Info, SetAccept, SetStop, Create, Send, Close, Hold, Release, Cancel, Clock, Start, Stage, Abandon, Reopen}
 use Rattle.spool_types.specs.State.{State, Job, job_at}
 use Rattle.spool_types.specs.Legal.{IsLegal}
 
@@ -25,3 +25,7 @@ subject (Hold j until) = Some j
 subject (Release j) = Some j
 subject (Cancel j) = Some j
 subject (Clock m) = None
+subject (Start j) = Some j
+subject (Stage e) = Some e.job
+subject (Abandon j) = Some j
+subject Reopen = None

@@ -3,3 +3,4 @@ pub mod Rows
 pub mod Places
 pub mod Seen
 pub mod Ended
+pub mod Attempts

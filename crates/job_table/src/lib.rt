@@ -11,6 +11,12 @@
 //! - *ExactStep*: `prepare` refuses an event exactly where a cause of its refusal stands, with the refusal of the first
 //!   such cause (`refusal_of`), and changes no row. `commit` of the event just prepared gives the state and the reply of
 //!   the step (`step`). Each reader gives exactly what the state has.
+//! - *ExactChoice*, in its part: [`Table::next`] names the job of a queue that is to be started next (`IsNextJob`), and
+//!   none exactly where no job of the queue is eligible. A Start of any other waiting job is refused as NotNext
+//!   (`is_next`). [`Table::is_idle`] tells whether no job is processing (`HasNoProcessing`).
+//! - *Reopening* ([`reopening`]): the event Reopen applies to each processing job the error policy of its queue, and
+//!   changes nothing else but that a queue stops where the policy says so. No job is processing after it, and where none
+//!   was before, it changes nothing.
 //! - *NoHiddenAllocation*: only `prepare` takes memory. `commit` can't fail: what it calls that wants memory finds the
 //!   room that `prepare` made (`IsPrepared`).
 //! - *EndedStaysEnded* ([`ended_jobs_stay`]), and that each state is legal ([`legal_tables_stay_legal`]).
@@ -37,8 +43,12 @@
 mod laws;
 mod table;
 
-pub use laws::{ended_jobs_stay, legal_tables_stay_legal};
+pub use laws::{ended_jobs_stay, legal_tables_stay_legal, reopening};
 pub use table::{PrepareFault, Table};
 
+#[cfg(test)]
+mod attempt_tests;
+#[cfg(test)]
+mod next_tests;
 #[cfg(test)]
 mod tests;

@@ -11,6 +11,7 @@ use spool_types::{JobId, JobRow, Moment, QueueName, QueueRow};
 use std::alloc::Global;
 use std::marker::Model;
 
+mod attempts;
 mod commit;
 mod lookup;
 mod prepare;

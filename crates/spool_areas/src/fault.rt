@@ -14,7 +14,7 @@ pub enum MakeFault {
 pub enum OpenFault {
     /// It is too short, no header is open, or two open ones have the same epoch.
     NotASpool,
-    /// What stands behind the open gate at this place is nothing that a spool writes.
+    /// What stands from the gate at this place on is nothing that a spool writes.
     Damaged(u64),
     /// There is no memory for what was read.
     Memory,
@@ -22,7 +22,7 @@ pub enum OpenFault {
     Disk,
 }
 
-/// A device that was not opened, and why. It reads as before.
+/// A device that was not opened, and why.
 #[derive(Debug, Drop)]
 pub struct OpenError<D> {
     pub disk: D,

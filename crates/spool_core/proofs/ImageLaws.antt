@@ -20,7 +20,7 @@ use Rattle.spool_areas.specs.Header.{half}
 use Rattle.spool_areas.specs.Payloads.{HasPayloads, HasBeforeOrAfter, gate_after}
 use Rattle.spool_areas.specs.Current.{Current, KeepsPayloads}
 use Rattle.spool_core.specs.History.{IsHistory}
-use Rattle.spool_core.specs.Idle.{HasNoProcessing}
+use Rattle.spool_types.specs.Attempts.{HasNoProcessing}
 use Rattle.spool_core.specs.Image.{HasTable, HasBeforeOrAfterEvent, area_end, kept_room}
 use Rattle.spool_core.specs.Seen.{KeepsTable}
 use Rattle.spool_core.specs.Standing.{IsFrameOf, record_len}
@@ -134,6 +134,22 @@ module _ {D : Type 0} (bytes : D → Option (List ℕ)) (size : D → ℕ) (imag
       (λ c left.
       before_or_after s e payload is areas.base keeps.payloads c keeps.history (room_in c left.0)
       (room_behind s e payload is areas.base areas.end areas.gate keeps.payloads (after s e) c keeps.kept.gate_at (end_in areas.base areas.end (size areas.disk) c ends left.0) fits) left.1)
+
+  -- The same where no job is processing after the event, so that it needs no room behind it.
+  pub leaves_idle : (moment : D → ℕ) (image_since : D → ℕ → List ℕ → Type 0) (new : D) (e : Event) (payload : List ℕ) → IsPayloadOf s e payload → HasNoProcessing (after s e)
+      → LeavesOnly moment image_since areas.disk new (λ c. length c ≡ size areas.disk)
+      → ((payloads : List (List ℕ)) → KeepsPayloads bytes image areas payloads → LeavesOnly moment image_since areas.disk new (HasBeforeOrAfter areas.base payloads payload))
+      → LeavesOnly moment image_since areas.disk new (HasBeforeOrAfterEvent s e)
+  leaves_idle moment image_since new e payload is idle long run =
+      weaker_run moment image_since areas.disk new (HasBeforeOrAfterEvent s e) (λ c. (length c ≡ size areas.disk) × HasBeforeOrAfter areas.base keeps.payloads payload c)
+      (both_runs moment image_since areas.disk new (λ c. length c ≡ size areas.disk) (HasBeforeOrAfter areas.base keeps.payloads payload) long (run keeps.payloads keeps.kept))
+      (λ c left. before_or_after s e payload is areas.base keeps.payloads c keeps.history (room_in c left.0) (λ busy. absurd (busy idle)) left.1)
+
+-- what is so of a disk that tells its bytes, and nothing of any other
+pub where_told : {D : Type 0} (moment : D → ℕ) (image_since : D → ℕ → List ℕ → Type 0) (old new : D) (P Q : List ℕ → Type 0) (o : Option (List ℕ))
+    → (IsSome o → LeavesOnly moment image_since old new P) → LeavesOnly moment image_since old new Q → LeavesOnly moment image_since old new (λ c. IsSome o → P c)
+where_told moment image_since old new P Q (Some r) told any = weaker_run moment image_since old new (λ c. IsSome (Some r) → P c) P (told refl) (λ c has is. has)
+where_told moment image_since old new P Q None told any = weaker_run moment image_since old new _ Q any (λ c has is. absurd (cc))
 
 module _ {D : Type 0} (bytes : D → Option (List ℕ)) (image : D → List ℕ → Type 0) where
   -- an area with one payload more keeps the table after the event

@@ -2,10 +2,10 @@ pub mod HistoryLaws
 pub mod ImageLaws
 pub mod ReadingLaws
 pub mod IdleLaws
-pub mod BusyLaws
 pub mod FoldLaws
 pub mod OpenLaws
 pub mod ReadLaws
 pub mod OpenRuns
 pub mod DriveLaws
 pub mod TurnLaws
+pub mod Restarts

@@ -11,7 +11,7 @@ use Rattle.spool_areas.specs.Header.{half}
 use Rattle.spool_areas.specs.Payloads.{HasPayloads, HasFirstPayloads, gate_after}
 use Rattle.spool_areas.specs.Extents.{bytes_of, payloads_at, EndsSo, IsHeaderFault}
 use Rattle.spool_core.specs.History.{IsHistory}
-use Rattle.spool_core.specs.Idle.{HasNoProcessing}
+use Rattle.spool_types.specs.Attempts.{HasNoProcessing}
 use Rattle.spool_core.specs.Image.{HasTable, IsDamagedAt, IsFaultOf, area_end, kept_room, HasRoom}
 use Rattle.spool_core.specs.Folding.{StopsAt, IsFoldFault}
 

@@ -1,5 +1,5 @@
 -- An image has one table or one fault.
-use Rattle.std.proofs.Common.{◌≡◌, ◌⊎◌, inl, inr, ⊎_elim, ℕ, ◌+◌, List, [], ◌∷◌, ◌++◌, map, Option, None, Some, Result, Ok, Err, refl, sym, subst, ap, ◌∙◌, arith, append_assoc, ◌-◌, length}
+use Rattle.std.proofs.Common.{◌≡◌, ◌⊎◌, inl, inr, ⊎_elim, ℕ, ◌+◌, List, [], ◌∷◌, ◌++◌, map, None, Result, Ok, Err, refl, sym, subst, ap, ◌∙◌, arith, append_assoc, ◌-◌, length}
 use Rattle.std.specs.List.{AllByRecursion}
 use Rattle.spool_types.specs.declared.event.Event.{Event}
 use Rattle.spool_types.specs.State.{State, nothing}
@@ -11,7 +11,7 @@ use Rattle.std.proofs.lemmas.List.{append-nil}
 use Rattle.spool_areas.specs.Header.{half, current_area}
 use Rattle.spool_areas.specs.Payloads.{HasPayloads, IsTornAfter, gate_after}
 use Rattle.spool_core.specs.History.{AreAccepted, IsHistory}
-use Rattle.spool_core.specs.Idle.{HasNoProcessing}
+use Rattle.spool_types.specs.Attempts.{HasNoProcessing}
 use Rattle.spool_core.specs.Image.{HasTable, IsNoEvent, IsStrangeAfter, IsDamagedAt, IsCrampedAt, HasFault, area_end, HasRoom}
 use Rattle.spool_areas.specs.declared.fault.OpenFault.{OpenFault}
 use Rattle.spool_areas.specs.declared.fault.OpenFault.TheVariants.{NotASpool, Damaged, Memory, Disk}

@@ -8,7 +8,7 @@ use Rattle.event_codec.specs.Spelling.{spelling, IsSpellable}
 use Rattle.spool_areas.specs.Header.{half, current_area}
 use Rattle.spool_areas.specs.Payloads.{HasPayloads, HasFirstPayloads, IsTornAfter, gate_after}
 use Rattle.spool_core.specs.History.{IsHistory}
-use Rattle.spool_core.specs.Idle.{HasNoProcessing}
+use Rattle.spool_types.specs.Attempts.{HasNoProcessing, reopened}
 use Rattle.spool_areas.specs.declared.fault.OpenFault.{OpenFault}
 use Rattle.spool_areas.specs.declared.fault.OpenFault.TheVariants.{NotASpool, Damaged, Memory, Disk}
 
@@ -88,3 +88,28 @@ IsFaultOf image Disk = ⊤
 -- the table, or the one after this event
 abbrev pub HasBeforeOrAfterEvent : State → Event → List ℕ → Type 0
 HasBeforeOrAfterEvent s e image = HasTable s image ⊎ HasTable (after_one s e) image
+
+-- the table, or the one after the policy on every processing job of it
+abbrev pub HasBeforeOrAfterReopening : State → List ℕ → Type 0
+HasBeforeOrAfterReopening s image = HasTable s image ⊎ HasTable (reopened s) image
+
+-- The state is the table of the image, with each processing job of it changed as its queue's error policy says.
+pub record IsReopenedFrom (s : State) (image : List ℕ) : Type 0 where
+  pub table : State
+  pub found : HasTable table image
+  pub reopened_is : s ≡ reopened table
+
+-- What a crash in the middle of an opening leaves of an image with a table: one with that table, or with the one after
+-- the policy. Where no job is processing nothing is written.
+pub record IsMidway (image c : List ℕ) : Type 0 where
+  pub table : State
+  pub found : HasTable table image
+  pub left : HasBeforeOrAfterReopening table c
+  pub unwritten : HasNoProcessing table → c ≡ image
+
+-- why a reopening isn't journalled: its frame found no memory, or the device failed
+abbrev pub IsReopeningFault : OpenFault → Type 0
+IsReopeningFault NotASpool = ⊥
+IsReopeningFault (Damaged place) = ⊥
+IsReopeningFault Memory = ⊤
+IsReopeningFault Disk = ⊤

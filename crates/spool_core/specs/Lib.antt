@@ -2,7 +2,6 @@ pub mod History
 pub mod Image
 pub mod Standing
 pub mod Seen
-pub mod Idle
 pub mod Folding
 pub mod Driving
 pub mod Turns

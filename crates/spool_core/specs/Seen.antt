@@ -4,7 +4,7 @@ use Rattle.spool_types.specs.State.{State}
 use Rattle.spool_areas.specs.Header.{half}
 use Rattle.spool_areas.specs.Current.{Current, KeepsPayloads}
 use Rattle.spool_core.specs.History.{IsHistory}
-use Rattle.spool_core.specs.Idle.{HasNoProcessing}
+use Rattle.spool_types.specs.Attempts.{HasNoProcessing}
 use Rattle.spool_core.specs.Image.{kept_room}
 use Rattle.spool_core.specs.Standing.{Standing}
 use Rattle.spool_core.specs.declared.spool.Spool.TheInside.{Inside}

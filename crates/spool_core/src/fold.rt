@@ -6,7 +6,6 @@ ghost use Rattle.spool_areas.specs.Header.{header_len};
 ghost use Rattle.spool_areas.specs.Payloads.{gate_after};
 ghost use Rattle.spool_areas.specs.Extents.{payloads_at, Follow};
 ghost use Rattle.spool_core.specs.History.{IsHistory};
-ghost use Rattle.spool_core.specs.Idle.{HasNoProcessing};
 ghost use Rattle.spool_core.specs.Folding.{IsEventAt, IsReadFault, IsTakeFault, IsFoldFault, IsRead, decode_fault};
 
 use event_codec::{CodecFault, decode};
@@ -31,7 +30,6 @@ pub(crate) fn fold<D: Disk>(
     requires inside { areas.old.gate ≤ areas.old.end }
     ensures table { IfOk result (λ t. (r : List ℕ) → D.bytes areas.old.disk ≡ Some r → IsHistory (payloads_at r payloads.now) t.state) }
     ensures gate { OnOk result ((r : List ℕ) → D.bytes areas.old.disk ≡ Some r → areas.old.gate ≡ gate_after areas.old.base (payloads_at r payloads.now)) }
-    ensures idle { IfOk result (λ t. HasNoProcessing t.state) }
     ensures fault { IfErr result (λ e. (r : List ℕ) → D.bytes areas.old.disk ≡ Some r → IsFoldFault areas.old.base payloads.now r e) }
     ensures cause { IfErr result (λ e. e ≡ OpenFault.Disk → D.failures areas.old.disk < D.failures areas.new.disk) }
     ensures alive { OnOk result (areas.new.dead ≡ false) }

@@ -1,8 +1,8 @@
 //! The spool: a table of queues and jobs that outlives crashes.
 //!
-//! A disk is made a spool once ([`make`]) and opened at each start. A [`Spool`] holds the disk and has the table in
-//! memory. [`Spool::apply`] writes an event down on the disk before it changes the table, and acknowledges it only
-//! once a crash can't take it away.
+//! A disk is made a spool once ([`make`]) and opened at each start ([`Spool::open`]). A [`Spool`] holds the disk and has
+//! the table in memory. [`Spool::apply`] writes an event down on the disk before it changes the table, and acknowledges
+//! it only once a crash can't take it away.
 //!
 //! # What table a disk has
 //!
@@ -20,10 +20,13 @@
 //!   [`Spool::apply`] leaves the table before the event or the one after it, whatever the call answers (`any_moment`).
 //!   After Ok every image has the table after it (`kept`), nothing is unsynced (`durable`), the table shown is that
 //!   one and the reply is the event's (`answer`).
-//! - *CrashSafeOpen*: [`Spool::open`] gives the table and the room of the bytes (`opened`, `room`), with no job
-//!   processing (`idle`), and writes nothing (`stays`). Until its first sync has answered a crash leaves what it was
-//!   handed, and from then on an image with this table (`synced`); once it has returned every image has it (`kept`).
-//!   After an error the disk is handed back, reads as before and has no new image (`back`).
+//! - *CrashSafeOpen*: [`Spool::open`] gives the table of the bytes after the policy on every job that was processing in
+//!   it (`opened`), so none is left (`idle`), and the room that its disk then has (`room`). Where none was processing it
+//!   writes nothing (`unwritten`), and else the record of one Reopen. Until its first sync has answered a crash leaves
+//!   what it was handed, and from then on an image with the table of the bytes or the one after the policy (`synced`);
+//!   once it has returned every image has the table that is shown (`kept`). After an error the disk is handed back. But
+//!   for a failed device it reads as before and has no new image (`back`); and after a failed one each image is one that
+//!   was handed over, or has one of these two tables (`failed`).
 //! - *CrashSafeDrive*, with the headline: [`drive`] answers each event up to its end as the step does (`replies`), its
 //!   table is the fold of these events (`table`), and it says why it ended (`ending`). A crash at any moment leaves
 //!   the table after the first so many events, the one in hand among them only where the device failed (`any_moment`).
@@ -53,10 +56,15 @@
 //! whether the event is on it: the table stays as it was, and the spool is dead, since what it would append next might
 //! stand behind an event that it doesn't know.
 //!
+//! `open` first makes the table and writes nothing: it syncs, so that a crash leaves what it reads, and commits the event
+//! of each record to an empty table. Where a job is processing then, the end of its attempt was lost: it journals one
+//! Reopen, in the 7 bytes that each append keeps free, and commits it too. A crash meanwhile leaves that record whole or
+//! absent, and the next opening finds no job processing, or does the same again.
+//!
 //! # Invariants
 //!
-//! 1. The closed gate lies in the area or at its end, and 7 bytes or more before it where a job is processing: room for
-//!    the record of a reopening.
+//! 1. The closed gate lies in the area or at its end. Where a job is processing, 7 bytes or more lie from it to the end:
+//!    room for the record of a reopening.
 //! 2. As long as no device call has failed, each image has the table that is in memory (`IsStanding`).
 //!
 //! # Faults and what they leave
@@ -64,8 +72,8 @@
 //! - [`ApplyFault`]: after all but `Disk` nothing has changed. After `Disk`, which comes only where the device's count
 //!   of failures rose, each image has the table before the event or the one after it, and the spool is dead: every
 //!   call but `table` and `into_disk` answers `Dead`. A dead spool gives its disk back, and the disk is opened anew.
-//! - [`OpenError`] hands the disk back, which reads as before, with its [`OpenFault`]. `NotASpool` and `Damaged` are
-//!   faults of the bytes, which have no table. `Memory` and `Disk` say nothing of the bytes, and the disk may be
+//! - [`OpenError`] hands the disk back with an [`OpenFault`]. But for `Disk` it reads as before. `NotASpool` and `Damaged`
+//!   are faults of the bytes, which have no table. `Memory` and `Disk` say nothing of the bytes, and the disk may be
 //!   opened again.
 //! - [`ReadFault`]: the spool is as before.
 //! - [`MakeFault`]: after `Full` nothing has changed. After `Disk` the device may hold no spool, and is made anew.
@@ -91,5 +99,7 @@ mod apply_tests;
 mod drive_tests;
 #[cfg(test)]
 mod open_tests;
+#[cfg(test)]
+mod reopen_tests;
 #[cfg(test)]
 mod samples;

@@ -14,21 +14,29 @@ pub(crate) fn id(number: u32) -> Result<JobId, Fail> {
 
 // The queue q. Its record takes 26 bytes.
 pub(crate) fn add_queue(alloc: Global) -> Result<Event, Fail> {
+    queue_with(alloc, Policy::AbortJob, 5)
+}
+
+pub(crate) fn queue_with(alloc: Global, policy: Policy, limit: u16) -> Result<Event, Fail> {
     Ok(Event::AddQueue(NewQueue {
         name: QueueName::read(alloc, "q")?,
         uri: Uri::read(alloc, "s:/")?,
         target: MediaType::read(alloc, "a/b")?,
-        policy: Policy::AbortJob,
+        policy,
         interval: Interval::new(30).ok_or("no interval")?,
-        limit: 5,
+        limit,
     }))
 }
 
 // The job 1 of the queue q. Its record takes 23 bytes.
 pub(crate) fn create(alloc: Global) -> Result<Event, Fail> {
+    numbered(alloc, 1)
+}
+
+pub(crate) fn numbered(alloc: Global, number: u32) -> Result<Event, Fail> {
     Ok(Event::Create(NewJob {
         queue: QueueName::read(alloc, "q")?,
-        job: id(1)?,
+        job: id(number)?,
         user: UserName::read(alloc, "u")?,
         title: Title::read(alloc, "")?,
         copies: Copies::new(1).ok_or("no copies")?,
@@ -65,4 +73,12 @@ pub(crate) fn made(alloc: Global, size: usize) -> Result<MemDisk, Fail> {
 
 pub(crate) fn opened<D: Disk + Drop>(alloc: Global, disk: D) -> Result<Spool<D>, Fail> {
     Ok(Spool::open(alloc, disk).ok().ok_or("not opened")?)
+}
+
+// Applies the events, each of which is accepted.
+pub(crate) fn apply_all(spool: &mut Spool<MemDisk>, events: Vec<Event>) -> Result<(), Fail> {
+    for event in events {
+        spool.apply(event).ok().ok_or("not applied")?;
+    }
+    Ok(())
 }

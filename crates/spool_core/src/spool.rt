@@ -63,7 +63,11 @@ impl<D: Disk> Spool<D> {
     {
         match journal(&mut self.areas, &mut self.table, &mut self.frame, &event) {
             Ok(place) => Ok(self.table.commit(event, place)),
-            Err(fault) => Err(fault),
+            Err(fault) => {
+                // By name: let go at the end of its scope, it would split the proof into a case for each kind of event.
+                drop(event);
+                Err(fault)
+            }
         }
     }
 

@@ -54,6 +54,7 @@ event_of s (commands.Send job bytes) = Some (events.Send job bytes)
 event_of s (commands.Close job name) = Some (events.Close (closing_of s job))
 event_of s (commands.Hold job until) = Some (events.Hold job until)
 event_of s (commands.Release job) = Some (events.Release job)
+event_of s (commands.Abandon job) = Some (events.Abandon job)
 event_of s (commands.Cancel job) = Some (events.Cancel job)
 event_of s (commands.Clock moment) = Some (events.Clock moment)
 event_of s commands.OversizedSend = None
@@ -72,6 +73,7 @@ said_of s (commands.Send job bytes) = []
 said_of s (commands.Close job name) = []
 said_of s (commands.Hold job until) = []
 said_of s (commands.Release job) = []
+said_of s (commands.Abandon job) = []
 said_of s (commands.Cancel job) = []
 said_of s (commands.Clock moment) = []
 said_of s commands.OversizedSend = refusal_line TooLong
@@ -102,6 +104,10 @@ accepted_line (events.Hold job until) reply = reply_line reply
 accepted_line (events.Release job) reply = reply_line reply
 accepted_line (events.Cancel job) reply = reply_line reply
 accepted_line (events.Clock moment) reply = reply_line reply
+accepted_line (events.Start job) reply = reply_line reply
+accepted_line (events.Stage end) reply = reply_line reply
+accepted_line (events.Abandon job) reply = reply_line reply
+accepted_line events.Reopen reply = reply_line reply
 
 abbrev pub step_line : Event → Result (State × Reply) Refusal → List ℕ
 step_line e (Ok r) = accepted_line e r.1

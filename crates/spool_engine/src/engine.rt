@@ -210,6 +210,7 @@ impl<D: Disk> Engine<D> {
             Command::Close { job, .. } => self.close(job),
             Command::Hold { job, until } => self.serve_event(Event::Hold { job, until }),
             Command::Release(job) => self.serve_event(Event::Release(job)),
+            Command::Abandon(job) => self.serve_event(Event::Abandon(job)),
             Command::Cancel(job) => self.serve_event(Event::Cancel(job)),
             Command::Clock(moment) => self.serve_event(Event::Clock(moment)),
             Command::OversizedSend => print_reply(self.alloc, &Answer::Refused(Refusal::TooLong)),

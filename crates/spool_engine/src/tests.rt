@@ -472,3 +472,17 @@ error 1 NoQueue\n"
     );
     Ok(())
 }
+
+#[test]
+fn only_a_processing_job_is_abandoned(rt: HostRuntime) -> Result<(), Fail> {
+    let script = "queue lab spoolfile:/out application/octet-stream abort-job\n\
+create lab ann \"a\" 1 50 \"\"\n\
+close 1 a\n\
+abandon 1\n\
+abandon 9\n";
+    assert_eq!(rt;
+        reply_text(rt.alloc(), script)?.as_str(),
+        "ok\nok job 1\nok type application/octet-stream stages 1\nerror 13 NotProcessing\nerror 5 NoJob\n"
+    );
+    Ok(())
+}

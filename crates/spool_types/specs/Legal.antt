@@ -24,6 +24,7 @@ pub record IsStarted (r : Job) (attempt stage stages : ℕ) : Type 0 where
   pub media : IsSome r.media
   pub started : 1 ≤ attempt
   pub newest : attempt ≡ r.attempts
+  pub counted : r.attempts ≤ greatest_attempts
   pub from_first : 1 ≤ stage
   pub to_last : stage ≤ stages
   pub of_all : stages ≡ length r.filters + 1

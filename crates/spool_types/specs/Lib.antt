@@ -4,7 +4,10 @@ pub mod Phases
 pub mod State
 pub mod Legal
 pub mod Refusals
+pub mod Warnings
+pub mod Changes
 pub mod Step
 pub mod Fold
 pub mod Verdicts
 pub mod Next
+pub mod Attempts

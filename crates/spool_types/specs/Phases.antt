@@ -27,6 +27,14 @@ is_incoming Completed = false
 is_incoming Canceled = false
 is_incoming (Aborted reason) = false
 
+abbrev pub is_waiting : Phase → Bool
+is_waiting (Incoming hold) = false
+is_waiting (Waiting hold not_before first) = true
+is_waiting (Processing attempt stage stages) = false
+is_waiting Completed = false
+is_waiting Canceled = false
+is_waiting (Aborted reason) = false
+
 abbrev pub is_processing : Phase → Bool
 is_processing (Incoming hold) = false
 is_processing (Waiting hold not_before first) = false

@@ -1,25 +1,21 @@
 -- One event: why it is refused, or what it changes and answers.
-use Rattle.std.specs.Prelude.{ℕ, ◌+◌, Bool, true, false, not, cond, List, [], ◌∷◌, ◌++◌, length, max, nat_lt, nat_le, Option, None, Some, is_none, is_some, Result, Ok, Err}
+use Rattle.std.specs.Prelude.{ℕ, ◌+◌, Bool, false, not, cond, List, [], ◌∷◌, length, max, nat_lt, nat_le, Option, None, Some, is_none, is_some, Result, Ok, Err}
 use Rattle.std.specs.FinMap as map
 use Rattle.spool_types.specs.declared.phase.Phase.{Phase}
-use Rattle.spool_types.specs.declared.phase.Phase.TheVariants.{Incoming, Waiting, Canceled, Aborted}
-use Rattle.spool_types.specs.declared.phase.Hold.{Hold}
+use Rattle.spool_types.specs.declared.phase.Phase.TheVariants.{Canceled}
 use Rattle.spool_types.specs.declared.phase.Hold.TheVariants.{Free}
-use Rattle.spool_types.specs.declared.phase.AbortReason.TheVariants.{NoFilter}
 use Rattle.spool_types.specs.declared.rows.QueueRow.{QueueRow}
-use Rattle.spool_types.specs.declared.event.NewQueue.{NewQueue}
-use Rattle.spool_types.specs.declared.event.QueueNotes.{QueueNotes}
-use Rattle.spool_types.specs.declared.event.NewJob.{NewJob}
-use Rattle.spool_types.specs.declared.event.Closing.{Closing}
 use Rattle.spool_types.specs.declared.event.Event.{Event}
-use Rattle.spool_types.specs.declared.event.Event.TheVariants.{AddQueue, Info, SetAccept, SetStop, Create, Send, Close, Hold as HoldJob, Release, Cancel, Clock}
+use Rattle.spool_types.specs.declared.event.Event.TheVariants.{AddQueue, Info, SetAccept, SetStop, Create, Send, Close, Hold as HoldJob, Release, Cancel, Clock, Start, Stage, Abandon, Reopen}
 use Rattle.spool_types.specs.declared.event.Reply.{Reply}
-use Rattle.spool_types.specs.declared.event.Reply.TheVariants.{Done, Number, Size}
+use Rattle.spool_types.specs.declared.event.Reply.TheVariants.{Done, Number, Size, Phase as PhaseNow}
 use Rattle.spool_types.specs.declared.refusal.Refusal.{Refusal}
-use Rattle.spool_types.specs.declared.refusal.Refusal.TheVariants.{NoQueue, QueueExists, TooManyQueues, NotAccepting, NoJob, NotIncoming, TooLong, OldNumber, NoNumberLeft, JobEnded, NotWaiting, NotHeld}
+use Rattle.spool_types.specs.declared.refusal.Refusal.TheVariants.{NoQueue, QueueExists, TooManyQueues, NotAccepting, NoJob, NotIncoming, TooLong, OldNumber, NoNumberLeft, JobEnded, NotWaiting, NotNext, NotProcessing, WrongStage, NotHeld}
 use Rattle.spool_types.specs.Limits.{most_queues, longest_document, greatest_number}
-use Rattle.spool_types.specs.Phases.{has_ended, is_incoming, is_processing, hold_of, is_in_force, with_hold, hold_until}
+use Rattle.spool_types.specs.Phases.{has_ended, is_incoming, is_processing, is_waiting, hold_of, is_in_force, hold_until}
 use Rattle.spool_types.specs.State.{State, Job, queue_at, job_at}
+use Rattle.spool_types.specs.Attempts.{is_next, is_in_stage, started, stage_verdict, lost_by, rule_at, reopened}
+pub use Rattle.spool_types.specs.Changes.{new_queue, with_notes, with_accepting, with_stopped, new_job, with_bytes, ended, closed, held}
 
 -- whether there is a value, and it passes
 abbrev pub passes : {X : Type 0} → (X → Bool) → Option X → Bool
@@ -79,72 +75,27 @@ causes s (Cancel j) =
     ∷ (passes (λ r. has_ended r.phase) (job_at s j), JobEnded)
     ∷ []
 causes s (Clock m) = []
+causes s (Start j) =
+    (is_none (job_at s j), NoJob)
+    ∷ (passes (λ r. has_ended r.phase) (job_at s j), JobEnded)
+    ∷ (passes (λ r. not (is_waiting r.phase)) (job_at s j), NotWaiting)
+    ∷ (passes (λ r. not (is_next s r)) (job_at s j), NotNext)
+    ∷ []
+causes s (Stage e) =
+    (is_none (job_at s e.job), NoJob)
+    ∷ (passes (λ r. has_ended r.phase) (job_at s e.job), JobEnded)
+    ∷ (passes (λ r. not (is_processing r.phase)) (job_at s e.job), NotProcessing)
+    ∷ (passes (λ r. not (is_in_stage e.attempt e.stage r.phase)) (job_at s e.job), WrongStage)
+    ∷ []
+causes s (Abandon j) =
+    (is_none (job_at s j), NoJob)
+    ∷ (passes (λ r. has_ended r.phase) (job_at s j), JobEnded)
+    ∷ (passes (λ r. not (is_processing r.phase)) (job_at s j), NotProcessing)
+    ∷ []
+causes s Reopen = []
 
 abbrev pub refusal_of : State → Event → Option Refusal
 refusal_of s e = first_cause (causes s e)
-
--- a new queue accepts, isn't stopped, and has empty texts and lists
-abbrev pub new_queue : NewQueue → QueueRow
-new_queue q = record {
-  name = q.name;
-  uri = q.uri;
-  target = q.target;
-  policy = q.policy;
-  interval = q.interval;
-  limit = q.limit;
-  info = [];
-  location = [];
-  accepting = true;
-  stopped = false;
-  message = [];
-  reasons = [];
-  attributes = [];
-}
-
-abbrev pub with_notes : QueueNotes → QueueRow → QueueRow
-with_notes notes q = record q { info = notes.info; location = notes.location }
-
-abbrev pub with_accepting : Bool → QueueRow → QueueRow
-with_accepting accepting q = record q { accepting = accepting }
-
-abbrev pub with_stopped : Bool → QueueRow → QueueRow
-with_stopped stopped q = record q { stopped = stopped }
-
--- a new job is incoming and free, and has no bytes
-abbrev pub new_job : NewJob → Job
-new_job n = record {
-  id = n.job;
-  queue = n.queue;
-  user = n.user;
-  title = n.title;
-  copies = n.copies;
-  priority = n.priority;
-  options = n.options;
-  media = None;
-  filters = [];
-  attempts = 0;
-  pages = 0;
-  size = 0;
-  phase = Incoming Free;
-  document = [];
-}
-
-abbrev pub with_bytes : List ℕ → Job → Job
-with_bytes bytes r = record r { size = r.size + length bytes; document = r.document ++ bytes }
-
--- a job that ends loses its document and keeps its size
-abbrev pub ended : Phase → Job → Job
-ended phase r = record r { phase = phase; document = [] }
-
--- a closed job waits with the hold that it had, or ends where nothing can print it
-abbrev pub closed : Closing → Job → Job
-closed c r = elim c.filters [
-  | None ↦ ended (Aborted NoFilter) (record r { media = Some c.media })
-  | Some filters ↦ record r { media = Some c.media; filters = filters; phase = Waiting (hold_of r.phase) 0 false }
-]
-
-abbrev pub held : Hold → Job → Job
-held hold r = record r { phase = with_hold hold r.phase }
 
 -- the queue that the event speaks of is changed, if there is one
 abbrev pub change_found_queue : State → List ℕ → (QueueRow → QueueRow) → Option QueueRow → State
@@ -175,10 +126,19 @@ after s (HoldJob j until) = change_job s j (held (hold_until until))
 after s (Release j) = change_job s j (held Free)
 after s (Cancel j) = change_job s j (ended Canceled)
 after s (Clock m) = record s { moment = max s.moment m }
+after s (Start j) = change_job s j started
+after s (Stage e) = rule_at s e.job (stage_verdict e)
+after s (Abandon j) = rule_at s j lost_by
+after s Reopen = reopened s
 
 abbrev pub size_found : Option Job → ℕ
 size_found None = 0
 size_found (Some r) = r.size
+
+-- the phase that a job has; there is one wherever this is told
+abbrev pub phase_found : Option Job → Phase
+phase_found None = Canceled
+phase_found (Some r) = r.phase
 
 -- what is answered to an event that isn't refused
 abbrev pub reply_to : State → Event → Reply
@@ -193,6 +153,10 @@ reply_to s (HoldJob j until) = Done
 reply_to s (Release j) = Done
 reply_to s (Cancel j) = Done
 reply_to s (Clock m) = Done
+reply_to s (Start j) = PhaseNow (phase_found (job_at (after s (Start j)) j))
+reply_to s (Stage e) = PhaseNow (phase_found (job_at (after s (Stage e)) e.job))
+reply_to s (Abandon j) = PhaseNow (phase_found (job_at (after s (Abandon j)) j))
+reply_to s Reopen = Done
 
 -- Step: one refusal, the first whose cause stands, or the new state and the reply.
 abbrev pub answered : State → Event → Option Refusal → Result (State × Reply) Refusal

@@ -1,5 +1,5 @@
 -- What becomes of a job whose child ended, by the child's exit.
-use Rattle.std.specs.Prelude.{ℕ, Bool, true, false, cond, not, ◌&&◌, ◌==◌, nat_le}
+use Rattle.std.specs.Prelude.{ℕ, Bool, cond, not, ◌&&◌, ◌==◌, nat_le}
 use Rattle.spool_types.specs.declared.effect.Exit.{Exit}
 use Rattle.spool_types.specs.declared.effect.Exit.TheVariants.{Code, Signal, NoStart, Lost}
 use Rattle.spool_types.specs.declared.phase.Policy.{Policy}

@@ -1,12 +1,13 @@
 //! Events, and what they are answered.
 ghost use Rattle.std.specs.Prelude.{◌≡◌, IfOk};
 
+use crate::effect::Exit;
 use crate::items::{Filters, Piece};
 use crate::kinds::{Note, OptionText, QueueName, Title, Uri, UserName};
 use crate::media::MediaType;
 use crate::numbers::{JobId, Moment};
 use crate::phase::{Phase, Policy};
-use crate::ranged::{Copies, Interval, Priority};
+use crate::ranged::{AttemptNumber, Copies, Interval, Priority, StageNumber};
 use std::alloc::AllocError;
 
 /// A queue to be made.
@@ -48,6 +49,17 @@ pub struct Closing {
     pub filters: Option<Filters>,
 }
 
+/// The end of a stage of a job's attempt.
+#[derive(Clone, Copy, Debug, PartialEq, Eq)]
+pub struct StageEnd {
+    pub job: JobId,
+    pub attempt: AttemptNumber,
+    pub stage: StageNumber,
+    pub exit: Exit,
+    /// How many lines of standard error had no effect, since those before them had as many as one stage may have.
+    pub dropped: u32,
+}
+
 /// A change of the table.
 #[derive(Clone, Debug, PartialEq, Eq, Drop)]
 pub enum Event {
@@ -66,6 +78,14 @@ pub enum Event {
     Release(JobId),
     Cancel(JobId),
     Clock(Moment),
+    /// Begins a job's next attempt.
+    Start(JobId),
+    /// Tells the end of a stage.
+    Stage(StageEnd),
+    /// Gives up an attempt: its queue's error policy decides (ErrorPolicy, cupsd.conf(5)).
+    Abandon(JobId),
+    /// Gives up every attempt, as the spooler was started anew.
+    Reopen,
 }
 
 impl Event {

@@ -1,4 +1,4 @@
-//! The words of the spooler: texts, numbers, rows, phases, effects, events, replies and refusals.
+//! The words of the spooler: texts, numbers, rows, phases, effects, events, replies, refusals and warnings.
 //!
 //! Every other crate speaks in these types, so what a value may be is said here once, by its type: a text of a kind
 //! ([`Text`]) passes its kind's test, a number ([`Ranged`], [`JobId`], [`Moment`]) lies in its range, a list
@@ -10,9 +10,12 @@
 //! - `Values`, `Limits`: what texts may hold, and how much of each thing there may be.
 //! - `Phases`: which phases have ended, which hold is in force, and how a job is shown.
 //! - `State`, `Legal`: a table of queues and jobs, and what is so of each table that events lead to.
-//! - `Step`: for each event the causes of its refusals in order, its effect and its reply.
+//! - `Step`: for each event the causes of its refusals in order, its effect and its reply; `Changes`: what events change
+//!   in a row.
 //! - `Fold`: many events in turn.
 //! - `Verdicts`: what becomes of a job whose child ended; `Next`: which job of a queue is to be started next.
+//! - `Attempts`: how an attempt at a job starts, and what its end, or its loss, makes of the job and its queue.
+//! - `Refusals`, `Warnings`: how a refusal and the kind of a warning are told.
 //!
 //! # Promises
 //!
@@ -33,9 +36,10 @@ mod refusal;
 mod rows;
 mod text;
 mod verdict;
+mod warning;
 
 pub use effect::{Attribute, Effect, Exit, Level};
-pub use event::{Closing, Event, NewJob, NewQueue, QueueNotes, Reply};
+pub use event::{Closing, Event, NewJob, NewQueue, QueueNotes, Reply, StageEnd};
 pub use items::{Attributes, Filters, Items, Piece, Reasons, Words};
 pub use kinds::{
     AttributeName, AttributeNameKind, FileName, FileNameKind, FilterName, FilterNameKind, Message,
@@ -45,11 +49,12 @@ pub use kinds::{
 pub use media::{MediaName, MediaType, MediaTypeKind};
 pub use numbers::{JobId, Moment};
 pub use phase::{AbortReason, Hold, HoldReason, Phase, Policy};
-pub use ranged::{Copies, Interval, Priority, Ranged};
+pub use ranged::{AttemptNumber, Copies, Interval, Priority, Ranged, StageNumber};
 pub use refusal::Refusal;
 pub use rows::{JobRow, QueueRow, is_busy};
 pub use text::{Text, TextFault, TextKind};
 pub use verdict::Verdict;
+pub use warning::{Warning, WarningKind};
 
 #[cfg(test)]
 mod tests;

@@ -1,6 +1,6 @@
 //! Phases of a job, what holds it, and what a queue does with a job that fails.
 ghost use Rattle.std.specs.Prelude.{◌≡◌};
-ghost use Rattle.spool_types.specs.Phases.{has_ended, is_incoming, is_processing, hold_of, is_in_force, with_hold, hold_until, job_state, job_reason, policy_word, hold_reason_word, hold_word, abort_reason_word, waiting_word};
+ghost use Rattle.spool_types.specs.Phases.{has_ended, is_incoming, is_waiting, is_processing, hold_of, is_in_force, with_hold, hold_until, job_state, job_reason, policy_word, hold_reason_word, hold_word, abort_reason_word, waiting_word};
 
 use crate::numbers::Moment;
 
@@ -158,6 +158,13 @@ impl Phase {
         ensures { result ≡ is_incoming self }
     {
         matches!(self, Phase::Incoming(_))
+    }
+
+    /// Whether the job is closed and isn't processing.
+    pub fn is_waiting(self) -> bool
+        ensures { result ≡ is_waiting self }
+    {
+        matches!(self, Phase::Waiting { .. })
     }
 
     /// Whether a stage of the job runs.

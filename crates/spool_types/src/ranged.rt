@@ -52,3 +52,9 @@ pub type Priority = Ranged<1, 100>;
 
 /// How long a queue waits before it tries a job again, in seconds (JobRetryInterval, cupsd.conf(5)).
 pub type Interval = Ranged<0, 86400>;
+
+/// The number of an attempt at a job.
+pub type AttemptNumber = Ranged<1, 4294967295>;
+
+/// The number of a stage of an attempt: at most 15 filters, and then the backend.
+pub type StageNumber = Ranged<1, 16>;

@@ -146,6 +146,13 @@ fn refusals_are_told_by_number_and_name(rt: HostRuntime) -> Result<(), Fail> {
 }
 
 #[test]
+fn warnings_are_told_by_name(rt: HostRuntime) -> Result<(), Fail> {
+    assert_eq!(rt; WarningKind::UnknownRule.name(), "UnknownRule");
+    assert_eq!(rt; WarningKind::BadLine.name(), "BadLine");
+    Ok(())
+}
+
+#[test]
 fn lists_give_back_what_is_too_long(rt: HostRuntime) -> Result<(), Fail> {
     let alloc = rt.alloc();
     let fits = Vec::from_slice(alloc, &[7; 65_536])?;

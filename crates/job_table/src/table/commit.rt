@@ -22,55 +22,29 @@ impl Table {
         ensures { step self.old.state event ≡ Ok (self.new.state, result) }
     {
         match event {
-            Event::AddQueue(queue) => {
-                self.add_queue(queue);
-                Reply::Done
-            }
-            Event::Info(notes) => {
-                self.info(notes);
-                Reply::Done
-            }
-            Event::SetAccept { queue, accepting } => {
-                self.set_accept(queue, accepting);
-                Reply::Done
-            }
-            Event::SetStop { queue, stopped } => {
-                self.set_stop(queue, stopped);
-                Reply::Done
-            }
-            Event::Create(job) => {
-                let number = job.job;
-                self.create(job);
-                Reply::Number(number)
-            }
+            Event::AddQueue(queue) => self.add_queue(queue),
+            Event::Info(notes) => self.info(notes),
+            Event::SetAccept { queue, accepting } => self.set_accept(queue, accepting),
+            Event::SetStop { queue, stopped } => self.set_stop(queue, stopped),
+            Event::Create(job) => self.create(job),
             Event::Send { job, bytes } => Reply::Size(self.send(job, bytes)),
-            Event::Close(closing) => {
-                self.close(closing);
-                Reply::Done
-            }
-            Event::Hold { job, until } => {
-                self.hold(job, until);
-                Reply::Done
-            }
-            Event::Release(job) => {
-                self.release(job);
-                Reply::Done
-            }
-            Event::Cancel(job) => {
-                self.cancel(job);
-                Reply::Done
-            }
-            Event::Clock(moment) => {
-                self.clock(moment);
-                Reply::Done
-            }
+            Event::Close(closing) => self.close(closing),
+            Event::Hold { job, until } => self.hold(job, until),
+            Event::Release(job) => self.release(job),
+            Event::Cancel(job) => self.cancel(job),
+            Event::Clock(moment) => self.clock(moment),
+            Event::Start(job) => Reply::Phase(self.start(job)),
+            Event::Stage(end) => Reply::Phase(self.end_stage(end)),
+            Event::Abandon(job) => Reply::Phase(self.abandon(job)),
+            Event::Reopen => self.reopen(),
         }
     }
 
-    fn add_queue(&mut self, queue: NewQueue)
+    fn add_queue(&mut self, queue: NewQueue) -> Reply
         requires accepted { refusal_of self.old.state (Event.AddQueue queue) ≡ None }
         requires room { 0 < self.old.room.queues }
-        ensures { self.new.state ≡ after self.old.state (Event.AddQueue queue) }
+        ensures state { self.new.state ≡ after self.old.state (Event.AddQueue queue) }
+        ensures reply { result ≡ reply_to self.old.state (Event.AddQueue queue) }
     {
         let alloc = *self.queues.allocator();
         match queue_place(&self.queues, &queue.name) {
@@ -80,39 +54,50 @@ impl Table {
                 self.queues.insert(at, row).unwrap();
             }
         }
+        Reply::Done
     }
 
-    fn info(&mut self, notes: QueueNotes)
+    fn info(&mut self, notes: QueueNotes) -> Reply
         requires { refusal_of self.old.state (Event.Info notes) ≡ None }
-        ensures { self.new.state ≡ after self.old.state (Event.Info notes) }
+        ensures state { self.new.state ≡ after self.old.state (Event.Info notes) }
+        ensures reply { result ≡ reply_to self.old.state (Event.Info notes) }
     {
-        if let Ok(at) = queue_place(&self.queues, &notes.queue) {
-            set_notes(&mut self.queues[at], notes);
-        }
+        let Ok(at) = queue_place(&self.queues, &notes.queue) else {
+            unreachable!()
+        };
+        set_notes(&mut self.queues[at], notes);
+        Reply::Done
     }
 
-    fn set_accept(&mut self, queue: QueueName, accepting: bool)
+    fn set_accept(&mut self, queue: QueueName, accepting: bool) -> Reply
         requires { refusal_of self.old.state (Event.SetAccept queue accepting) ≡ None }
-        ensures { self.new.state ≡ after self.old.state (Event.SetAccept queue accepting) }
+        ensures state { self.new.state ≡ after self.old.state (Event.SetAccept queue accepting) }
+        ensures reply { result ≡ reply_to self.old.state (Event.SetAccept queue accepting) }
     {
-        if let Ok(at) = queue_place(&self.queues, &queue) {
-            set_accepting(&mut self.queues[at], accepting);
-        }
+        let Ok(at) = queue_place(&self.queues, &queue) else {
+            unreachable!()
+        };
+        set_accepting(&mut self.queues[at], accepting);
+        Reply::Done
     }
 
-    fn set_stop(&mut self, queue: QueueName, stopped: bool)
+    fn set_stop(&mut self, queue: QueueName, stopped: bool) -> Reply
         requires { refusal_of self.old.state (Event.SetStop queue stopped) ≡ None }
-        ensures { self.new.state ≡ after self.old.state (Event.SetStop queue stopped) }
+        ensures state { self.new.state ≡ after self.old.state (Event.SetStop queue stopped) }
+        ensures reply { result ≡ reply_to self.old.state (Event.SetStop queue stopped) }
     {
-        if let Ok(at) = queue_place(&self.queues, &queue) {
-            set_stopped(&mut self.queues[at], stopped);
-        }
+        let Ok(at) = queue_place(&self.queues, &queue) else {
+            unreachable!()
+        };
+        set_stopped(&mut self.queues[at], stopped);
+        Reply::Done
     }
 
-    fn create(&mut self, job: NewJob)
+    fn create(&mut self, job: NewJob) -> Reply
         requires accepted { refusal_of self.old.state (Event.Create job) ≡ None }
         requires room { 0 < self.old.room.jobs }
-        ensures { self.new.state ≡ after self.old.state (Event.Create job) }
+        ensures state { self.new.state ≡ after self.old.state (Event.Create job) }
+        ensures reply { result ≡ reply_to self.old.state (Event.Create job) }
     {
         let alloc = *self.jobs.allocator();
         let number = job.job;
@@ -124,6 +109,7 @@ impl Table {
                 self.highest = number.get();
             }
         }
+        Reply::Number(number)
     }
 
     // Answers the new size of the document.
@@ -139,45 +125,59 @@ impl Table {
         }
     }
 
-    fn close(&mut self, closing: Closing)
+    fn close(&mut self, closing: Closing) -> Reply
         requires { refusal_of self.old.state (Event.Close closing) ≡ None }
-        ensures { self.new.state ≡ after self.old.state (Event.Close closing) }
+        ensures state { self.new.state ≡ after self.old.state (Event.Close closing) }
+        ensures reply { result ≡ reply_to self.old.state (Event.Close closing) }
     {
-        if let Ok(at) = job_place(&self.jobs, closing.job) {
-            close_row(&mut self.jobs[at], closing);
-        }
+        let Ok(at) = job_place(&self.jobs, closing.job) else {
+            unreachable!()
+        };
+        close_row(&mut self.jobs[at], closing);
+        Reply::Done
     }
 
-    fn hold(&mut self, job: JobId, until: Option<Moment>)
+    fn hold(&mut self, job: JobId, until: Option<Moment>) -> Reply
         requires { refusal_of self.old.state (Event.Hold job until) ≡ None }
-        ensures { self.new.state ≡ after self.old.state (Event.Hold job until) }
+        ensures state { self.new.state ≡ after self.old.state (Event.Hold job until) }
+        ensures reply { result ≡ reply_to self.old.state (Event.Hold job until) }
     {
-        if let Ok(at) = job_place(&self.jobs, job) {
-            hold_row(&mut self.jobs[at], Hold::until(until));
-        }
+        let Ok(at) = job_place(&self.jobs, job) else {
+            unreachable!()
+        };
+        hold_row(&mut self.jobs[at], Hold::until(until));
+        Reply::Done
     }
 
-    fn release(&mut self, job: JobId)
+    fn release(&mut self, job: JobId) -> Reply
         requires { refusal_of self.old.state (Event.Release job) ≡ None }
-        ensures { self.new.state ≡ after self.old.state (Event.Release job) }
+        ensures state { self.new.state ≡ after self.old.state (Event.Release job) }
+        ensures reply { result ≡ reply_to self.old.state (Event.Release job) }
     {
-        if let Ok(at) = job_place(&self.jobs, job) {
-            hold_row(&mut self.jobs[at], Hold::Free);
-        }
+        let Ok(at) = job_place(&self.jobs, job) else {
+            unreachable!()
+        };
+        hold_row(&mut self.jobs[at], Hold::Free);
+        Reply::Done
     }
 
-    fn cancel(&mut self, job: JobId)
+    fn cancel(&mut self, job: JobId) -> Reply
         requires { refusal_of self.old.state (Event.Cancel job) ≡ None }
-        ensures { self.new.state ≡ after self.old.state (Event.Cancel job) }
+        ensures state { self.new.state ≡ after self.old.state (Event.Cancel job) }
+        ensures reply { result ≡ reply_to self.old.state (Event.Cancel job) }
     {
-        if let Ok(at) = job_place(&self.jobs, job) {
-            end_row(&mut self.jobs[at], Phase::Canceled);
-        }
+        let Ok(at) = job_place(&self.jobs, job) else {
+            unreachable!()
+        };
+        end_row(&mut self.jobs[at], Phase::Canceled);
+        Reply::Done
     }
 
-    fn clock(&mut self, moment: Moment)
-        ensures { self.new.state ≡ after self.old.state (Event.Clock moment) }
+    fn clock(&mut self, moment: Moment) -> Reply
+        ensures state { self.new.state ≡ after self.old.state (Event.Clock moment) }
+        ensures reply { result ≡ reply_to self.old.state (Event.Clock moment) }
     {
         self.moment = self.moment.max(moment);
+        Reply::Done
     }
 }

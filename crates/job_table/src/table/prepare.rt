@@ -65,7 +65,11 @@ impl Table {
             | Event::Hold { .. }
             | Event::Release(_)
             | Event::Cancel(_)
-            | Event::Clock(_) => Ok(()),
+            | Event::Clock(_)
+            | Event::Start(_)
+            | Event::Stage(_)
+            | Event::Abandon(_)
+            | Event::Reopen => Ok(()),
         }
     }
 

@@ -1,13 +1,15 @@
 //! Why an event is refused: its causes in order, of which the first that stands decides.
 ghost use Rattle.std.specs.Prelude.{◌≡◌, Bool, true, false, not, List, [], ◌∷◌, Some, is_none, IfOk, IfErr};
 ghost use Rattle.spool_types.specs.declared.refusal.Refusal.{Refusal};
-ghost use Rattle.spool_types.specs.Phases.{has_ended, is_incoming, is_processing};
+ghost use Rattle.spool_types.specs.Attempts.{is_in_stage as is_stage};
+ghost use Rattle.spool_types.specs.Phases.{has_ended, is_incoming, is_processing, is_waiting};
 ghost use Rattle.spool_types.specs.State.{job_of, queue_at, job_at};
 ghost use Rattle.spool_types.specs.Step.{first_cause, passes, refusal_of};
 
 use super::Table;
 use spool_types::{
-    Closing, Event, JobId, JobRow, Moment, NewJob, NewQueue, Piece, QueueName, QueueNotes, Refusal,
+    Closing, Event, JobId, JobRow, Moment, NewJob, NewQueue, Phase, Piece, QueueName, QueueNotes,
+    Refusal, StageEnd,
 };
 
 /// The most queues of a table.
@@ -32,7 +34,10 @@ impl Table {
             Event::Hold { job, until } => self.hold_refusal(*job, *until),
             Event::Release(job) => self.release_refusal(*job),
             Event::Cancel(job) => self.cancel_refusal(*job),
-            Event::Clock(_) => None,
+            Event::Clock(_) | Event::Reopen => None,
+            Event::Start(job) => self.start_refusal(*job),
+            Event::Stage(end) => self.stage_refusal(*end),
+            Event::Abandon(job) => self.abandon_refusal(*job),
         }
     }
 
@@ -134,6 +139,32 @@ impl Table {
         self.live_job(job).err()
     }
 
+    fn start_refusal(&self, job: JobId) -> Option<Refusal>
+        ensures { result ≡ refusal_of self.now.state (Event.Start job) }
+    {
+        match self.waiting_job(job) {
+            Ok(row) if !self.is_next(row) => Some(Refusal::NotNext),
+            Ok(_) => None,
+            Err(refusal) => Some(refusal),
+        }
+    }
+
+    fn stage_refusal(&self, end: StageEnd) -> Option<Refusal>
+        ensures { result ≡ refusal_of self.now.state (Event.Stage end) }
+    {
+        match self.processing_job(end.job) {
+            Ok(row) if !is_in_stage(row.phase, end) => Some(Refusal::WrongStage),
+            Ok(_) => None,
+            Err(refusal) => Some(refusal),
+        }
+    }
+
+    fn abandon_refusal(&self, job: JobId) -> Option<Refusal>
+        ensures { result ≡ refusal_of self.now.state (Event.Abandon job) }
+    {
+        self.processing_job(job).err()
+    }
+
     // The row of a job that is still incoming, or why there is none.
     fn incoming_job(&self, job: JobId) -> Result<&JobRow, Refusal>
         ensures found { IfOk result (λ r. job_at self.now.state job ≡ Some (job_of r.now)) }
@@ -168,6 +199,40 @@ impl Table {
         }
     }
 
+    // The row of a job that waits, or why there is none.
+    fn waiting_job(&self, job: JobId) -> Result<&JobRow, Refusal>
+        ensures found { IfOk result (λ r. job_at self.now.state job ≡ Some (job_of r.now)) }
+        ensures live { IfOk result (λ r. has_ended r.now.phase ≡ false) }
+        ensures waiting { IfOk result (λ r. is_waiting r.now.phase ≡ true) }
+        ensures refused { (rest : List (Bool × Refusal)) → IfErr result (λ x. first_cause (
+            (is_none (job_at self.now.state job), Refusal.NoJob)
+            ∷ (passes (λ r. has_ended r.phase) (job_at self.now.state job), Refusal.JobEnded)
+            ∷ (passes (λ r. not (is_waiting r.phase)) (job_at self.now.state job), Refusal.NotWaiting)
+            ∷ rest) ≡ Some x) }
+    {
+        match self.live_job(job) {
+            Ok(row) if !row.phase.is_waiting() => Err(Refusal::NotWaiting),
+            found => found,
+        }
+    }
+
+    // The row of a job that is processing, or why there is none.
+    fn processing_job(&self, job: JobId) -> Result<&JobRow, Refusal>
+        ensures found { IfOk result (λ r. job_at self.now.state job ≡ Some (job_of r.now)) }
+        ensures live { IfOk result (λ r. has_ended r.now.phase ≡ false) }
+        ensures processing { IfOk result (λ r. is_processing r.now.phase ≡ true) }
+        ensures refused { (rest : List (Bool × Refusal)) → IfErr result (λ x. first_cause (
+            (is_none (job_at self.now.state job), Refusal.NoJob)
+            ∷ (passes (λ r. has_ended r.phase) (job_at self.now.state job), Refusal.JobEnded)
+            ∷ (passes (λ r. not (is_processing r.phase)) (job_at self.now.state job), Refusal.NotProcessing)
+            ∷ rest) ≡ Some x) }
+    {
+        match self.live_job(job) {
+            Ok(row) if !row.phase.is_processing() => Err(Refusal::NotProcessing),
+            found => found,
+        }
+    }
+
     // The row of a job that hasn't ended, or why there is none.
     fn live_job(&self, job: JobId) -> Result<&JobRow, Refusal>
         ensures found { IfOk result (λ r. job_at self.now.state job ≡ Some (job_of r.now)) }
@@ -182,5 +247,17 @@ impl Table {
             Some(row) if row.phase.has_ended() => Err(Refusal::JobEnded),
             Some(row) => Ok(row),
         }
+    }
+}
+
+// Whether the stage that ended is the one that runs.
+fn is_in_stage(phase: Phase, end: StageEnd) -> bool
+    ensures { result ≡ is_stage end.attempt end.stage phase }
+{
+    match phase {
+        Phase::Processing { attempt, stage, .. } => {
+            attempt == end.attempt.get() && u32::from(stage) == end.stage.get()
+        }
+        _ => false,
     }
 }

@@ -1,12 +1,14 @@
 //! New rows, and what events change in a row.
-ghost use Rattle.std.specs.Prelude.{◌≡◌, ◌+◌, ◌≤◌, length, vec_len, vec_capacity};
-ghost use Rattle.spool_types.specs.Limits.{longest_document};
+ghost use Rattle.std.specs.Prelude.{◌≡◌, ◌+◌, ◌<◌, ◌≤◌, true, cond, length, vec_len, vec_capacity};
+ghost use Rattle.spool_types.specs.Attempts.{started, ruled, stops_queue, next_stage as stage_after};
+ghost use Rattle.spool_types.specs.Limits.{longest_document, greatest_attempts};
 ghost use Rattle.spool_types.specs.State.{job_of};
+ghost use Rattle.job_table.specs.Attempts.{HasNextStage};
 ghost use Rattle.spool_types.specs.Step.{new_queue, with_notes, with_accepting, with_stopped, new_job, with_bytes, ended, closed, held};
 
 use spool_types::{
-    AbortReason, Closing, Hold, Items, JobRow, Moment, NewJob, NewQueue, Phase, Piece, QueueNotes,
-    QueueRow, Text,
+    AbortReason, Closing, Hold, Interval, Items, JobRow, Moment, NewJob, NewQueue, Phase, Piece,
+    QueueNotes, QueueRow, Text, Verdict,
 };
 use std::alloc::Global;
 
@@ -117,4 +119,80 @@ pub(super) fn hold_row(row: &mut JobRow, hold: Hold)
     ensures { job_of row.new ≡ held hold (job_of row.old) }
 {
     row.phase = row.phase.with_hold(hold);
+}
+
+// Begins a further attempt: the first of the job's stages, its filters in order and then the backend.
+pub(super) fn start_row(row: &mut JobRow) -> Phase
+    requires { row.old.attempts < greatest_attempts }
+    ensures row { job_of row.new ≡ started (job_of row.old) }
+    ensures phase { result ≡ row.new.phase }
+{
+    row.attempts += 1;
+    row.pages = 0;
+    row.phase = Phase::Processing {
+        attempt: row.attempts,
+        stage: 1,
+        stages: row.filters.as_slice().len() as u8 + 1,
+    };
+    row.phase
+}
+
+// One verdict on a job stops its queue.
+pub(super) fn rule_queue_row(row: &mut QueueRow, verdict: Verdict)
+    ensures { row.new ≡ cond (stops_queue verdict) (with_stopped true row.old) row.old }
+{
+    if verdict == Verdict::StopQueue {
+        row.stopped = true;
+    }
+}
+
+// What a verdict makes of a job, at the moment now, where its queue tries a job again after the interval.
+pub(super) fn rule_row(row: &mut JobRow, verdict: Verdict, now: Moment, interval: Interval) -> Phase
+    requires { verdict ≡ Verdict.NextStage → HasNextStage row.old.phase }
+    ensures row { job_of row.new ≡ ruled now interval verdict (job_of row.old) }
+    ensures phase { result ≡ row.new.phase }
+{
+    match verdict {
+        Verdict::NextStage => row.phase = next_stage(row.phase),
+        Verdict::Completed => end_row(row, Phase::Completed),
+        Verdict::Aborted(reason) => end_row(row, Phase::Aborted(reason)),
+        Verdict::Canceled => end_row(row, Phase::Canceled),
+        Verdict::Held(reason) => row.phase = waiting(Hold::Indefinite(reason), Moment::ZERO, false),
+        Verdict::StopQueue => row.phase = waiting(Hold::Free, Moment::ZERO, false),
+        Verdict::RetryAt => {
+            let not_before = now.plus(u64::from(interval.get()));
+            row.phase = waiting(Hold::Free, not_before, false);
+        }
+        Verdict::RetryFirst => row.phase = waiting(Hold::Free, Moment::ZERO, true),
+    }
+    row.phase
+}
+
+fn waiting(hold: Hold, not_before: Moment, first: bool) -> Phase
+    ensures { result ≡ Phase.Waiting hold not_before first }
+{
+    Phase::Waiting {
+        hold,
+        not_before,
+        first,
+    }
+}
+
+// The stage after this one. A job has at most 16 stages, so none is passed by.
+fn next_stage(phase: Phase) -> Phase
+    requires { HasNextStage phase }
+    ensures { result ≡ stage_after phase }
+{
+    match phase {
+        Phase::Processing {
+            attempt,
+            stage,
+            stages,
+        } => Phase::Processing {
+            attempt,
+            stage: stage + 1,
+            stages,
+        },
+        other => other,
+    }
 }

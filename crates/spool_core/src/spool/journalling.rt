@@ -1,17 +1,20 @@
 //! The record of an event in the journal.
-ghost use Rattle.std.specs.Prelude.{◌≡◌, ◌≤◌, ◌↔◌, OnOk, OnErr, IsSome, false};
+ghost use Rattle.std.specs.Prelude.{◌≡◌, ◌<◌, ◌≤◌, ◌↔◌, OnOk, OnErr, IfErr, IsErrOf, IsSome, false};
+ghost use Rattle.spool_types.specs.Attempts.{HasNoProcessing, reopened};
+ghost use Rattle.spool_types.specs.Legal.{IsLegal};
+ghost use Rattle.spool_types.specs.declared.event.Event.TheVariants as Event;
 ghost use Rattle.spool_types.specs.Step.{after};
 ghost use Rattle.spool_disk.specs.Disk.{IsSynced, LeavesOnly};
 ghost use Rattle.job_table.specs.Contents.{IsPrepared};
-ghost use Rattle.spool_core.specs.Image.{HasBeforeOrAfterEvent};
+ghost use Rattle.spool_core.specs.Image.{HasBeforeOrAfterEvent, IsReopeningFault};
 ghost use Rattle.spool_core.specs.Seen.{standing_at, IsStandingAt};
 ghost use Rattle.spool_core.specs.Standing.{IsJournalled, IsFrameOf};
 
 use super::ApplyFault;
 use event_codec::encode_onto;
 use gate_journal::JournalFault;
-use job_table::{PrepareFault, Table};
-use spool_areas::Areas;
+use job_table::{PrepareFault, Table, reopening};
+use spool_areas::{Areas, OpenFault};
 use spool_disk::Disk;
 use spool_types::Event;
 use std::alloc::AllocError;
@@ -59,6 +62,51 @@ pub(super) fn journal<D: Disk>(
         Err(JournalFault::Full) => Err(ApplyFault::Full),
         Err(JournalFault::Disk) => Err(ApplyFault::Disk),
         Err(JournalFault::Dead) => Err(ApplyFault::Dead),
+    }
+}
+
+/// Adds the record of a reopening to the area, in the room that is kept for it. No row changes.
+pub(super) fn journal_reopening<D: Disk>(
+    areas: &mut Areas<D>,
+    table: &mut Table,
+    frame: &mut Vec<u8>,
+) -> Result<u64, OpenFault>
+    requires standing { IsStandingAt D.bytes D.size D.image areas.old table.old.state }
+    requires alive { areas.old.dead ≡ false }
+    requires legal { IsLegal table.old.state }
+    requires busy { ¬ (HasNoProcessing table.old.state) }
+
+    ensures same { table.new.state ≡ table.old.state }
+    ensures prepared { OnOk result (IsPrepared table.new Event.Reopen) }
+    ensures alive { OnOk result (areas.new.dead ≡ false) }
+    ensures fault { IfErr result IsReopeningFault }
+    ensures unchanged { IsErrOf result OpenFault.Memory → areas.new ≡ areas.old }
+    ensures cause { IsErrOf result OpenFault.Disk → D.failures areas.old.disk < D.failures areas.new.disk }
+    ensures counted { D.failures areas.old.disk ≤ D.failures areas.new.disk }
+    ensures fixed { D.size areas.new.disk ≡ D.size areas.old.disk }
+    ensures told { IsSome (D.bytes areas.new.disk) ↔ IsSome (D.bytes areas.old.disk) }
+
+    // Whatever it answers, a crash at any moment of it leaves the table before the reopening or the one after it.
+    ensures any_moment { LeavesOnly D.moment D.image_since areas.old.disk areas.new.disk (λ c. IsSome (D.bytes areas.old.disk) → HasBeforeOrAfterEvent table.old.state Event.Reopen c) }
+    ensures added { OnOk result (IsStandingAt D.bytes D.size D.image areas.new (reopened table.old.state)) }
+    ensures idle { HasNoProcessing (reopened table.old.state) }
+    ensures kept { OnErr result (IsStandingAt D.bytes D.size D.image areas.new table.old.state) }
+{
+    reopening();
+    let event = Event::Reopen;
+    match table.prepare(&event) {
+        Ok(()) => {}
+        Err(_) => unreachable!(),
+    }
+    match fill_frame(frame, &event) {
+        Ok(()) => {}
+        Err(_) => return Err(OpenFault::Memory),
+    }
+    match areas.append_kept(frame) {
+        Ok(place) => Ok(place),
+        Err(JournalFault::Disk) => Err(OpenFault::Disk),
+        Err(JournalFault::Full) => unreachable!(),
+        Err(JournalFault::Dead) => unreachable!(),
     }
 }
 

@@ -1,24 +1,78 @@
 //! Opening a spool.
-ghost use Rattle.std.specs.Prelude.{◌≡◌, ◌<◌, ◌≤◌, List, ℕ, Some, IsSome, IsTrue, false, IfOk, IfErr};
+ghost use Rattle.std.specs.Prelude.{◌≡◌, ◌<◌, ◌≤◌, ◌⊎◌, ◌↔◌, List, ℕ, Some, IsSome, IsTrue, false, IfOk, IfErr, OnOk, IsErrOf};
+ghost use Rattle.spool_types.specs.Attempts.{HasNoProcessing, reopened};
+ghost use Rattle.spool_types.specs.Legal.{IsLegal};
+ghost use Rattle.spool_types.specs.State.{State};
+ghost use Rattle.spool_types.specs.declared.event.Event.TheVariants as Event;
 ghost use Rattle.spool_disk.specs.Disk.{LeavesOnly};
-ghost use Rattle.spool_core.specs.Image.{HasTable, IsFaultOf, kept_room, HasRoom};
-ghost use Rattle.spool_core.specs.Idle.{HasNoProcessing};
+ghost use Rattle.spool_core.specs.Image.{HasTable, HasRoom, HasBeforeOrAfterEvent, IsReopenedFrom, IsMidway, IsFaultOf, IsReopeningFault, kept_room};
 
 use super::Spool;
+use super::journalling::journal_reopening;
 use crate::fold::fold;
-use job_table::Table;
+use job_table::{Table, reopening};
 use spool_areas::{Areas, OpenError, OpenFault, Opened};
 use spool_disk::Disk;
+use spool_types::Event;
 use std::alloc::Global;
 
 /// Room for the record of one reopening, whose payload is one byte, and the gate behind it.
 const KEPT_ROOM: u64 = 7;
 
 impl<D: Disk> Spool<D> {
-    /// Opens the spool on a disk: syncs it, and makes the table anew from the events of its current area. It writes
-    /// nothing. Of several faults it tells the first in the order of the records. Last it looks whether a job is
-    /// processing and the area has no room for the record of its reopening: that is damage at the closed gate.
+    /// Opens the spool on a disk: syncs it, makes the table anew from the events of its current area, and gives up each
+    /// attempt that was under way, as its queue's error policy says. Where no job is processing it writes nothing. Of
+    /// several faults it tells the first in the order of the records. Last it looks whether a job is processing and the
+    /// area has no room for the record of its reopening: that is damage at the closed gate.
     pub fn open(alloc: Global, disk: D) -> Result<Spool<D>, OpenError<D>>
+        // The table is that of the bytes after the policy, the room is that of the disk then, and a fault of the bytes is
+        // theirs.
+        ensures opened { IfOk result (λ spool. (r : List ℕ) → D.bytes disk ≡ Some r → IsReopenedFrom spool.state r) }
+        ensures room { IfOk result (λ spool. (r : List ℕ) → D.bytes spool.disk ≡ Some r → HasRoom spool.room r) }
+        ensures fault { IfErr result (λ e. (r : List ℕ) → D.bytes disk ≡ Some r → IsFaultOf r e.fault) }
+        ensures alive { IfOk result (λ spool. spool.dead ≡ false) }
+        ensures cause { IfErr result (λ e. e.fault ≡ OpenFault.Disk → D.failures disk < D.failures e.disk) }
+        ensures counted { IfOk result (λ spool. D.failures disk ≤ D.failures spool.disk) }
+        ensures counted_back { IfErr result (λ e. D.failures disk ≤ D.failures e.disk) }
+        ensures size { IfOk result (λ spool. D.size spool.disk ≡ D.size disk) }
+        ensures told { IfOk result (λ spool. IsSome (D.bytes spool.disk) ↔ IsSome (D.bytes disk)) }
+
+        // Where no job is processing it writes nothing.
+        ensures unwritten { IfOk result (λ spool. (r : List ℕ) (t : State) → D.bytes disk ≡ Some r → HasTable t r → HasNoProcessing t → D.bytes spool.disk ≡ Some r) }
+
+        // Until its first sync has answered a crash leaves what it was handed, and from then on an image with the table of
+        // the bytes, or that one after the policy.
+        ensures synced { IfOk result (λ spool. (synced : D) × LeavesOnly D.moment D.image_since disk synced (D.image disk)
+            × LeavesOnly D.moment D.image_since synced spool.disk (λ c. (r : List ℕ) → D.bytes disk ≡ Some r → IsMidway r c)) }
+        ensures kept { IfOk result (λ spool. IsSome (D.bytes disk) → (c : List ℕ) → D.image spool.disk c → HasTable spool.state c) }
+
+        // An error hands the disk back. But for a failed device it reads as before and has no new image.
+        ensures back { IfErr result (λ e. ¬ (e.fault ≡ OpenFault.Disk) → (D.bytes e.disk ≡ D.bytes disk) × LeavesOnly D.moment D.image_since disk e.disk (D.image disk)) }
+        ensures failed { IfErr result (λ e. (D.size e.disk ≡ D.size disk)
+            × LeavesOnly D.moment D.image_since disk e.disk (λ c. D.image disk c ⊎ ((r : List ℕ) → D.bytes disk ≡ Some r → IsMidway r c))) }
+
+        // No attempt goes over a restart.
+        ensures idle { IfOk result (λ spool. HasNoProcessing spool.state) }
+    {
+        reopening();
+        let mut spool = match Spool::load(alloc, disk) {
+            Ok(spool) => spool,
+            Err(error) => return Err(error),
+        };
+        if spool.table.is_idle() {
+            return Ok(spool);
+        }
+        match spool.reopen() {
+            Ok(()) => Ok(spool),
+            Err(fault) => {
+                let disk = spool.into_disk();
+                Err(OpenError { disk, fault })
+            }
+        }
+    }
+
+    // Syncs a disk, and makes the table anew from the events of its current area. It writes nothing.
+    fn load(alloc: Global, disk: D) -> Result<Spool<D>, OpenError<D>>
         // The table and the room are those of the bytes, and a fault of the bytes is theirs.
         ensures opened { IfOk result (λ spool. (r : List ℕ) → D.bytes disk ≡ Some r → HasTable spool.state r) }
         ensures room { IfOk result (λ spool. (r : List ℕ) → D.bytes disk ≡ Some r → HasRoom spool.room r) }
@@ -30,15 +84,13 @@ impl<D: Disk> Spool<D> {
 
         // It writes nothing.
         ensures stays { IfOk result (λ spool. (D.bytes spool.disk ≡ D.bytes disk) × (D.size spool.disk ≡ D.size disk)) }
+        ensures held { IfOk result (λ spool. LeavesOnly D.moment D.image_since disk spool.disk (D.image disk)) }
         ensures back { IfErr result (λ e. (D.bytes e.disk ≡ D.bytes disk) × (D.size e.disk ≡ D.size disk) × LeavesOnly D.moment D.image_since disk e.disk (D.image disk)) }
 
         // Until its first sync has answered a crash leaves what it was handed, and from then on an image with this table.
         ensures synced { IfOk result (λ spool. (synced : D) × LeavesOnly D.moment D.image_since disk synced (D.image disk)
             × LeavesOnly D.moment D.image_since synced spool.disk (λ c. (r : List ℕ) → D.bytes disk ≡ Some r → (c ≡ r) × HasTable spool.state c)) }
         ensures kept { IfOk result (λ spool. IsSome (D.bytes disk) → (c : List ℕ) → D.image spool.disk c → HasTable spool.state c) }
-
-        // No attempt goes over a restart.
-        ensures idle { IfOk result (λ spool. HasNoProcessing spool.state) }
     {
         let Opened {
             mut areas,
@@ -77,6 +129,32 @@ impl<D: Disk> Spool<D> {
             frame,
         })
     }
+
+    // Gives up each attempt that is under way, as its queue's error policy says, and journals that.
+    fn reopen(&mut self) -> Result<(), OpenFault>
+        requires alive { self.old.dead ≡ false }
+        requires legal { IsLegal self.old.state }
+        requires busy { ¬ (HasNoProcessing self.old.state) }
+        ensures state { OnOk result ((self.new.state ≡ reopened self.old.state) × HasNoProcessing self.new.state) }
+        ensures alive { OnOk result (self.new.dead ≡ false) }
+        ensures fault { IfErr result IsReopeningFault }
+        ensures unchanged { IsErrOf result OpenFault.Memory → self.new ≡ self.old }
+        ensures cause { IsErrOf result OpenFault.Disk → D.failures self.old.disk < D.failures self.new.disk }
+        ensures counted { D.failures self.old.disk ≤ D.failures self.new.disk }
+        ensures fixed { D.size self.new.disk ≡ D.size self.old.disk }
+        ensures told { IsSome (D.bytes self.new.disk) ↔ IsSome (D.bytes self.old.disk) }
+        ensures any_moment { LeavesOnly D.moment D.image_since self.old.disk self.new.disk (λ c. IsSome (D.bytes self.old.disk) → HasBeforeOrAfterEvent self.old.state Event.Reopen c) }
+        ensures kept { OnOk result (IsSome (D.bytes self.old.disk) → (c : List ℕ) → D.image self.new.disk c → HasTable self.new.state c) }
+        ensures room { OnOk result ((r : List ℕ) → D.bytes self.new.disk ≡ Some r → HasRoom self.new.room r) }
+    {
+        match journal_reopening(&mut self.areas, &mut self.table, &mut self.frame) {
+            Ok(place) => {
+                self.table.commit(Event::Reopen, place);
+                Ok(())
+            }
+            Err(fault) => Err(fault),
+        }
+    }
 }
 
 // Whether a job is processing, and so many bytes are no room for the record of its reopening.
@@ -84,13 +162,5 @@ fn is_cramped(table: &Table, room: u64) -> bool
     ensures cramped { IsTrue result → ¬ (HasNoProcessing table.now.state) × (room < kept_room) }
     ensures roomy { result ≡ false → ¬ (HasNoProcessing table.now.state) → kept_room ≤ room }
 {
-    room < KEPT_ROOM && !is_idle(table)
-}
-
-// Whether no job is processing.
-fn is_idle(table: &Table) -> bool
-    ensures idle { IsTrue result → HasNoProcessing table.now.state }
-    ensures busy { result ≡ false → ¬ (HasNoProcessing table.now.state) }
-{
-    !table.jobs().iter().any(|row| row.phase.is_processing())
+    room < KEPT_ROOM && !table.is_idle()
 }

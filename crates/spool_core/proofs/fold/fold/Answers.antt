@@ -1,9 +1,7 @@
 use Rattle.std.proofs.Common.{◌∙◌, ◌+◌, sym, subst}
 use Rattle.spool_disk.proofs.Moments.{started}
-use Rattle.spool_core.specs.Idle.{HasNoProcessing}
 use Rattle.spool_core.specs.Folding.{IsFolded}
 use Rattle.spool_core.proofs.OpenLaws.{history_none}
-use Rattle.spool_core.proofs.IdleLaws.{idle_nothing, idle_after}
 use Rattle.spool_core.proofs.ReadLaws.{reads_on}
 use Rattle.spool_core.proofs.FoldLaws.{follow_at, follow_within, folded_none, folded_more, folded_all, read_stops, take_stops, read_not, read_on}
 use Rattle.spool_core.proofs.fold.fold.Goals as goal
@@ -12,7 +10,6 @@ pub loop-extent-init : goal.loop-extent-init
 loop-extent-init g c = record {
   folded = λ r tells. subst (IsFolded c.args.areas.now.base c.args.areas.now.gate c.args.payloads.now 0 r) (sym c.new-table.ensures)
       (folded_none c.args.areas.now.base c.args.areas.now.gate c.args.payloads.now r history_none c.requires.lie);
-  idle = subst HasNoProcessing (sym c.new-table.ensures) idle_nothing;
   alive = c.requires.alive;
   same = read_not g.D.Disk.bytes g.D.Disk.size g.D.Disk.failures c.args.areas.now;
   run = started g.D.Disk.moment g.D.Disk.image_since c.args.areas.now.disk (g.D.Disk.image c.args.areas.now.disk) (g.met.D.Disk.only_now c.args.areas.now.disk);
@@ -49,7 +46,6 @@ loop-extent-preserved g c = record {
       subst (IsFolded c.args.areas.now.base c.args.areas.now.gate c.args.payloads.now (c.loop-extent.extent-index + 1) r) (sym c.in-Ok-take_event.ensures.table)
       (folded_more c.args.areas.now.base c.args.areas.now.gate c.args.payloads.now c.loop-extent.extent-index r c.loop-extent.table.state (c.loop-extent.invariant.folded r tells) _ c.loop-extent-test.true
       c.in-Ok.event at c.in-Ok-take_event.ensures.accepted);
-  idle = subst HasNoProcessing (sym c.in-Ok-take_event.ensures.table) (idle_after c.loop-extent.table.state c.in-Ok.event c.loop-extent.invariant.idle);
   alive = c.in-Ok.ensures.alive;
   same = read_on g.D.Disk.bytes g.D.Disk.size g.D.Disk.failures c.args.areas.now c.loop-extent.areas c.read_event.new.areas c.loop-extent.invariant.same c.read_event.ensures.same;
   run = reads_on g.D.Disk.moment g.D.Disk.image_since g.D.Disk.image g.met.D.Disk.counts_now c.args.areas.now.disk c.loop-extent.areas.disk c.read_event.new.areas.disk c.loop-extent.invariant.run c.read_event.ensures.any_moment;

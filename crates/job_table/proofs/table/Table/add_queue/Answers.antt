@@ -22,8 +22,8 @@ invariant_of-self c = add_queue_ordered c.self.inside c.self.invariant c.args.qu
     (rw c.unwrap.ensures at c.insert.ensures.items ∙ ap (insert c.self.inside.queues.items c.in-Err.at) c.new_queue_row-row.ensures)
     (legal_after (contents_of c.self.inside).state (AddQueue c.args.queue) (ap (λ v. refusal_of v.state (AddQueue c.args.queue)) c.self.view_is ∙ c.requires.accepted) c.self.invariant.legal)
 
-pub returns : goal.returns
-returns c =
+pub returns-clause-state : goal.returns-clause-state
+returns-clause-state c =
     add_queue_state c.self.inside c.self.invariant c.args.queue c.insert.new.self c.in-Err.at
     (rw c.deref.ensures.value at c.in-Err.ensures.absent)
     (rw c.unwrap.ensures at c.insert.ensures.items ∙ ap (insert c.self.inside.queues.items c.in-Err.at) c.new_queue_row-row.ensures)

@@ -23,8 +23,8 @@ invariant_of-self c =
     (subst (λ n. n ≤ greatest_number) c.get-self-inside.ensures.value c.get-self-inside.ensures.at_most)
     (legal_after (contents_of c.self.inside).state (Create c.args.job) (ap (λ v. refusal_of v.state (Create c.args.job)) c.self.view_is ∙ c.requires.accepted) c.self.invariant.legal))
 
-pub returns : goal.returns
-returns c =
+pub returns-clause-state : goal.returns-clause-state
+returns-clause-state c =
     rw c.get-self-inside.ensures.value (create_state c.self.inside c.self.invariant c.args.job c.new_job_row-row.result c.new_job_row-row.ensures c.insert.new.self c.in-Err.at
     (rw c.deref.ensures.value at c.in-Err.ensures.absent) (rw c.unwrap.ensures at c.insert.ensures.items))
     ∙ ap (λ v. after v.state (Create c.args.job)) c.self.view_is

@@ -1,13 +1,22 @@
 -- the row is changed where it stands
 use Rattle.std.proofs.Common.{refl, ap, ◌∙◌}
+use Rattle.std.specs.FinMap as finite
 use Rattle.spool_types.specs.Phases.{hold_until}
 use Rattle.spool_types.specs.declared.event.Event.TheVariants.{Hold as HoldJob}
 use Rattle.spool_types.specs.State.{job_of}
 use Rattle.spool_types.specs.Step.{held, after, refusal_of}
 use Rattle.job_table.specs.Seen.{contents_of}
+use Rattle.job_table.proofs.Accepted.{accepted_hold_there}
 use Rattle.job_table.proofs.Legal.{legal_after}
-use Rattle.job_table.proofs.Steps.{change_state, change_ordered, no_change}
+use Rattle.job_table.proofs.Steps.{change_state, change_ordered}
+use Rattle.job_table.proofs.Tables.{get_no_job, needed_and_not}
 use Rattle.job_table.proofs.table.Table.hold.Goals as goal
+
+pub unreachable-requires : goal.unreachable-requires
+unreachable-requires c =
+    needed_and_not _ _ (accepted_hold_there c.args.self.now.state c.args.job c.args.until c.requires)
+    (get_no_job c.self.inside.jobs.items c.self.invariant.jobs c.args.job c.in_default.field-0 (rw c.deref.ensures.value at c.in_default.ensures.absent))
+    (ap (λ v. finite.get v.state.jobs c.args.job) c.self.view_is)
 
 pub invariant_of-self : goal.invariant_of-self
 invariant_of-self c = change_ordered c.self.inside c.self.invariant c.args.job c.in-Ok.at c.index_mut.result.now c.hold_row.new.row
@@ -15,12 +24,9 @@ invariant_of-self c = change_ordered c.self.inside c.self.invariant c.args.job c
     (c.hold_row.ensures ∙ ap (λ h. held h (job_of c.index_mut.result.now)) c.until.ensures ∙ ap (λ r. held (hold_until c.args.until) (job_of r)) c.index_mut.ensures.value)
     (legal_after (contents_of c.self.inside).state (HoldJob c.args.job c.args.until) (ap (λ v. refusal_of v.state (HoldJob c.args.job c.args.until)) c.self.view_is ∙ c.requires) c.self.invariant.legal)
 
-pub returns-in-Ok : goal.returns-in-Ok
-returns-in-Ok c =
+pub returns-clause-state : goal.returns-clause-state
+returns-clause-state c =
     change_state c.self.inside c.self.invariant c.args.job c.in-Ok.at c.index_mut.result.now c.hold_row.new.row
     (rw c.deref.ensures.value at c.in-Ok.ensures.found) (held (hold_until c.args.until)) (λ x. refl)
     (c.hold_row.ensures ∙ ap (λ h. held h (job_of c.index_mut.result.now)) c.until.ensures ∙ ap (λ r. held (hold_until c.args.until) (job_of r)) c.index_mut.ensures.value)
     ∙ ap (λ v. after v.state (HoldJob c.args.job c.args.until)) c.self.view_is
-
-pub returns-in_default : goal.returns-in_default
-returns-in_default c = rw (← c.self.view_is) (no_change c.self.inside c.self.invariant c.args.job c.in_default.field-0 (rw c.deref.ensures.value at c.in_default.ensures.absent) (held (hold_until c.args.until)))

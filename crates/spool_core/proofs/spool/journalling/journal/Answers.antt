@@ -1,7 +1,6 @@
-use Rattle.std.proofs.Common.{rules, ◌≡◌, ◌≤◌, inr, ◌+◌, ◌-◌, ℕ, List, length, false, None, Some, Err, sym, subst, ap, ◌∙◌, arith, refl}
+use Rattle.std.proofs.Common.{length, Err, sym, ap, ◌∙◌, arith, refl}
 use Rattle.spool_types.specs.Step.{after, answered}
 use Rattle.job_table.specs.declared.table.prepare.PrepareFault.{PrepareFault}
-use Rattle.spool_core.specs.Seen.{standing_at}
 use Rattle.spool_core.specs.Standing.{record_len}
 use Rattle.spool_core.proofs.ImageLaws.{framed_payload, told_before, ends_on, ok_fits, fits_or_same, unmoved, leaves_tables, keeps_next, not_refused}
 use Rattle.spool_core.proofs.spool.journalling.journal.Goals as goal

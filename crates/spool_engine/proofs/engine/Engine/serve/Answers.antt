@@ -1,7 +1,7 @@
 -- each command is told as it went
 use Rattle.std.proofs.Common.{ap, ◌∙◌, sym, refl, Some, codes}
 use Rattle.std.specs.FinMap as finite
-use Rattle.spool_types.specs.declared.event.Event.TheVariants.{AddQueue, Info, SetAccept, SetStop, Create, Send, Close, Hold, Release, Cancel, Clock}
+use Rattle.spool_types.specs.declared.event.Event.TheVariants.{AddQueue, Info, SetAccept, SetStop, Create, Send, Close, Hold, Release, Abandon, Cancel, Clock}
 use Rattle.spool_types.specs.declared.refusal.Refusal.TheVariants.{TooLong}
 use Rattle.command_lines.specs.Replies.{jobs_text, queues_text, refusal_line}
 use Rattle.spool_engine.specs.Answers.{plain_line, answer_line}
@@ -64,6 +64,12 @@ returns-in-Release g c =
     let s = c.args.self.now in
     let e = Release c.in-Release.job in
     event_told (λ v. v.items) c.serve_event-in-Release.result _ s _ c.args.command e plain_line (plain e (λ r. refl)) (ap (event_of s.state) c.in-Release.is) c.serve_event-in-Release.ensures
+
+pub returns-in-Abandon : goal.returns-in-Abandon
+returns-in-Abandon g c =
+    let s = c.args.self.now in
+    let e = Abandon c.in-Abandon.job in
+    event_told (λ v. v.items) c.serve_event-in-Abandon.result _ s _ c.args.command e plain_line (plain e (λ r. refl)) (ap (event_of s.state) c.in-Abandon.is) c.serve_event-in-Abandon.ensures
 
 pub returns-in-Cancel : goal.returns-in-Cancel
 returns-in-Cancel g c =

@@ -1,0 +1,140 @@
+use super::*;
+use crate::samples::{add_queue, apply_all, close, create, id, made, numbered, opened, queue_with};
+use spool_disk::{Disk, MemDisk};
+use spool_types::{
+    AbortReason, AttemptNumber, Event, Exit, Hold, JobRow, Moment, Phase, Policy, QueueName,
+    Refusal, StageEnd, StageNumber,
+};
+use std::alloc::Global;
+use std::test::Fail;
+
+// A spool with a queue, and its job 1, which waits.
+fn with_a_job(alloc: Global, size: usize, queue: Event) -> Result<Spool<MemDisk>, Fail> {
+    let mut spool = opened(alloc, made(alloc, size)?)?;
+    let events = vec![in alloc; queue, create(alloc)?, close(alloc)?]?;
+    apply_all(&mut spool, events)?;
+    Ok(spool)
+}
+
+// A spool whose job 1 was started at the moment 1000, as a crash leaves it and it is opened again.
+fn after_a_crash(alloc: Global, policy: Policy, limit: u16) -> Result<Spool<MemDisk>, Fail> {
+    let mut spool = with_a_job(alloc, 4_096, queue_with(alloc, policy, limit)?)?;
+    let clock = Event::Clock(Moment::new(1_000).ok_or("no moment")?);
+    apply_all(&mut spool, vec![in alloc; clock, Event::Start(id(1)?)]?)?;
+    opened(alloc, spool.into_disk())
+}
+
+fn job(spool: &Spool<MemDisk>) -> Result<&JobRow, Fail> {
+    Ok(spool.table().job(id(1)?).ok_or("no job")?)
+}
+
+fn waiting(not_before: u64, first: bool) -> Result<Phase, Fail> {
+    Ok(Phase::Waiting {
+        hold: Hold::Free,
+        not_before: Moment::new(not_before).ok_or("no moment")?,
+        first,
+    })
+}
+
+#[test]
+fn a_lost_attempt_is_aborted(rt: HostRuntime) -> Result<(), Fail> {
+    let spool = after_a_crash(rt.alloc(), Policy::AbortJob, 5)?;
+    assert_eq!(rt;
+        job(&spool)?.phase,
+        Phase::Aborted(AbortReason::AttemptLost)
+    );
+    assert_eq!(rt; job(&spool)?.attempts, 1);
+    Ok(())
+}
+
+#[test]
+fn a_lost_attempt_is_made_again_later(rt: HostRuntime) -> Result<(), Fail> {
+    let spool = after_a_crash(rt.alloc(), Policy::RetryJob, 5)?;
+    assert_eq!(rt; job(&spool)?.phase, waiting(1_030, false)?);
+    assert_eq!(rt; job(&spool)?.attempts, 1);
+    Ok(())
+}
+
+#[test]
+fn a_lost_attempt_is_made_again_first(rt: HostRuntime) -> Result<(), Fail> {
+    let spool = after_a_crash(rt.alloc(), Policy::RetryCurrentJob, 5)?;
+    assert_eq!(rt; job(&spool)?.phase, waiting(0, true)?);
+    assert_eq!(rt; job(&spool)?.attempts, 1);
+    Ok(())
+}
+
+#[test]
+fn a_lost_attempt_stops_the_queue(rt: HostRuntime) -> Result<(), Fail> {
+    let alloc = rt.alloc();
+    let spool = after_a_crash(alloc, Policy::StopPrinter, 5)?;
+    assert_eq!(rt; job(&spool)?.phase, waiting(0, false)?);
+    let queue = spool
+        .table()
+        .queue(&QueueName::read(alloc, "q")?)
+        .ok_or("no queue")?;
+    assert!(rt; queue.stopped);
+    Ok(())
+}
+
+#[test]
+fn a_lost_attempt_counts_against_the_limit(rt: HostRuntime) -> Result<(), Fail> {
+    let spool = after_a_crash(rt.alloc(), Policy::RetryJob, 1)?;
+    assert_eq!(rt; job(&spool)?.phase, Phase::Aborted(AbortReason::RetryLimit));
+    Ok(())
+}
+
+// The end of the first attempt of job 1, which prints its document.
+fn printed() -> Result<Event, Fail> {
+    Ok(Event::Stage(StageEnd {
+        job: id(1)?,
+        attempt: AttemptNumber::new(1).ok_or("no attempt")?,
+        stage: StageNumber::new(1).ok_or("no stage")?,
+        exit: Exit::Code(0),
+        dropped: 0,
+    }))
+}
+
+#[test]
+fn a_completed_job_is_not_started_again(rt: HostRuntime) -> Result<(), Fail> {
+    let alloc = rt.alloc();
+    let mut spool = with_a_job(alloc, 4_096, add_queue(alloc)?)?;
+    let events = vec![in alloc; Event::Start(id(1)?), printed()?]?;
+    apply_all(&mut spool, events)?;
+    for _ in 0..3 {
+        spool = opened(alloc, spool.into_disk())?;
+        assert_eq!(rt; job(&spool)?.phase, Phase::Completed);
+        assert_eq!(rt;
+            spool.apply(Event::Start(id(1)?)),
+            Err(ApplyFault::Refused(Refusal::JobEnded))
+        );
+    }
+    Ok(())
+}
+
+// The bytes of a disk from a place on.
+fn bytes_at(disk: &mut MemDisk, at: u64) -> Result<[u8; 7], Fail> {
+    let mut bytes = [0; 7];
+    if disk.len() < at || disk.len() - at < 7 {
+        return Err(Fail::from("no such bytes"));
+    }
+    disk.read(at, &mut bytes).ok().ok_or("not read")?;
+    Ok(bytes)
+}
+
+#[test]
+fn a_reopening_takes_the_last_bytes_of_an_area(rt: HostRuntime) -> Result<(), Fail> {
+    let alloc = rt.alloc();
+    let mut spool = with_a_job(alloc, 198, add_queue(alloc)?)?;
+    apply_all(&mut spool, vec![in alloc; Event::Start(id(1)?)]?)?;
+    assert_eq!(rt; spool.apply(numbered(alloc, 2)?), Err(ApplyFault::Full));
+    let mut disk = opened(alloc, spool.into_disk())?.into_disk();
+    assert_eq!(rt; bytes_at(&mut disk, 92)?, [0xA5, 0, 0, 0, 1, 0x0F, 0]);
+    let spool = opened(alloc, disk)?;
+    assert_eq!(rt;
+        job(&spool)?.phase,
+        Phase::Aborted(AbortReason::AttemptLost)
+    );
+    let mut disk = spool.into_disk();
+    assert_eq!(rt; bytes_at(&mut disk, 92)?, [0xA5, 0, 0, 0, 1, 0x0F, 0]);
+    Ok(())
+}
