@@ -1,0 +1,4 @@
+mod OptionLaws
+mod FieldLaws
+mod FieldForm
+mod LineLaws

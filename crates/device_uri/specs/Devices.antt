@@ -1,0 +1,31 @@
+-- A device's URI, and how it is read.
+use Rattle.std.specs.Prelude.{◌≡◌, ℕ, ◌⊎◌, true, false, List, None, Ok, Err, refl}
+use Rattle.std.specs.Coded.{Coded, code_by, coded×, coded_list, coded_ℕ}
+use Rattle.spool_types.specs.Values.{is_uri}
+use Rattle.url.specs.Parts.{Parts, parts_code}
+use Rattle.url.specs.Parser.{parse_url, IsOutOfRoom}
+use Rattle.url.specs.declared.error.ParseError.{ParseError}
+
+-- the text as it was given, and the URL record (URL Standard, 4.1) that it is read as
+pub record Device : Type 0 where
+  pub text : List ℕ
+  pub url : Parts
+
+-- how the logic stores it; no clause cites it
+abbrev pub device_code : Coded Device
+device_code =
+    code_by (List ℕ × Parts) (coded× (coded_list coded_ℕ) parts_code)
+    (λ d. (d.text, d.url)) (λ p. record { text = p.0; url = p.1 }) (λ _. refl)
+
+-- the text is within the limits of a queue's URI, and the URL parser without a base reads it as this record
+pub record Reads (text : List ℕ) (url : Parts) : Type 0 where
+  pub allowed : is_uri text ≡ true
+  pub parsed : parse_url None text ≡ Ok url
+
+-- the URL parser refuses the text, and not for its size
+abbrev pub IsRefused : List ℕ → Type 0
+IsRefused text = (e : ParseError) × (parse_url None text ≡ Err e) × ¬ (IsOutOfRoom e)
+
+-- the text is beyond the limits, or the URL parser refuses it
+abbrev pub IsBadUri : List ℕ → Type 0
+IsBadUri text = (is_uri text ≡ false) ⊎ IsRefused text

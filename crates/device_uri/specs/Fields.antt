@@ -1,0 +1,49 @@
+-- The quoted fields of a device line.
+use Rattle.std.specs.Prelude.{◌≡◌, ℕ, ◌≤◌, Bool, true, false, ◌||◌, cond, ◌==◌, List, [], ◌∷◌, ◌++◌, length, Option, None, Some}
+use Rattle.std.specs.List.{list_all}
+
+-- a space or a tab
+abbrev pub is_blank : ℕ → Bool
+is_blank b = (b == 32) || (b == 9)
+
+abbrev pub is_quote : ℕ → Bool
+is_quote b = b == 34
+
+abbrev pub is_backslash : ℕ → Bool
+is_backslash b = b == 92
+
+-- one blank or more
+pub record IsBlanks (bytes : List ℕ) : Type 0 where
+  pub some : 1 ≤ length bytes
+  pub blank : list_all is_blank bytes ≡ true
+
+-- what a backslash and the byte behind it stand for: a quote or a backslash for itself, any other byte for both
+abbrev pub escape_of : ℕ → List ℕ
+escape_of b = cond (is_quote b || is_backslash b) (b ∷ []) (92 ∷ b ∷ [])
+
+-- bytes more in front of a field
+abbrev pub in_front : List ℕ → Option (List ℕ) → Option (List ℕ)
+in_front bytes None = None
+in_front bytes (Some field) = Some (bytes ++ field)
+
+-- the field for which bytes between two quotes stand, unless a quote among them ends it or their last backslash escapes
+-- the quote behind them; `escaped` says that a backslash stands right before
+abbrev pub unescaped : Bool → List ℕ → Option (List ℕ)
+unescaped false [] = Some []
+unescaped true [] = None
+unescaped true (b ∷ bs) = in_front (escape_of b) (unescaped false bs)
+unescaped false (b ∷ bs) = cond (is_quote b) None (cond (is_backslash b) (unescaped true bs) (in_front (b ∷ []) (unescaped false bs)))
+
+-- the line is blanks, the field between quotes, and this rest
+pub record IsField (field line rest : List ℕ) : Type 0 where
+  pub blanks : List ℕ
+  pub inside : List ℕ
+  pub between : IsBlanks blanks
+  pub whole : line ≡ blanks ++ (34 ∷ (inside ++ 34 ∷ rest))
+  pub says : unescaped false inside ≡ Some field
+  pub short : length field ≤ 1023
+
+-- the same of a field that may be absent: then the line ends before it
+abbrev pub IsFieldIfAny : Option (List ℕ) → List ℕ → List ℕ → Type 0
+IsFieldIfAny None line rest = (line ≡ []) × (rest ≡ [])
+IsFieldIfAny (Some field) line rest = IsField field line rest

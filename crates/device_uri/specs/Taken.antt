@@ -1,0 +1,14 @@
+-- The quoted fields of a line, as they are read one after the other. No caller needs this.
+use Rattle.std.specs.Prelude.{◌≡◌, ℕ, List, [], Some}
+use Rattle.device_uri.specs.Reading.{next_field, next_if_any}
+use Rattle.device_uri.specs.declared.fields.Fields.{Fields}
+
+-- the line is these fields and no more
+pub record AreFields (fields : Fields) (line : List ℕ) : Type 0 where
+  pub behind_make : List ℕ
+  pub behind_info : List ℕ
+  pub behind_id : List ℕ
+  pub make : next_field line ≡ Some (fields.make, behind_make)
+  pub info : next_field behind_make ≡ Some (fields.info, behind_info)
+  pub id : next_if_any behind_info ≡ Some (fields.id, behind_id)
+  pub location : next_if_any behind_id ≡ Some (fields.location, [])

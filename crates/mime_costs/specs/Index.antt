@@ -1,0 +1,40 @@
+-- Where the sources stand that take a type. No caller needs this.
+use Rattle.std.specs.Prelude.{ℕ, suc, ◌≤◌, Bool, ◌||◌, ◌==◌, List, [], ◌∷◌, map}
+use Rattle.std.specs.List.{position_or_len}
+use Rattle.mime_costs.specs.Conversions.{same, super_source, every_type}
+use Rattle.mime_costs.specs.declared.conversion.Conversion.{Conversion}
+use Rattle.mime_costs.specs.declared.links.Places.{Places}
+use Rattle.mime_costs.specs.declared.links.Link.{Link}
+
+abbrev pub source_of : Conversion → List ℕ
+source_of c = c.source
+
+abbrev pub sources_of : List Conversion → List (List ℕ)
+sources_of file = map source_of file
+
+-- the first place of a source, or behind all where it stands nowhere
+abbrev pub place_in : List (List ℕ) → List ℕ → ℕ
+place_in sources source = position_or_len (λ other. same other source) sources
+
+-- the places of the sources that take a type
+abbrev pub places_in : List (List ℕ) → List ℕ → Places
+places_in sources media = record { of_type = place_in sources media; of_super = place_in sources (super_source media); of_any = place_in sources every_type }
+
+abbrev pub takes : Places → ℕ → Bool
+takes places group = group == places.of_type || group == places.of_super || group == places.of_any
+
+abbrev pub link_of : List (List ℕ) → Conversion → Link
+link_of sources c = record { group = place_in sources c.source; next = places_in sources c.destination }
+
+abbrev pub links_in : List Conversion → List Link
+links_in file = map (link_of (sources_of file)) file
+
+-- the line numbers rise, from n on
+abbrev pub Ascends : ℕ → List Conversion → Type 0
+Ascends n [] = Unit {0}
+Ascends n (c ∷ file) = (n ≤ c.line) × Ascends (suc c.line) file
+
+-- no cost is greater than a cost may be
+abbrev pub AreCheap : List Conversion → Type 0
+AreCheap [] = Unit {0}
+AreCheap (c ∷ file) = (c.cost ≤ 10000) × AreCheap file

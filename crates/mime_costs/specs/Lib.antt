@@ -1,0 +1,6 @@
+pub mod Conversions
+pub mod Costs
+pub mod Index
+pub mod Reading
+pub mod Seen
+pub mod Walks

@@ -1,0 +1,63 @@
+//! What a line of the file says.
+ghost use Rattle.std.specs.Prelude.{◌≡◌};
+ghost use Rattle.std.specs.List.{list_all};
+ghost use Rattle.spool_types.specs.Values.{is_media_byte as media_byte};
+ghost use Rattle.mime_costs.specs.Conversions.{every_type, is_super_source as super_source, is_source};
+
+use spool_types::{FilterName, MediaType, MediaTypeKind, Ranged, Text, TextKind};
+
+/// `*/*`, the source that takes every type.
+pub const EVERY_TYPE: &str = "*/*";
+
+/// The kind of a source: a media type, a super type and `/*`, or `*/*`, in lower case.
+#[derive(Clone, Copy, Debug)]
+pub struct SourceKind;
+
+/// What a conversion takes.
+pub type Source = Text<SourceKind>;
+
+/// The cost of a conversion.
+pub type Cost = Ranged<0, 10000>;
+
+impl TextKind for SourceKind {
+    ghost allowed = { is_source };
+
+    fn allows(text: &str) -> bool {
+        text == EVERY_TYPE || is_super_source(text) || MediaTypeKind::allows(text)
+    }
+}
+
+// Whether a text is a super type and `/*`.
+fn is_super_source(text: &str) -> bool
+    ensures { result ≡ super_source text.now }
+{
+    match text.split_once('/') {
+        Some((kind, rest)) => 1 <= kind.len() && has_only_media_bytes(kind) && rest == "*",
+        None => false,
+    }
+}
+
+fn has_only_media_bytes(text: &str) -> bool
+    ensures { result ≡ list_all media_byte text.now }
+{
+    text.as_bytes().iter().all(|b| is_media_byte(*b))
+}
+
+// A lower-case letter, a digit or one of `!#$&^_.+-`.
+fn is_media_byte(b: u8) -> bool
+    ensures { result ≡ media_byte b }
+{
+    matches!(b, b'a'..=b'z' | b'0'..=b'9' | b'!' | b'#' | b'$' | b'&' | b'^' | b'_' | b'.' | b'+' | b'-')
+}
+
+/// A conversion from types to a type.
+#[derive(Debug, Drop)]
+pub struct Conversion {
+    /// The number of its line, from 1. A joined line has the number of its first.
+    pub line: usize,
+    pub source: Source,
+    pub destination: MediaType,
+    pub cost: Cost,
+    /// The program that converts, or `-` for none.
+    pub filter: FilterName,
+}

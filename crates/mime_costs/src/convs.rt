@@ -1,0 +1,84 @@
+//! The conversions of a file.
+ghost use Rattle.std.specs.Prelude.{◌≡◌, IfOk, IfSome, IfNone, map};
+ghost use Rattle.std.specs.List.{Contains, All};
+ghost use Rattle.mime_costs.specs.Walks.{Worth, line_of, IsReached, IsLeast, IsApart};
+ghost use Rattle.mime_costs.specs.Reading.{conversions_of, warnings_of};
+ghost use Rattle.mime_costs.specs.Seen.{worth_of_chain};
+ghost use Rattle.mime_costs.specs.declared.conversion.Conversion.{Conversion};
+
+use crate::chain::{Chain, find_chain};
+use crate::conversion::Conversion;
+use crate::links::{Link, links_of, places_of};
+use crate::reading::read_lines;
+use spool_types::{MediaType, Warning};
+use std::alloc::{AllocError, Global};
+use std::marker::Model;
+
+/// The conversions of a file, in the order of their lines.
+#[derive(Debug, Drop)]
+pub struct Convs {
+    alloc: Global,
+    conversions: Vec<Conversion>,
+    // The link of each conversion.
+    links: Vec<Link>,
+}
+
+impl Model for Convs {
+    ghost use Rattle.std.specs.Prelude.{List};
+    ghost use Rattle.mime_costs.specs.declared.conversion.Conversion.{Conversion};
+
+    ghost Value = { List Conversion };
+
+    ghost use Rattle.mime_costs.specs.Seen.{IsIndexed};
+
+    ghost view = { λ convs. convs.conversions.items };
+
+    ghost invariant = { IsIndexed };
+}
+
+impl Convs {
+    /// Reads the text of a file. A line that doesn't read is skipped, with a warning.
+    pub fn read(alloc: Global, text: &str) -> Result<(Convs, Vec<Warning>), AllocError>
+        ensures conversions { IfOk result (λ r. r.0 ≡ conversions_of text.now) }
+        ensures warnings { IfOk result (λ r. r.1.items ≡ warnings_of text.now) }
+    {
+        let (conversions, warnings) = read_lines(alloc, text)?;
+        let links = links_of(alloc, &conversions)?;
+        let convs = Convs {
+            alloc,
+            conversions,
+            links,
+        };
+        Ok((convs, warnings))
+    }
+
+    /// The best walk from one type to another, if there is a walk.
+    pub fn chain(&self, from: &MediaType, to: &MediaType) -> Result<Option<Chain>, AllocError>
+        ensures reached { IfOk result (λ answer. IfSome answer (λ chain. IsReached self.now from.now to.now (worth_of_chain chain))) }
+        ensures least { IfOk result (λ answer. IfSome answer (λ chain. IsLeast self.now from.now to.now (worth_of_chain chain))) }
+        ensures none { IfOk result (λ answer. IfNone answer (IsApart self.now from.now to.now)) }
+        ensures lines { IfOk result (λ answer. IfSome answer (λ chain. All (Contains (map line_of self.now)) chain.lines.items)) }
+    {
+        if from == to {
+            return Ok(Some(Chain {
+                lines: Vec::new(self.alloc),
+                cost: 0,
+            }));
+        }
+        let places = places_of(self.alloc, &self.conversions, from)?;
+        find_chain(self.alloc, &self.conversions, &self.links, places, to)
+    }
+
+    /// The filter of the conversion with this line number, `-` for none. Each line of a chain is one of a conversion.
+    pub fn filter(&self, line: usize) -> &str
+        requires { Contains (map line_of self.now) line }
+        ensures value { (c : Conversion) → Contains self.now c → c.line ≡ line → result.now ≡ c.filter }
+    {
+        for conversion in &self.conversions {
+            if conversion.line == line {
+                return conversion.filter.as_str();
+            }
+        }
+        "-"
+    }
+}

@@ -1,0 +1,167 @@
+//! The least costs of walks, by their number of lines.
+//!
+//! A row says of each conversion what the cheapest walk of so many lines behind it costs, if there is one.
+ghost use Rattle.std.specs.Prelude.{◌≡◌, ◌≤◌, ℕ, IfOk, IfSome, map, length, ◌==◌, slice_index_or, cond, None};
+ghost use Rattle.std.specs.List.{All};
+ghost use Rattle.mime_costs.specs.Index.{takes as takes_place, links_in};
+ghost use Rattle.mime_costs.specs.Costs.{lesser as lesser_cost, plus as cost_more, is_at, least_in, row_of, IsSmall, cost_in_groups, next_cost, is_of_group, is_taken};
+
+use crate::conversion::Conversion;
+use crate::links::{Link, Places};
+use spool_types::MediaType;
+use std::alloc::{AllocError, Global};
+
+/// How many lines a walk may have.
+pub const MOST_LINES: usize = 15;
+
+/// The lesser cost, if there is one.
+pub fn lesser(a: Option<u32>, b: Option<u32>) -> Option<u32>
+    ensures { result ≡ lesser_cost a b }
+{
+    match (a, b) {
+        (Some(a), Some(b)) => Some(a.min(b)),
+        (Some(a), None) => Some(a),
+        (None, b) => b,
+    }
+}
+
+/// The cost of a conversion and of what follows it, if there is such a walk.
+pub fn cost_with(conversion: &Conversion, rest: Option<u32>) -> Option<u32>
+    requires { IsSmall rest }
+    ensures { result ≡ cost_more conversion.now.cost rest }
+{
+    match rest {
+        Some(rest) => Some(conversion.cost.get() + rest),
+        None => None,
+    }
+}
+
+// The same, if the conversion takes the type of these places.
+fn cost_if_taken(
+    conversion: &Conversion,
+    link: Link,
+    rest: Option<u32>,
+    places: Places,
+) -> Option<u32>
+    requires { IsSmall rest }
+    ensures { result ≡ cond (takes_place places link.group) (cost_more conversion.now.cost rest) None }
+{
+    if places.takes(link.group) {
+        cost_with(conversion, rest)
+    } else {
+        None
+    }
+}
+
+/// Whether a conversion takes the type of these places and begins a walk of this cost.
+pub fn is_step(
+    conversion: &Conversion,
+    link: Link,
+    rest: Option<u32>,
+    places: Places,
+    cost: u32,
+) -> bool
+    requires { IsSmall rest }
+    ensures { result ≡ is_at (cond (takes_place places link.group) (cost_more conversion.now.cost rest) None) cost }
+{
+    match cost_if_taken(conversion, link, rest, places) {
+        Some(least) => least == cost,
+        None => false,
+    }
+}
+
+/// The row of walks without a line: those that are there already.
+pub fn first_row(
+    alloc: Global,
+    conversions: &[Conversion],
+    to: &MediaType,
+) -> Result<Vec<Option<u32>>, AllocError>
+    ensures { IfOk result (λ row. row.items ≡ row_of conversions.now to.now 0) }
+{
+    let mut row = Vec::with_capacity(alloc, conversions.len())?;
+    for conversion in conversions {
+        row.push(if conversion.destination == *to {
+            Some(0)
+        } else {
+            None
+        })?;
+    }
+    Ok(row)
+}
+
+/// The row of walks of one line more.
+pub fn next_row(
+    alloc: Global,
+    links: &[Link],
+    groups: &[Option<u32>],
+) -> Result<Vec<Option<u32>>, AllocError>
+    ensures { IfOk result (λ row. row.items ≡ map (next_cost groups.now) links.now) }
+{
+    let mut row = Vec::with_capacity(alloc, links.len())?;
+    for link in links {
+        row.push(cost_at(groups, link.next))?;
+    }
+    Ok(row)
+}
+
+// The least cost among the groups that take a type.
+fn cost_at(groups: &[Option<u32>], places: Places) -> Option<u32>
+    ensures { result ≡ cost_in_groups groups.now places }
+{
+    lesser(
+        group_cost(groups, places.of_type),
+        lesser(
+            group_cost(groups, places.of_super),
+            group_cost(groups, places.of_any),
+        ),
+    )
+}
+
+fn group_cost(groups: &[Option<u32>], group: usize) -> Option<u32>
+    ensures { result ≡ slice_index_or groups.now group None }
+{
+    if group < groups.len() {
+        groups[group]
+    } else {
+        None
+    }
+}
+
+/// The least cost of a walk that begins with a conversion of each group, where the row says what the rest costs.
+pub fn group_costs(
+    alloc: Global,
+    conversions: &[Conversion],
+    links: &[Link],
+    row: &[Option<u32>],
+) -> Result<Vec<Option<u32>>, AllocError>
+    requires links { links.now ≡ links_in conversions.now }
+    requires row { length row.now ≡ length conversions.now }
+    requires small { All IsSmall row.now }
+    ensures { IfOk result (λ groups. (g : ℕ) → slice_index_or groups.items g None ≡ least_in (is_of_group conversions.now g) conversions.now row.now) }
+{
+    let mut groups = vec![in alloc; None; conversions.len()]?;
+    for (i, conversion) in conversions.iter().enumerate() {
+        let group = links[i].group;
+        groups[group] = lesser(groups[group], cost_with(conversion, row[i]));
+    }
+    Ok(groups)
+}
+
+/// The least cost of a walk that begins with a conversion which takes the type of these places.
+pub fn cost_from(
+    conversions: &[Conversion],
+    links: &[Link],
+    row: &[Option<u32>],
+    places: Places,
+) -> Option<u32>
+    requires links { links.now ≡ links_in conversions.now }
+    requires row { length row.now ≡ length conversions.now }
+    requires small { All IsSmall row.now }
+    ensures { result ≡ least_in (is_taken conversions.now places) conversions.now row.now }
+{
+    let mut least = None;
+    for (i, conversion) in conversions.iter().enumerate() {
+        least = lesser(least, cost_if_taken(conversion, links[i], row[i], places));
+    }
+    least
+}

@@ -1,0 +1,51 @@
+//! The conversions of mime.convs(5), and the cheapest chain of them from one media type to another.
+//!
+//! # What a line says
+//!
+//! A line has four words: source, destination, cost and filter. The source is a media type, a super type and `/*`, or
+//! `*/*`; the destination a media type; the cost a number from 0 to 10,000; the filter the name of a program, or `-` for
+//! none. A line that says something else is skipped, with a warning of its first fault from left to right.
+//!
+//! # The rule
+//!
+//! A *walk* from one type to another is a list of at most 15 conversions, each of which takes the type reached so far:
+//! the first takes the type from which the walk goes, and the last gives the type to which it goes. A walk from a type to
+//! itself may be empty. Its cost is the sum of its conversions' costs. One walk *beats* another by lower cost, then by
+//! fewer lines, then by the lexicographically smaller list of line numbers.
+//!
+//! # Promises
+//!
+//! - [`Convs::read`] gives the conversions of a text (`conversions_of`) and its warnings (`warnings_of`), each in the order
+//!   of the lines.
+//! - *LeastChain*: [`Convs::chain`] answers a walk, with its lines and its cost (`IsReached`), which no walk beats
+//!   (`IsLeast`); where it answers none, there is no walk (`IsApart`).
+//! - [`Convs::filter`] gives the filter of the conversion with a line number. Each line of a chain is one of a conversion.
+//! - [`order_law`]: the order is strict, and of two walks of different cost or lines one beats the other. So there is one
+//!   least chain.
+//!
+//! # Invariants
+//!
+//! Beside each conversion stands where the sources are that take its destination (`links_in`), so a chain is found without
+//! comparing texts. The line numbers rise, and no cost is above 10,000.
+//!
+//! # Cost and faults
+//!
+//! The least costs of walks that end in the type wanted are found by their number of lines, in 15 rounds, each of which
+//! looks at every conversion a fixed number of times. A reading looks each line's source and destination up among all
+//! sources, one by one. Want of memory is the one fault.
+#![tactic(auto)]
+
+mod chain;
+mod conversion;
+mod convs;
+mod costs;
+mod laws;
+mod links;
+mod reading;
+
+pub use chain::Chain;
+pub use convs::Convs;
+pub use laws::order_law;
+
+#[cfg(test)]
+mod tests;

@@ -1,0 +1,142 @@
+//! The lines of a file of mime.convs(5).
+ghost use Rattle.std.specs.Prelude.{◌≡◌, IfOk};
+ghost use Rattle.spool_types.specs.Values.{is_media_type, is_filter_name};
+ghost use Rattle.mime_costs.specs.Conversions.{is_source};
+ghost use Rattle.std.specs.Option.{option_map};
+ghost use Rattle.mime_costs.specs.Reading.{text_in, folded_in, cost_in, four_words as words_of_line, of_words, conversions_of, warnings_of};
+ghost use Rattle.mime_costs.specs.Seen.{words_in};
+
+use crate::conversion::{Conversion, Cost, Source};
+use mime_lines::{Number, first_word, joined_lines, read_number};
+use spool_types::{FilterName, MediaType, Text, TextFault, TextKind, Warning, WarningKind};
+use std::alloc::{AllocError, Global};
+
+// The words of a line.
+#[derive(Clone, Copy)]
+struct Words<'a> {
+    source: &'a [u8],
+    destination: &'a [u8],
+    cost: &'a [u8],
+    filter: &'a [u8],
+}
+
+/// The conversions of a text, and the warnings of the lines that don't read.
+pub fn read_lines(alloc: Global, text: &str) -> Result<(Vec<Conversion>, Vec<Warning>), AllocError>
+    ensures conversions { IfOk result (λ r. r.0.items ≡ conversions_of text.now) }
+    ensures warnings { IfOk result (λ r. r.1.items ≡ warnings_of text.now) }
+{
+    let mut conversions = Vec::new(alloc);
+    let mut warnings = Vec::new(alloc);
+    for line in joined_lines(alloc, text)?.iter() {
+        match read_line(alloc, line.number, line.text.bytes())? {
+            Ok(conversion) => conversions.push(conversion)?,
+            Err(kind) => warnings.push(Warning {
+                line: line.number,
+                kind,
+            })?,
+        }
+    }
+    Ok((conversions, warnings))
+}
+
+// What a line says, or its first fault.
+fn read_line(
+    alloc: Global,
+    number: usize,
+    line: &[u8],
+) -> Result<Result<Conversion, WarningKind>, AllocError>
+    ensures { IfOk result (λ said. said ≡ of_words number (words_of_line line.now)) }
+{
+    let Some(words) = four_words(line) else {
+        return Ok(Err(WarningKind::BadLine));
+    };
+    let Some(source) = source_of(alloc, words.source)? else {
+        return Ok(Err(WarningKind::BadType));
+    };
+    let Some(destination) = media_of(alloc, words.destination)? else {
+        return Ok(Err(WarningKind::BadType));
+    };
+    let Some(cost) = cost_of(words.cost) else {
+        return Ok(Err(WarningKind::BadNumber));
+    };
+    let Some(filter) = filter_of(alloc, words.filter)? else {
+        return Ok(Err(WarningKind::BadLine));
+    };
+    Ok(Ok(Conversion {
+        line: number,
+        source,
+        destination,
+        cost,
+        filter,
+    }))
+}
+
+// The words of a line that has four.
+fn four_words(line: &[u8]) -> Option<Words<'_>>
+    ensures { option_map words_in result ≡ words_of_line line.now }
+{
+    let (source, rest) = first_word(line);
+    let (destination, rest) = first_word(rest);
+    let (cost, rest) = first_word(rest);
+    let (filter, rest) = first_word(rest);
+    let (more, _) = first_word(rest);
+    if !filter.is_empty() && more.is_empty() {
+        Some(Words {
+            source,
+            destination,
+            cost,
+            filter,
+        })
+    } else {
+        None
+    }
+}
+
+fn source_of(alloc: Global, word: &[u8]) -> Result<Option<Source>, AllocError>
+    ensures { IfOk result (λ source. source ≡ folded_in is_source word.now) }
+{
+    let Ok(text) = str::from_utf8(word) else {
+        return Ok(None);
+    };
+    let folded = text.to_ascii_lowercase(alloc)?;
+    match Source::read(alloc, folded.as_str()) {
+        Ok(source) => Ok(Some(source)),
+        Err(TextFault::Bad) => Ok(None),
+        Err(TextFault::Memory) => Err(AllocError),
+    }
+}
+
+fn media_of(alloc: Global, word: &[u8]) -> Result<Option<MediaType>, AllocError>
+    ensures { IfOk result (λ media. media ≡ folded_in is_media_type word.now) }
+{
+    let Ok(text) = str::from_utf8(word) else {
+        return Ok(None);
+    };
+    match MediaType::read(alloc, text) {
+        Ok(media) => Ok(Some(media)),
+        Err(TextFault::Bad) => Ok(None),
+        Err(TextFault::Memory) => Err(AllocError),
+    }
+}
+
+fn cost_of(word: &[u8]) -> Option<Cost>
+    ensures { result ≡ cost_in word.now }
+{
+    match read_number(word)? {
+        Number::Fits(number) => Cost::new(number),
+        Number::TooGreat => None,
+    }
+}
+
+fn filter_of(alloc: Global, word: &[u8]) -> Result<Option<FilterName>, AllocError>
+    ensures { IfOk result (λ filter. filter ≡ text_in is_filter_name word.now) }
+{
+    let Ok(text) = str::from_utf8(word) else {
+        return Ok(None);
+    };
+    match FilterName::read(alloc, text) {
+        Ok(filter) => Ok(Some(filter)),
+        Err(TextFault::Bad) => Ok(None),
+        Err(TextFault::Memory) => Err(AllocError),
+    }
+}

@@ -1,0 +1,7 @@
+-- the digits so far were read, up to the greatest number and one
+use Rattle.std.proofs.Common.{◌≡◌, ◌≤◌, drop, min}
+use Rattle.mime_lines.specs.Numbers.{read_on}
+use Rattle.mime_lines.proofs.numbers.digits_value.Given as goal
+
+abbrev pub invariant-loop-b : goal.invariant-loop-b
+invariant-loop-b l = record { same : min 4294967296 (read_on l.base l.value (drop l.b-index l.digits)) ≡ min 4294967296 (read_on l.base 0 l.digits); small : l.value ≤ 4294967296 }

@@ -1,0 +1,4 @@
+pub mod Blanks
+pub mod JoinedLines
+pub mod Numbers
+pub mod Seen

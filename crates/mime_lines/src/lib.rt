@@ -1,0 +1,32 @@
+//! The lines of the files of mime.types(5) and mime.convs(5), and the words and numbers in them.
+//!
+//! # What a line is
+//!
+//! A line goes up to its line feed, of which a carriage return right before it is a part; a last line needs none. A line
+//! of blanks (spaces and tabs) alone says nothing, nor does one whose first other byte is `#`. A backslash at the end of any
+//! other line joins the next line to it, with a blank in the backslash's place, whatever the next line is; at the end of
+//! the last line it is dropped. A joined line has the number of its first, counted from 1 over all lines of the file.
+//!
+//! # Promises
+//!
+//! - [`joined_lines`] gives the `joined_lines` of a text, in order, with their numbers.
+//! - [`first_word`] gives a line's first word and what follows it; [`trim`] takes the blanks from both ends.
+//! - [`read_number`] tells whether a word has the form of a number (decimal, `0x` and hexadecimal digits, `0` and octal digits), and
+//!   which it is.
+//!
+//! # Cost and faults
+//!
+//! Each text is read once. A line that no other is joined to is lent, and a joined one is copied. Only
+//! [`joined_lines`] takes memory; want of it is its one fault.
+#![tactic(auto)]
+
+mod lines;
+mod numbers;
+mod words;
+
+pub use lines::{JoinedLine, LineText, joined_lines};
+pub use numbers::{Number, read_number};
+pub use words::{first_word, is_blank, trim};
+
+#[cfg(test)]
+mod tests;

@@ -1,0 +1,184 @@
+//! The lines of a file.
+ghost use Rattle.std.specs.Prelude.{◌≡◌, ◌<◌, ◌∷◌, ◌++◌, [], IfOk, IfSome, MatchOption, map, length};
+ghost use Rattle.std.specs.Option.{option_map};
+ghost use Rattle.mime_lines.specs.JoinedLines.{is_silent as silent, is_continued as continued, with_line as line_with, left_open as open_line, without_last, without_cr as cr_dropped, lines_of, joined_lines as lines_that_speak};
+ghost use Rattle.mime_lines.specs.Seen.{text_of, line_of};
+
+use crate::words::after_blanks;
+use std::alloc::{AllocError, Global};
+
+const LINE_FEED: u8 = b'\n';
+
+const CARRIAGE_RETURN: u8 = b'\r';
+
+const BACKSLASH: u8 = b'\\';
+
+/// The text of a line, without its line feed.
+#[derive(Debug, Drop)]
+pub enum LineText<'a> {
+    /// A line as it stands in the file.
+    Lent(&'a [u8]),
+    /// A line to which others were joined.
+    Joined(Vec<u8>),
+}
+
+impl<'a> LineText<'a> {
+    /// The bytes of the line.
+    pub fn bytes(&self) -> &[u8]
+        ensures value { result.now ≡ text_of self.now }
+    {
+        match self {
+            LineText::Lent(bytes) => bytes,
+            LineText::Joined(bytes) => bytes,
+        }
+    }
+}
+
+/// A line with those that backslashes join to it.
+#[derive(Debug, Drop)]
+pub struct JoinedLine<'a> {
+    /// The number of its first line, from 1.
+    pub number: usize,
+    pub text: LineText<'a>,
+}
+
+/// The lines of a file that say something: no blank lines, and no remarks.
+pub fn joined_lines<'a>(alloc: Global, text: &'a str) -> Result<Vec<JoinedLine<'a>>, AllocError>
+    ensures value { IfOk result (λ lines. map line_of lines.items ≡ lines_that_speak text.now) }
+{
+    let mut lines = Vec::new(alloc);
+    let mut open = None;
+    let mut number = 0;
+    let mut rest = text.as_bytes();
+    while let Some((line, behind)) = next_line(rest) {
+        number += 1;
+        rest = behind;
+        if open.is_some() || !is_silent(line) {
+            let joined = with_line(alloc, open, number, line)?;
+            open = None;
+            if is_continued(line) {
+                open = Some(left_open(joined));
+            } else {
+                lines.push(joined)?;
+            }
+        }
+    }
+    if let Some(line) = open {
+        lines.push(line)?;
+    }
+    Ok(lines)
+}
+
+// The first line, without a carriage return before its line feed, and what follows it.
+fn next_line(text: &[u8]) -> Option<(&[u8], &[u8])>
+    ensures lines { MatchOption result (text.now ≡ []) (λ p. lines_of text.now ≡ p.0.now ∷ lines_of p.1.now) }
+    ensures shorter { IfSome result (λ p. length p.1.now < length text.now) }
+{
+    if text.is_empty() {
+        return None;
+    }
+    for (i, b) in text.iter().enumerate() {
+        if *b == LINE_FEED {
+            return Some((without_cr(&text[..i]), &text[i + 1..]));
+        }
+    }
+    Some((text, &[]))
+}
+
+// The bytes without a carriage return at their end.
+fn without_cr(line: &[u8]) -> &[u8]
+    ensures { result.now ≡ cr_dropped line.now }
+{
+    match line.split_last() {
+        Some((b, before)) if *b == CARRIAGE_RETURN => before,
+        _ => line,
+    }
+}
+
+// Whether a line holds nothing but blanks, or a remark.
+fn is_silent(line: &[u8]) -> bool
+    ensures { result ≡ silent line.now }
+{
+    match after_blanks(line).split_first() {
+        Some((b, _)) => *b == b'#',
+        None => true,
+    }
+}
+
+// Whether a backslash at its end joins the next line.
+fn is_continued(line: &[u8]) -> bool
+    ensures { result ≡ continued line.now }
+{
+    match line.split_last() {
+        Some((b, _)) => *b == BACKSLASH,
+        None => false,
+    }
+}
+
+// The line that this text makes, or the open one that it goes on with.
+fn with_line<'a>(
+    alloc: Global,
+    begun: Option<JoinedLine<'a>>,
+    number: usize,
+    text: &'a [u8],
+) -> Result<JoinedLine<'a>, AllocError>
+    ensures { IfOk result (λ line. line_of line ≡ line_with (option_map line_of begun.entry) number text.now) }
+{
+    match begun {
+        None => Ok(JoinedLine {
+            number,
+            text: LineText::Lent(text),
+        }),
+        Some(line) => Ok(JoinedLine {
+            number: line.number,
+            text: LineText::Joined(join(alloc, line.text, text)?),
+        }),
+    }
+}
+
+// The text, a blank and the next text.
+fn join(alloc: Global, text: LineText<'_>, next: &[u8]) -> Result<Vec<u8>, AllocError>
+    ensures { IfOk result (λ bytes. bytes.items ≡ text_of text.entry ++ 32 ∷ next.now) }
+{
+    let mut joined = match text {
+        LineText::Joined(bytes) => bytes,
+        LineText::Lent(bytes) => Vec::from_slice(alloc, bytes)?,
+    };
+    joined.push(b' ')?;
+    joined.extend_from_slice(next)?;
+    Ok(joined)
+}
+
+// The line without its last byte.
+fn left_open<'a>(line: JoinedLine<'a>) -> JoinedLine<'a>
+    ensures { line_of result ≡ open_line (line_of line.entry) }
+{
+    let JoinedLine { number, text } = line;
+    JoinedLine {
+        number,
+        text: shortened(text),
+    }
+}
+
+// The text without its last byte.
+fn shortened<'a>(text: LineText<'a>) -> LineText<'a>
+    ensures { text_of result ≡ without_last (text_of text.entry) }
+{
+    match text {
+        LineText::Lent(bytes) => LineText::Lent(front(bytes)),
+        LineText::Joined(mut bytes) => {
+            bytes.pop();
+            LineText::Joined(bytes)
+        }
+    }
+}
+
+// All bytes but the last.
+fn front(bytes: &[u8]) -> &[u8]
+    ensures { result.now ≡ without_last bytes.now }
+{
+    match bytes.split_last() {
+        Some((_, before)) => before,
+        None => bytes,
+    }
+}

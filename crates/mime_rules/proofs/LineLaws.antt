@@ -1,0 +1,19 @@
+-- The lines of a file, one after the other.
+use Rattle.std.proofs.Common.{◌≡◌, List, [], ◌∷◌, ◌++◌, length, map, refl, arith}
+use Rattle.std.proofs.lemmas.List.Elements.{filter_map-append}
+use Rattle.mime_lines.specs.JoinedLines.{Line}
+use Rattle.mime_rules.specs.Lines.{alternative_in, warning_in, outcome_of, alternatives_in, warnings_in}
+
+pub alternatives_more : (line : Line) (rest : List Line) → alternatives_in (line ∷ rest) ≡ alternatives_in (line ∷ []) ++ alternatives_in rest
+alternatives_more line rest = filter_map-append (λ l. alternative_in (outcome_of l.text)) (line ∷ []) rest
+
+pub warnings_more : (line : Line) (rest : List Line) → warnings_in (line ∷ rest) ≡ warnings_in (line ∷ []) ++ warnings_in rest
+warnings_more line rest = filter_map-append (λ l. warning_in l.number (outcome_of l.text)) (line ∷ []) rest
+
+pub no_alternatives : {A : Type 0} (f : A → Line) (rest : List A) → length rest ≡ 0 → alternatives_in (map f rest) ≡ []
+no_alternatives f [] h = refl
+no_alternatives f (x ∷ xs) h = absurd (omega arith)
+
+pub no_warnings : {A : Type 0} (f : A → Line) (rest : List A) → length rest ≡ 0 → warnings_in (map f rest) ≡ []
+no_warnings f [] h = refl
+no_warnings f (x ∷ xs) h = absurd (omega arith)

@@ -1,0 +1,9 @@
+pub mod Tests
+pub mod Patterns
+pub mod Reading
+pub mod Arguments
+pub mod Tokens
+pub mod Grammar
+pub mod Lines
+pub mod Best
+pub mod Seen

@@ -1,0 +1,375 @@
+//! The arguments of tests: numbers, texts and values.
+ghost use Rattle.std.specs.Prelude.{◌≡◌, ◌<◌, ◌≤◌, ◌∷◌, ℕ, ◌+◌, ◌*◌, List, length, IfOk, true, false};
+ghost use Rattle.mime_lines.specs.Blanks.{is_blank as blank, after_blanks as behind_blanks};
+ghost use Rattle.mime_lines.specs.Numbers.{is_hex_digit as hex_digit, digit_value as value_of};
+ghost use Rattle.mime_rules.specs.Reading.{read, before, from, closed_by as closed};
+ghost use Rattle.mime_rules.specs.Arguments.{is_close as closes, is_mark as marks, is_close_next as close_next, is_quote as quotes, is_closing as closing_next, number_at as number_here, number_then as number_with, text_from, text_at as text_here, pair_at, value_at as value_here, text_of_width as width_text, bare, quoted, hex, width_of, most_of, value_bytes as bytes_of};
+ghost use Rattle.mime_rules.specs.Seen.{Told, Grown};
+
+use crate::stop::Stop;
+use mime_lines::{Number, is_blank, read_number, trim};
+use spool_types::WarningKind;
+use std::alloc::{AllocError, Global};
+
+const COMMA: u8 = b',';
+
+const CLOSE: u8 = b')';
+
+/// How many bytes a value has.
+#[derive(Clone, Copy)]
+pub(crate) enum Width {
+    Char,
+    Short,
+    Int,
+}
+
+impl Width {
+    fn bytes(self) -> usize
+        ensures { result ≡ width_of self }
+    {
+        match self {
+            Width::Char => 1,
+            Width::Short => 2,
+            Width::Int => 4,
+        }
+    }
+
+    fn most(self) -> u32
+        ensures { result ≡ most_of self }
+    {
+        match self {
+            Width::Char => 255,
+            Width::Short => 65_535,
+            Width::Int => 4_294_967_295,
+        }
+    }
+}
+
+/// What stands behind the blanks at the front.
+pub(crate) fn after_blanks(line: &[u8]) -> &[u8]
+    ensures value { result.now ≡ behind_blanks line.now }
+    ensures bound { length result.now ≤ length line.now }
+{
+    let mut rest = line;
+    while let Some((b, behind)) = rest.split_first() {
+        if !is_blank(*b) {
+            break;
+        }
+        rest = behind;
+    }
+    rest
+}
+
+/// A number up to the greatest allowed, and the byte that must follow it.
+pub(crate) fn number_then(line: &[u8], mark: u8, most: u32) -> Result<(u32, &[u8]), Stop>
+    ensures value { Told result (λ r. read r.0 r.1.now) (number_with mark most line.now) }
+    ensures within { IfOk result (λ r. r.0 ≤ most) }
+    ensures bound { IfOk result (λ r. length r.1.now < length line.now) }
+{
+    let (number, rest) = number_at(line, most)?;
+    let behind = closed_by(rest, mark)?;
+    Ok((number, behind))
+}
+
+// The number up to the next mark, and what follows from there on.
+fn number_at(line: &[u8], most: u32) -> Result<(u32, &[u8]), Stop>
+    ensures value { Told result (λ r. read r.0 r.1.now) (number_here most line.now) }
+    ensures within { IfOk result (λ r. r.0 ≤ most) }
+    ensures bound { IfOk result (λ r. length r.1.now ≤ length line.now) }
+{
+    let (word, rest) = cut_at_mark(line);
+    match read_number(trim(word)) {
+        None => Err(Stop::Fault(WarningKind::BadNumber)),
+        Some(Number::TooGreat) => Err(Stop::Fault(WarningKind::BadNumber)),
+        Some(Number::Fits(n)) => {
+            if n <= most {
+                Ok((n, rest))
+            } else {
+                Err(Stop::Fault(WarningKind::BadNumber))
+            }
+        }
+    }
+}
+
+// What follows the wanted byte, which must stand here.
+fn closed_by(line: &[u8], wanted: u8) -> Result<&[u8], Stop>
+    ensures value { Told result (λ rest. read wanted rest.now) (closed wanted line.now) }
+    ensures bound { IfOk result (λ rest. length rest.now < length line.now) }
+{
+    match line.split_first() {
+        Some((b, behind)) => {
+            if *b == wanted {
+                Ok(behind)
+            } else {
+                Err(Stop::Fault(WarningKind::BadRule))
+            }
+        }
+        None => Err(Stop::Fault(WarningKind::BadRule)),
+    }
+}
+
+// Up to the first `,` or `)`, and from there on.
+fn cut_at_mark(line: &[u8]) -> (&[u8], &[u8])
+    ensures before { result.0.now ≡ before marks line.now }
+    ensures rest { result.1.now ≡ from marks line.now }
+    ensures bound { length result.1.now ≤ length line.now }
+{
+    for (i, b) in line.iter().enumerate() {
+        if *b == COMMA || *b == CLOSE {
+            return (&line[..i], &line[i..]);
+        }
+    }
+    (line, &[])
+}
+
+// Up to the first `)`, and from there on.
+fn cut_at_close(line: &[u8]) -> (&[u8], &[u8])
+    ensures before { result.0.now ≡ before closes line.now }
+    ensures rest { result.1.now ≡ from closes line.now }
+    ensures bound { length result.1.now ≤ length line.now }
+{
+    for (i, b) in line.iter().enumerate() {
+        if *b == CLOSE {
+            return (&line[..i], &line[i..]);
+        }
+    }
+    (line, &[])
+}
+
+/// A text up to its closing parenthesis, and what follows that.
+pub(crate) fn text_at<'a>(alloc: Global, line: &'a [u8]) -> Result<(Vec<u8>, &'a [u8]), Stop>
+    ensures value { Told result (λ r. read r.0.items r.1.now) (text_here line.now) }
+    ensures bound { IfOk result (λ r. length r.1.now < length line.now) }
+{
+    let mut text = Vec::new(alloc);
+    let mut rest = after_blanks(line);
+    'runs: loop {
+        match rest.split_first() {
+            None => return Err(Stop::Fault(WarningKind::BadRule)),
+            Some((b, behind)) => {
+                if *b == CLOSE {
+                    return Ok((text, behind));
+                }
+                rest = run(&mut text, *b, behind)?;
+            }
+        }
+    }
+}
+
+// The run that begins with this byte: in quotes, in hexadecimal digits, or a byte that stands for itself.
+fn run<'a>(text: &mut Vec<u8>, first: u8, behind: &'a [u8]) -> Result<&'a [u8], Stop>
+    requires { closes first ≡ false }
+    ensures grown { Grown result (λ rest. text_from bare rest.now) text.old.items text.new.items (text_from bare (first ∷ behind.now)) }
+    ensures bound { IfOk result (λ rest. length rest.now ≤ length behind.now) }
+{
+    if is_blank(first) {
+        blank_run(text, first, behind)
+    } else if is_quote(first) {
+        quoted_run(text, first, behind)
+    } else if first == b'<' {
+        hex_run(text, behind)
+    } else {
+        text.push(first)?;
+        Ok(behind)
+    }
+}
+
+fn is_quote(b: u8) -> bool
+    ensures { result ≡ quotes b }
+{
+    b == b'"' || b == b'\''
+}
+
+// A run up to its quote.
+fn quoted_run<'a>(text: &mut Vec<u8>, quote: u8, line: &'a [u8]) -> Result<&'a [u8], Stop>
+    ensures grown { Grown result (λ rest. text_from bare rest.now) text.old.items text.new.items (text_from (quoted quote) line.now) }
+    ensures bound { IfOk result (λ rest. length rest.now ≤ length line.now) }
+{
+    let mut rest = line;
+    'bytes: loop {
+        match rest.split_first() {
+            None => return Err(Stop::Fault(WarningKind::BadText)),
+            Some((b, behind)) => {
+                if *b == quote {
+                    return Ok(behind);
+                }
+                text.push(*b)?;
+                rest = behind;
+            }
+        }
+    }
+}
+
+// A run of pairs of hexadecimal digits up to its `>`.
+fn hex_run<'a>(text: &mut Vec<u8>, line: &'a [u8]) -> Result<&'a [u8], Stop>
+    ensures grown { Grown result (λ rest. text_from bare rest.now) text.old.items text.new.items (text_from hex line.now) }
+    ensures bound { IfOk result (λ rest. length rest.now ≤ length line.now) }
+{
+    let mut rest = line;
+    'pairs: loop {
+        match rest.split_first() {
+            None => return Err(Stop::Fault(WarningKind::BadText)),
+            Some((b, behind)) => {
+                if *b == b'>' {
+                    return Ok(behind);
+                }
+                match hex_pair(*b, behind) {
+                    Err(stop) => return Err(stop),
+                    Ok((byte, after)) => {
+                        text.push(byte)?;
+                        rest = after;
+                    }
+                }
+            }
+        }
+    }
+}
+
+// The byte of two hexadecimal digits, of which the second is the next byte, and what follows them.
+fn hex_pair(high: u8, line: &[u8]) -> Result<(u8, &[u8]), Stop>
+    ensures value { Told result (λ r. read r.0 r.1.now) (pair_at high line.now) }
+    ensures bound { IfOk result (λ r. length r.1.now < length line.now) }
+{
+    match line.split_first() {
+        None => Err(Stop::Fault(WarningKind::BadText)),
+        Some((low, after)) => {
+            if !high.is_ascii_hexdigit() {
+                return Err(Stop::Fault(WarningKind::BadText));
+            }
+            if !low.is_ascii_hexdigit() {
+                return Err(Stop::Fault(WarningKind::BadText));
+            }
+            Ok((16 * hex_value(high) + hex_value(*low), after))
+        }
+    }
+}
+
+// What a hexadecimal digit stands for.
+fn hex_value(b: u8) -> u8
+    requires { hex_digit b ≡ true }
+    ensures value { result ≡ value_of b }
+    ensures bound { result < 16 }
+{
+    if b <= b'9' {
+        b - b'0'
+    } else if b <= b'F' {
+        b - b'A' + 10
+    } else {
+        b - b'a' + 10
+    }
+}
+
+// A blank counts where no parenthesis follows it and the blanks behind it.
+fn blank_run<'a>(text: &mut Vec<u8>, first: u8, behind: &'a [u8]) -> Result<&'a [u8], Stop>
+    requires { blank first ≡ true }
+    ensures grown { Grown result (λ rest. text_from bare rest.now) text.old.items text.new.items (text_from bare (first ∷ behind.now)) }
+    ensures bound { IfOk result (λ rest. length rest.now ≤ length behind.now) }
+{
+    if is_closing(behind) {
+        return Ok(after_blanks(behind));
+    }
+    text.push(first)?;
+    push_blanks(text, behind)
+}
+
+// Blanks that no parenthesis follows.
+fn push_blanks<'a>(text: &mut Vec<u8>, line: &'a [u8]) -> Result<&'a [u8], Stop>
+    requires { closing_next line.now ≡ false }
+    ensures grown { Grown result (λ rest. text_from bare rest.now) text.old.items text.new.items (text_from bare line.now) }
+    ensures bound { IfOk result (λ rest. length rest.now ≤ length line.now) }
+{
+    let mut rest = line;
+    while let Some((b, behind)) = rest.split_first() {
+        if !is_blank(*b) {
+            break;
+        }
+        text.push(*b)?;
+        rest = behind;
+    }
+    Ok(rest)
+}
+
+// Whether nothing but blanks stands before the closing parenthesis.
+fn is_closing(line: &[u8]) -> bool
+    ensures { result ≡ closing_next line.now }
+{
+    match after_blanks(line).split_first() {
+        Some((b, _)) => *b == CLOSE,
+        None => false,
+    }
+}
+
+/// A value up to its closing parenthesis: a number, or a text of the same width.
+pub(crate) fn value_at<'a>(
+    alloc: Global,
+    line: &'a [u8],
+    width: Width,
+) -> Result<(Vec<u8>, &'a [u8]), Stop>
+    ensures value { Told result (λ r. read r.0.items r.1.now) (value_here width line.now) }
+    ensures bound { IfOk result (λ r. length r.1.now < length line.now) }
+{
+    let (word, rest) = cut_at_close(line);
+    match read_number(trim(word)) {
+        None => text_of_width(alloc, line, width),
+        Some(Number::TooGreat) => Err(Stop::Fault(WarningKind::BadNumber)),
+        Some(Number::Fits(n)) => {
+            if n <= width.most() {
+                let behind = closed_by(rest, CLOSE)?;
+                let bytes = value_bytes(alloc, n, width)?;
+                Ok((bytes, behind))
+            } else {
+                Err(Stop::Fault(WarningKind::BadNumber))
+            }
+        }
+    }
+}
+
+// A text that must have this width.
+fn text_of_width<'a>(
+    alloc: Global,
+    line: &'a [u8],
+    width: Width,
+) -> Result<(Vec<u8>, &'a [u8]), Stop>
+    ensures value { Told result (λ r. read r.0.items r.1.now) (width_text width line.now) }
+    ensures bound { IfOk result (λ r. length r.1.now < length line.now) }
+{
+    let (text, rest) = text_at(alloc, line)?;
+    if text.len() == width.bytes() {
+        Ok((text, rest))
+    } else {
+        Err(Stop::Fault(WarningKind::BadText))
+    }
+}
+
+// The bytes of a number, high byte first.
+fn value_bytes(alloc: Global, n: u32, width: Width) -> Result<Vec<u8>, AllocError>
+    requires { n ≤ most_of width }
+    ensures { IfOk result (λ v. v.items ≡ bytes_of width n) }
+{
+    match width {
+        Width::Char => Vec::from_slice(alloc, &[n as u8]),
+        Width::Short => short_bytes(alloc, n),
+        Width::Int => int_bytes(alloc, n),
+    }
+}
+
+fn short_bytes(alloc: Global, n: u32) -> Result<Vec<u8>, AllocError>
+    requires { n ≤ 65535 }
+    ensures { IfOk result (λ v. v.items ≡ bytes_of Width.Short n) }
+{
+    Vec::from_slice(alloc, &[(n / 256) as u8, (n % 256) as u8])
+}
+
+fn int_bytes(alloc: Global, n: u32) -> Result<Vec<u8>, AllocError>
+    ensures { IfOk result (λ v. v.items ≡ bytes_of Width.Int n) }
+{
+    Vec::from_slice(
+        alloc,
+        &[
+            (n / 16_777_216) as u8,
+            (n / 65_536 % 256) as u8,
+            (n / 256 % 256) as u8,
+            (n % 256) as u8,
+        ],
+    )
+}

@@ -1,0 +1,50 @@
+//! The lines of a file of mime.types(5).
+ghost use Rattle.std.specs.Prelude.{◌≡◌};
+ghost use Rattle.mime_rules.specs.Lines.{outcome_of, media_in};
+ghost use Rattle.mime_rules.specs.Seen.{LineTold, MediaTold};
+
+use crate::grammar::{list_of, priority_of};
+use crate::rule::Rule;
+use crate::stop::Stop;
+use crate::tokens::tokens_of;
+use mime_lines::first_word;
+use spool_types::{MediaType, TextFault, WarningKind};
+use std::alloc::Global;
+use std::str;
+
+/// One way to tell that a document is of a type.
+#[derive(Drop)]
+pub(crate) struct Alternative {
+    pub media_type: MediaType,
+    pub priority: u8,
+    pub rule: Rule,
+}
+
+/// Reads a line: a type, and then a list of rules.
+pub(crate) fn read_line(alloc: Global, line: &[u8]) -> Result<Alternative, Stop>
+    ensures value { LineTold result (outcome_of line.now) }
+{
+    let (word, rest) = first_word(line);
+    let media_type = media_type(alloc, word)?;
+    let tokens = tokens_of(alloc, rest)?;
+    let priority = priority_of(&tokens);
+    let rule = list_of(alloc, tokens)?;
+    Ok(Alternative {
+        media_type,
+        priority,
+        rule,
+    })
+}
+
+fn media_type(alloc: Global, word: &[u8]) -> Result<MediaType, Stop>
+    ensures { MediaTold result (media_in word.now) }
+{
+    match str::from_utf8(word) {
+        Err(_) => Err(Stop::Fault(WarningKind::BadType)),
+        Ok(text) => match MediaType::read(alloc, text) {
+            Ok(media_type) => Ok(media_type),
+            Err(TextFault::Bad) => Err(Stop::Fault(WarningKind::BadType)),
+            Err(TextFault::Memory) => Err(Stop::Memory),
+        },
+    }
+}

@@ -1,0 +1,59 @@
+//! The names of the rules.
+ghost use Rattle.std.specs.Prelude.{◌≡◌};
+ghost use Rattle.mime_rules.specs.Tokens.{rule_name as name_of, other_name as other_name_of};
+
+/// What stands before a parenthesis.
+#[derive(Clone, Copy)]
+pub(crate) enum RuleName {
+    Match,
+    Ascii,
+    Printable,
+    Text,
+    FoldedText,
+    ValueChar,
+    ValueShort,
+    ValueInt,
+    Contains,
+    Locale,
+    Priority,
+}
+
+/// The rule of this name, in lower case exactly.
+pub(crate) fn rule_name(word: &[u8]) -> Option<RuleName>
+    ensures value { result ≡ name_of word.now }
+{
+    if word == b"match".as_slice() {
+        Some(RuleName::Match)
+    } else if word == b"ascii".as_slice() {
+        Some(RuleName::Ascii)
+    } else if word == b"printable".as_slice() {
+        Some(RuleName::Printable)
+    } else if word == b"string".as_slice() {
+        Some(RuleName::Text)
+    } else if word == b"istring".as_slice() {
+        Some(RuleName::FoldedText)
+    } else {
+        other_name(word)
+    }
+}
+
+// The same of the other names.
+fn other_name(word: &[u8]) -> Option<RuleName>
+    ensures { result ≡ other_name_of word.now }
+{
+    if word == b"char".as_slice() {
+        Some(RuleName::ValueChar)
+    } else if word == b"short".as_slice() {
+        Some(RuleName::ValueShort)
+    } else if word == b"int".as_slice() {
+        Some(RuleName::ValueInt)
+    } else if word == b"contains".as_slice() {
+        Some(RuleName::Contains)
+    } else if word == b"locale".as_slice() {
+        Some(RuleName::Locale)
+    } else if word == b"priority".as_slice() {
+        Some(RuleName::Priority)
+    } else {
+        None
+    }
+}

@@ -1,0 +1,122 @@
+//! The types of documents.
+ghost use Rattle.std.specs.Prelude.{◌≡◌, ◌∷◌, ◌++◌, [], IfOk, map};
+ghost use Rattle.std.specs.Option.{option_map};
+ghost use Rattle.mime_lines.specs.Seen.{line_of};
+ghost use Rattle.mime_rules.specs.Lines.{alternatives_of, warnings_of, alternatives_in, warnings_in};
+ghost use Rattle.mime_rules.specs.Best.{type_of as best_type, best as best_of, better as better_of, beats as beaten_by};
+ghost use Rattle.mime_rules.specs.Seen.{types_of, alternative_of, subject_of};
+
+use crate::line::{Alternative, read_line};
+use crate::meaning::{Subject, holds};
+use crate::stop::Stop;
+use mime_lines::{JoinedLine, joined_lines};
+use spool_types::{MediaType, Warning};
+use std::alloc::{AllocError, Global};
+
+/// What a file of mime.types(5) says: for each media type the alternatives by which a document is of that type.
+#[derive(Drop)]
+pub struct Types {
+    alternatives: Vec<Alternative>,
+}
+
+impl Types {
+    /// Reads a file. Each line that can't be read is skipped, with a warning of its first fault.
+    pub fn read(alloc: Global, text: &str) -> Result<(Types, Vec<Warning>), AllocError>
+        ensures types { IfOk result (λ r. types_of r.0 ≡ alternatives_of text.now) }
+        ensures warnings { IfOk result (λ r. r.1.items ≡ warnings_of text.now) }
+    {
+        let lines = joined_lines(alloc, text)?;
+        let (alternatives, warnings) = read_lines(alloc, &lines)?;
+        Ok((Types { alternatives }, warnings))
+    }
+
+    /// The type of a document with this name and these bytes, in this locale. It takes no memory.
+    pub fn type_of(&self, name: &str, bytes: &[u8], locale: &str) -> Option<&MediaType>
+        ensures value { option_map (λ media. media.now) result ≡ best_type (record { name = name.now; bytes = bytes.now; locale = locale.now }) (types_of self.now) }
+    {
+        let subject = Subject {
+            name: name.as_bytes(),
+            bytes,
+            locale: locale.as_bytes(),
+        };
+        match best(&self.alternatives, &subject) {
+            Some(alternative) => Some(&alternative.media_type),
+            None => None,
+        }
+    }
+}
+
+// The alternatives and the warnings of these lines.
+fn read_lines(
+    alloc: Global,
+    lines: &[JoinedLine<'_>],
+) -> Result<(Vec<Alternative>, Vec<Warning>), AllocError>
+    ensures types { IfOk result (λ r. map alternative_of r.0.items ≡ alternatives_in (map line_of lines.now)) }
+    ensures warnings { IfOk result (λ r. r.1.items ≡ warnings_in (map line_of lines.now)) }
+{
+    let mut alternatives = Vec::new(alloc);
+    let mut warnings = Vec::new(alloc);
+    for line in lines {
+        add_line(alloc, line, &mut alternatives, &mut warnings)?;
+    }
+    Ok((alternatives, warnings))
+}
+
+// Adds what a line says, or why it can't be read.
+fn add_line(
+    alloc: Global,
+    line: &JoinedLine<'_>,
+    alternatives: &mut Vec<Alternative>,
+    warnings: &mut Vec<Warning>,
+) -> Result<(), AllocError>
+    ensures types { IfOk result (λ _. map alternative_of alternatives.new.items ≡ map alternative_of alternatives.old.items ++ alternatives_in (line_of line.now ∷ [])) }
+    ensures warnings { IfOk result (λ _. warnings.new.items ≡ warnings.old.items ++ warnings_in (line_of line.now ∷ [])) }
+{
+    match read_line(alloc, line.text.bytes()) {
+        Ok(alternative) => {
+            alternatives.push(alternative)?;
+            Ok(())
+        }
+        Err(Stop::Fault(kind)) => {
+            warnings.push(Warning {
+                line: line.number,
+                kind,
+            })?;
+            Ok(())
+        }
+        Err(Stop::Memory) => Err(AllocError),
+    }
+}
+
+// The best of the alternatives that are true.
+fn best<'a>(alternatives: &'a [Alternative], subject: &Subject<'_>) -> Option<&'a Alternative>
+    ensures { option_map (λ a. alternative_of a.now) result ≡ best_of (subject_of subject.now) (map alternative_of alternatives.now) }
+{
+    let mut found: Option<&'a Alternative> = None;
+    let mut rest = alternatives;
+    while let Some((last, before)) = rest.split_last() {
+        if holds(&last.rule, subject) {
+            found = Some(better(last, found));
+        }
+        rest = before;
+    }
+    found
+}
+
+// Which of the two counts.
+fn better<'a>(first: &'a Alternative, later: Option<&'a Alternative>) -> &'a Alternative
+    ensures { alternative_of result.now ≡ better_of (alternative_of first.now) (option_map (λ a. alternative_of a.now) later.entry) }
+{
+    match later {
+        None => first,
+        Some(other) => { if beats(other, first) { other } else { first } }
+    }
+}
+
+// Whether an alternative has the higher priority, or the same and the type that is alphabetically before.
+fn beats(a: &Alternative, b: &Alternative) -> bool
+    ensures { result ≡ beaten_by (alternative_of a.now) (alternative_of b.now) }
+{
+    b.priority < a.priority
+        || (a.priority == b.priority && a.media_type.as_str() < b.media_type.as_str())
+}
