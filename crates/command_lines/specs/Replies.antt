@@ -1,7 +1,8 @@
 -- The text of the reply to each command.
-use Rattle.std.specs.Prelude.{ℕ, Bool, ◌||◌, cond, ◌==◌, List, [], ◌∷◌, ◌++◌, length, codes, map, Option, None, Some}
+use Rattle.std.specs.Prelude.{ℕ, Bool, ◌||◌, cond, List, [], ◌∷◌, ◌++◌, length, codes, map, Option, None, Some}
 use Rattle.std.specs.List.{flat_map}
 use Rattle.std.specs.Fmt.{decimal}
+use Rattle.line_words.specs.Quotes.{is_quote, is_backslash}
 use Rattle.spool_types.specs.Next.{is_busy}
 use Rattle.spool_types.specs.Phases.{job_state, job_reason, printer_state, policy_word}
 use Rattle.spool_types.specs.Refusals.{refusal_number, refusal_name}
@@ -9,11 +10,11 @@ use Rattle.spool_types.specs.State.{Job, job_of}
 use Rattle.spool_types.specs.declared.refusal.Refusal.{Refusal}
 use Rattle.spool_types.specs.declared.rows.QueueRow.{QueueRow}
 use Rattle.command_lines.specs.declared.reply.Answer.{Answer}
-use Rattle.command_lines.specs.declared.reply.Answer.TheVariants.{Done, Created, Sent, Closed, Jobs, Queues, Refused, Malformed, Dead, NoMemory, Full, Disk}
+use Rattle.command_lines.specs.declared.reply.Answer.TheVariants.{Done, Created, Sent, Closed, Jobs, Queues, Refused, Malformed, BadUri, Dead, NoMemory, Full, Disk}
 
--- a quote or a backslash, which a quoted text escapes
+-- a quoted text escapes quotes and backslashes
 abbrev pub is_escaped : ℕ → Bool
-is_escaped b = b == 34 || b == 92
+is_escaped b = is_quote b || is_backslash b
 
 abbrev pub escaped_byte : ℕ → List ℕ
 escaped_byte b = cond (is_escaped b) (92 ∷ b ∷ []) (b ∷ [])
@@ -82,6 +83,7 @@ answer_text (Jobs rows now) = jobs_text now (map job_of rows.now)
 answer_text (Queues rows jobs) = queues_text (map job_of jobs.now) rows.now
 answer_text (Refused refusal) = refusal_line refusal
 answer_text Malformed = codes "error syntax\n"
+answer_text BadUri = codes "error uri\n"
 answer_text Dead = codes "error dead\n"
 answer_text NoMemory = codes "error memory\n"
 answer_text Full = codes "error full\n"

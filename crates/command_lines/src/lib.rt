@@ -9,8 +9,9 @@
 //! `specs/` says it over whole texts, as lists of bytes:
 //!
 //! - `Lines`: a line goes up to its line feed, and a last line needs none.
-//! - `Words`: words stand between spaces and tabs. A word is bare, with no quote in it, or in quotes, where `\"` and `\\`
-//!   stand for a quote and a backslash and any other backslash for itself.
+//! - `Words`: words stand between blanks. A word is bare, with no quote in it, or in quotes, and then a blank or nothing
+//!   follows its closing quote. `Blanks` and `Quotes` of `line_words` say what a blank is, how far a word and a quoted
+//!   text go, and what a backslash stands for.
 //! - `Numbers`: a number has 1 to 13 digits and no sign.
 //! - `Grammar`: the table of commands, those about a job and those about a queue each in a part of their own. The first
 //!   word chooses a row, and the row says which words follow and what each may be. A further command is a further row.

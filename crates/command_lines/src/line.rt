@@ -1,12 +1,13 @@
 //! What a line says.
 ghost use Rattle.std.specs.Prelude.{◌≡◌, IfOk, map};
 ghost use Rattle.spool_types.specs.Values.{is_queue_name, is_uri, is_user_name, is_title, is_options, is_note};
-ghost use Rattle.command_lines.specs.Fronts.{bytes_of};
+ghost use Rattle.line_words.specs.Seen.{bytes_of};
 ghost use Rattle.command_lines.specs.Grammar.{kind_of as line_kind, is_remark as remark, kind_in, line_of, queue_command, job_command, queue_line as queues, queue_of, info_line as informs, info_of, accept_line as accepts, stop_line as stops, create_line as creates, creation_of, send_line as sends, send_of, close_line as closes, close_of, hold_line as holds, release_line as releases, abandon_line as abandons, cancel_line as cancels, cancel_of, clock_line as clocks, jobs_line as lists, queues_line as lists_queues, text_in, media_in, copies_in, priority_in, policy_in as policy_word};
 
 use crate::command::{Command, Creation, Kind};
 use crate::numbers::{job_number, moment_number, ranged_number, short_number, small_number};
-use crate::words::{Word, words_of};
+use crate::words::words_of;
+use line_words::Word;
 use spool_types::{
     Copies, FileName, Interval, MediaType, NewQueue, Note, OptionText, Policy, Priority, QueueName,
     QueueNotes, Text, TextFault, TextKind, Title, Uri, UserName,

@@ -4,6 +4,7 @@ ghost use Rattle.std.specs.Fmt.{decimal};
 ghost use Rattle.spool_types.specs.State.{job_of};
 ghost use Rattle.command_lines.specs.Replies.{answer_text, quoted, job_line, job_head, job_sizes, jobs_text, queue_head, queue_rules, reasons_word, queue_text, queues_text, refusal_line, created_line, sent_line, closed_line};
 
+use line_words::{is_backslash, is_quote};
 use spool_types::{JobId, JobRow, MediaType, Moment, QueueRow, Reason, Refusal, is_busy};
 use std::alloc::{AllocError, Global};
 use std::io::Write;
@@ -33,6 +34,8 @@ pub enum Answer<'a> {
     Refused(Refusal),
     /// The line isn't a command.
     Malformed,
+    /// The URI of a queue isn't that of a device.
+    BadUri,
     /// The spool has failed, and has to be opened again.
     Dead,
     NoMemory,
@@ -55,6 +58,7 @@ pub fn print_reply(alloc: Global, answer: &Answer<'_>) -> Result<Vec<u8>, AllocE
         Answer::Queues { rows, jobs } => queues(alloc, rows, jobs),
         Answer::Refused(refusal) => refused(alloc, *refusal),
         Answer::Malformed => Vec::from_slice(alloc, b"error syntax\n"),
+        Answer::BadUri => Vec::from_slice(alloc, b"error uri\n"),
         Answer::Dead => Vec::from_slice(alloc, b"error dead\n"),
         Answer::NoMemory => Vec::from_slice(alloc, b"error memory\n"),
         Answer::Full => Vec::from_slice(alloc, b"error full\n"),
@@ -207,7 +211,7 @@ fn push_quoted(text: &mut Vec<u8>, value: &str) -> Result<(), AllocError>
 {
     text.push(b'"')?;
     for byte in value.as_bytes() {
-        if *byte == b'"' || *byte == b'\\' {
+        if is_quote(*byte) || is_backslash(*byte) {
             text.push(b'\\')?;
         }
         text.push(*byte)?;

@@ -2,17 +2,19 @@
 use Rattle.std.proofs.Common.{◌≡◌, ℕ, ◌<◌, ◌≤◌, Bool, true, false, cond, leb, List, [], ◌∷◌, ◌++◌, length, refl, ap, sym, ◌∙◌, arith, Option, None, Some}
 use Rattle.std.specs.List.{list_all}
 use Rattle.std.proofs.lemmas.Bool.{eqb-true, leb-true, le-leb, lt-leb, and_parts, and_from}
-use Rattle.device_uri.specs.Fields.{is_blank, is_quote, is_backslash, IsBlanks, escape_of, in_front, unescaped, IsField, IsFieldIfAny}
-use Rattle.device_uri.specs.Reading.{after_blanks, Front, with_bytes, quoted, short_front, opened, behind_quote, field_inside, next_field, some_field, next_if_any}
+use Rattle.line_words.specs.Blanks.{is_blank, after_blanks}
+use Rattle.line_words.specs.Quotes.{is_quote, is_backslash, escape_of, QuotedFront, with_bytes, quoted}
+use Rattle.device_uri.specs.Fields.{IsBlanks, in_front, unescaped, IsField, IsFieldIfAny}
+use Rattle.device_uri.specs.Reading.{short_front, opened, behind_quote, field_inside, next_field, some_field, next_if_any}
 
 -- ## Between the quotes
 
-front_parts : (a b c d : List ℕ) → ◌≡◌ {A = Front} (Some (a, b)) (Some (c, d)) → (a ≡ c) × (b ≡ d)
+front_parts : (a b c d : List ℕ) → ◌≡◌ {A = QuotedFront} (Some (a, b)) (Some (c, d)) → (a ≡ c) × (b ≡ d)
 front_parts a b c d e =
     let same : ◌≡◌ {A = List ℕ × List ℕ} (a, b) (c, d) = cc in
     (ap (λ p. p.0) same, ap (λ p. p.1) same)
 
-with_bytes-inv : (w : List ℕ) (front : Front) (f r : List ℕ) → with_bytes w front ≡ Some (f, r) → (g : List ℕ) × (front ≡ Some (g, r)) × (w ++ g ≡ f)
+with_bytes-inv : (w : List ℕ) (front : QuotedFront) (f r : List ℕ) → with_bytes w front ≡ Some (f, r) → (g : List ℕ) × (front ≡ Some (g, r)) × (w ++ g ≡ f)
 with_bytes-inv w None f r e = cc
 with_bytes-inv w (Some (g, s)) f r e =
     let (front, behind) = front_parts (w ++ g) s f r e in
@@ -71,7 +73,7 @@ quoted_sound false (b ∷ bs) f r h =
       ]) refl
     ]) refl
   where
-    closes : ◌≡◌ {A = Front} (Some ([], bs)) (Some (f, r)) → b ≡ 34 → IsQuoted false (b ∷ bs) f r
+    closes : ◌≡◌ {A = QuotedFront} (Some ([], bs)) (Some (f, r)) → b ≡ 34 → IsQuoted false (b ∷ bs) f r
     closes e quote =
         let (nothing, behind) = front_parts [] bs f r e in
         ([], ap (λ n. n ∷ bs) quote ∙ ap (λ l. 34 ∷ l) behind, ap (λ l. Some l) nothing)
@@ -191,12 +193,12 @@ field_sound f line r h = at_quote (behind_quote line) refl h
 
     at_end : (inside g s : List ℕ) → behind_quote line ≡ Some inside → quoted false inside ≡ Some (g, s) → short_front (Some (g, s)) ≡ Some (f, r) → IsField f line r
     at_end inside g s e q h =
-        (elim (leb (length g) 1023) as (λ v. leb (length g) 1023 ≡ v → ◌≡◌ {A = Front} (cond v (Some (g, s)) None) (Some (f, r)) → IsField f line r) [
+        (elim (leb (length g) 1023) as (λ v. leb (length g) 1023 ≡ v → ◌≡◌ {A = QuotedFront} (cond v (Some (g, s)) None) (Some (f, r)) → IsField f line r) [
           | true ↦ λ le k. let (front, behind) = front_parts g s f r k in found inside g s e q (leb-true (length g) 1023 le) front behind
           | false ↦ λ le k. cc
         ]) refl h
 
-    at_field : (inside : List ℕ) (front : Front) → behind_quote line ≡ Some inside → quoted false inside ≡ front → short_front front ≡ Some (f, r) → IsField f line r
+    at_field : (inside : List ℕ) (front : QuotedFront) → behind_quote line ≡ Some inside → quoted false inside ≡ front → short_front front ≡ Some (f, r) → IsField f line r
     at_field inside None e q h = cc
     at_field inside (Some (g, s)) e q h = at_end inside g s e q h
 
@@ -222,7 +224,7 @@ if_any_sound (Some f) [] r h = no_field f r h
         cc
 if_any_sound f (b ∷ bs) r h = at (next_field (b ∷ bs)) f refl h
   where
-    at : (front : Front) (f : Option (List ℕ)) → next_field (b ∷ bs) ≡ front → some_field front ≡ Some (f, r) → IsFieldIfAny f (b ∷ bs) r
+    at : (front : QuotedFront) (f : Option (List ℕ)) → next_field (b ∷ bs) ≡ front → some_field front ≡ Some (f, r) → IsFieldIfAny f (b ∷ bs) r
     at None f e h = cc
     at (Some (g, s)) None e h =
         let same : ◌≡◌ {A = Option (List ℕ) × List ℕ} (Some g, s) (None, r) = cc in

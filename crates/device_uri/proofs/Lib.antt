@@ -1,4 +1,4 @@
 mod OptionLaws
-mod FieldLaws
 mod FieldForm
 mod LineLaws
+pub mod UriLaws

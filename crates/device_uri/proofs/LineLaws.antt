@@ -5,9 +5,11 @@ use Rattle.std.proofs.lemmas.Str.{IsUtf8-from_ascii}
 use Rattle.std.proofs.lemmas.Bool.{eqb-true, leb-true, and_parts, or_from, false_from_ne_true, both_ways}
 use Rattle.std.proofs.lemmas.Bool.Decides.{nat_tests}
 use Rattle.spool_types.specs.Values.{is_text_of, is_attribute_byte, is_graphic, is_uri}
-use Rattle.device_uri.specs.Fields.{is_blank, is_quote, IsBlanks, IsField}
+use Rattle.line_words.specs.Blanks.{is_blank, word_here, behind_word, after_blanks}
+use Rattle.line_words.specs.Quotes.{is_quote}
+use Rattle.device_uri.specs.Fields.{IsBlanks, IsField}
 use Rattle.device_uri.specs.Lines.{IsDeviceLine, is_device_class, is_bare_uri}
-use Rattle.device_uri.specs.Reading.{bare_word, behind_word, after_blanks, next_field}
+use Rattle.device_uri.specs.Reading.{next_field}
 use Rattle.device_uri.specs.Taken.{AreFields}
 use Rattle.device_uri.specs.declared.fields.Fields.{Fields}
 use Rattle.device_uri.specs.declared.line.DeviceLine.{DeviceLine}
@@ -51,11 +53,11 @@ module _ (p : ℕ → Bool) (space : p 32 ≡ false) (tab : p 9 ≡ false) where
       (false_from_ne_true (eqb b 32) (λ e. both_ways (p 32) space (subst (λ n. p n ≡ true) (eqb-true b 32 e) h)))
       (false_from_ne_true (eqb b 9) (λ e. both_ways (p 9) tab (subst (λ n. p n ≡ true) (eqb-true b 9 e) h)))
 
-  bare_complete : (word rest : List ℕ) → list_all p word ≡ true → bare_word rest ≡ [] → bare_word (word ++ rest) ≡ word
+  bare_complete : (word rest : List ℕ) → list_all p word ≡ true → word_here rest ≡ [] → word_here (word ++ rest) ≡ word
   bare_complete [] rest h stops = stops
   bare_complete (b ∷ bs) rest h stops =
       let (here, others) = and_parts (p b) (list_all p bs) h in
-      ap (λ v. cond v [] (b ∷ bare_word (bs ++ rest))) (not_blank b here) ∙ ap (λ l. b ∷ l) (bare_complete bs rest others stops)
+      ap (λ v. cond v [] (b ∷ word_here (bs ++ rest))) (not_blank b here) ∙ ap (λ l. b ∷ l) (bare_complete bs rest others stops)
 
   behind_complete : (word rest : List ℕ) → list_all p word ≡ true → behind_word rest ≡ rest → behind_word (word ++ rest) ≡ rest
   behind_complete [] rest h stops = stops
@@ -69,16 +71,16 @@ module _ (p : ℕ → Bool) (space : p 32 ≡ false) (tab : p 9 ≡ false) where
       ap (λ v. cond v (after_blanks (bs ++ rest)) (b ∷ (bs ++ rest))) (not_blank b (and_parts (p b) (list_all p bs) h).0)
 
 -- what begins with blanks ends a word
-blanks_stop : (blanks rest : List ℕ) → IsBlanks blanks → (bare_word (blanks ++ rest) ≡ []) × (behind_word (blanks ++ rest) ≡ blanks ++ rest)
+blanks_stop : (blanks rest : List ℕ) → IsBlanks blanks → (word_here (blanks ++ rest) ≡ []) × (behind_word (blanks ++ rest) ≡ blanks ++ rest)
 blanks_stop [] rest h = absurd (omega (arith, h.some))
 blanks_stop (b ∷ bs) rest h =
     let blank = (and_parts (is_blank b) (list_all is_blank bs) h.blank).0 in
-    (ap (λ v. cond v [] (b ∷ bare_word (bs ++ rest))) blank, ap (λ v. cond v (b ∷ (bs ++ rest)) (behind_word (bs ++ rest))) blank)
+    (ap (λ v. cond v [] (b ∷ word_here (bs ++ rest))) blank, ap (λ v. cond v (b ∷ (bs ++ rest)) (behind_word (bs ++ rest))) blank)
 
-field_stops : (f line r : List ℕ) → IsField f line r → (bare_word line ≡ []) × (behind_word line ≡ line)
+field_stops : (f line r : List ℕ) → IsField f line r → (word_here line ≡ []) × (behind_word line ≡ line)
 field_stops f line r h =
     let (bare, behind) = blanks_stop h.blanks (34 ∷ (h.inside ++ 34 ∷ r)) h.between in
-    (ap bare_word h.whole ∙ bare, ap behind_word h.whole ∙ behind ∙ sym h.whole)
+    (ap word_here h.whole ∙ bare, ap behind_word h.whole ∙ behind ∙ sym h.whole)
 
 -- ## A line that has the form is read so
 
@@ -92,9 +94,9 @@ module _ (fields : DeviceLine) (line : List ℕ) (h : IsDeviceLine fields line) 
   uri_parts : (1 ≤ length fields.uri) × (list_all is_graphic fields.uri ≡ true)
   uri_parts = bare_uri_parts fields.uri h.uri
 
-  pub class_is : bare_word line ≡ fields.class
+  pub class_is : word_here line ≡ fields.class
   class_is =
-      ap bare_word h.whole
+      ap word_here h.whole
       ∙ bare_complete is_attribute_byte refl refl fields.class (h.blanks ++ (fields.uri ++ h.behind_uri)) class_parts.1
       (blanks_stop h.blanks (fields.uri ++ h.behind_uri) h.between).0
 
@@ -105,8 +107,8 @@ module _ (fields : DeviceLine) (line : List ℕ) (h : IsDeviceLine fields line) 
       (blanks_stop h.blanks (fields.uri ++ h.behind_uri) h.between).1)
       ∙ after_complete h.blanks (fields.uri ++ h.behind_uri) h.between.blank (word_stays is_graphic refl refl fields.uri h.behind_uri uri_parts.0 uri_parts.1)
 
-  pub uri_is : bare_word (after_blanks (behind_word line)) ≡ fields.uri
-  uri_is = ap bare_word rest_is ∙ bare_complete is_graphic refl refl fields.uri h.behind_uri uri_parts.1 (field_stops fields.make h.behind_uri h.behind_make h.make).0
+  pub uri_is : word_here (after_blanks (behind_word line)) ≡ fields.uri
+  uri_is = ap word_here rest_is ∙ bare_complete is_graphic refl refl fields.uri h.behind_uri uri_parts.1 (field_stops fields.make h.behind_uri h.behind_make h.make).0
 
   behind_is : behind_word (after_blanks (behind_word line)) ≡ h.behind_uri
   behind_is = ap behind_word rest_is ∙ behind_complete is_graphic refl refl fields.uri h.behind_uri uri_parts.1 (field_stops fields.make h.behind_uri h.behind_make h.make).1
@@ -124,20 +126,20 @@ module _ (fields : DeviceLine) (line : List ℕ) (h : IsDeviceLine fields line) 
 
 -- ## What is read of a line is its form
 
-split_whole : (line : List ℕ) → line ≡ bare_word line ++ behind_word line
+split_whole : (line : List ℕ) → line ≡ word_here line ++ behind_word line
 split_whole [] = refl
 split_whole (b ∷ bs) =
-    elim (is_blank b) as (λ v. b ∷ bs ≡ cond v [] (b ∷ bare_word bs) ++ cond v (b ∷ bs) (behind_word bs))
+    elim (is_blank b) as (λ v. b ∷ bs ≡ cond v [] (b ∷ word_here bs) ++ cond v (b ∷ bs) (behind_word bs))
     [ true ↦ refl | false ↦ ap (λ l. b ∷ l) (split_whole bs) ]
 
 -- a second word stands behind blanks
 abbrev AreBetween : List ℕ → List ℕ → Type 0
 AreBetween behind blanks = IsBlanks blanks × (behind ≡ blanks ++ after_blanks behind)
 
-blanks_between : (line : List ℕ) → 1 ≤ length (bare_word (after_blanks (behind_word line))) → (blanks : List ℕ) × AreBetween (behind_word line) blanks
+blanks_between : (line : List ℕ) → 1 ≤ length (word_here (after_blanks (behind_word line))) → (blanks : List ℕ) × AreBetween (behind_word line) blanks
 blanks_between [] some = absurd (omega (arith, some))
 blanks_between (b ∷ bs) some =
-    (elim (is_blank b) as (λ v. is_blank b ≡ v → 1 ≤ length (bare_word (after_blanks (cond v (b ∷ bs) (behind_word bs)))) → (blanks : List ℕ) × AreBetween (cond v (b ∷ bs) (behind_word bs)) blanks) [
+    (elim (is_blank b) as (λ v. is_blank b ≡ v → 1 ≤ length (word_here (after_blanks (cond v (b ∷ bs) (behind_word bs)))) → (blanks : List ℕ) × AreBetween (cond v (b ∷ bs) (behind_word bs)) blanks) [
       | true ↦ λ is h.
           let (blanks, blank, whole) = after_sound bs in
           let all : list_all is_blank (b ∷ blanks) ≡ true = ap (λ v. v && list_all is_blank blanks) is ∙ blank in
@@ -147,11 +149,11 @@ blanks_between (b ∷ bs) some =
       | false ↦ λ is h. blanks_between bs h
     ]) refl some
 
-module _ (fields : DeviceLine) (line : List ℕ) (class : fields.class ≡ bare_word line) (uri : fields.uri ≡ bare_word (after_blanks (behind_word line))) where
-  pub line_sound : is_device_class (bare_word line) ≡ true → is_bare_uri (bare_word (after_blanks (behind_word line))) ≡ true → AreFields (quoted_of fields) (behind_word (after_blanks (behind_word line))) → IsDeviceLine fields line
+module _ (fields : DeviceLine) (line : List ℕ) (class : fields.class ≡ word_here line) (uri : fields.uri ≡ word_here (after_blanks (behind_word line))) where
+  pub line_sound : is_device_class (word_here line) ≡ true → is_bare_uri (word_here (after_blanks (behind_word line))) ≡ true → AreFields (quoted_of fields) (behind_word (after_blanks (behind_word line))) → IsDeviceLine fields line
   line_sound class_fits uri_fits taken =
       let rest = after_blanks (behind_word line) in
-      let (blanks, both) = blanks_between line (bare_uri_parts (bare_word rest) uri_fits).0 in
+      let (blanks, both) = blanks_between line (bare_uri_parts (word_here rest) uri_fits).0 in
       record {
         blanks = blanks;
         behind_uri = behind_word rest;
@@ -159,9 +161,9 @@ module _ (fields : DeviceLine) (line : List ℕ) (class : fields.class ≡ bare_
         behind_info = taken.behind_info;
         behind_id = taken.behind_id;
         whole =
-            split_whole line ∙ ap (λ l. bare_word line ++ l) both.1
-            ∙ ap (λ l. bare_word line ++ (blanks ++ l)) (split_whole rest)
-            ∙ ap (λ l. l ++ (blanks ++ (bare_word rest ++ behind_word rest))) (sym class)
+            split_whole line ∙ ap (λ l. word_here line ++ l) both.1
+            ∙ ap (λ l. word_here line ++ (blanks ++ l)) (split_whole rest)
+            ∙ ap (λ l. l ++ (blanks ++ (word_here rest ++ behind_word rest))) (sym class)
             ∙ ap (λ l. fields.class ++ (blanks ++ (l ++ behind_word rest))) (sym uri);
         class = ap is_device_class class ∙ class_fits;
         between = both.0;
@@ -181,7 +183,7 @@ same_fault {T} {U} {E} f e is =
     ap {B = Result U E} (λ x. Err x) same
 
 -- the line, when its first word, its second and the rest are these
-module _ (line word uri rest : List ℕ) (word_is : word ≡ bare_word line) (uri_word : uri ≡ bare_word (after_blanks (behind_word line))) (rest_word : rest ≡ behind_word (after_blanks (behind_word line))) where
+module _ (line word uri rest : List ℕ) (word_is : word ≡ word_here line) (uri_word : uri ≡ word_here (after_blanks (behind_word line))) (rest_word : rest ≡ behind_word (after_blanks (behind_word line))) where
   pub no_class : (is_device_class word ≡ false) ⊎ ¬ (IsUtf8 word) → (fields : DeviceLine) → IsDeviceLine fields line → ⊥
   no_class bad fields h =
       let class : is_device_class word ≡ true = ap is_device_class (word_is ∙ class_is fields line h) ∙ h.class in

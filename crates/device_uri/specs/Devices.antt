@@ -1,5 +1,5 @@
 -- A device's URI, and how it is read.
-use Rattle.std.specs.Prelude.{◌≡◌, ℕ, ◌⊎◌, true, false, List, None, Ok, Err, refl}
+use Rattle.std.specs.Prelude.{◌≡◌, ℕ, ◌⊎◌, Bool, true, false, ◌&&◌, List, None, Result, Ok, Err, refl}
 use Rattle.std.specs.Coded.{Coded, code_by, coded×, coded_list, coded_ℕ}
 use Rattle.spool_types.specs.Values.{is_uri}
 use Rattle.url.specs.Parts.{Parts, parts_code}
@@ -21,6 +21,14 @@ device_code =
 pub record Reads (text : List ℕ) (url : Parts) : Type 0 where
   pub allowed : is_uri text ≡ true
   pub parsed : parse_url None text ≡ Ok url
+
+-- the same, as a truth value
+abbrev pub is_read : {A E : Type 0} → Result A E → Bool
+is_read (Ok url) = true
+is_read (Err e) = false
+
+abbrev pub is_device_uri : List ℕ → Bool
+is_device_uri text = is_uri text && is_read (parse_url None text)
 
 -- the URL parser refuses the text, and not for its size
 abbrev pub IsRefused : List ℕ → Type 0

@@ -1,25 +1,13 @@
 -- The quoted fields of a device line.
-use Rattle.std.specs.Prelude.{◌≡◌, ℕ, ◌≤◌, Bool, true, false, ◌||◌, cond, ◌==◌, List, [], ◌∷◌, ◌++◌, length, Option, None, Some}
+use Rattle.std.specs.Prelude.{◌≡◌, ℕ, ◌≤◌, Bool, true, false, cond, List, [], ◌∷◌, ◌++◌, length, Option, None, Some}
 use Rattle.std.specs.List.{list_all}
-
--- a space or a tab
-abbrev pub is_blank : ℕ → Bool
-is_blank b = (b == 32) || (b == 9)
-
-abbrev pub is_quote : ℕ → Bool
-is_quote b = b == 34
-
-abbrev pub is_backslash : ℕ → Bool
-is_backslash b = b == 92
+use Rattle.line_words.specs.Blanks.{is_blank}
+use Rattle.line_words.specs.Quotes.{is_quote, is_backslash, escape_of}
 
 -- one blank or more
 pub record IsBlanks (bytes : List ℕ) : Type 0 where
   pub some : 1 ≤ length bytes
   pub blank : list_all is_blank bytes ≡ true
-
--- what a backslash and the byte behind it stand for: a quote or a backslash for itself, any other byte for both
-abbrev pub escape_of : ℕ → List ℕ
-escape_of b = cond (is_quote b || is_backslash b) (b ∷ []) (92 ∷ b ∷ [])
 
 -- bytes more in front of a field
 abbrev pub in_front : List ℕ → Option (List ℕ) → Option (List ℕ)

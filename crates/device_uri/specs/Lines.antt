@@ -2,7 +2,8 @@
 use Rattle.std.specs.Prelude.{◌≡◌, ℕ, Bool, true, ◌&&◌, not, List, [], ◌++◌}
 use Rattle.std.specs.List.{list_any}
 use Rattle.spool_types.specs.Values.{is_uri, is_attribute_name}
-use Rattle.device_uri.specs.Fields.{is_quote, IsBlanks, IsField, IsFieldIfAny}
+use Rattle.line_words.specs.Quotes.{is_quote}
+use Rattle.device_uri.specs.Fields.{IsBlanks, IsField, IsFieldIfAny}
 use Rattle.device_uri.specs.declared.line.DeviceLine.{DeviceLine}
 
 -- 1 to 127 letters, digits and hyphens, as in the name of an attribute

@@ -1,17 +1,13 @@
-//! The words and the quoted fields of a device line.
-ghost use Rattle.std.specs.Prelude.{◌≡◌, ◌++◌, false, None, Some, IfOk, OnOk, IsErrOf};
-ghost use Rattle.std.specs.Option.{option_map, option_copied};
-ghost use Rattle.device_uri.specs.Fields.{is_blank as blank, is_quote as quote, is_backslash as backslash, escape_of};
-ghost use Rattle.device_uri.specs.Reading.{bare_word, behind_word, after_blanks as behind_blanks, quoted, behind_quote as inside_of, next_field, next_if_any};
+//! The quoted fields of a device line.
+ghost use Rattle.std.specs.Prelude.{◌≡◌, None, Some, IfOk, IsErrOf};
+ghost use Rattle.std.specs.Option.{option_map};
+ghost use Rattle.device_uri.specs.Reading.{behind_quote as inside_of, next_field, next_if_any};
 ghost use Rattle.device_uri.specs.Taken.{AreFields};
 
 use crate::line::LineFault;
+use line_words::{after_blanks, is_blank, is_quote, read_quoted};
 use spool_types::Items;
-use std::alloc::{AllocError, Global};
-
-const QUOTE: u8 = b'"';
-
-const BACKSLASH: u8 = b'\\';
+use std::alloc::Global;
 
 /// A field without its quotes, of at most 1,023 bytes.
 pub type Field = Items<u8, 1_023>;
@@ -68,10 +64,10 @@ fn read_field<'a>(alloc: Global, line: &'a [u8]) -> Result<(Field, &'a [u8]), Li
     let Some(inside) = behind_quote(line) else {
         return Err(LineFault::BadLine);
     };
-    let Some((bytes, rest)) = read_quoted(alloc, inside)? else {
+    let Some((word, rest)) = read_quoted(alloc, inside)? else {
         return Err(LineFault::BadLine);
     };
-    match Items::new(bytes) {
+    match Items::new(word.into_bytes(alloc)?) {
         Ok(field) => Ok((field, rest)),
         Err(_) => Err(LineFault::BadLine),
     }
@@ -87,81 +83,4 @@ fn behind_quote(line: &[u8]) -> Option<&[u8]>
     }
     let (b, inside) = after_blanks(behind).split_first()?;
     if is_quote(*b) { Some(inside) } else { None }
-}
-
-// A field behind its opening quote, and what follows its closing one; `None` where nothing closes it.
-fn read_quoted<'a>(alloc: Global, line: &'a [u8]) -> Result<Option<(Vec<u8>, &'a [u8])>, AllocError>
-    ensures { IfOk result (λ found. option_map (λ p. (p.0.items, p.1.now)) found ≡ quoted false line.now) }
-{
-    let mut field = Vec::new(alloc);
-    let mut escaped = false;
-    for (i, b) in line.iter().enumerate() {
-        if escaped {
-            push_escaped(&mut field, *b)?;
-            escaped = false;
-        } else if is_quote(*b) {
-            return Ok(Some((field, &line[i + 1..])));
-        } else if is_backslash(*b) {
-            escaped = true;
-        } else {
-            field.push(*b)?;
-        }
-    }
-    Ok(None)
-}
-
-// Adds what a backslash and this byte stand for.
-fn push_escaped(field: &mut Vec<u8>, b: u8) -> Result<(), AllocError>
-    ensures { OnOk result (field.new.items ≡ field.old.items ++ escape_of b) }
-{
-    if !is_quote(b) && !is_backslash(b) {
-        field.push(BACKSLASH)?;
-    }
-    field.push(b)?;
-    Ok(())
-}
-
-/// What stands before the first blank, and what begins with it.
-pub fn split_at_blank(line: &[u8]) -> (&[u8], &[u8])
-    ensures word { result.0.now ≡ bare_word line.now }
-    ensures rest { result.1.now ≡ behind_word line.now }
-{
-    for (i, b) in line.iter().enumerate() {
-        if is_blank(*b) {
-            return (&line[..i], &line[i..]);
-        }
-    }
-    (line, &[])
-}
-
-/// A line without the blanks at its front.
-pub fn after_blanks(line: &[u8]) -> &[u8]
-    ensures { result.now ≡ behind_blanks line.now }
-{
-    let mut rest = line;
-    while let Some((b, behind)) = rest.split_first() {
-        if !is_blank(*b) {
-            break;
-        }
-        rest = behind;
-    }
-    rest
-}
-
-fn is_blank(b: u8) -> bool
-    ensures { result ≡ blank b }
-{
-    b == b' ' || b == b'\t'
-}
-
-fn is_quote(b: u8) -> bool
-    ensures { result ≡ quote b }
-{
-    b == QUOTE
-}
-
-fn is_backslash(b: u8) -> bool
-    ensures { result ≡ backslash b }
-{
-    b == BACKSLASH
 }

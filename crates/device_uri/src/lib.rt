@@ -9,9 +9,9 @@
 //! - `Devices`, `Options`: a URI is seen as its text and the URL record that `url`'s `parse_url` reads from it without
 //!   a base. Its options are the pairs of the record's query, as `form_urlencoded` cuts and decodes them.
 //! - `Fields`, `Lines`: a line is its fields one after the other, with blanks between them. The last four stand in
-//!   quotes, where `\"` and `\\` stand for a quote and a backslash and any other backslash for itself; every other byte
-//!   between the quotes is kept as it is. Nothing stands before the class, and nothing behind the last quote: no blank,
-//!   and no carriage return.
+//!   quotes, and a backslash among them stands for what `Quotes` of `line_words` says; every other byte between the
+//!   quotes is kept as it is. Nothing stands before the class, and nothing behind the last quote: no blank, and no
+//!   carriage return.
 //!
 //! # Promises
 //!

@@ -2,7 +2,8 @@
 ghost use Rattle.std.specs.Prelude.{◌≡◌, ◌⊎◌, false, IfOk, OnOk, IsErrOf, IsTrue, IsUtf8};
 ghost use Rattle.device_uri.specs.Lines.{IsDeviceLine, is_device_class, is_bare_uri};
 
-use crate::fields::{Field, after_blanks, read_fields, split_at_blank};
+use crate::fields::{Field, read_fields};
+use line_words::{after_blanks, has_quote, split_at_blank};
 use spool_types::{AttributeNameKind, Text, TextFault, TextKind, Uri};
 use std::alloc::{AllocError, Global};
 
@@ -92,7 +93,7 @@ fn read_bare_uri(alloc: Global, word: &[u8]) -> Result<Uri, LineFault>
     ensures allowed { OnOk result (IsTrue (is_bare_uri word.now)) }
     ensures bad { IsErrOf result LineFault.BadLine → is_bare_uri word.now ≡ false }
 {
-    if word.contains(&b'"') {
+    if has_quote(word) {
         return Err(LineFault::BadLine);
     }
     read_text(alloc, word)

@@ -1,7 +1,7 @@
 //! A device's URI.
 ghost use Rattle.std.specs.Prelude.{◌≡◌, ◌↔◌, [], false, unwrap_or, IfOk, OnOk, IsErrOf, IsTrue};
 ghost use Rattle.spool_types.specs.Values.{is_uri};
-ghost use Rattle.device_uri.specs.Devices.{Reads, IsBadUri};
+ghost use Rattle.device_uri.specs.Devices.{Reads, IsBadUri, is_device_uri};
 ghost use Rattle.device_uri.specs.Options.{pairs_of, options_of, is_bad};
 
 use crate::options::{DeviceOption, OptionsFault, has_bad_pair, read_options};
@@ -57,7 +57,9 @@ impl DeviceUri {
     pub fn parse(alloc: Global, text: &str) -> Result<DeviceUri, UriFault>
         ensures value { IfOk result (λ uri. uri.text ≡ text.now) }
         ensures record { IfOk result (λ uri. Reads text.now uri.url) }
+        ensures device { OnOk result (IsTrue (is_device_uri text.now)) }
         ensures bad { IsErrOf result UriFault.BadUri → IsBadUri text.now }
+        ensures no_device { IsErrOf result UriFault.BadUri → is_device_uri text.now ≡ false }
         ensures limits { is_uri text.now ≡ false → IsErrOf result UriFault.BadUri }
     {
         let kept = match Uri::read(alloc, text) {

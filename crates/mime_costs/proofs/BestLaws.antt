@@ -174,7 +174,7 @@ best_first file n rising to (suc k) m media h (v ∷ walk) (there, takes, leads)
 -- ## The chain
 
 -- what is no worse is not beaten
-not_better : (a b : Worth) → b.cost ≤ a.cost → (a.cost ≡ b.cost → length b.lines ≤ length a.lines) → (a.cost ≡ b.cost → length a.lines ≡ length b.lines → is_before a.lines b.lines ≡ false) → beats a b ≡ false
+pub not_better : (a b : Worth) → b.cost ≤ a.cost → (a.cost ≡ b.cost → length b.lines ≤ length a.lines) → (a.cost ≡ b.cost → length a.lines ≡ length b.lines → is_before a.lines b.lines ≡ false) → beats a b ≡ false
 not_better a b le few first =
     or_from (ltb a.cost b.cost) _ (le-ltb a.cost b.cost le)
     (elim (cases_eq a.cost b.cost) [

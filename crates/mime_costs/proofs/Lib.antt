@@ -6,3 +6,4 @@ pub mod ReadLaws
 pub mod RowLaws
 pub mod SizeLaws
 pub mod StepLaws
+pub mod WalkLaws

@@ -1,6 +1,6 @@
 -- The order of walks is strict, and tells any two of different worth apart.
 use Rattle.std.proofs.Common.{◌≡◌, ℕ, ◌<◌, true, false, ◌&&◌, ◌||◌, List, [], ◌∷◌, length, eqb, ltb, refl, ap, sym, ◌∙◌, arith, ◌⊎◌, inl, inr, eq-eqb, lt-ltb}
-use Rattle.std.proofs.lemmas.Bool.{or_from, or_cases, or_left, or_right, and_from, and_parts, and_right, le-ltb, ltb-true, eqb-true, false≢true, cases_order}
+use Rattle.std.proofs.lemmas.Bool.{both_ways, false_from_ne_true, or_from, or_cases, or_left, or_right, and_from, and_parts, and_right, le-ltb, ltb-true, eqb-true, false≢true, cases_order}
 use Rattle.mime_costs.specs.Walks.{Worth, is_before, beats}
 
 -- ## Lists of lines
@@ -93,20 +93,37 @@ beats-transitive a b c h k = wins_beat a c (join (how_beats a b h) (how_beats b 
     join (inr (e, inr (r, p))) (inr (f, inl q)) = inr (e ∙ f, inl (omega arith))
     join (inr (e, inr (r, p))) (inr (f, inr (s, q))) = inr (e ∙ f, inr (r ∙ s, before-transitive a.lines b.lines c.lines p q))
 
-pub beats-connected : (a b : Worth) → (a ≡ b → ⊥) → (beats a b ≡ true) ⊎ (beats b a ≡ true)
-beats-connected a b other = by_cost (cases_order a.cost b.cost)
+-- two walks of one worth, or one of them beats the other
+pub beats-cases : (a b : Worth) → (a ≡ b) ⊎ ((beats a b ≡ true) ⊎ (beats b a ≡ true))
+beats-cases a b = by_cost (cases_order a.cost b.cost)
   where
-    by_lines : a.cost ≡ b.cost → length a.lines ≡ length b.lines → (a.lines ≡ b.lines) ⊎ ((is_before a.lines b.lines ≡ true) ⊎ (is_before b.lines a.lines ≡ true)) → (beats a b ≡ true) ⊎ (beats b a ≡ true)
-    by_lines e f (inl same) = absurd (other (ap (λ n. record { cost = n; lines = a.lines }) e ∙ ap (λ l. record { cost = b.cost; lines = l }) same))
-    by_lines e f (inr (inl h)) = inl (wins_beat a b (inr (e, inr (f, h))))
-    by_lines e f (inr (inr h)) = inr (wins_beat b a (inr (sym e, inr (sym f, h))))
+    by_lines : a.cost ≡ b.cost → length a.lines ≡ length b.lines → (a.lines ≡ b.lines) ⊎ ((is_before a.lines b.lines ≡ true) ⊎ (is_before b.lines a.lines ≡ true)) → (a ≡ b) ⊎ ((beats a b ≡ true) ⊎ (beats b a ≡ true))
+    by_lines e f (inl same) = inl (ap (λ n. record { cost = n; lines = a.lines }) e ∙ ap (λ l. record { cost = b.cost; lines = l }) same)
+    by_lines e f (inr (inl h)) = inr (inl (wins_beat a b (inr (e, inr (f, h)))))
+    by_lines e f (inr (inr h)) = inr (inr (wins_beat b a (inr (sym e, inr (sym f, h)))))
 
-    by_count : a.cost ≡ b.cost → (length a.lines ≡ length b.lines) ⊎ ((length a.lines < length b.lines) ⊎ (length b.lines < length a.lines)) → (beats a b ≡ true) ⊎ (beats b a ≡ true)
+    by_count : a.cost ≡ b.cost → (length a.lines ≡ length b.lines) ⊎ ((length a.lines < length b.lines) ⊎ (length b.lines < length a.lines)) → (a ≡ b) ⊎ ((beats a b ≡ true) ⊎ (beats b a ≡ true))
     by_count e (inl f) = by_lines e f (before-connected a.lines b.lines)
-    by_count e (inr (inl l)) = inl (wins_beat a b (inr (e, inl l)))
-    by_count e (inr (inr l)) = inr (wins_beat b a (inr (sym e, inl l)))
+    by_count e (inr (inl l)) = inr (inl (wins_beat a b (inr (e, inl l))))
+    by_count e (inr (inr l)) = inr (inr (wins_beat b a (inr (sym e, inl l))))
 
-    by_cost : (a.cost ≡ b.cost) ⊎ ((a.cost < b.cost) ⊎ (b.cost < a.cost)) → (beats a b ≡ true) ⊎ (beats b a ≡ true)
+    by_cost : (a.cost ≡ b.cost) ⊎ ((a.cost < b.cost) ⊎ (b.cost < a.cost)) → (a ≡ b) ⊎ ((beats a b ≡ true) ⊎ (beats b a ≡ true))
     by_cost (inl e) = by_count e (cases_order (length a.lines) (length b.lines))
-    by_cost (inr (inl l)) = inl (wins_beat a b (inl l))
-    by_cost (inr (inr l)) = inr (wins_beat b a (inl l))
+    by_cost (inr (inl l)) = inr (inl (wins_beat a b (inl l)))
+    by_cost (inr (inr l)) = inr (inr (wins_beat b a (inl l)))
+
+pub beats-connected : (a b : Worth) → (a ≡ b → ⊥) → (beats a b ≡ true) ⊎ (beats b a ≡ true)
+beats-connected a b other = elim (beats-cases a b) [ inl e ↦ absurd (other e) | inr h ↦ h ]
+
+-- one that is beaten doesn't beat
+pub beats-asymmetric : (a b : Worth) → beats b a ≡ true → beats a b ≡ false
+beats-asymmetric a b h = false_from_ne_true (beats a b) (λ k. both_ways (beats a a) (beats-irreflexive a) (beats-transitive a b a k h))
+
+-- what doesn't beat one that doesn't beat a third doesn't beat that third
+pub unbeaten-transitive : (a b c : Worth) → beats a b ≡ false → beats b c ≡ false → beats a c ≡ false
+unbeaten-transitive a b c h k = at (beats-cases a b)
+  where
+    at : (a ≡ b) ⊎ ((beats a b ≡ true) ⊎ (beats b a ≡ true)) → beats a c ≡ false
+    at (inl e) = ap (λ w. beats w c) e ∙ k
+    at (inr (inl l)) = absurd (both_ways (beats a b) h l)
+    at (inr (inr l)) = false_from_ne_true (beats a c) (λ m. both_ways (beats b c) k (beats-transitive b a c l m))

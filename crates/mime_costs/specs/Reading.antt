@@ -2,7 +2,7 @@
 use Rattle.std.specs.Prelude.{ℕ, Bool, ◌&&◌, not, cond, nat_le, ◌==◌, List, [], ◌∷◌, length, Option, None, Some, Result, Ok, Err}
 use Rattle.std.specs.List.{flat_map}
 use Rattle.std.specs.Str.{is_utf8, str_to_ascii_lowercase}
-use Rattle.mime_lines.specs.Blanks.{first_word, after_word}
+use Rattle.line_words.specs.Blanks.{first_word, after_word}
 use Rattle.mime_lines.specs.JoinedLines.{Line, joined_lines}
 use Rattle.mime_lines.specs.Numbers.{number_of}
 use Rattle.spool_types.specs.Values.{is_media_type, is_filter_name}

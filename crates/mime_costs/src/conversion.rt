@@ -9,6 +9,9 @@ use spool_types::{FilterName, MediaType, MediaTypeKind, Ranged, Text, TextKind};
 /// `*/*`, the source that takes every type.
 pub const EVERY_TYPE: &str = "*/*";
 
+/// `-`, the filter that stands for no program.
+pub const NO_FILTER: &str = "-";
+
 /// The kind of a source: a media type, a super type and `/*`, or `*/*`, in lower case.
 #[derive(Clone, Copy, Debug)]
 pub struct SourceKind;

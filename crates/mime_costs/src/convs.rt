@@ -1,16 +1,18 @@
 //! The conversions of a file.
-ghost use Rattle.std.specs.Prelude.{◌≡◌, IfOk, IfSome, IfNone, map};
+ghost use Rattle.std.specs.Prelude.{◌≡◌, ◌≤◌, List, IfOk, IfSome, IfNone, map, length};
 ghost use Rattle.std.specs.List.{Contains, All};
-ghost use Rattle.mime_costs.specs.Walks.{Worth, line_of, IsReached, IsLeast, IsApart};
+ghost use Rattle.std.specs.Option.{option_map};
+ghost use Rattle.mime_costs.specs.Walks.{Worth, line_of, worth_of, most_lines, IsReached, IsLeast, IsApart};
+ghost use Rattle.mime_costs.specs.LeastWalk.{least_walk, filters_of, filters_between};
 ghost use Rattle.mime_costs.specs.Reading.{conversions_of, warnings_of};
 ghost use Rattle.mime_costs.specs.Seen.{worth_of_chain};
 ghost use Rattle.mime_costs.specs.declared.conversion.Conversion.{Conversion};
 
 use crate::chain::{Chain, find_chain};
-use crate::conversion::Conversion;
+use crate::conversion::{Conversion, NO_FILTER};
 use crate::links::{Link, links_of, places_of};
 use crate::reading::read_lines;
-use spool_types::{MediaType, Warning};
+use spool_types::{FilterName, Filters, MediaType, Warning};
 use std::alloc::{AllocError, Global};
 use std::marker::Model;
 
@@ -58,6 +60,7 @@ impl Convs {
         ensures least { IfOk result (λ answer. IfSome answer (λ chain. IsLeast self.now from.now to.now (worth_of_chain chain))) }
         ensures none { IfOk result (λ answer. IfNone answer (IsApart self.now from.now to.now)) }
         ensures lines { IfOk result (λ answer. IfSome answer (λ chain. All (Contains (map line_of self.now)) chain.lines.items)) }
+        ensures walk { IfOk result (λ answer. option_map worth_of_chain answer ≡ option_map worth_of (least_walk self.now from.now to.now)) }
     {
         if from == to {
             return Ok(Some(Chain {
@@ -69,16 +72,54 @@ impl Convs {
         find_chain(self.alloc, &self.conversions, &self.links, places, to)
     }
 
+    /// The programs of the best walk in the order in which they run, if there is a walk. A conversion whose filter is `-`
+    /// runs none.
+    pub fn filters(&self, from: &MediaType, to: &MediaType) -> Result<Option<Filters>, AllocError>
+        ensures value { IfOk result (λ filters. filters ≡ filters_between self.now from.now to.now) }
+    {
+        match self.chain(from, to)? {
+            Some(chain) => Ok(Some(self.filters_at(&chain.lines)?)),
+            None => Ok(None),
+        }
+    }
+
+    // The programs of the conversions with these line numbers.
+    fn filters_at(&self, lines: &[usize]) -> Result<Filters, AllocError>
+        requires there { All (Contains (map line_of self.now)) lines.now }
+        requires few { length lines.now ≤ most_lines }
+        ensures { IfOk result (λ filters. (walk : List Conversion) → All (Contains self.now) walk → map line_of walk ≡ lines.now → filters ≡ filters_of walk) }
+    {
+        let mut filters = Vec::with_capacity(self.alloc, lines.len())?;
+        for line in lines {
+            let filter = self.filter_name(*line);
+            if filter.as_str() != NO_FILTER {
+                filters.push(filter.clone()?)?;
+            }
+        }
+        match Filters::new(filters) {
+            Ok(filters) => Ok(filters),
+            Err(_) => unreachable!(),
+        }
+    }
+
     /// The filter of the conversion with this line number, `-` for none. Each line of a chain is one of a conversion.
     pub fn filter(&self, line: usize) -> &str
         requires { Contains (map line_of self.now) line }
         ensures value { (c : Conversion) → Contains self.now c → c.line ≡ line → result.now ≡ c.filter }
     {
+        self.filter_name(line).as_str()
+    }
+
+    // The same as it is kept.
+    fn filter_name(&self, line: usize) -> &FilterName
+        requires { Contains (map line_of self.now) line }
+        ensures value { (c : Conversion) → Contains self.now c → c.line ≡ line → result.now ≡ c.filter }
+    {
         for conversion in &self.conversions {
             if conversion.line == line {
-                return conversion.filter.as_str();
+                return &conversion.filter;
             }
         }
-        "-"
+        unreachable!()
     }
 }

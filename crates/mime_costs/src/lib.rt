@@ -19,6 +19,9 @@
 //!   of the lines.
 //! - *LeastChain*: [`Convs::chain`] answers a walk, with its lines and its cost (`IsReached`), which no walk beats
 //!   (`IsLeast`); where it answers none, there is no walk (`IsApart`).
+//! - [`least_law`]: `least_walk`, a function of the conversions that looks at all walks one by one, is a walk that none
+//!   beats; where it is none, there is no walk. [`Convs::chain`] answers its cost and its lines.
+//! - [`Convs::filters`] gives the programs of that walk in order (`filters_between`), where `-` is none.
 //! - [`Convs::filter`] gives the filter of the conversion with a line number. Each line of a chain is one of a conversion.
 //! - [`order_law`]: the order is strict, and of two walks of different cost or lines one beats the other. So there is one
 //!   least chain.
@@ -31,7 +34,8 @@
 //! # Cost and faults
 //!
 //! The least costs of walks that end in the type wanted are found by their number of lines, in 15 rounds, each of which
-//! looks at every conversion a fixed number of times. A reading looks each line's source and destination up among all
+//! looks at every conversion a fixed number of times. The programs of a chain are looked up by their lines, of which there
+//! are at most 15. A reading looks each line's source and destination up among all
 //! sources, one by one. Want of memory is the one fault.
 #![tactic(auto)]
 
@@ -45,7 +49,7 @@ mod reading;
 
 pub use chain::Chain;
 pub use convs::Convs;
-pub use laws::order_law;
+pub use laws::{least_law, order_law};
 
 #[cfg(test)]
 mod tests;

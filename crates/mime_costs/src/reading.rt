@@ -7,7 +7,8 @@ ghost use Rattle.mime_costs.specs.Reading.{text_in, folded_in, cost_in, four_wor
 ghost use Rattle.mime_costs.specs.Seen.{words_in};
 
 use crate::conversion::{Conversion, Cost, Source};
-use mime_lines::{Number, first_word, joined_lines, read_number};
+use line_words::first_word;
+use mime_lines::{Number, joined_lines, read_number};
 use spool_types::{FilterName, MediaType, Text, TextFault, TextKind, Warning, WarningKind};
 use std::alloc::{AllocError, Global};
 

@@ -113,6 +113,40 @@ fn a_filter_is_named_by_its_line(rt: HostRuntime) -> Result<(), Fail> {
     Ok(())
 }
 
+// The names of the filters between two types, each with a blank before it, if a walk leads there.
+fn programs(alloc: Global, text: &str, from: &str, to: &str) -> Result<Option<String>, Fail> {
+    let (convs, _) = Convs::read(alloc, text)?;
+    let Some(filters) = convs.filters(&media(alloc, from)?, &media(alloc, to)?)? else {
+        return Ok(None);
+    };
+    let mut names = String::new(alloc);
+    for filter in filters.as_slice() {
+        names.push_str(" ")?;
+        names.push_str(filter.as_str())?;
+    }
+    Ok(Some(names))
+}
+
+#[test]
+fn the_filters_are_those_of_the_least_walk(rt: HostRuntime) -> Result<(), Fail> {
+    let names = programs(rt.alloc(), TIES, "a/a", "c/c")?;
+    assert!(rt; names.is_some_and(|names| names.as_str() == " f3"));
+    let names = programs(rt.alloc(), TIES, "a/a", "d/d")?;
+    assert!(rt; names.is_some_and(|names| names.is_empty()));
+    let names = programs(rt.alloc(), TIES, "c/c", "c/c")?;
+    assert!(rt; names.is_some_and(|names| names.is_empty()));
+    assert!(rt; programs(rt.alloc(), TIES, "a/a", "e/e")?.is_none());
+    Ok(())
+}
+
+#[test]
+fn filters_stand_in_the_order_of_the_walk(rt: HostRuntime) -> Result<(), Fail> {
+    let text = "c/c d/d 1 last\nb/b c/c 1 -\na/a b/b 1 first\n";
+    let names = programs(rt.alloc(), text, "a/a", "d/d")?;
+    assert!(rt; names.is_some_and(|names| names.as_str() == " first last"));
+    Ok(())
+}
+
 #[test]
 fn capitals_and_all_numbers_are_read(rt: HostRuntime) -> Result<(), Fail> {
     let (lines, cost) = found(rt.alloc(), "A/A \\\n B/B 0x0A f", "a/a", "b/b")?;

@@ -1,6 +1,6 @@
 -- The lines of a file of mime.types(5) or mime.convs(5), each with those that backslashes join to it.
 use Rattle.std.specs.Prelude.{ℕ, suc, Bool, true, false, ◌&&◌, cond, ◌==◌, List, [], ◌∷◌, ◌++◌, Option, None, Some, is_none}
-use Rattle.mime_lines.specs.Blanks.{after_blanks}
+use Rattle.line_words.specs.Blanks.{after_blanks}
 
 -- a line feed comes next
 abbrev pub is_lf_next : List ℕ → Bool

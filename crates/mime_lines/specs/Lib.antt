@@ -1,4 +1,3 @@
-pub mod Blanks
 pub mod JoinedLines
 pub mod Numbers
 pub mod Seen

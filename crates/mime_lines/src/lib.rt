@@ -1,4 +1,4 @@
-//! The lines of the files of mime.types(5) and mime.convs(5), and the words and numbers in them.
+//! The lines of the files of mime.types(5) and mime.convs(5), and the numbers in them.
 //!
 //! # What a line is
 //!
@@ -10,7 +10,6 @@
 //! # Promises
 //!
 //! - [`joined_lines`] gives the `joined_lines` of a text, in order, with their numbers.
-//! - [`first_word`] gives a line's first word and what follows it; [`trim`] takes the blanks from both ends.
 //! - [`read_number`] tells whether a word has the form of a number (decimal, `0x` and hexadecimal digits, `0` and octal digits), and
 //!   which it is.
 //!
@@ -22,11 +21,9 @@
 
 mod lines;
 mod numbers;
-mod words;
 
 pub use lines::{JoinedLine, LineText, joined_lines};
 pub use numbers::{Number, read_number};
-pub use words::{first_word, is_blank, trim};
 
 #[cfg(test)]
 mod tests;

@@ -4,7 +4,7 @@ ghost use Rattle.std.specs.Option.{option_map};
 ghost use Rattle.mime_lines.specs.JoinedLines.{is_silent as silent, is_continued as continued, with_line as line_with, left_open as open_line, without_last, without_cr as cr_dropped, lines_of, joined_lines as lines_that_speak};
 ghost use Rattle.mime_lines.specs.Seen.{text_of, line_of};
 
-use crate::words::after_blanks;
+use line_words::after_blanks;
 use std::alloc::{AllocError, Global};
 
 const LINE_FEED: u8 = b'\n';

@@ -38,15 +38,6 @@ fn a_joined_line_has_the_number_of_its_first(rt: HostRuntime) -> Result<(), Fail
 }
 
 #[test]
-fn a_word_ends_at_a_blank(rt: HostRuntime) -> Result<(), Fail> {
-    let (word, rest) = first_word(b" \tab,c\td ");
-    assert_eq!(rt; word, b"ab,c".as_slice());
-    assert_eq!(rt; rest, b"\td ".as_slice());
-    assert_eq!(rt; trim(b" \td e\t"), b"d e".as_slice());
-    Ok(())
-}
-
-#[test]
 fn numbers_have_three_bases(rt: HostRuntime) -> Result<(), Fail> {
     assert_eq!(rt; read_number(b"120"), Some(Number::Fits(120)));
     assert_eq!(rt; read_number(b"0x1F"), Some(Number::Fits(31)));

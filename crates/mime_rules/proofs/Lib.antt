@@ -2,6 +2,7 @@ pub mod PatternLaws
 pub mod ReadLaws
 pub mod TokenLaws
 pub mod BestLaws
+pub mod OrderLaws
 pub mod GrammarLaws
 pub mod MediaLaws
 pub mod FindLaws

@@ -4,7 +4,7 @@ use Rattle.std.specs.Prelude.{◌==◌, Result}
 use Rattle.std.proofs.lemmas.Bool.Decides.{nat_tests}
 use Rattle.spool_types.specs.declared.warning.WarningKind.{WarningKind}
 use Rattle.spool_types.specs.declared.warning.WarningKind.TheVariants.{BadText, BadRule}
-use Rattle.mime_lines.specs.Blanks.{is_blank, after_blanks}
+use Rattle.line_words.specs.Blanks.{is_blank, after_blanks}
 use Rattle.mime_rules.specs.declared.stop.Stop.{Stop}
 use Rattle.mime_rules.specs.declared.stop.Stop.TheVariants.{Memory, Fault}
 use Rattle.mime_rules.specs.Reading.{Read, read, wrong, on}

@@ -1,7 +1,7 @@
 -- The arguments of tests: numbers, texts and values.
 use Rattle.std.specs.Prelude.{ℕ, ◌+◌, ◌*◌, ◌/◌, ◌%◌, Bool, true, false, ◌||◌, cond, nat_le, ◌==◌, List, [], ◌∷◌, length, Option, None, Some}
 use Rattle.spool_types.specs.declared.warning.WarningKind.TheVariants.{BadRule, BadNumber, BadText}
-use Rattle.mime_lines.specs.Blanks.{is_blank, after_blanks, trimmed}
+use Rattle.line_words.specs.Blanks.{is_blank, after_blanks, trimmed}
 use Rattle.mime_lines.specs.Numbers.{number_of, is_hex_digit, digit_value}
 use Rattle.mime_rules.specs.Reading.{Read, read, wrong, on, before, from, closed_by}
 use Rattle.mime_rules.specs.declared.arguments.Width.{Width}

@@ -6,4 +6,5 @@ pub mod Tokens
 pub mod Grammar
 pub mod Lines
 pub mod Best
+pub mod TypesValue
 pub mod Seen

@@ -6,7 +6,7 @@ use Rattle.spool_types.specs.Values.{is_media_type}
 use Rattle.spool_types.specs.declared.warning.Warning.{Warning}
 use Rattle.spool_types.specs.declared.warning.WarningKind.{WarningKind}
 use Rattle.spool_types.specs.declared.warning.WarningKind.TheVariants.{BadType}
-use Rattle.mime_lines.specs.Blanks.{first_word, after_word}
+use Rattle.line_words.specs.Blanks.{first_word, after_word}
 use Rattle.mime_lines.specs.JoinedLines.{Line, joined_lines}
 use Rattle.mime_rules.specs.Reading.{Read, read, wrong}
 use Rattle.mime_rules.specs.Tests.{Subject}

@@ -15,7 +15,7 @@ use Rattle.mime_rules.specs.declared.stop.Stop.TheVariants.{Memory, Fault}
 use Rattle.mime_rules.specs.declared.tokens.Token.{Token as MemoryToken}
 use Rattle.mime_rules.specs.declared.tokens.Token.TheVariants.{Gap, Comma, Plus, Bang, Open, Close, Test as TestToken, Priority as PriorityToken, Fault as FaultToken}
 use Rattle.mime_rules.specs.declared.line.Alternative.{Alternative as MemoryAlternative}
-use Rattle.mime_rules.specs.declared.types.Types.{Types}
+use Rattle.mime_rules.specs.TypesValue.{TypesValue}
 use Rattle.mime_rules.specs.Tests.{Subject, negation, all_of, any_of, some_end, suffix_test, ascii_test, printable_test, string_test, istring_test, contains_test, locale_test}
 use Rattle.mime_rules.specs.Patterns.{Piece, run, one, any_byte, is_in, matching, match_test, pattern_of, pieces_in, with_piece}
 use Rattle.mime_rules.specs.Reading.{Read, read, wrong, on}
@@ -175,8 +175,8 @@ turned true r = negated r
 abbrev pub alternative_of : MemoryAlternative → Alternative
 alternative_of a = record { media = a.media_type; priority = a.priority; rule = meaning_of a.rule }
 
-abbrev pub types_of : Types → List Alternative
-types_of types = map alternative_of types.alternatives.items
+abbrev pub types_of : TypesValue → List Alternative
+types_of types = map alternative_of types
 
 -- what a line answers
 abbrev pub LineTold : Result MemoryAlternative Stop → Outcome → Type 0

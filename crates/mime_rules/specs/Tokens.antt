@@ -3,7 +3,7 @@ use Rattle.std.specs.Prelude.{ℕ, zero, suc, Bool, false, ◌||◌, ◌&&◌, c
 use Rattle.std.specs.Str.{bytes_eq}
 use Rattle.spool_types.specs.declared.warning.WarningKind.{WarningKind}
 use Rattle.spool_types.specs.declared.warning.WarningKind.TheVariants.{BadRule, UnknownRule}
-use Rattle.mime_lines.specs.Blanks.{is_blank, after_blanks}
+use Rattle.line_words.specs.Blanks.{is_blank, after_blanks}
 use Rattle.mime_lines.specs.Numbers.{greatest}
 use Rattle.mime_rules.specs.Reading.{Read, read, wrong, on}
 use Rattle.mime_rules.specs.Tests.{Subject, suffix_test, ascii_test, printable_test, string_test, istring_test, contains_test, locale_test}

@@ -1,13 +1,14 @@
 //! The arguments of tests: numbers, texts and values.
 ghost use Rattle.std.specs.Prelude.{◌≡◌, ◌<◌, ◌≤◌, ◌∷◌, ℕ, ◌+◌, ◌*◌, List, length, IfOk, true, false};
-ghost use Rattle.mime_lines.specs.Blanks.{is_blank as blank, after_blanks as behind_blanks};
+ghost use Rattle.line_words.specs.Blanks.{is_blank as blank};
 ghost use Rattle.mime_lines.specs.Numbers.{is_hex_digit as hex_digit, digit_value as value_of};
 ghost use Rattle.mime_rules.specs.Reading.{read, before, from, closed_by as closed};
 ghost use Rattle.mime_rules.specs.Arguments.{is_close as closes, is_mark as marks, is_close_next as close_next, is_quote as quotes, is_closing as closing_next, number_at as number_here, number_then as number_with, text_from, text_at as text_here, pair_at, value_at as value_here, text_of_width as width_text, bare, quoted, hex, width_of, most_of, value_bytes as bytes_of};
 ghost use Rattle.mime_rules.specs.Seen.{Told, Grown};
 
 use crate::stop::Stop;
-use mime_lines::{Number, is_blank, read_number, trim};
+use line_words::{after_blanks, is_blank, trim};
+use mime_lines::{Number, read_number};
 use spool_types::WarningKind;
 use std::alloc::{AllocError, Global};
 
@@ -43,21 +44,6 @@ impl Width {
             Width::Int => 4_294_967_295,
         }
     }
-}
-
-/// What stands behind the blanks at the front.
-pub(crate) fn after_blanks(line: &[u8]) -> &[u8]
-    ensures value { result.now ≡ behind_blanks line.now }
-    ensures bound { length result.now ≤ length line.now }
-{
-    let mut rest = line;
-    while let Some((b, behind)) = rest.split_first() {
-        if !is_blank(*b) {
-            break;
-        }
-        rest = behind;
-    }
-    rest
 }
 
 /// A number up to the greatest allowed, and the byte that must follow it.

@@ -26,6 +26,10 @@
 //!   can't be read (`Tokens`, with `Arguments` and `Patterns`), and the grammar over them by recursive descent (`Grammar`). A rule is what it means: true or false for
 //!   each name, bytes and locale (`Tests`).
 //! - [`Types::type_of`] gives the type of the `best` of the true alternatives (`Best`).
+//! - [`best_law`]: the best is a true alternative that no true one beats, and all such are of one type; where there is none, no alternative is
+//!   true. [`order_law`]: what beats what is a strict order, which tells apart any two of different type or priority.
+//!
+//! Contracts see [`Types`] as its alternatives, each with its rule as a tree (`TypesValue`); `types_of` is what they mean.
 //!
 //! # Cost and faults
 //!
@@ -36,6 +40,7 @@
 
 mod arguments;
 mod grammar;
+mod laws;
 mod line;
 mod meaning;
 mod names;
@@ -45,6 +50,7 @@ mod stop;
 mod tokens;
 mod types;
 
+pub use laws::{best_law, order_law};
 pub use types::Types;
 
 #[cfg(test)]

@@ -7,7 +7,7 @@ use crate::grammar::{list_of, priority_of};
 use crate::rule::Rule;
 use crate::stop::Stop;
 use crate::tokens::tokens_of;
-use mime_lines::first_word;
+use line_words::first_word;
 use spool_types::{MediaType, TextFault, WarningKind};
 use std::alloc::Global;
 use std::str;

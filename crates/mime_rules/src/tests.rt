@@ -290,6 +290,29 @@ fn bad_arguments(rt: HostRuntime) -> Result<(), Fail> {
 }
 
 #[test]
+fn faults_where_a_separator_is_wanted(rt: HostRuntime) -> Result<(), Fail> {
+    let alloc = rt.alloc();
+    assert!(rt; is_bad(alloc, "a/b match(x)regex(0,y)", WarningKind::UnknownRule)?);
+    assert!(rt; is_bad(alloc, "a/b match(x)ascii(y,1)", WarningKind::BadNumber)?);
+    assert!(rt; is_bad(alloc, "a/b x) regex(0,y)", WarningKind::BadRule)?);
+    assert!(rt; is_bad(alloc, "a/b (x regex(0,y)", WarningKind::UnknownRule)?);
+    Ok(())
+}
+
+#[test]
+fn special_bytes_of_patterns(rt: HostRuntime) -> Result<(), Fail> {
+    let alloc = rt.alloc();
+    assert!(rt; is_true(alloc, "a/b match(<2A>)", "any", b"")?);
+    assert!(rt; is_false(alloc, "a/b match([*])", "any", b"")?);
+    assert!(rt; is_true(alloc, "a/b match([*])", "*", b"")?);
+    assert!(rt; is_true(alloc, "a/b match([a-c-e])", "e", b"")?);
+    assert!(rt; is_false(alloc, "a/b match([a-c-e])", "d", b"")?);
+    assert!(rt; is_true(alloc, "a/b match([--a])", "0", b"")?);
+    assert!(rt; is_false(alloc, "a/b match([]a])", "a", b"")?);
+    Ok(())
+}
+
+#[test]
 fn capitals_of_types_fold(rt: HostRuntime) -> Result<(), Fail> {
     let alloc = rt.alloc();
     assert!(rt; gives(alloc, "\tImage/GIF gif", "x.gif", b"", "image/gif")?);

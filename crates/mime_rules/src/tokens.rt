@@ -1,18 +1,18 @@
 //! The tokens of a list of rules.
 ghost use Rattle.std.specs.Prelude.{◌≡◌, ◌<◌, ◌≤◌, ◌+◌, ◌∷◌, Some, None, map, length, IfOk, IfSome, true, false};
 ghost use Rattle.std.specs.Option.{option_map};
-ghost use Rattle.mime_lines.specs.Blanks.{after_blanks as behind_blanks};
+ghost use Rattle.line_words.specs.Blanks.{after_blanks as behind_blanks};
 ghost use Rattle.mime_rules.specs.Reading.{read};
 ghost use Rattle.mime_rules.specs.Tests.{suffix_test};
 ghost use Rattle.mime_rules.specs.Tokens.{test, tokens_of as tokens_in, token_at as token_here, other_token as plain_token, behind_plus as plus_end, is_sign as signs, sign_token, is_and as and_next, word_token as token_of_word, word_here, behind_word, named_token, pattern_token as pattern_at, ascii_token as ascii_at, printable_token as printable_at, string_token as string_at, istring_token as istring_at, value_token as value_token_at, contains_token as contains_at, locale_token as locale_at, priority_token as priority_at};
 ghost use Rattle.mime_rules.specs.Seen.{Told, token_of, EndsBy};
 
-use crate::arguments::{Width, after_blanks, number_then, text_at, value_at};
+use crate::arguments::{Width, number_then, text_at, value_at};
 use crate::names::{RuleName, rule_name};
 use crate::pattern::pattern_of;
 use crate::rule::{Test, Window};
 use crate::stop::Stop;
-use mime_lines::is_blank;
+use line_words::{after_blanks, is_blank};
 use spool_types::WarningKind;
 use std::alloc::{AllocError, Global};
 use std::collections::VecDeque;

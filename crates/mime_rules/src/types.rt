@@ -12,11 +12,23 @@ use crate::stop::Stop;
 use mime_lines::{JoinedLine, joined_lines};
 use spool_types::{MediaType, Warning};
 use std::alloc::{AllocError, Global};
+use std::marker::Model;
 
-/// What a file of mime.types(5) says: for each media type the alternatives by which a document is of that type.
+/// What a file of mime.types(5) says: for each media type the alternatives by which a document is of that type. Seen as the list of
+/// these, in the order of their lines.
 #[derive(Drop)]
 pub struct Types {
     alternatives: Vec<Alternative>,
+}
+
+impl Model for Types {
+    ghost use Rattle.mime_rules.specs.TypesValue.{TypesValue, types_code};
+
+    ghost Value = { TypesValue };
+
+    ghost coded = { types_code };
+
+    ghost view = { λ types. types.alternatives.items };
 }
 
 impl Types {

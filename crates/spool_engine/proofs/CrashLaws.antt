@@ -1,5 +1,5 @@
 -- What a crash leaves of turns.
-use Rattle.std.proofs.Common.{◌≡◌, ℕ, List, [], ◌∷◌, ◌++◌, refl, ap, sym, ◌∙◌, subst, inl, inr, ⊎_elim, true, false, Bool, Option, None, Some, Result, Ok, Err}
+use Rattle.std.proofs.Common.{◌≡◌, List, [], ◌∷◌, ◌++◌, refl, ap, sym, ◌∙◌, subst, inl, inr, ⊎_elim, true, false, Bool, Option, None, Some, Result, Ok, Err}
 use Rattle.std.specs.Prelude.{IsSome}
 use Rattle.spool_types.specs.declared.event.Event.{Event}
 use Rattle.spool_types.specs.declared.event.Reply.{Reply}
@@ -10,7 +10,7 @@ use Rattle.spool_disk.specs.Disk.{LeavesOnly}
 use Rattle.spool_disk.proofs.Moments.{runs_on, weaker_run}
 use Rattle.spool_core.specs.Standing.{Standing}
 use Rattle.spool_engine.specs.Script.{event_of}
-use Rattle.spool_engine.specs.Runs.{Device, Outcome, Turn, served, no_memory, full, disk, dead, IsTaken, IsStep, IsTurn, IsOutcome, IsKept, IsAlong, HasBeforeOrAfterCommand, AreTurns, last_standing}
+use Rattle.spool_engine.specs.Runs.{Setting, Outcome, Turn, served, no_memory, full, disk, dead, unread, IsTaken, IsStep, IsTurn, IsOutcome, IsKept, IsAlong, HasBeforeOrAfterCommand, AreTurns, last_standing}
 use Rattle.spool_engine.proofs.TurnLaws.{OnlyNow, unmoved}
 
 -- a dead spool takes no event
@@ -23,36 +23,37 @@ dead_step s None s' is h = h
 dead_step s (Some e) s' is h = dead_taken s e (step s.state e) s' is h
 
 -- a dead spool stays as it is
-dead_still : {D : Type 0} (failures : D → ℕ) (s : Standing D) (t : Turn D) (o : Outcome) → s.dead ≡ true → IsOutcome failures s t o → t.next ≡ s
-dead_still failures s t served is h = dead_step s (event_of s.state t.command) t.next is h.step
-dead_still failures s t no_memory is h = h.cause.2
-dead_still failures s t full is h = h.cause.1
-dead_still failures s t disk is h = let alive = h.cause.fits.alive in cc
-dead_still failures s t dead is h = h.cause.1
+dead_still : {D : Type 0} (v : Setting D) (s : Standing D) (t : Turn D) (o : Outcome) → s.dead ≡ true → IsOutcome v s t o → t.next ≡ s
+dead_still v s t served is h = dead_step s (event_of v.mime s.state t.command) t.next is h.step
+dead_still v s t no_memory is h = h.cause.2
+dead_still v s t full is h = h.cause.1
+dead_still v s t disk is h = let alive = h.cause.fits.alive in cc
+dead_still v s t dead is h = h.cause.1
+dead_still v s t unread is h = h.same
 
-dead_last : {D : Type 0} (v : Device D) (s : Standing D) (ts : List (Turn D)) → s.dead ≡ true → AreTurns v s ts → last_standing s ts ≡ s
+dead_last : {D : Type 0} (v : Setting D) (s : Standing D) (ts : List (Turn D)) → s.dead ≡ true → AreTurns v s ts → last_standing s ts ≡ s
 dead_last v s [] is h = refl
 dead_last v s (t ∷ ts) is h =
-    let same : t.next ≡ s = dead_still v.failures s t t.outcome is h.0.outcome in
+    let same : t.next ≡ s = dead_still v s t t.outcome is h.0.outcome in
     dead_last v t.next ts (ap (λ x. x.dead) same ∙ is) h.1 ∙ same
 
 -- a turn, and then more turns, of which a crash leaves what is known where the spool lives on
-after_turn : {D : Type 0} (v : Device D) (m : Standing D) (t : Turn D) (ts : List (Turn D)) (b : Bool) → t.next.dead ≡ b → IsTurn v m t → AreTurns v t.next ts → m.dead ≡ false → IsSome (v.bytes m.disk)
-    → (t.next.dead ≡ false → LeavesOnly v.moment v.image_since t.next.disk (last_standing t.next ts).disk (IsAlong t.next ts))
-    → LeavesOnly v.moment v.image_since m.disk (last_standing t.next ts).disk (IsAlong m (t ∷ ts))
-after_turn v m t ts false is one more alive tells rest = runs_on v.moment v.image_since m.disk t.next.disk (last_standing t.next ts).disk (IsAlong m (t ∷ ts)) (IsAlong t.next ts)
-    (weaker_run v.moment v.image_since m.disk t.next.disk (IsAlong m (t ∷ ts)) (HasBeforeOrAfterCommand m.state t.command) (one.crash alive tells) (λ c. ⊎_elim (λ before. inl before) (λ after. inr (inl after))))
+after_turn : {D : Type 0} (v : Setting D) (m : Standing D) (t : Turn D) (ts : List (Turn D)) (b : Bool) → t.next.dead ≡ b → IsTurn v m t → AreTurns v t.next ts → m.dead ≡ false → IsSome (v.device.bytes m.disk)
+    → (t.next.dead ≡ false → LeavesOnly v.device.moment v.device.image_since t.next.disk (last_standing t.next ts).disk (IsAlong v.mime t.next ts))
+    → LeavesOnly v.device.moment v.device.image_since m.disk (last_standing t.next ts).disk (IsAlong v.mime m (t ∷ ts))
+after_turn v m t ts false is one more alive tells rest = runs_on v.device.moment v.device.image_since m.disk t.next.disk (last_standing t.next ts).disk (IsAlong v.mime m (t ∷ ts)) (IsAlong v.mime t.next ts)
+    (weaker_run v.device.moment v.device.image_since m.disk t.next.disk (IsAlong v.mime m (t ∷ ts)) (HasBeforeOrAfterCommand v.mime m.state t.command) (one.crash alive tells) (λ c. ⊎_elim (λ before. inl before) (λ after. inr (inl after))))
     (rest is)
     (λ c along. inr (inr along))
-after_turn v m t ts true is one more alive tells rest = subst (λ x. LeavesOnly v.moment v.image_since m.disk x.disk (IsAlong m (t ∷ ts))) (sym (dead_last v t.next ts is more))
-    (weaker_run v.moment v.image_since m.disk t.next.disk (IsAlong m (t ∷ ts)) (HasBeforeOrAfterCommand m.state t.command) (one.crash alive tells) (λ c. ⊎_elim (λ before. inl before) (λ after. inr (inl after))))
+after_turn v m t ts true is one more alive tells rest = subst (λ x. LeavesOnly v.device.moment v.device.image_since m.disk x.disk (IsAlong v.mime m (t ∷ ts))) (sym (dead_last v t.next ts is more))
+    (weaker_run v.device.moment v.device.image_since m.disk t.next.disk (IsAlong v.mime m (t ∷ ts)) (HasBeforeOrAfterCommand v.mime m.state t.command) (one.crash alive tells) (λ c. ⊎_elim (λ before. inl before) (λ after. inr (inl after))))
 
 -- turns from an opened spool on
-along : {D : Type 0} (v : Device D) (m : Standing D) (ts : List (Turn D)) → OnlyNow v → IsKept v m → AreTurns v m ts → m.dead ≡ false → IsSome (v.bytes m.disk) → LeavesOnly v.moment v.image_since m.disk (last_standing m ts).disk (IsAlong m ts)
-along v m [] now kept h alive tells = unmoved v m (IsAlong m []) now kept (λ c has. has) alive tells
+along : {D : Type 0} (v : Setting D) (m : Standing D) (ts : List (Turn D)) → OnlyNow v.device → IsKept v.device m → AreTurns v m ts → m.dead ≡ false → IsSome (v.device.bytes m.disk) → LeavesOnly v.device.moment v.device.image_since m.disk (last_standing m ts).disk (IsAlong v.mime m ts)
+along v m [] now kept h alive tells = unmoved v.device m (IsAlong v.mime m []) now kept (λ c has. has) alive tells
 along v m (t ∷ ts) now kept h alive tells = after_turn v m t ts t.next.dead refl h.0 h.1 alive tells (λ lives. along v t.next ts now h.0.kept h.1 lives (h.0.told.1 tells))
 
 -- the same behind the first of them
-pub along_others : {D : Type 0} (v : Device D) (s : Standing D) (first others : List (Turn D)) → OnlyNow v → IsKept v s → AreTurns v s (first ++ others) → (last_standing s first).dead ≡ false → IsSome (v.bytes (last_standing s first).disk) → LeavesOnly v.moment v.image_since (last_standing s first).disk (last_standing s (first ++ others)).disk (IsAlong (last_standing s first) others)
+pub along_others : {D : Type 0} (v : Setting D) (s : Standing D) (first others : List (Turn D)) → OnlyNow v.device → IsKept v.device s → AreTurns v s (first ++ others) → (last_standing s first).dead ≡ false → IsSome (v.device.bytes (last_standing s first).disk) → LeavesOnly v.device.moment v.device.image_since (last_standing s first).disk (last_standing s (first ++ others)).disk (IsAlong v.mime (last_standing s first) others)
 along_others v s [] others now kept h alive tells = along v s others now kept h alive tells
 along_others v s (t ∷ first) others now kept h alive tells = along_others v t.next first others now h.0.kept h.1 alive tells

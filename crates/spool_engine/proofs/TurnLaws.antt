@@ -1,27 +1,32 @@
 -- Turns, one after another.
-use Rattle.std.proofs.Common.{◌≡◌, ℕ, suc, ◌+◌, List, [], ◌∷◌, ◌++◌, length, take, refl, ap, sym, ◌∙◌, subst, ◌⊎◌, inl, arith, append_assoc, length-append, false, Option, None, Some, Result, Ok, Err}
+use Rattle.std.proofs.Common.{◌≡◌, ℕ, suc, ◌+◌, List, [], ◌∷◌, ◌++◌, length, take, refl, ap, sym, ◌∙◌, subst, ◌⊎◌, inl, arith, append_assoc, length-append, true, false, cond, Option, None, Some, Result, Ok, Err}
 use Rattle.std.proofs.lemmas.List.{append-nil, map-append}
 use Rattle.std.specs.Prelude.{◌≤◌, ◌↔◌, IfOk, OnOk, IsSome, codes}
 use Rattle.std.specs.Io.KnownBytes.{Appends}
 use Rattle.std.proofs.KnownBytes.{Appends-nil, Appends-trans}
 use Rattle.spool_types.specs.declared.event.Event.{Event}
+use Rattle.spool_types.specs.declared.event.Event.TheVariants.{AddQueue}
+use Rattle.spool_types.specs.declared.event.NewQueue.{NewQueue}
 use Rattle.spool_types.specs.declared.event.Reply.{Reply}
 use Rattle.spool_types.specs.declared.refusal.Refusal.{Refusal}
 use Rattle.spool_types.specs.State.{State}
 use Rattle.spool_types.specs.Step.{step, answered, refusal_of}
 use Rattle.spool_types.specs.Fold.{after_all, after_one, unless_refused}
+use Rattle.device_uri.specs.Devices.{is_device_uri}
 use Rattle.spool_disk.specs.Disk.{LeavesOnly}
 use Rattle.spool_disk.proofs.Moments.{started}
 use Rattle.command_lines.specs.Pending.{Pending, Leads, to_come}
 use Rattle.command_lines.specs.Replies.{refusal_line}
 use Rattle.command_lines.specs.Steps.{GivesOne, EndsWith}
 use Rattle.command_lines.specs.declared.command.Command.{Command}
+use Rattle.command_lines.specs.declared.command.Command.TheVariants.{Queue}
 use Rattle.spool_core.specs.Image.{HasTable, HasBeforeOrAfterEvent}
 use Rattle.spool_core.specs.Standing.{Standing, IsAnswer}
 use Rattle.spool_core.specs.declared.spool.apply_fault.ApplyFault.{ApplyFault}
 use Rattle.spool_core.specs.declared.spool.apply_fault.ApplyFault.TheVariants.{Dead, Refused, Memory, Full, Disk}
+use Rattle.spool_engine.specs.Mime.{Mime}
 use Rattle.spool_engine.specs.Script.{reply_of, after_command, said_of, event_of, step_line, step_state, accepted_line, reply_line, script_text, script_events, event_then}
-use Rattle.spool_engine.specs.Runs.{Device, Outcome, Turn, served, no_memory, full, disk, dead, IsServed, IsTaken, IsStep, IsTurn, IsOutcome, IsKept, HasBeforeOrAfterCommand, AreTurns, last_standing, texts_of, commands_in, AllServed, Wrote, WroteSome, Lead, Serves, Drains, DrainsEnd}
+use Rattle.spool_engine.specs.Runs.{Device, Setting, Outcome, Turn, served, no_memory, full, disk, dead, unread, IsServed, IsTaken, IsStep, IsTurn, IsOutcome, IsKept, HasBeforeOrAfterCommand, AreTurns, last_standing, texts_of, commands_in, AllServed, Wrote, WroteSome, Lead, Serves, Drains, DrainsEnd}
 use Rattle.spool_engine.specs.Answers.{answer_line, plain_line, IsApplied, Takes}
 use Rattle.spool_engine.specs.declared.fault.RunFault.{RunFault}
 use Rattle.spool_engine.specs.declared.fault.RunFault.TheVariants.{Read, Write, Memory as Wanted}
@@ -39,14 +44,14 @@ step_folds : (s : State) (e : Event) (o : Option Refusal) → step_state s (answ
 step_folds s e None = refl
 step_folds s e (Some r) = refl
 
-same_after : (s : State) (c : Command) (e : Event) → event_of s c ≡ Some e → after_command s c ≡ after_one s e
-same_after s c e is = ap (λ o. elim o [ None ↦ s | Some e ↦ step_state s (step s e) ]) is ∙ step_folds s e (refusal_of s e)
+same_after : (m : Mime) (s : State) (c : Command) (e : Event) → event_of m s c ≡ Some e → after_command m s c ≡ after_one s e
+same_after m s c e is = ap (λ o. elim o [ None ↦ s | Some e ↦ step_state s (step s e) ]) is ∙ step_folds s e (refusal_of s e)
 
-same_reply : (s : State) (c : Command) (e : Event) → event_of s c ≡ Some e → reply_of s c ≡ step_line e (step s e)
-same_reply s c e is = ap (λ o. elim o [ None ↦ said_of s c | Some e ↦ step_line e (step s e) ]) is
+same_reply : (m : Mime) (s : State) (c : Command) (e : Event) → event_of m s c ≡ Some e → reply_of m s c ≡ step_line e (step s e)
+same_reply m s c e is = ap (λ o. elim o [ None ↦ said_of s c | Some e ↦ step_line e (step s e) ]) is
 
 -- a command that is no event changes nothing
-said_turn : {D : Type 0} (v : Device D) (s : Standing D) (c : Command) (text : List ℕ) → OnlyNow v → IsKept v s → event_of s.state c ≡ None → text ≡ said_of s.state c → (t : Turn D) × Takes v s c t s × (t.text ≡ text)
+said_turn : {D : Type 0} (v : Setting D) (s : Standing D) (c : Command) (text : List ℕ) → OnlyNow v.device → IsKept v.device s → event_of v.mime s.state c ≡ None → text ≡ said_of s.state c → (t : Turn D) × Takes v s c t s × (t.text ≡ text)
 said_turn v s c text now kept is e = (
   record { command = c; outcome = served; text = text; next = s },
   record {
@@ -58,7 +63,7 @@ said_turn v s c text now kept is e = (
       };
       counted = omega arith;
       told = (λ h. h, λ h. h);
-      crash = unmoved v s (HasBeforeOrAfterCommand s.state c) now kept (λ image h. inl h);
+      crash = unmoved v.device s (HasBeforeOrAfterCommand v.mime s.state c) now kept (λ image h. inl h);
       kept = kept;
     };
     command = refl;
@@ -68,8 +73,8 @@ said_turn v s c text now kept is e = (
 )
 
 -- a turn whose event went so
-applied_turn : {D : Type 0} (v : Device D) (s s' : Standing D) (c : Command) (e : Event) (a : Result Reply ApplyFault) (o : Outcome) (text : List ℕ) → event_of s.state c ≡ Some e → IsApplied v s e a s'
-    → IsOutcome v.failures s (record { command = c; outcome = o; text = text; next = s' }) o → (t : Turn D) × Takes v s c t s' × (t.text ≡ text)
+applied_turn : {D : Type 0} (v : Setting D) (s s' : Standing D) (c : Command) (e : Event) (a : Result Reply ApplyFault) (o : Outcome) (text : List ℕ) → event_of v.mime s.state c ≡ Some e → IsApplied v.device s e a s'
+    → IsOutcome v s (record { command = c; outcome = o; text = text; next = s' }) o → (t : Turn D) × Takes v s c t s' × (t.text ≡ text)
 applied_turn v s s' c e a o text is h out = (
   record { command = c; outcome = o; text = text; next = s' },
   record {
@@ -77,7 +82,7 @@ applied_turn v s s' c e a o text is h out = (
       outcome = out;
       counted = h.counted;
       told = h.told;
-      crash = λ alive tells. subst (λ after. LeavesOnly v.moment v.image_since s.disk s'.disk (λ image. HasTable s.state image ⊎ HasTable after image)) (sym (same_after s.state c e is)) (h.crash alive tells);
+      crash = λ alive tells. subst (λ after. LeavesOnly v.device.moment v.device.image_since s.disk s'.disk (λ image. HasTable s.state image ⊎ HasTable after image)) (sym (same_after v.mime s.state c e is)) (h.crash alive tells);
       kept = h.kept;
     };
     command = refl;
@@ -86,14 +91,14 @@ applied_turn v s s' c e a o text is h out = (
   refl,
 )
 
-pub event_turn : {D : Type 0} (v : Device D) (s s' : Standing D) (c : Command) (e : Event) (a : Result Reply ApplyFault) → event_of s.state c ≡ Some e → IsApplied v s e a s' → (t : Turn D) × Takes v s c t s' × (t.text ≡ answer_line e a)
+pub event_turn : {D : Type 0} (v : Setting D) (s s' : Standing D) (c : Command) (e : Event) (a : Result Reply ApplyFault) → event_of v.mime s.state c ≡ Some e → IsApplied v.device s e a s' → (t : Turn D) × Takes v s c t s' × (t.text ≡ answer_line e a)
 event_turn v s s' c e (Ok reply) is h = applied_turn v s s' c e (Ok reply) served (accepted_line e reply) is h (record {
-  text = sym (same_reply s.state c e is ∙ ap (step_line e) h.cause.step);
+  text = sym (same_reply v.mime s.state c e is ∙ ap (step_line e) h.cause.step);
   state = sym (ap (λ o. elim o [ None ↦ s.state | Some e ↦ step_state s.state (step s.state e) ]) is ∙ ap (step_state s.state) h.cause.step);
   step = subst (λ o. IsStep s o s') (sym is) (subst (λ r. IsTaken s e r s') (sym h.cause.step) h.cause);
 })
 event_turn v s s' c e (Err (Refused refusal)) is h = applied_turn v s s' c e (Err (Refused refusal)) served (refusal_line refusal) is h (record {
-  text = sym (same_reply s.state c e is ∙ ap (step_line e) h.cause.1);
+  text = sym (same_reply v.mime s.state c e is ∙ ap (step_line e) h.cause.1);
   state = ap (λ v. v.state) h.cause.2 ∙ sym (ap (λ o. elim o [ None ↦ s.state | Some e ↦ step_state s.state (step s.state e) ]) is ∙ ap (step_state s.state) h.cause.1);
   step = subst (λ o. IsStep s o s') (sym is) (subst (λ r. IsTaken s e r s') (sym h.cause.1) (h.cause.0, h.cause.2));
 })
@@ -108,18 +113,47 @@ same_bytes bytes (Ok x) a b e h = h ∙ sym e
 same_bytes bytes (Err fault) a b e h = h
 
 -- a command that is an event, and the text that tells how it went
-pub event_told : {X E D : Type 0} (bytes : X → List ℕ) (r : Result X E) (v : Device D) (s s' : Standing D) (c : Command) (e : Event) (line : Result Reply ApplyFault → List ℕ) → ((a : Result Reply ApplyFault) → line a ≡ answer_line e a) → event_of s.state c ≡ Some e
-    → (a : Result Reply ApplyFault) × IsApplied v s e a s' × IfOk r (λ text. bytes text ≡ line a)
+pub event_told : {X E D : Type 0} (bytes : X → List ℕ) (r : Result X E) (v : Setting D) (s s' : Standing D) (c : Command) (e : Event) (line : Result Reply ApplyFault → List ℕ) → ((a : Result Reply ApplyFault) → line a ≡ answer_line e a) → event_of v.mime s.state c ≡ Some e
+    → (a : Result Reply ApplyFault) × IsApplied v.device s e a s' × IfOk r (λ text. bytes text ≡ line a)
     → (t : Turn D) × Takes v s c t s' × IfOk r (λ text. bytes text ≡ t.text)
 event_told bytes r v s s' c e line same is (a, went, text) =
     let (t, takes, told) = event_turn v s s' c e a is went in
     (t, takes, same_bytes bytes r (line a) t.text (told ∙ sym (same a)) text)
 
 -- a command that is no event
-pub said_told : {X E D : Type 0} (bytes : X → List ℕ) (r : Result X E) (v : Device D) (s : Standing D) (c : Command) (text : List ℕ) → OnlyNow v → IsKept v s → event_of s.state c ≡ None → text ≡ said_of s.state c → IfOk r (λ x. bytes x ≡ text) → (t : Turn D) × Takes v s c t s × IfOk r (λ x. bytes x ≡ t.text)
+pub said_told : {X E D : Type 0} (bytes : X → List ℕ) (r : Result X E) (v : Setting D) (s : Standing D) (c : Command) (text : List ℕ) → OnlyNow v.device → IsKept v.device s → event_of v.mime s.state c ≡ None → text ≡ said_of s.state c → IfOk r (λ x. bytes x ≡ text) → (t : Turn D) × Takes v s c t s × IfOk r (λ x. bytes x ≡ t.text)
 said_told bytes r v s c text now kept is e h =
     let (t, takes, told) = said_turn v s c text now kept is e in
     (t, takes, same_bytes bytes r text t.text told h)
+
+-- a queue whose URI wasn't read for want of memory
+pub unread_told : {X E D : Type 0} (bytes : X → List ℕ) (r : Result X E) (v : Setting D) (s : Standing D) (q : NewQueue) → OnlyNow v.device → IsKept v.device s → IfOk r (λ x. bytes x ≡ codes "error memory\n") → (t : Turn D) × Takes v s (Queue q) t s × IfOk r (λ x. bytes x ≡ t.text)
+unread_told bytes r v s q now kept h = (
+  record { command = Queue q; outcome = unread; text = codes "error memory\n"; next = s },
+  record {
+    legal = record {
+      outcome = record { queue = q; is = refl; text = refl; same = refl };
+      counted = omega arith;
+      told = (λ h. h, λ h. h);
+      crash = unmoved v.device s (HasBeforeOrAfterCommand v.mime s.state (Queue q)) now kept (λ image h. inl h);
+      kept = kept;
+    };
+    command = refl;
+    next = refl;
+  },
+  h,
+)
+
+-- a queue with the URI of a device is an event, and with another none
+pub queue_event : (m : Mime) (s : State) (q : NewQueue) → is_device_uri q.uri ≡ true → event_of m s (Queue q) ≡ Some (AddQueue q)
+queue_event m s q is = ap (λ b. cond b (Some (AddQueue q)) None) is
+
+pub no_queue_event : (m : Mime) (s : State) (q : NewQueue) → is_device_uri q.uri ≡ false → event_of m s (Queue q) ≡ None
+no_queue_event m s q is = ap (λ b. cond b (Some (AddQueue q)) None) is
+
+-- the turn of a command by another name
+pub same_command : {X E D : Type 0} (bytes : X → List ℕ) (r : Result X E) (v : Setting D) (s s' : Standing D) (c c' : Command) → c ≡ c' → (t : Turn D) × Takes v s c' t s' × IfOk r (λ x. bytes x ≡ t.text) → (t : Turn D) × Takes v s c t s' × IfOk r (λ x. bytes x ≡ t.text)
+same_command bytes r v s s' c c' e (t, takes, told) = (t, record { legal = takes.legal; command = takes.command ∙ sym e; next = takes.next }, told)
 
 -- a reply that tells its event alone
 pub plain : (e : Event) → ((reply : Reply) → accepted_line e reply ≡ reply_line reply) → (a : Result Reply ApplyFault) → plain_line a ≡ answer_line e a
@@ -163,7 +197,7 @@ spool_applied v s s' e a h counted told crash ok kept = record {
 }
 
 -- a turn is put behind turns
-are_more : {D : Type 0} (v : Device D) (s : Standing D) (ts : List (Turn D)) (t : Turn D) → AreTurns v s ts → IsTurn v (last_standing s ts) t → AreTurns v s (ts ++ t ∷ [])
+are_more : {D : Type 0} (v : Setting D) (s : Standing D) (ts : List (Turn D)) (t : Turn D) → AreTurns v s ts → IsTurn v (last_standing s ts) t → AreTurns v s (ts ++ t ∷ [])
 are_more v s [] t h k = (k, tt)
 are_more v s (u ∷ ts) t h k = (h.0, are_more v u.next ts t h.1 k)
 
@@ -178,13 +212,13 @@ texts_of-append (t ∷ ts) us = ap (λ l. t.text ++ l) (texts_of-append ts us) �
 commands_more : {D : Type 0} (ts : List (Turn D)) (t : Turn D) → commands_in (ts ++ t ∷ []) ≡ commands_in ts ++ t.command ∷ []
 commands_more {D} ts t = map-append (λ (u : Turn D). u.command) ts (t ∷ [])
 
-pub lead_none : {D : Type 0} (v : Device D) (s : Standing D) → Lead v s [] s
+pub lead_none : {D : Type 0} (v : Setting D) (s : Standing D) → Lead v s [] s
 lead_none v s = record { legal = tt; last = refl }
 
-lead_more : {D : Type 0} (v : Device D) (s m s' : Standing D) (ts : List (Turn D)) (t : Turn D) → Lead v s ts m → IsTurn v m t → t.next ≡ s' → Lead v s (ts ++ t ∷ []) s'
+lead_more : {D : Type 0} (v : Setting D) (s m s' : Standing D) (ts : List (Turn D)) (t : Turn D) → Lead v s ts m → IsTurn v m t → t.next ≡ s' → Lead v s (ts ++ t ∷ []) s'
 lead_more v s m s' ts t l is e = record { legal = are_more v s ts t l.legal (subst (λ x. IsTurn v x t) (sym l.last) is); last = last_more s ts t ∙ e }
 
-are_both : {D : Type 0} (v : Device D) (s : Standing D) (ts us : List (Turn D)) → AreTurns v s ts → AreTurns v (last_standing s ts) us → AreTurns v s (ts ++ us)
+are_both : {D : Type 0} (v : Setting D) (s : Standing D) (ts us : List (Turn D)) → AreTurns v s ts → AreTurns v (last_standing s ts) us → AreTurns v s (ts ++ us)
 are_both v s [] us h k = k
 are_both v s (t ∷ ts) us h k = (h.0, are_both v t.next ts us h.1 k)
 
@@ -192,7 +226,7 @@ last_both : {D : Type 0} (s : Standing D) (ts us : List (Turn D)) → last_stand
 last_both s [] us = refl
 last_both s (t ∷ ts) us = last_both t.next ts us
 
-pub lead_both : {D : Type 0} (v : Device D) (s m s' : Standing D) (ts us : List (Turn D)) → Lead v s ts m → Lead v m us s' → Lead v s (ts ++ us) s'
+pub lead_both : {D : Type 0} (v : Setting D) (s m s' : Standing D) (ts us : List (Turn D)) → Lead v s ts m → Lead v m us s' → Lead v s (ts ++ us) s'
 lead_both v s m s' ts us l k = record {
   legal = are_both v s ts us l.legal (subst (λ x. AreTurns v x us) (sym l.last) k.legal);
   last = last_both s ts us ∙ ap (λ x. last_standing x us) l.last ∙ k.last;
@@ -239,7 +273,7 @@ wrote_part a b t h = subst (WroteSome a b) (sym (append-nil t.text)) h
 pub wrote_none : {D : Type 0} (a : Option (List ℕ)) (t : Turn D) → Wrote (Err Wanted) a a (t ∷ [])
 wrote_none a t = record { told = []; untold = t ∷ []; split = refl; at_most_one = omega arith; wrote = Appends-nil a }
 
-module _ {D : Type 0} (v : Device D) (r : Result (Unit {0}) RunFault) where
+module _ {D : Type 0} (v : Setting D) (r : Result (Unit {0}) RunFault) where
   pub drains_more : (s m s' : Standing D) (p q q' : Pending) (ts : List (Turn D)) (t : Turn D) (c : Command) (a b d : Option (List ℕ))
       → Drains v s p ts m q (Ok tt) a b → GivesOne q c q' → Serves v m c t s' r b d → Drains v s p (ts ++ t ∷ []) s' q' r a d
   drains_more s m s' p q q' ts t c a b d h gives one = record {
@@ -263,7 +297,7 @@ module _ {D : Type 0} (v : Device D) (r : Result (Unit {0}) RunFault) where
   }
 
 -- no command was given, and the reader of commands found no memory
-pub drains_stop : {D : Type 0} (v : Device D) (s m : Standing D) (p q q' : Pending) (ts : List (Turn D)) (a b : Option (List ℕ)) → Drains v s p ts m q (Ok tt) a b → Leads q [] q' → Drains v s p ts m q' (Err Wanted) a b
+pub drains_stop : {D : Type 0} (v : Setting D) (s m : Standing D) (p q q' : Pending) (ts : List (Turn D)) (a b : Option (List ℕ)) → Drains v s p ts m q (Ok tt) a b → Leads q [] q' → Drains v s p ts m q' (Err Wanted) a b
 drains_stop v s m p q q' ts a b h leads = record {
   lead = h.lead;
   commands = λ more. h.commands more ∙ ap (λ l. commands_in ts ++ l) (leads more);
@@ -271,14 +305,14 @@ drains_stop v s m p q q' ts a b h leads = record {
 }
 
 -- no whole command is left
-pub drains_wait : {D : Type 0} (v : Device D) (s m : Standing D) (p q q' : Pending) (ts : List (Turn D)) (a b : Option (List ℕ)) → Drains v s p ts m q (Ok tt) a b → Leads q [] q' → Drains v s p ts m q' (Ok tt) a b
+pub drains_wait : {D : Type 0} (v : Setting D) (s m : Standing D) (p q q' : Pending) (ts : List (Turn D)) (a b : Option (List ℕ)) → Drains v s p ts m q (Ok tt) a b → Leads q [] q' → Drains v s p ts m q' (Ok tt) a b
 drains_wait v s m p q q' ts a b h leads = record {
   lead = h.lead;
   commands = λ more. h.commands more ∙ ap (λ l. commands_in ts ++ l) (leads more);
   wrote = h.wrote;
 }
 
-pub ends_stop : {D : Type 0} (v : Device D) (s m : Standing D) (p : Pending) (ts : List (Turn D)) (rest rest' : List Command) (a b : Option (List ℕ)) → DrainsEnd v s p ts m rest (Ok tt) a b → rest' ≡ rest → DrainsEnd v s p ts m rest' (Err Wanted) a b
+pub ends_stop : {D : Type 0} (v : Setting D) (s m : Standing D) (p : Pending) (ts : List (Turn D)) (rest rest' : List Command) (a b : Option (List ℕ)) → DrainsEnd v s p ts m rest (Ok tt) a b → rest' ≡ rest → DrainsEnd v s p ts m rest' (Err Wanted) a b
 ends_stop v s m p ts rest rest' a b h e = record {
   lead = h.lead;
   commands = h.commands ∙ ap (λ l. commands_in ts ++ l) (sym e);
@@ -291,12 +325,12 @@ command_folds s None es = refl
 command_folds s (Some e) es = ap (λ v. after_all v es) (sym (step_folds s e (refusal_of s e)))
 
 -- where nothing failed, the replies are the script's, and the last table is the fold of its events
-pub served_all : {D : Type 0} (v : Device D) (s : Standing D) (ts : List (Turn D)) → AreTurns v s ts → AllServed ts → (texts_of ts ≡ script_text s.state (commands_in ts)) × ((last_standing s ts).state ≡ after_all s.state (script_events s.state (commands_in ts)))
+pub served_all : {D : Type 0} (v : Setting D) (s : Standing D) (ts : List (Turn D)) → AreTurns v s ts → AllServed ts → (texts_of ts ≡ script_text v.mime s.state (commands_in ts)) × ((last_standing s ts).state ≡ after_all s.state (script_events v.mime s.state (commands_in ts)))
 served_all v s [] h k = (refl, refl)
 served_all v s (t ∷ ts) h k =
-    let one : IsServed s t = subst (IsOutcome v.failures s t) k.0 h.0.outcome in
+    let one : IsServed v.mime s t = subst (IsOutcome v s t) k.0 h.0.outcome in
     let more = served_all v t.next ts h.1 k.1 in (
-      ap (λ l. l ++ texts_of ts) one.text ∙ ap (λ l. reply_of s.state t.command ++ l) (more.0 ∙ ap (λ x. script_text x (commands_in ts)) one.state),
-      more.1 ∙ ap (λ x. after_all x (script_events x (commands_in ts))) one.state
-          ∙ sym (command_folds s.state (event_of s.state t.command) (script_events (after_command s.state t.command) (commands_in ts))),
+      ap (λ l. l ++ texts_of ts) one.text ∙ ap (λ l. reply_of v.mime s.state t.command ++ l) (more.0 ∙ ap (λ x. script_text v.mime x (commands_in ts)) one.state),
+      more.1 ∙ ap (λ x. after_all x (script_events v.mime x (commands_in ts))) one.state
+          ∙ sym (command_folds s.state (event_of v.mime s.state t.command) (script_events v.mime (after_command v.mime s.state t.command) (commands_in ts))),
     )

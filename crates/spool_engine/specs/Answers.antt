@@ -10,7 +10,7 @@ use Rattle.spool_core.specs.Standing.{Standing, IsAnswer}
 use Rattle.spool_core.specs.declared.spool.apply_fault.ApplyFault.{ApplyFault}
 use Rattle.spool_core.specs.declared.spool.apply_fault.ApplyFault.TheVariants.{Dead, Refused, Memory, Full, Disk}
 use Rattle.spool_engine.specs.Script.{accepted_line, reply_line}
-use Rattle.spool_engine.specs.Runs.{Device, Turn, IsTurn, IsKept}
+use Rattle.spool_engine.specs.Runs.{Device, Setting, Turn, IsTurn, IsKept}
 
 -- the line for a fault
 abbrev pub fault_line : ApplyFault → List ℕ
@@ -40,7 +40,7 @@ pub record IsApplied {D : Type 0} (device : Device D) (old : Standing D) (e : Ev
   pub kept : IsKept device new
 
 -- a turn of this command, before its text is written
-pub record Takes {D : Type 0} (device : Device D) (s : Standing D) (c : Command) (t : Turn D) (s' : Standing D) : Type 0 where
-  pub legal : IsTurn device s t
+pub record Takes {D : Type 0} (v : Setting D) (s : Standing D) (c : Command) (t : Turn D) (s' : Standing D) : Type 0 where
+  pub legal : IsTurn v s t
   pub command : t.command ≡ c
   pub next : t.next ≡ s'

@@ -3,6 +3,7 @@ use Rattle.std.specs.Prelude.{◌≡◌, ℕ, ◌<◌, ◌≤◌, ◌↔◌, ◌
 use Rattle.std.specs.List.{flat_map}
 use Rattle.std.specs.Io.KnownBytes.{Appends}
 use Rattle.spool_types.specs.declared.event.Event.{Event}
+use Rattle.spool_types.specs.declared.event.NewQueue.{NewQueue}
 use Rattle.spool_types.specs.declared.event.Reply.{Reply}
 use Rattle.spool_types.specs.declared.refusal.Refusal.{Refusal}
 use Rattle.spool_types.specs.State.{State}
@@ -12,8 +13,10 @@ use Rattle.spool_disk.specs.Disk.{LeavesOnly}
 use Rattle.command_lines.specs.Text.{commands_of}
 use Rattle.command_lines.specs.Pending.{Pending, Leads, to_come}
 use Rattle.command_lines.specs.declared.command.Command.{Command}
+use Rattle.command_lines.specs.declared.command.Command.TheVariants.{Queue}
 use Rattle.spool_core.specs.Image.{HasTable}
 use Rattle.spool_core.specs.Standing.{Standing, IsDone, IsFull, IsFailed}
+use Rattle.spool_engine.specs.Mime.{Mime}
 use Rattle.spool_engine.specs.Script.{event_of, reply_of, after_command, replies_of, events_of}
 use Rattle.spool_engine.specs.declared.fault.RunFault.{RunFault}
 use Rattle.spool_engine.specs.declared.fault.RunFault.TheVariants.{Read, Write, Memory}
@@ -29,6 +32,19 @@ pub record Device (D : Type 0) : Type 1 where
 abbrev pub device : {D : Type 0} → (D → Option (List ℕ)) → (D → List ℕ → Type 0) → (D → ℕ) → (D → ℕ → List ℕ → Type 0) → (D → ℕ) → Device D
 device bytes image moment image_since failures = record { bytes = bytes; image = image; moment = moment; image_since = image_since; failures = failures }
 
+-- what a run stands on: a disk, and what documents are read by
+pub record Setting (D : Type 0) : Type 1 where
+  pub device : Device D
+  pub mime : Mime
+
+abbrev pub setting : {D : Type 0} → Device D → Mime → Setting D
+setting device mime = record { device = device; mime = mime }
+
+-- an engine as its callers see it
+pub record Engine (D : Type 0) : Type 0 where
+  pub mime : Mime
+  pub spool : Standing D
+
 -- how a command went
 pub data Outcome : Type 0 where
   served : Outcome
@@ -36,6 +52,8 @@ pub data Outcome : Type 0 where
   full : Outcome
   disk : Outcome
   dead : Outcome
+  -- no memory was found to read the URI of a queue
+  unread : Outcome
 
 -- a command, how it went, its reply and the spool after it
 pub record Turn (D : Type 0) : Type 0 where
@@ -56,48 +74,56 @@ IsStep old None new = new ≡ old
 IsStep old (Some e) new = IsTaken old e (step old.state e) new
 
 -- the reply and the table are those of Script
-pub record IsServed {D : Type 0} (s : Standing D) (t : Turn D) : Type 0 where
-  pub text : t.text ≡ reply_of s.state t.command
-  pub state : t.next.state ≡ after_command s.state t.command
-  pub step : IsStep s (event_of s.state t.command) t.next
+pub record IsServed {D : Type 0} (m : Mime) (s : Standing D) (t : Turn D) : Type 0 where
+  pub text : t.text ≡ reply_of m s.state t.command
+  pub state : t.next.state ≡ after_command m s.state t.command
+  pub step : IsStep s (event_of m s.state t.command) t.next
 
 -- the command is an event that was answered by this line, and the cause of the line stands
-pub record Fails {D : Type 0} (s : Standing D) (t : Turn D) (line : List ℕ) (Cause : Event → Type 0) : Type 0 where
+pub record Fails {D : Type 0} (m : Mime) (s : Standing D) (t : Turn D) (line : List ℕ) (Cause : Event → Type 0) : Type 0 where
   pub event : Event
-  pub is : event_of s.state t.command ≡ Some event
+  pub is : event_of m s.state t.command ≡ Some event
   pub cause : Cause event
   pub text : t.text ≡ line
 
+-- the command is a queue whose URI wasn't read, and nothing has changed
+pub record IsUnread {D : Type 0} (s : Standing D) (t : Turn D) : Type 0 where
+  pub queue : NewQueue
+  pub is : t.command ≡ Queue queue
+  pub text : t.text ≡ codes "error memory\n"
+  pub same : t.next ≡ s
+
 -- Served, or an error's line that stands for its cause alone and has changed no row.
-abbrev pub IsOutcome : {D : Type 0} → (D → ℕ) → Standing D → Turn D → Outcome → Type 0
-IsOutcome failures s t served = IsServed s t
-IsOutcome failures s t no_memory = Fails s t (codes "error memory\n") (λ e. (s.dead ≡ false) × (refusal_of s.state e ≡ None) × (t.next ≡ s))
-IsOutcome failures s t full = Fails s t (codes "error full\n") (λ e. IsFull s e × (t.next ≡ s))
-IsOutcome failures s t disk = Fails s t (codes "error disk\n") (λ e. IsFailed failures s e t.next)
-IsOutcome failures s t dead = Fails s t (codes "error dead\n") (λ e. IsTrue s.dead × (t.next ≡ s))
+abbrev pub IsOutcome : {D : Type 0} → Setting D → Standing D → Turn D → Outcome → Type 0
+IsOutcome v s t served = IsServed v.mime s t
+IsOutcome v s t no_memory = Fails v.mime s t (codes "error memory\n") (λ e. (s.dead ≡ false) × (refusal_of s.state e ≡ None) × (t.next ≡ s))
+IsOutcome v s t full = Fails v.mime s t (codes "error full\n") (λ e. IsFull s e × (t.next ≡ s))
+IsOutcome v s t disk = Fails v.mime s t (codes "error disk\n") (λ e. IsFailed v.device.failures s e t.next)
+IsOutcome v s t unread = IsUnread s t
+IsOutcome v s t dead = Fails v.mime s t (codes "error dead\n") (λ e. IsTrue s.dead × (t.next ≡ s))
 
 -- Until the device has failed a crash leaves the table, where the disk tells its bytes.
 abbrev pub IsKept : {D : Type 0} → Device D → Standing D → Type 0
 IsKept device s = s.dead ≡ false → IsSome (device.bytes s.disk) → (c : List ℕ) → device.image s.disk c → HasTable s.state c
 
 -- the table before the command, or the one after it
-abbrev pub HasBeforeOrAfterCommand : State → Command → List ℕ → Type 0
-HasBeforeOrAfterCommand s command image = HasTable s image ⊎ HasTable (after_command s command) image
+abbrev pub HasBeforeOrAfterCommand : Mime → State → Command → List ℕ → Type 0
+HasBeforeOrAfterCommand m s command image = HasTable s image ⊎ HasTable (after_command m s command) image
 
 -- A turn on the spool that it found. Whatever came of it, a crash at any moment of it leaves the table before the
 -- command or the one after it, and a crash behind it leaves the table that is shown.
-pub record IsTurn {D : Type 0} (device : Device D) (s : Standing D) (t : Turn D) : Type 0 where
-  pub outcome : IsOutcome device.failures s t t.outcome
-  pub counted : device.failures s.disk ≤ device.failures t.next.disk
-  pub told : IsSome (device.bytes t.next.disk) ↔ IsSome (device.bytes s.disk)
-  pub crash : s.dead ≡ false → IsSome (device.bytes s.disk) →
-      LeavesOnly device.moment device.image_since s.disk t.next.disk (HasBeforeOrAfterCommand s.state t.command)
-  pub kept : IsKept device t.next
+pub record IsTurn {D : Type 0} (v : Setting D) (s : Standing D) (t : Turn D) : Type 0 where
+  pub outcome : IsOutcome v s t t.outcome
+  pub counted : v.device.failures s.disk ≤ v.device.failures t.next.disk
+  pub told : IsSome (v.device.bytes t.next.disk) ↔ IsSome (v.device.bytes s.disk)
+  pub crash : s.dead ≡ false → IsSome (v.device.bytes s.disk) →
+      LeavesOnly v.device.moment v.device.image_since s.disk t.next.disk (HasBeforeOrAfterCommand v.mime s.state t.command)
+  pub kept : IsKept v.device t.next
 
 -- each turn is one on the spool that it found
-abbrev pub AreTurns : {D : Type 0} → Device D → Standing D → List (Turn D) → Type 0
-AreTurns device s [] = Unit {0}
-AreTurns device s (t ∷ ts) = IsTurn device s t × AreTurns device t.next ts
+abbrev pub AreTurns : {D : Type 0} → Setting D → Standing D → List (Turn D) → Type 0
+AreTurns v s [] = Unit {0}
+AreTurns v s (t ∷ ts) = IsTurn v s t × AreTurns v t.next ts
 
 abbrev pub last_standing : {D : Type 0} → Standing D → List (Turn D) → Standing D
 last_standing s [] = s
@@ -115,9 +141,9 @@ AllServed [] = Unit {0}
 AllServed (t ∷ ts) = (t.outcome ≡ served) × AllServed ts
 
 -- the table that some of these turns' events lead to, the first of them, in order
-abbrev pub IsAlong : {D : Type 0} → Standing D → List (Turn D) → List ℕ → Type 0
-IsAlong s [] image = HasTable s.state image
-IsAlong s (t ∷ ts) image = HasTable s.state image ⊎ (HasTable (after_command s.state t.command) image ⊎ IsAlong t.next ts image)
+abbrev pub IsAlong : {D : Type 0} → Mime → Standing D → List (Turn D) → List ℕ → Type 0
+IsAlong m s [] image = HasTable s.state image
+IsAlong m s (t ∷ ts) image = HasTable s.state image ⊎ (HasTable (after_command m s.state t.command) image ⊎ IsAlong m t.next ts image)
 
 -- a front of the bytes, and not all
 pub record WroteSome (old new : Option (List ℕ)) (text : List ℕ) : Type 0 where
@@ -141,13 +167,13 @@ Wrote (Err Write) old new turns = WroteSome old new (texts_of turns)
 Wrote (Err Memory) old new turns = WroteBefore old new turns
 
 -- turns that lead from one spool to another
-pub record Lead {D : Type 0} (device : Device D) (s : Standing D) (turns : List (Turn D)) (s' : Standing D) : Type 0 where
-  pub legal : AreTurns device s turns
+pub record Lead {D : Type 0} (v : Setting D) (s : Standing D) (turns : List (Turn D)) (s' : Standing D) : Type 0 where
+  pub legal : AreTurns v s turns
   pub last : last_standing s turns ≡ s'
 
 -- the one turn of a command
-pub record Serves {D : Type 0} (device : Device D) (s : Standing D) (c : Command) (t : Turn D) (s' : Standing D) (result : Result (Unit {0}) RunFault) (old new : Option (List ℕ)) : Type 0 where
-  pub legal : IsTurn device s t
+pub record Serves {D : Type 0} (v : Setting D) (s : Standing D) (c : Command) (t : Turn D) (s' : Standing D) (result : Result (Unit {0}) RunFault) (old new : Option (List ℕ)) : Type 0 where
+  pub legal : IsTurn v s t
   pub command : t.command ≡ c
   pub next : t.next ≡ s'
   pub wrote : Wrote result old new (t ∷ [])
@@ -157,21 +183,21 @@ abbrev pub AreFirst : List Command → List Command → Type 0
 AreFirst cs all = (rest : List Command) × (all ≡ cs ++ rest)
 
 -- turns of the commands that were given on the way from one state of the reader of commands to another
-pub record Drains {D : Type 0} (device : Device D) (s : Standing D) (p : Pending) (turns : List (Turn D)) (s' : Standing D) (p' : Pending) (result : Result (Unit {0}) RunFault) (old new : Option (List ℕ)) : Type 0 where
-  pub lead : Lead device s turns s'
+pub record Drains {D : Type 0} (v : Setting D) (s : Standing D) (p : Pending) (turns : List (Turn D)) (s' : Standing D) (p' : Pending) (result : Result (Unit {0}) RunFault) (old new : Option (List ℕ)) : Type 0 where
+  pub lead : Lead v s turns s'
   pub commands : Leads p (commands_in turns) p'
   pub wrote : Wrote result old new turns
 
 -- the same of a piece that was fed, or after a fault wasn't
-pub record DrainsPiece {D : Type 0} (device : Device D) (piece : List ℕ) (s : Standing D) (p : Pending) (turns : List (Turn D)) (s' : Standing D) (p' : Pending) (result : Result (Unit {0}) RunFault) (old new : Option (List ℕ)) : Type 0 where
-  pub lead : Lead device s turns s'
+pub record DrainsPiece {D : Type 0} (v : Setting D) (piece : List ℕ) (s : Standing D) (p : Pending) (turns : List (Turn D)) (s' : Standing D) (p' : Pending) (result : Result (Unit {0}) RunFault) (old new : Option (List ℕ)) : Type 0 where
+  pub lead : Lead v s turns s'
   pub commands : (more : List ℕ) → AreFirst (commands_in turns) (to_come p (piece ++ more))
   pub on_ok : OnOk result ((more : List ℕ) → to_come p (piece ++ more) ≡ commands_in turns ++ to_come p' more)
   pub wrote : Wrote result old new turns
 
 -- the same where the text ends here, and these commands are still to come
-pub record DrainsEnd {D : Type 0} (device : Device D) (s : Standing D) (p : Pending) (turns : List (Turn D)) (s' : Standing D) (rest : List Command) (result : Result (Unit {0}) RunFault) (old new : Option (List ℕ)) : Type 0 where
-  pub lead : Lead device s turns s'
+pub record DrainsEnd {D : Type 0} (v : Setting D) (s : Standing D) (p : Pending) (turns : List (Turn D)) (s' : Standing D) (rest : List Command) (result : Result (Unit {0}) RunFault) (old new : Option (List ℕ)) : Type 0 where
+  pub lead : Lead v s turns s'
   pub commands : to_come p [] ≡ commands_in turns ++ rest
   pub wrote : Wrote result old new turns
 
@@ -181,17 +207,17 @@ Tells None text = ⊤
 Tells (Some known) text = known ≡ text
 
 -- exactly the replies of Script were written, and the table is the fold of Script's events
-pub record IsScript (s : State) (text : List ℕ) (s' : State) (old new : Option (List ℕ)) : Type 0 where
-  pub wrote : Appends old new (replies_of s text)
-  pub table : s' ≡ after_all s (events_of s text)
+pub record IsScript (m : Mime) (s : State) (text : List ℕ) (s' : State) (old new : Option (List ℕ)) : Type 0 where
+  pub wrote : Appends old new (replies_of m s text)
+  pub table : s' ≡ after_all s (events_of m s text)
 
 -- A run over a text: the commands of the text, or after a fault the first of them, each with its turn; and what was
 -- written.
-pub record IsRun {D : Type 0} (device : Device D) (known : Option (List ℕ)) (s : Standing D) (text : List ℕ) (turns : List (Turn D)) (s' : Standing D) (result : Result (Unit {0}) RunFault) (old new : Option (List ℕ)) : Type 0 where
+pub record IsRun {D : Type 0} (v : Setting D) (known : Option (List ℕ)) (s : Standing D) (text : List ℕ) (turns : List (Turn D)) (s' : Standing D) (result : Result (Unit {0}) RunFault) (old new : Option (List ℕ)) : Type 0 where
   pub tells : Tells known text
-  pub begins : IsKept device s
-  pub lead : Lead device s turns s'
+  pub begins : IsKept v.device s
+  pub lead : Lead v s turns s'
   pub first : AreFirst (commands_in turns) (commands_of text)
   pub all : OnOk result (commands_in turns ≡ commands_of text)
-  pub exact : OnOk result (AllServed turns → IsScript s.state text s'.state old new)
+  pub exact : OnOk result (AllServed turns → IsScript v.mime s.state text s'.state old new)
   pub wrote : Wrote result old new turns

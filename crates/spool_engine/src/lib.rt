@@ -4,13 +4,18 @@
 //! reply and writes it, and only then takes the next command. The buffering of the text does not show in it: the
 //! commands are those of the whole text, whatever the pieces in which the reader gives it.
 //!
+//! A document is typed when its job is closed: by the job's file name and its bytes, in the locale `C`, with the rules
+//! of types that the engine was made with, and `application/octet-stream` where no rule is true. Its filters are those
+//! of the least chain of conversions from this type to what the job's queue takes; where no chain leads there the
+//! document can't be printed. Both are looked at only where the job can be closed.
+//!
 //! # Promises
 //!
 //! [`Engine::run`] carries them in one clause, `IsRun`:
 //!
 //! - *ExactScript* (`exact`): where it answers Ok and every command was served, the bytes that it wrote are the
-//!   replies of Script, and the table is the fold of Script's events. This speaks of readers and writers that tell
-//!   their bytes.
+//!   replies of Script over these rules and conversions, and the table is the fold of Script's events. This speaks of
+//!   readers and writers that tell their bytes.
 //! - *HonestReplies* (`lead`, by `IsOutcome`): each command in turn has Script's reply on the table that it found, or
 //!   an error's line, which stands for its cause alone and has changed no row: `error memory`, `error full` where the
 //!   event's record doesn't fit, `error disk` where the device failed, and `error dead` to every event after that.
@@ -23,7 +28,8 @@
 //!
 //! # Invariant
 //!
-//! Until the device has failed, a crash leaves the table that the engine shows (`IsKept`).
+//! Until the device has failed, a crash leaves the table that the engine shows (`IsKept`, of `Server`, which serves the
+//! commands; the engine lends it the rules and conversions, which never change).
 //!
 //! # Faults
 //!
@@ -37,6 +43,8 @@ mod answers;
 mod engine;
 mod fault;
 mod laws;
+mod mime;
+mod server;
 mod writing;
 
 pub use engine::Engine;

@@ -1,4 +1,6 @@
 use crate::{Engine, RunFault};
+use mime_costs::Convs;
+use mime_rules::Types;
 use spool_core::{OpenFault, Spool, make};
 use spool_disk::{Disk, FuseDisk, MemDisk};
 use std::alloc::{AllocError, Global};
@@ -16,10 +18,17 @@ fn spool_disk(alloc: Global, len: usize) -> Result<MemDisk, Fail> {
     Ok(disk)
 }
 
-// An engine over the spool of a disk.
+// An engine over a spool, without rules of types and without conversions.
+fn plain_engine<D: Disk + Drop>(alloc: Global, spool: Spool<D>) -> Result<Engine<D>, AllocError> {
+    let (types, _) = Types::read(alloc, "")?;
+    let (convs, _) = Convs::read(alloc, "")?;
+    Ok(Engine::new(alloc, spool, types, convs))
+}
+
+// The same over the spool of a disk.
 fn engine_over<D: Disk + Drop>(alloc: Global, disk: D) -> Result<Engine<D>, OpenFault> {
     match Spool::open(alloc, disk) {
-        Ok(spool) => Ok(Engine::new(alloc, spool)),
+        Ok(spool) => plain_engine(alloc, spool).map_err(|_| OpenFault::Memory),
         Err(error) => Err(error.fault),
     }
 }
@@ -109,7 +118,7 @@ fn an_engine_goes_on_from_its_spool(rt: HostRuntime) -> Result<(), Fail> {
     let mut engine = new_engine(alloc, DISK)?;
     let mut written = Vec::new(alloc);
     engine.run(&mut FIRST.as_bytes(), &mut written)?;
-    let mut next = Engine::new(alloc, engine.into_parts());
+    let mut next = plain_engine(alloc, engine.into_parts())?;
     let mut more = Vec::new(alloc);
     next.run(&mut "jobs".as_bytes(), &mut more)?;
     assert_eq!(rt; more.as_slice(), FIRST_LISTED.as_bytes());
@@ -245,6 +254,16 @@ fn what_is_not_there_is_refused(rt: HostRuntime) -> Result<(), Fail> {
 fn a_queue_is_made_once(rt: HostRuntime) -> Result<(), Fail> {
     let script = "queue lab s:/ a/b abort-job\nqueue lab s:/ a/b retry-job 0 3\n";
     let want = "ok\nerror 2 QueueExists\n";
+    assert_eq!(rt; reply_text(rt.alloc(), script)?.as_str(), want);
+    Ok(())
+}
+
+#[test]
+fn a_queue_has_the_uri_of_a_device(rt: HostRuntime) -> Result<(), Fail> {
+    // The URI is looked at before any refusal.
+    let script =
+        "queue bad lpt1 a/b abort-job\nqueue lab s:/ a/b abort-job\nqueue lab lpt1 a/b abort-job\n";
+    let want = "error uri\nok\nerror uri\n";
     assert_eq!(rt; reply_text(rt.alloc(), script)?.as_str(), want);
     Ok(())
 }
@@ -484,5 +503,95 @@ abandon 9\n";
         reply_text(rt.alloc(), script)?.as_str(),
         "ok\nok job 1\nok type application/octet-stream stages 1\nerror 13 NotProcessing\nerror 5 NoJob\n"
     );
+    Ok(())
+}
+
+// What an engine with these rules of types and these conversions replies to a script.
+fn typed_replies(alloc: Global, types: &str, convs: &str, script: &str) -> Result<String, Fail> {
+    let Ok(spool) = Spool::open(alloc, spool_disk(alloc, DISK)?) else {
+        return Err(Fail::from("not opened"));
+    };
+    let (types, _) = Types::read(alloc, types)?;
+    let (convs, _) = Convs::read(alloc, convs)?;
+    let mut engine = Engine::new(alloc, spool, types, convs);
+    let mut written = Vec::new(alloc);
+    engine.run(&mut script.as_bytes(), &mut written)?;
+    Ok(String::from_utf8(written)?)
+}
+
+#[test]
+fn a_document_has_the_type_of_its_name(rt: HostRuntime) -> Result<(), Fail> {
+    let script =
+        "queue lab s:/ text/plain abort-job\ncreate lab u t 1 50 \"\"\ncreate lab u t 1 50 \"\"\nclose 1 page.txt\nclose 2 page.bin\n";
+    let want =
+        "ok\nok job 1\nok job 2\nok type text/plain stages 1\nok type application/octet-stream unprintable\n";
+    let told = typed_replies(rt.alloc(), "text/plain txt\n", "", script)?;
+    assert_eq!(rt; told.as_str(), want);
+    Ok(())
+}
+
+#[test]
+fn a_document_has_the_type_of_its_bytes(rt: HostRuntime) -> Result<(), Fail> {
+    let types =
+        "application/pdf pdf string(0,%PDF)\ntext/html html htm printable(0,1024) + \\\n(string(0,\"<HTML>\") string(0,\"<!DOCTYPE\"))\n";
+    let script =
+        "queue lab s:/ text/html abort-job\ncreate lab u t 1 50 \"\"\nsend 1 4\n%PDF\nsend 1 2\n-1\nclose 1 x\ncreate lab u t 1 50 \"\"\nsend 2 6\n<HTML>\nclose 2 x\n";
+    let want =
+        "ok\nok job 1\nok bytes 4\nok bytes 6\nok type application/pdf unprintable\nok job 2\nok bytes 6\nok type text/html stages 1\n";
+    assert_eq!(rt;
+        typed_replies(rt.alloc(), types, "", script)?.as_str(),
+        want
+    );
+    Ok(())
+}
+
+#[test]
+fn the_locale_of_documents_is_c(rt: HostRuntime) -> Result<(), Fail> {
+    let script = "queue lab s:/ a/a abort-job\ncreate lab u t 1 50 \"\"\nclose 1 x\n";
+    let told = typed_replies(rt.alloc(), "a/b locale(de)\na/a locale(C)\n", "", script)?;
+    assert_eq!(rt; told.as_str(), "ok\nok job 1\nok type a/a stages 1\n");
+    Ok(())
+}
+
+const CONVERSIONS: &str =
+    "a/a b/b 10 f1\nb/b c/c 10 f2\na/a c/c 20 f3\na/a c/c 20 f4\na/a d/d 5 -\nd/d c/c 16 f5\n";
+
+// What the close of a document of the type a/a replies, where the queue takes this type.
+fn closed_for(alloc: Global, convs: &str, target: &str) -> Result<String, Fail> {
+    let script = format!(in alloc;
+        "queue lab s:/ {target} abort-job\ncreate lab u t 1 50 \"\"\nclose 1 d.x\njobs\n"
+    )?;
+    typed_replies(alloc, "a/a x\n", convs, script.as_str())
+}
+
+#[test]
+fn a_document_takes_the_cheapest_filters(rt: HostRuntime) -> Result<(), Fail> {
+    let alloc = rt.alloc();
+    let told = closed_for(alloc, CONVERSIONS, "c/c")?;
+    let want = "ok\nok job 1\nok type a/a stages 2\njob 1 lab 3 none \"u\" 0 0 \"t\"\nok 1\n";
+    assert_eq!(rt; told.as_str(), want);
+    Ok(())
+}
+
+#[test]
+fn a_conversion_without_a_filter_is_no_stage(rt: HostRuntime) -> Result<(), Fail> {
+    let told = closed_for(rt.alloc(), CONVERSIONS, "d/d")?;
+    let want = "ok\nok job 1\nok type a/a stages 1\njob 1 lab 3 none \"u\" 0 0 \"t\"\nok 1\n";
+    assert_eq!(rt; told.as_str(), want);
+    Ok(())
+}
+
+#[test]
+fn a_document_without_a_way_to_its_queue_is_aborted(rt: HostRuntime) -> Result<(), Fail> {
+    let alloc = rt.alloc();
+    let told = closed_for(alloc, CONVERSIONS, "e/e")?;
+    let want =
+        "ok\nok job 1\nok type a/a unprintable\njob 1 lab 8 no-filter \"u\" 0 0 \"t\"\nok 1\n";
+    assert_eq!(rt; told.as_str(), want);
+    let script = "queue lab s:/ a/b abort-job\ncreate lab u t 1 50 \"\"\nclose 1 x\njobs\n";
+    let told = typed_replies(alloc, "", "", script)?;
+    let want =
+        "ok\nok job 1\nok type application/octet-stream unprintable\njob 1 lab 8 no-filter \"u\" 0 0 \"t\"\nok 1\n";
+    assert_eq!(rt; told.as_str(), want);
     Ok(())
 }

@@ -23,8 +23,7 @@ use Rattle.clap.specs.declared.parser.matches.Found.{Found}
 use Rattle.clap.specs.declared.parser.matches.MatchedArg.{MatchedArg}
 use Rattle.clap.proofs.CallerLemmas.{entry_by_id}
 use Rattle.clap.proofs.SimpleLemmas.{plain_fields}
-use Rattle.clap.specs.declared.builder.value_parser.ValueParser.TheVariants.{NonEmptyString}
-use Rattle.spool_shell.specs.Words.{number_of, option_of, shell_app, sizes}
+use Rattle.spool_shell.specs.Words.{number_of, option_of, shell_app, sizes, text_option}
 
 -- ---- the command's arguments
 
@@ -42,24 +41,41 @@ not_true e = cc
 not_empty : codes "size" ≡ [] → ⊥
 not_empty e = cc
 
-two_take : (a b : Rule) → TakesSizes a → TakesSizes b → All TakesSizes (a ∷ b ∷ [])
-two_take a b x y = All-cons TakesSizes a (b ∷ []) x (All-cons TakesSizes b [] y (All-nil TakesSizes))
+one_takes : (a : Rule) → TakesSizes a → All TakesSizes (a ∷ [])
+one_takes a x = All-cons TakesSizes a [] x (All-nil TakesSizes)
 
-three_take : (a b d : Rule) → TakesSizes a → TakesSizes b → TakesSizes d → All TakesSizes (a ∷ b ∷ d ∷ [])
-three_take a b d x y z = All-cons TakesSizes a (b ∷ d ∷ []) x (two_take b d y z)
+-- three options before the others
+three_take : (a b d : Rule) (rest : List Rule) → TakesSizes a → TakesSizes b → TakesSizes d → All TakesSizes rest
+    → All TakesSizes (a ∷ b ∷ d ∷ rest)
+three_take a b d rest x y z all =
+    All-cons TakesSizes a (b ∷ d ∷ rest) x (All-cons TakesSizes b (d ∷ rest) y (All-cons TakesSizes d rest z all))
 
 abbrev root : Rule
-root = option_of (codes "root") NonEmptyString
+root = text_option (codes "root")
+
+abbrev types : Rule
+types = text_option (codes "types")
+
+abbrev convs : Rule
+convs = text_option (codes "convs")
 
 abbrev size : Rule
 size = option_of (codes "size") sizes
 
+abbrev as_built : Rule → Rule
+as_built r = with_index 1 (filled r)
+
 before_take : All TakesSizes shell_app.top.rules
-before_take = two_take root size (λ bad. absurd (not_true bad)) (λ same. refl)
+before_take = three_take root types convs (size ∷ []) (λ bad. absurd (not_true bad)) (λ bad. absurd (not_true bad))
+    (λ bad. absurd (not_true bad)) (one_takes size (λ same. refl))
+
+last_take : All TakesSizes (as_built size ∷ as_built help_rule ∷ [])
+last_take = All-cons TakesSizes (as_built size) (as_built help_rule ∷ []) (λ same. refl)
+    (one_takes (as_built help_rule) (λ bad. absurd (not_true bad)))
 
 built_take : All TakesSizes (built shell_app).top.rules
-built_take = three_take (with_index 1 (filled root)) (with_index 1 (filled size)) (with_index 1 (filled help_rule))
-    (λ bad. absurd (not_true bad)) (λ same. refl) (λ bad. absurd (not_true bad))
+built_take = three_take (as_built root) (as_built types) (as_built convs) (as_built size ∷ as_built help_rule ∷ [])
+    (λ bad. absurd (not_true bad)) (λ bad. absurd (not_true bad)) (λ bad. absurd (not_true bad)) last_take
 
 rules_take : (c : Command) → IsShell c → All TakesSizes (app_of c).top.rules
 rules_take c (inl is) = subst (λ (a : App). All TakesSizes a.top.rules) (sym is) before_take

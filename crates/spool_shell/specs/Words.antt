@@ -21,16 +21,32 @@ abbrev pub option_of : Text → ValueParser → Rule
 option_of name parser =
     record (new_rule name) { long = Some name; value_names = 1; parser = Some parser }
 
--- `spool_shell [--root DIR] [--size BYTES]`, where DIR is not empty
+-- an option `--NAME` whose value is not empty
+abbrev pub text_option : Text → Rule
+text_option name = option_of name NonEmptyString
+
+-- the name, and the options whose values are texts
+abbrev pub text_app : App
+text_app = with_rule (with_rule (with_rule (new_app (codes "spool_shell")) (text_option (codes "root")))
+    (text_option (codes "types"))) (text_option (codes "convs"))
+
+-- `spool_shell [--root DIR] [--types FILE] [--convs FILE] [--size BYTES]`
 abbrev pub shell_app : App
-shell_app = with_rule (with_rule (new_app (codes "spool_shell")) (option_of (codes "root") NonEmptyString))
-    (option_of (codes "size") sizes)
+shell_app = with_rule text_app (option_of (codes "size") sizes)
 
 -- ---- what clap finds in words, of which the first is the program's name
 
 -- DIR, where it is given
 abbrev pub root_of : List Row → Option Text
 root_of found = first_of (codes "root") found
+
+-- the FILE of types, where it is given
+abbrev pub types_of : List Row → Option Text
+types_of found = first_of (codes "types") found
+
+-- the FILE of conversions, where it is given
+abbrev pub convs_of : List Row → Option Text
+convs_of found = first_of (codes "convs") found
 
 -- the number that a text of digits stands for
 abbrev pub number_of : Text → ℕ
@@ -42,6 +58,12 @@ size_of found = unwrap_or (option_map number_of (one_of (codes "size") found)) 4
 
 abbrev pub root_in : List Text → Option Text
 root_in words = root_of (matches_of shell_app words)
+
+abbrev pub types_in : List Text → Option Text
+types_in words = types_of (matches_of shell_app words)
+
+abbrev pub convs_in : List Text → Option Text
+convs_in words = convs_of (matches_of shell_app words)
 
 abbrev pub size_in : List Text → ℕ
 size_in words = size_of (matches_of shell_app words)

@@ -10,6 +10,9 @@ use thiserror::Error;
 /// Why the program ends with status 1. Its text is what stands behind `spool: ` on standard error.
 #[derive(Debug, Drop, Error)]
 pub enum ShellFault {
+    /// The file of this name can't be read, or is no text.
+    #[error("file {0}")]
+    File(String),
     /// The disk holds no spool.
     #[error("not-a-spool")]
     NotASpool,

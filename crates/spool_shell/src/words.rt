@@ -1,10 +1,11 @@
 //! The words of the command line.
-ghost use Rattle.std.specs.Prelude.{◌≡◌, ◌<◌, ◌≤◌, ◌↔◌, IfOk, IfSome, IsSomeAnd, IsTrue, MatchResult, length, map};
+ghost use Rattle.std.specs.Prelude.{◌≡◌, ◌<◌, ◌≤◌, ◌↔◌, IfOk, IfSome, IsSomeAnd, IsTrue, MatchResult, Some, false, length, map};
 ghost use Rattle.std.specs.Option.{option_map};
-ghost use Rattle.clap.specs.Words.{app_of, found_of, kind_of, matches_of, rows_of};
+ghost use Rattle.clap.specs.Words.{app_of, found_of, kind_of, matches_of, rows_of, rule_of};
+ghost use Rattle.clap.specs.declared.builder.texts.Texts.TheVariants.{One};
 ghost use Rattle.clap.specs.declared.error.kind.ErrorKind.TheVariants.{OutOfMemory};
-ghost use Rattle.spool_shell.specs.Words.{AreFaultless, AreTaken, HasSizeInRange, RefusesOnly, root_in, shell_app};
-ghost use Rattle.spool_shell.specs.Words.{size_in, size_of};
+ghost use Rattle.spool_shell.specs.Words.{AreFaultless, AreTaken, HasSizeInRange, RefusesOnly, convs_in, root_in, shell_app};
+ghost use Rattle.spool_shell.specs.Words.{size_in, size_of, text_option, types_in};
 
 use clap::builder::ValueParser;
 use clap::error::ErrorKind;
@@ -28,6 +29,10 @@ const LONGEST_ROOT: usize = 64;
 pub struct ShellWords<'a> {
     /// The folder of the spool's file. Without one the spool is a disk in memory.
     pub root: Option<&'a str>,
+    /// The file of mime.types(5). Without one it counts as empty.
+    pub types: Option<&'a str>,
+    /// The file of mime.convs(5). Without one it counts as empty.
+    pub convs: Option<&'a str>,
     /// The length in bytes of a spool that is made.
     pub size: u64,
 }
@@ -45,6 +50,10 @@ pub enum WordsFault {
 pub fn read_words<'a, S: AsStr>(alloc: Global, words: &'a [S]) -> Result<ShellWords<'a>, WordsFault>
     ensures root { IfOk result (λ found.
         option_map (λ dir. dir.now) found.root ≡ root_in (map S.text words.entry.now)) }
+    ensures types { IfOk result (λ found.
+        option_map (λ file. file.now) found.types ≡ types_in (map S.text words.entry.now)) }
+    ensures convs { IfOk result (λ found.
+        option_map (λ file. file.now) found.convs ≡ convs_in (map S.text words.entry.now)) }
     ensures size { IfOk result (λ found. found.size ≡ size_in (map S.text words.entry.now)) }
     ensures short_root { IfOk result (λ found. IfSome found.root (λ dir. length dir.now ≤ 64)) }
     ensures size_in_range { IfOk result (λ found. (4096 ≤ found.size) × (found.size ≤ 1073741824)) }
@@ -62,8 +71,12 @@ pub fn read_words<'a, S: AsStr>(alloc: Global, words: &'a [S]) -> Result<ShellWo
     if is_long(root) {
         return Err(long_root(&mut command));
     }
+    let types = matches.get_str("types");
+    let convs = matches.get_str("convs");
     Ok(ShellWords {
         root,
+        types,
+        convs,
         size: size_given(&matches),
     })
 }
@@ -72,11 +85,24 @@ pub fn read_words<'a, S: AsStr>(alloc: Global, words: &'a [S]) -> Result<ShellWo
 fn shell_command<'a>(alloc: Global) -> Result<Command<'a>, AllocError>
     ensures { IfOk result (λ command. app_of command ≡ shell_app) }
 {
-    let root = Arg::new(alloc, "root")
-        .long("root")
-        .value_name("DIR")
-        .value_parser(ValueParser::NonEmptyString)
-        .help("Keep the spool in the file spool.disk of this folder [default: in memory]");
+    let root = text_arg(
+        alloc,
+        "root",
+        "DIR",
+        "Keep the spool in the file spool.disk of this folder [default: in memory]",
+    );
+    let types = text_arg(
+        alloc,
+        "types",
+        "FILE",
+        "Read the types of documents from this file [default: none]",
+    );
+    let convs = text_arg(
+        alloc,
+        "convs",
+        "FILE",
+        "Read the filters that convert documents from this file [default: none]",
+    );
     let size = Arg::new(alloc, "size")
         .long("size")
         .value_name("BYTES")
@@ -87,7 +113,22 @@ fn shell_command<'a>(alloc: Global) -> Result<Command<'a>, AllocError>
             "Serves a print spool: reads commands on standard input, and writes replies on standard output",
         )
         .arg(root)?
+        .arg(types)?
+        .arg(convs)?
         .arg(size)
+}
+
+// An option with a text that isn't empty.
+fn text_arg<'a>(alloc: Global, name: &'a str, value: &'a str, help: &'a str) -> Arg<'a>
+    ensures rule { rule_of result ≡ text_option name.entry.now }
+    ensures local { result.global ≡ false }
+    ensures shown { (result.val_names ≡ One value.entry) × (result.help ≡ Some help.entry) }
+{
+    Arg::new(alloc, name)
+        .long(name)
+        .value_name(value)
+        .value_parser(ValueParser::NonEmptyString)
+        .help(help)
 }
 
 // What clap finds in the words.

@@ -1,5 +1,5 @@
 use Rattle.std.proofs.Common.{◌≡◌, ◌≤◌, length}
-use Rattle.mime_lines.specs.Blanks.{after_blanks}
+use Rattle.line_words.specs.Blanks.{after_blanks}
 use Rattle.mime_rules.specs.Arguments.{text_from, bare}
 use Rattle.mime_rules.specs.Seen.{with_bytes}
 use Rattle.mime_rules.proofs.arguments.text_at.Given as goal

@@ -2,7 +2,7 @@ use Rattle.std.proofs.Common.{◌≡◌, ◌∙◌, ap, sym, subst, codes, map, 
 use Rattle.std.specs.Prelude.{IfSome, option_map}
 use Rattle.clap.specs.Words.{Text, found_of}
 use Rattle.clap.proofs.WalkLemmas.{first_value-rows}
-use Rattle.spool_shell.specs.Words.{AreTaken, root_in, root_of}
+use Rattle.spool_shell.specs.Words.{AreTaken, convs_of, root_in, root_of, types_of}
 use Rattle.spool_shell.proofs.Refusals.{is_not_short, is_short, refuses}
 use Rattle.spool_shell.proofs.words.read_words.Goals as goal
 
@@ -17,6 +17,14 @@ returns-then-is_long-clause-taken g c =
 pub returns-clause-root : goal.returns-clause-root
 returns-clause-root g c =
     c.get_str-root.ensures ∙ first_value-rows (found_of c.in-Ok-parse.matches) (codes "root") ∙ ap root_of c.in-Ok-parse.ensures.found
+
+pub returns-clause-types : goal.returns-clause-types
+returns-clause-types g c =
+    c.get_str-types.ensures ∙ first_value-rows (found_of c.in-Ok-parse.matches) (codes "types") ∙ ap types_of c.in-Ok-parse.ensures.found
+
+pub returns-clause-convs : goal.returns-clause-convs
+returns-clause-convs g c =
+    c.get_str-convs.ensures ∙ first_value-rows (found_of c.in-Ok-parse.matches) (codes "convs") ∙ ap convs_of c.in-Ok-parse.ensures.found
 
 pub returns-clause-taken : goal.returns-clause-taken
 returns-clause-taken g c =

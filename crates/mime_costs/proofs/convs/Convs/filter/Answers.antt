@@ -1,12 +1,5 @@
-use Rattle.std.proofs.Common.{◌≡◌, subst, sym, ap, ◌∙◌}
-use Rattle.std.specs.List.{Contains}
-use Rattle.mime_costs.specs.Index.{Ascends}
-use Rattle.mime_costs.proofs.StepLaws.{same_line}
+use Rattle.std.proofs.Common.{◌∙◌}
 use Rattle.mime_costs.proofs.convs.Convs.filter.Goals as goal
 
-pub returns-then-conversion-line : goal.returns-then-conversion-line
-returns-then-conversion-line c =
-    let file : c.deref-conversion-items.result.now ≡ c.args.self.now = c.deref-conversion-items.ensures.value ∙ c.self.view_is in
-    let x = c.conversion-item.result in
-    let there : Contains c.args.self.now x = subst (λ f. Contains f x) file (c.loop-conversion.conversion-index, c.loop-conversion-test.true, sym c.conversion-item.is) in
-    record { value = λ v in_file same. c.as_str.ensures.value ∙ ap (λ y. y.filter) (same_line 1 c.args.self.now x v (subst (Ascends 1) c.self.view_is c.self.invariant.rising) there in_file (c.if-conversion-line.true ∙ sym same)) }
+pub returns : goal.returns
+returns c = record { value = λ v there same. c.as_str.ensures.value ∙ c.filter_name.ensures.value v there same }

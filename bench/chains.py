@@ -1,0 +1,92 @@
+#!/usr/bin/env python3
+"""What a long file of conversions costs: it runs crates/spool_shell/out/spool_shell (made by `rt run` in that folder) on
+scripts that close jobs, with files of growing length, and prints
+
+- the time in which a file is read;
+- the time of a close, which finds the cheapest chain to the queue's type, beyond its time on the shortest file.
+
+The least chain is the same 15 conversions in each file, so the replies are the same. Times depend on the machine; that of
+a close on 1,000 conversions should be well under a millisecond, and no test reads it.
+"""
+import os
+import subprocess
+import sys
+import tempfile
+import time
+
+here = os.path.dirname(os.path.abspath(__file__))
+shell = os.path.join(here, "..", "crates", "spool_shell", "out", "spool_shell")
+
+CLOSES = 500
+CHAIN = 15
+COUNTS = (CHAIN, 100, 1_000, 10_000)
+
+# Documents of this name are of the type from which the chain leads.
+TYPES = "t/0 doc\n"
+NAME = b"page.doc"
+
+
+def step(line):
+    """A conversion to the next type, with a source of its own."""
+    return f"t/{line} t/{line + 1} 10 f{line}\n"
+
+
+def steps(count):
+    """Each line has a source of its own."""
+    return "".join(step(line) for line in range(count))
+
+
+def shared(count):
+    """All lines are of 16 sources, and those behind the chain are dear."""
+    dear = (f"t/{line % 16} t/{line * 7 % 16} 9000 dear\n" for line in range(CHAIN, count))
+    return steps(CHAIN) + "".join(dear)
+
+
+def script(closes):
+    """Jobs are made, held, closed and canceled, so that none of them starts."""
+    lines = [b"queue lab spoolfile:/out t/%d abort-job\n" % CHAIN]
+    for n in range(1, closes + 1):
+        lines.append(
+            b'create lab ann "A title" 1 50 ""\nhold %d indefinite\nsend %d 5\nhello\nclose %d %s\ncancel %d\n'
+            % (n, n, n, NAME, n)
+        )
+    return b"".join(lines)
+
+
+def seconds(folder, convs, closes):
+    """The least time of three runs."""
+    with open(os.path.join(folder, "convs"), "w") as file:
+        file.write(convs)
+    best = None
+    for _ in range(3):
+        start = time.perf_counter()
+        run = subprocess.run(
+            [shell, "--types", "types", "--convs", "convs"], cwd=folder, input=script(closes), stdout=subprocess.PIPE, check=True
+        )
+        took = time.perf_counter() - start
+        best = took if best is None else min(best, took)
+        if b"error" in run.stdout:
+            sys.exit("a reply was an error")
+        if run.stdout.count(b"ok type t/0 stages %d\n" % (CHAIN + 1)) != closes:
+            sys.exit("a chain is not that of 15 filters")
+    return best
+
+
+def main():
+    if not os.path.exists(shell):
+        sys.exit("no program: run `rt run` in crates/spool_shell first")
+    with tempfile.TemporaryDirectory() as folder:
+        with open(os.path.join(folder, "types"), "w") as file:
+            file.write(TYPES)
+        for make in (steps, shared):
+            print(make.__doc__)
+            least = None
+            for count in COUNTS:
+                convs = make(count)
+                read = seconds(folder, convs, 0)
+                close = (seconds(folder, convs, CLOSES) - read) / CLOSES
+                least = close if least is None else least
+                print(f"  {count:6} lines: read {read * 1e3:9.2f} ms, {(close - least) * 1e6:9.2f} us a close more than with {CHAIN}")
+
+
+main()

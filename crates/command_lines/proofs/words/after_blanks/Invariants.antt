@@ -1,9 +1,0 @@
-use Rattle.std.proofs.Common.{◌≡◌, length}
-use Rattle.command_lines.specs.Words.{after_blanks}
-use Rattle.command_lines.proofs.words.after_blanks.Given as goal
-
-abbrev pub invariant-loop-b : goal.invariant-loop-b
-invariant-loop-b l = after_blanks l.rest ≡ after_blanks l.line
-
-abbrev pub decreases-loop-b : goal.decreases-loop-b
-decreases-loop-b l = length l.rest

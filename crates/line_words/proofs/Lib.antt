@@ -1,0 +1,2 @@
+pub mod BlankLaws
+pub mod QuoteLaws

@@ -1,0 +1,36 @@
+//! A word in memory.
+ghost use Rattle.std.specs.Prelude.{◌≡◌, IfOk};
+ghost use Rattle.line_words.specs.Seen.{bytes_of};
+
+use std::alloc::{AllocError, Global};
+
+/// A word of a line, without its quotes.
+#[derive(Debug, Drop)]
+pub enum Word<'a> {
+    /// A word as it stands in the line.
+    Borrowed(&'a [u8]),
+    /// A word that has backslashes in the line.
+    Owned(Vec<u8>),
+}
+
+impl<'a> Word<'a> {
+    /// The bytes of the word.
+    pub fn bytes(&self) -> &[u8]
+        ensures value { result.now ≡ bytes_of self.now }
+    {
+        match self {
+            Word::Borrowed(bytes) => bytes,
+            Word::Owned(bytes) => bytes,
+        }
+    }
+
+    /// The same as bytes of their own: a borrowed word is copied.
+    pub fn into_bytes(self, alloc: Global) -> Result<Vec<u8>, AllocError>
+        ensures value { IfOk result (λ bytes. bytes.items ≡ bytes_of self.entry) }
+    {
+        match self {
+            Word::Borrowed(bytes) => Ok(Vec::from_slice(alloc, bytes)?),
+            Word::Owned(bytes) => Ok(bytes),
+        }
+    }
+}

@@ -1,0 +1,73 @@
+//! The MIME database: what documents are read by.
+ghost use Rattle.std.specs.Prelude.{◌≡◌, IfOk};
+ghost use Rattle.mime_costs.specs.LeastWalk.{filters_between};
+ghost use Rattle.spool_engine.specs.Mime.{media_of, unknown_type as unknown_media};
+
+use mime_costs::Convs;
+use mime_rules::Types;
+use spool_types::{Filters, MediaType, TextFault};
+use std::alloc::{AllocError, Global};
+use std::marker::Model;
+
+// The type of a document that no rule tells.
+const UNKNOWN_TYPE: &str = "application/octet-stream";
+
+// The locale in which documents are typed.
+const LOCALE: &str = "C";
+
+/// By which rules documents are typed, and which filters change one type into another.
+#[derive(Drop)]
+pub(crate) struct Mime {
+    types: Types,
+    convs: Convs,
+}
+
+impl Model for Mime {
+    ghost use Rattle.spool_engine.specs.Mime.{Mime, mime_code};
+
+    ghost Value = { Mime };
+
+    ghost coded = { mime_code };
+
+    ghost view = { λ mime. record { types = mime.types; convs = mime.convs } };
+}
+
+impl Mime {
+    pub fn new(types: Types, convs: Convs) -> Mime
+        ensures { result ≡ record { types = types; convs = convs } }
+    {
+        Mime { types, convs }
+    }
+
+    /// The type of a document with this name and these bytes.
+    pub fn type_of(
+        &self,
+        alloc: Global,
+        name: &str,
+        document: &[u8],
+    ) -> Result<MediaType, AllocError>
+        ensures { IfOk result (λ media. media ≡ media_of self.now name.now document.now) }
+    {
+        match self.types.type_of(name, document, LOCALE) {
+            Some(media) => media.clone(),
+            None => unknown_type(alloc),
+        }
+    }
+
+    /// The filters that lead from one type to another, if there is a way.
+    pub fn filters(&self, from: &MediaType, to: &MediaType) -> Result<Option<Filters>, AllocError>
+        ensures { IfOk result (λ filters. filters ≡ filters_between self.now.convs from.now to.now) }
+    {
+        self.convs.filters(from, to)
+    }
+}
+
+fn unknown_type(alloc: Global) -> Result<MediaType, AllocError>
+    ensures { IfOk result (λ media. media ≡ unknown_media) }
+{
+    match MediaType::read(alloc, UNKNOWN_TYPE) {
+        Ok(media) => Ok(media),
+        Err(TextFault::Bad) => unreachable!(),
+        Err(TextFault::Memory) => Err(AllocError),
+    }
+}
