@@ -7,3 +7,4 @@ pub mod RowLaws
 pub mod SizeLaws
 pub mod StepLaws
 pub mod WalkLaws
+pub mod SourceLaws

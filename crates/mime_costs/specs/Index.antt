@@ -1,10 +1,13 @@
 -- Where the sources stand that take a type. No caller needs this.
-use Rattle.std.specs.Prelude.{ℕ, suc, ◌≤◌, Bool, ◌||◌, ◌==◌, List, [], ◌∷◌, map}
+use Rattle.std.specs.Prelude.{◌≡◌, ℕ, suc, ◌≤◌, Bool, ◌||◌, ◌==◌, List, [], ◌∷◌, length, map, unwrap_or}
+use Rattle.std.specs.HashMap.{get_by}
 use Rattle.std.specs.List.{position_or_len}
+use Rattle.std.specs.Str.{bytes_eq}
 use Rattle.mime_costs.specs.Conversions.{same, super_source, every_type}
 use Rattle.mime_costs.specs.declared.conversion.Conversion.{Conversion}
 use Rattle.mime_costs.specs.declared.links.Places.{Places}
 use Rattle.mime_costs.specs.declared.links.Link.{Link}
+use Rattle.mime_costs.specs.declared.links.Sources.{Sources}
 
 abbrev pub source_of : Conversion → List ℕ
 source_of c = c.source
@@ -38,3 +41,7 @@ Ascends n (c ∷ file) = (n ≤ c.line) × Ascends (suc c.line) file
 abbrev pub AreCheap : List Conversion → Type 0
 AreCheap [] = Unit {0}
 AreCheap (c ∷ file) = (c.cost ≤ 10000) × AreCheap file
+
+-- the first place of each of these sources is known, and so is their number
+abbrev pub AreSources : Sources → List (List ℕ) → Type 0
+AreSources found sources = (found.count ≡ length sources) × ((source : List ℕ) → unwrap_or (get_by (λ k. bytes_eq source k.now) found.places) (length sources) ≡ place_in sources source)

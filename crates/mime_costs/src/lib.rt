@@ -35,8 +35,7 @@
 //!
 //! The least costs of walks that end in the type wanted are found by their number of lines, in 15 rounds, each of which
 //! looks at every conversion a fixed number of times. The programs of a chain are looked up by their lines, of which there
-//! are at most 15. A reading looks each line's source and destination up among all
-//! sources, one by one. Want of memory is the one fault.
+//! are at most 15. A reading takes a few look-ups in a map of the sources for each line. Want of memory is the one fault.
 #![tactic(auto)]
 
 mod chain;

@@ -1,12 +1,13 @@
 //! Where the sources stand that take a type, found once when a file is read.
-ghost use Rattle.std.specs.Prelude.{◌≡◌, IfOk};
+ghost use Rattle.std.specs.Prelude.{◌≡◌, ℕ, List, IfOk};
 ghost use Rattle.std.specs.String.{string_bytes};
 ghost use Rattle.mime_costs.specs.Conversions.{super_source as source_of_super};
-ghost use Rattle.mime_costs.specs.Index.{sources_of, place_in, places_in, takes as takes_place, links_in};
+ghost use Rattle.mime_costs.specs.Index.{sources_of, place_in, places_in, takes as takes_place, links_in, AreSources};
 
 use crate::conversion::{Conversion, EVERY_TYPE};
 use spool_types::MediaType;
 use std::alloc::{AllocError, Global};
+use std::collections::HashMap;
 
 /// The first conversions with the sources that take a type. Where no conversion has such a source, it is the number of all.
 #[derive(Clone, Copy, Debug)]
@@ -38,13 +39,60 @@ impl Places {
 pub fn links_of(alloc: Global, conversions: &[Conversion]) -> Result<Vec<Link>, AllocError>
     ensures { IfOk result (λ links. links.items ≡ links_in conversions.now) }
 {
-    let mut links = Vec::new(alloc);
+    let sources = Sources::of(alloc, conversions)?;
+    let mut links = Vec::with_capacity(alloc, conversions.len())?;
     for conversion in conversions {
-        let group = place_of(conversions, conversion.source.as_str());
-        let next = places_of(alloc, conversions, &conversion.destination)?;
+        let group = sources.place_of(conversion.source.as_str());
+        let next = sources.places_of(alloc, conversion.destination.as_str())?;
         links.push(Link { group, next })?;
     }
     Ok(links)
+}
+
+// The first conversion of each source, for the links of a whole file: there `places_of`, which looks through all
+// conversions for one type, would take a time that grows with their square.
+#[derive(Drop)]
+struct Sources<'a> {
+    places: HashMap<&'a str, usize>,
+    // How many conversions there are.
+    count: usize,
+}
+
+impl<'a> Sources<'a> {
+    // From the last conversion to the first, so that of one source the first stays.
+    fn of(alloc: Global, conversions: &'a [Conversion]) -> Result<Sources<'a>, AllocError>
+        ensures { IfOk result (λ sources. AreSources sources (sources_of conversions.entry.now)) }
+    {
+        let mut places = HashMap::new(alloc);
+        let mut rest = conversions;
+        while let Some((last, before)) = rest.split_last() {
+            places.insert(last.source.as_str(), before.len())?;
+            rest = before;
+        }
+        Ok(Sources {
+            places,
+            count: conversions.len(),
+        })
+    }
+
+    // The first conversion of a source, or the number of all.
+    fn place_of(&self, source: &str) -> usize
+        ensures { (sources : List (List ℕ)) → AreSources self.now sources → result ≡ place_in sources source.now }
+    {
+        self.places.get(&source).copied().unwrap_or(self.count)
+    }
+
+    // The groups that take a type.
+    fn places_of(&self, alloc: Global, media: &str) -> Result<Places, AllocError>
+        ensures { (sources : List (List ℕ)) → AreSources self.now sources → IfOk result (λ places. places ≡ places_in sources media.now) }
+    {
+        let of_super = super_source(alloc, media)?;
+        Ok(Places {
+            of_type: self.place_of(media),
+            of_super: self.place_of(of_super.as_str()),
+            of_any: self.place_of(EVERY_TYPE),
+        })
+    }
 }
 
 /// The groups that take a type.
