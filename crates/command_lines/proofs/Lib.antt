@@ -3,3 +3,4 @@ pub mod TextLaws
 pub mod StepLaws
 pub mod WordLaws
 pub mod GrammarLaws
+pub mod AskedLaws

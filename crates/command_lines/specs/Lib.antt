@@ -9,3 +9,4 @@ pub mod Steps
 pub mod Moves
 pub mod Seen
 pub mod Replies
+pub mod Asked

@@ -1,7 +1,6 @@
 //! What a text of commands says.
 use spool_types::{
-    Copies, FileName, JobId, Moment, NewQueue, OptionText, Piece, Priority, QueueName, QueueNotes,
-    Title, UserName,
+    Copies, Event, FileName, JobId, NewQueue, OptionText, Priority, QueueName, Title, UserName,
 };
 
 /// A job to be made, but for its number.
@@ -16,35 +15,19 @@ pub struct Creation {
     pub options: OptionText,
 }
 
-/// A command.
+/// A command: an event as it is, or what becomes one by the table or by the text of a document, or none.
 #[derive(Debug, PartialEq, Eq, Drop)]
 pub enum Command {
-    /// Makes a queue.
+    /// Asks for an event that the line says whole.
+    Apply(Event),
+    /// Makes a queue, if its URI is that of a device.
     Queue(NewQueue),
-    /// Sets what is told of a queue.
-    Info(QueueNotes),
-    /// Opens a queue to new jobs, or closes it.
-    SetAccept { queue: QueueName, accepting: bool },
-    /// Stops a queue, or lets it go on.
-    SetStop { queue: QueueName, stopped: bool },
-    /// Makes a job.
+    /// Makes a job, which gets the next number.
     Create(Creation),
-    /// Adds bytes to a job's document.
-    Send { job: JobId, bytes: Piece },
+    /// Ends a job's document, which has this name and is typed by it and by its bytes.
+    Close { job: JobId, name: FileName },
     /// A send of more bytes than one may have. They were passed over, and nothing of them is kept.
     OversizedSend,
-    /// Ends a job's document, which has this name.
-    Close { job: JobId, name: FileName },
-    /// Holds a job until a moment has come, or with none until it is released.
-    Hold { job: JobId, until: Option<Moment> },
-    /// Releases a job that is held.
-    Release(JobId),
-    /// Gives up the attempt at a job that is processing.
-    Abandon(JobId),
-    /// Cancels a job.
-    Cancel(JobId),
-    /// Tells the moment now.
-    Clock(Moment),
     /// Lists the jobs.
     Jobs,
     /// Lists the queues.

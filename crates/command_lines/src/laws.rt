@@ -1,9 +1,11 @@
-//! What the definitions that count lines and words down say without a count.
+//! What the definitions that count lines and words down say without a count, and which events a text asks for.
 ghost use Rattle.std.specs.Prelude.{◌≡◌, ℕ, List};
+ghost use Rattle.std.specs.List.{All};
 ghost use Rattle.command_lines.specs.Lines.{first_line, after_line};
 ghost use Rattle.command_lines.specs.Words.{words_of, after_front, next_word};
 ghost use Rattle.command_lines.specs.Grammar.{kind_of};
 ghost use Rattle.command_lines.specs.Text.{commands_of, after_kind};
+ghost use Rattle.command_lines.specs.Asked.{AsksForLineEvent};
 
 /// The commands of a text are what its first line says, and then the commands of the rest.
 pub fn line_by_line()
@@ -13,4 +15,10 @@ pub fn line_by_line()
 /// The words of a line are its next word, and then the words of the rest.
 pub fn word_by_word()
     ensures { (line : List ℕ) → words_of line ≡ after_front words_of (next_word line) }
+{}
+
+/// Of the events, a text asks directly only for those that a line says whole: never for the start or the end of
+/// an attempt, nor for a reopening.
+pub fn only_line_events()
+    ensures { (text : List ℕ) → All AsksForLineEvent (commands_of text) }
 {}

@@ -13,13 +13,14 @@
 //!   follows its closing quote. `Blanks` and `Quotes` of `line_words` say what a blank is, how far a word and a quoted
 //!   text go, and what a backslash stands for.
 //! - `Numbers`: a number has 1 to 13 digits and no sign.
-//! - `Grammar`: the table of commands, those about a job and those about a queue each in a part of their own. The first
-//!   word chooses a row, and the row says which words follow and what each may be. A further command is a further row.
+//! - `Grammar`: the table of commands, those of one word in a part of their own. The first word chooses a row, and the
+//!   row says which words follow and what each may be. A further command is a further row.
 //!   A line of more than 4,096 bytes is malformed; an empty line and a line that begins with `#`, of any length, say
 //!   nothing.
 //! - `Text`: the commands of a text, line after line, where a `send` takes raw bytes behind its line. Too many bytes are
 //!   one [`Command::OversizedSend`]. Bytes that no line feed follows are one `Malformed`, and reading goes on behind the
 //!   next line feed. [`line_by_line`] and [`word_by_word`] say the two definitions that count down without a count.
+//! - `Asked`: the events that a line says whole. [`only_line_events`]: no text asks directly for another.
 //!
 //! # Promises
 //!
@@ -54,7 +55,7 @@ mod words;
 
 pub use command::{Command, Creation};
 pub use commands::Commands;
-pub use laws::{line_by_line, word_by_word};
+pub use laws::{line_by_line, only_line_events, word_by_word};
 pub use reply::{Answer, print_reply};
 
 #[cfg(test)]

@@ -1,16 +1,20 @@
 //! What a line says.
 ghost use Rattle.std.specs.Prelude.{◌≡◌, IfOk, map};
+ghost use Rattle.std.specs.Option.{option_map};
+ghost use Rattle.spool_types.specs.declared.event.Event.{Event};
+ghost use Rattle.command_lines.specs.declared.command.Command.{Command};
+ghost use Rattle.command_lines.specs.declared.command.Kind.{Kind};
 ghost use Rattle.spool_types.specs.Values.{is_queue_name, is_uri, is_user_name, is_title, is_options, is_note};
 ghost use Rattle.line_words.specs.Seen.{bytes_of};
-ghost use Rattle.command_lines.specs.Grammar.{kind_of as line_kind, is_remark as remark, kind_in, line_of, queue_command, job_command, queue_line as queues, queue_of, info_line as informs, info_of, accept_line as accepts, stop_line as stops, create_line as creates, creation_of, send_line as sends, send_of, close_line as closes, close_of, hold_line as holds, release_line as releases, abandon_line as abandons, cancel_line as cancels, cancel_of, clock_line as clocks, jobs_line as lists, queues_line as lists_queues, text_in, media_in, copies_in, priority_in, policy_in as policy_word};
+ghost use Rattle.command_lines.specs.Grammar.{kind_of as line_kind, is_remark as remark, kind_in, line_of, one_word, one_word_line as asks, queue_line as queues, queue_of, info_line as informs, info_of, create_line as creates, creation_of, send_line as sends, send_of, close_line as closes, close_of, hold_line as holds, jobs_line as lists, queues_line as lists_queues, text_in, media_in, queue_in, copies_in, priority_in, policy_in as policy_word};
 
 use crate::command::{Command, Creation, Kind};
 use crate::numbers::{job_number, moment_number, ranged_number, short_number, small_number};
 use crate::words::words_of;
 use line_words::Word;
 use spool_types::{
-    Copies, FileName, Interval, MediaType, NewQueue, Note, OptionText, Policy, Priority, QueueName,
-    QueueNotes, Text, TextFault, TextKind, Title, Uri, UserName,
+    Copies, Event, FileName, Interval, MediaType, NewQueue, Note, OptionText, Policy, Priority,
+    QueueName, QueueNotes, Text, TextFault, TextKind, Title, Uri, UserName,
 };
 use std::alloc::{AllocError, Global};
 
@@ -65,6 +69,13 @@ fn kind_of_words(alloc: Global, words: &[Word<'_>]) -> Result<Option<Kind>, Allo
     }
 }
 
+// A line that asks for this event.
+fn applies(event: Event) -> Kind
+    ensures { result ≡ Kind.Says (Command.Apply event) }
+{
+    Kind::Says(Command::Apply(event))
+}
+
 // What the words behind the name of a command say.
 fn line_of_command(
     alloc: Global,
@@ -73,55 +84,18 @@ fn line_of_command(
 ) -> Result<Option<Kind>, AllocError>
     ensures { IfOk result (λ kind. kind ≡ line_of name.now (map bytes_of words.now)) }
 {
-    if name == b"clock".as_slice() {
-        return Ok(clock_line(words));
-    }
     if name == b"jobs".as_slice() {
         return Ok(jobs_line(words));
     }
     if name == b"queues".as_slice() {
         return Ok(queues_line(words));
     }
-    line_of_queue_command(alloc, name, words)
-}
-
-// The same of a command about a queue or a job.
-fn line_of_queue_command(
-    alloc: Global,
-    name: &[u8],
-    words: &[Word<'_>],
-) -> Result<Option<Kind>, AllocError>
-    ensures { IfOk result (λ kind. kind ≡ queue_command name.now (map bytes_of words.now)) }
-{
     if name == b"queue".as_slice() {
         return queue_line(alloc, words);
     }
     if name == b"info".as_slice() {
         return info_line(alloc, words);
     }
-    if name == b"accept".as_slice() {
-        return accept_line(alloc, true, words);
-    }
-    if name == b"reject".as_slice() {
-        return accept_line(alloc, false, words);
-    }
-    if name == b"enable".as_slice() {
-        return stop_line(alloc, false, words);
-    }
-    if name == b"disable".as_slice() {
-        return stop_line(alloc, true, words);
-    }
-    line_of_job_command(alloc, name, words)
-}
-
-// The same of a command about a job.
-fn line_of_job_command(
-    alloc: Global,
-    name: &[u8],
-    words: &[Word<'_>],
-) -> Result<Option<Kind>, AllocError>
-    ensures { IfOk result (λ kind. kind ≡ job_command name.now (map bytes_of words.now)) }
-{
     if name == b"create".as_slice() {
         return create_line(alloc, words);
     }
@@ -134,16 +108,65 @@ fn line_of_job_command(
     if name == b"hold".as_slice() {
         return Ok(hold_line(words));
     }
+    one_word_line(alloc, name, words)
+}
+
+// A command of one word.
+fn one_word_line(alloc: Global, name: &[u8], words: &[Word<'_>]) -> Result<Option<Kind>, AllocError>
+    ensures { IfOk result (λ kind. kind ≡ asks name.now (map bytes_of words.now)) }
+{
+    let [word] = words else {
+        return Ok(None);
+    };
+    match event_of_word(alloc, name, word.bytes())? {
+        Some(event) => Ok(Some(applies(event))),
+        None => Ok(None),
+    }
+}
+
+// The event of a command of one word.
+fn event_of_word(alloc: Global, name: &[u8], word: &[u8]) -> Result<Option<Event>, AllocError>
+    ensures { IfOk result (λ event. event ≡ one_word name.now word.now) }
+{
+    if name == b"accept".as_slice() {
+        return set_accept(alloc, word, true);
+    }
+    if name == b"reject".as_slice() {
+        return set_accept(alloc, word, false);
+    }
+    if name == b"enable".as_slice() {
+        return set_stop(alloc, word, false);
+    }
+    if name == b"disable".as_slice() {
+        return set_stop(alloc, word, true);
+    }
     if name == b"release".as_slice() {
-        return Ok(release_line(words));
+        return Ok(job_number(word).map(|job| Event::Release(job)));
     }
     if name == b"cancel".as_slice() {
-        return Ok(cancel_line(words));
+        return Ok(job_number(word).map(|job| Event::Cancel(job)));
     }
     if name == b"abandon".as_slice() {
-        return Ok(abandon_line(words));
+        return Ok(job_number(word).map(|job| Event::Abandon(job)));
+    }
+    if name == b"clock".as_slice() {
+        return Ok(moment_number(word).map(|moment| Event::Clock(moment)));
     }
     Ok(None)
+}
+
+fn set_accept(alloc: Global, word: &[u8], accepting: bool) -> Result<Option<Event>, AllocError>
+    ensures { IfOk result (λ event. event ≡ option_map (λ queue. Event.SetAccept queue accepting) (queue_in word.now)) }
+{
+    let queue: Option<QueueName> = text_of(alloc, word)?;
+    Ok(queue.map(|queue| Event::SetAccept { queue, accepting }))
+}
+
+fn set_stop(alloc: Global, word: &[u8], stopped: bool) -> Result<Option<Event>, AllocError>
+    ensures { IfOk result (λ event. event ≡ option_map (λ queue. Event.SetStop queue stopped) (queue_in word.now)) }
+{
+    let queue: Option<QueueName> = text_of(alloc, word)?;
+    Ok(queue.map(|queue| Event::SetStop { queue, stopped }))
 }
 
 // `queue NAME URI TYPE POLICY [INTERVAL [LIMIT]]`
@@ -236,45 +259,13 @@ fn notes(
     let location: Option<Note> = text_of(alloc, location)?;
     match (queue, info, location) {
         (Some(queue), Some(info), Some(location)) => {
-            Ok(Some(Kind::Says(Command::Info(QueueNotes {
+            Ok(Some(applies(Event::Info(QueueNotes {
                 queue,
                 info,
                 location,
             }))))
         }
         _ => Ok(None),
-    }
-}
-
-// `accept QUEUE` and `reject QUEUE`
-fn accept_line(
-    alloc: Global,
-    accepting: bool,
-    words: &[Word<'_>],
-) -> Result<Option<Kind>, AllocError>
-    ensures { IfOk result (λ kind. kind ≡ accepts accepting (map bytes_of words.now)) }
-{
-    let [queue] = words else {
-        return Ok(None);
-    };
-    let queue: Option<QueueName> = text_of(alloc, queue.bytes())?;
-    match queue {
-        Some(queue) => Ok(Some(Kind::Says(Command::SetAccept { queue, accepting }))),
-        None => Ok(None),
-    }
-}
-
-// `enable QUEUE` and `disable QUEUE`
-fn stop_line(alloc: Global, stopped: bool, words: &[Word<'_>]) -> Result<Option<Kind>, AllocError>
-    ensures { IfOk result (λ kind. kind ≡ stops stopped (map bytes_of words.now)) }
-{
-    let [queue] = words else {
-        return Ok(None);
-    };
-    let queue: Option<QueueName> = text_of(alloc, queue.bytes())?;
-    match queue {
-        Some(queue) => Ok(Some(Kind::Says(Command::SetStop { queue, stopped }))),
-        None => Ok(None),
     }
 }
 
@@ -369,47 +360,7 @@ fn hold_line(words: &[Word<'_>]) -> Option<Kind>
     } else {
         Some(moment_number(until.bytes())?)
     };
-    Some(Kind::Says(Command::Hold { job, until }))
-}
-
-// `release JOB`
-fn release_line(words: &[Word<'_>]) -> Option<Kind>
-    ensures { result ≡ releases (map bytes_of words.now) }
-{
-    match words {
-        [job] => Some(Kind::Says(Command::Release(job_number(job.bytes())?))),
-        _ => None,
-    }
-}
-
-// `abandon JOB`
-fn abandon_line(words: &[Word<'_>]) -> Option<Kind>
-    ensures { result ≡ abandons (map bytes_of words.now) }
-{
-    match words {
-        [job] => Some(Kind::Says(Command::Abandon(job_number(job.bytes())?))),
-        _ => None,
-    }
-}
-
-// `cancel JOB`
-fn cancel_line(words: &[Word<'_>]) -> Option<Kind>
-    ensures { result ≡ cancels (map bytes_of words.now) }
-{
-    match words {
-        [job] => Some(Kind::Says(Command::Cancel(job_number(job.bytes())?))),
-        _ => None,
-    }
-}
-
-// `clock MOMENT`
-fn clock_line(words: &[Word<'_>]) -> Option<Kind>
-    ensures { result ≡ clocks (map bytes_of words.now) }
-{
-    match words {
-        [moment] => Some(Kind::Says(Command::Clock(moment_number(moment.bytes())?))),
-        _ => None,
-    }
+    Some(applies(Event::Hold { job, until }))
 }
 
 // `jobs`

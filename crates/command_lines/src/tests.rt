@@ -8,6 +8,39 @@ use spool_types::{
 use std::alloc::Global;
 use std::test::Fail;
 
+// Adds a line for a command.
+fn push_shown(lines: &mut String, command: &Command) -> Result<(), Fail> {
+    writeln!(lines, "{command:?}")?;
+    Ok(())
+}
+
+// Adds a line for each command that is whole.
+fn push_whole(lines: &mut String, reader: &mut Commands) -> Result<(), Fail> {
+    for _ in 0..u32::MAX {
+        let Some(command) = reader.next()? else {
+            break;
+        };
+        let pushed = push_shown(lines, &command);
+        // By name: let go at the end of its scope, it would split the proof into a case for each kind of event.
+        drop(command);
+        pushed?;
+    }
+    Ok(())
+}
+
+// Adds a line for each command that is left where the text ends.
+fn push_last(lines: &mut String, reader: &mut Commands) -> Result<(), Fail> {
+    for _ in 0..u32::MAX {
+        let Some(command) = reader.finish()? else {
+            break;
+        };
+        let pushed = push_shown(lines, &command);
+        drop(command);
+        pushed?;
+    }
+    Ok(())
+}
+
 // The commands of a text that is fed in pieces of so many bytes, a line for each.
 fn shown(alloc: Global, text: &[u8], size: usize) -> Result<String, Fail>
     requires { 0 < size }
@@ -16,19 +49,9 @@ fn shown(alloc: Global, text: &[u8], size: usize) -> Result<String, Fail>
     let mut lines = String::new(alloc);
     for piece in text.chunks(size) {
         reader.feed(piece)?;
-        for _ in 0..u32::MAX {
-            match reader.next()? {
-                Some(command) => writeln!(lines, "{command:?}")?,
-                None => break,
-            }
-        }
+        push_whole(&mut lines, &mut reader)?;
     }
-    for _ in 0..u32::MAX {
-        match reader.finish()? {
-            Some(command) => writeln!(lines, "{command:?}")?,
-            None => break,
-        }
-    }
+    push_last(&mut lines, &mut reader)?;
     Ok(lines)
 }
 
@@ -53,19 +76,19 @@ jobs";
 
 const SCRIPT_SHOWN: &str =
     "Queue(NewQueue { name: \"lab\", uri: \"spoolfile:/out\", target: MediaType { name: \"text/plain\" }, policy: AbortJob, interval: Ranged { number: 30 }, limit: 5 })\n\
-Info(QueueNotes { queue: \"lab\", info: \"Front desk\", location: \"Room 4\" })\n\
-SetAccept { queue: \"lab\", accepting: false }\n\
-SetStop { queue: \"lab\", stopped: true }\n\
-SetAccept { queue: \"lab\", accepting: true }\n\
-SetStop { queue: \"lab\", stopped: false }\n\
+Apply(Info(QueueNotes { queue: \"lab\", info: \"Front desk\", location: \"Room 4\" }))\n\
+Apply(SetAccept { queue: \"lab\", accepting: false })\n\
+Apply(SetStop { queue: \"lab\", stopped: true })\n\
+Apply(SetAccept { queue: \"lab\", accepting: true })\n\
+Apply(SetStop { queue: \"lab\", stopped: false })\n\
 Create(Creation { queue: \"lab\", user: \"ann\", title: \"First page\", copies: Ranged { number: 1 }, priority: Ranged { number: 50 }, options: \"\" })\n\
-Send { job: JobId { number: 1 }, bytes: Items { items: [97, 10, 98] } }\n\
+Apply(Send { job: JobId { number: 1 }, bytes: Items { items: [97, 10, 98] } })\n\
 Close { job: JobId { number: 1 }, name: \"page.txt\" }\n\
-Hold { job: JobId { number: 1 }, until: Some(Moment { seconds: 100 }) }\n\
-Release(JobId { number: 1 })\n\
-Abandon(JobId { number: 1 })\n\
-Cancel(JobId { number: 1 })\n\
-Clock(Moment { seconds: 7 })\n\
+Apply(Hold { job: JobId { number: 1 }, until: Some(Moment { seconds: 100 }) })\n\
+Apply(Release(JobId { number: 1 }))\n\
+Apply(Abandon(JobId { number: 1 }))\n\
+Apply(Cancel(JobId { number: 1 }))\n\
+Apply(Clock(Moment { seconds: 7 }))\n\
 Queues\n\
 Jobs\n";
 
@@ -119,7 +142,7 @@ Malformed\n\
 Malformed\n\
 Close { job: JobId { number: 1 }, name: \"a\\\\b\" }\n\
 Jobs\n\
-Cancel(JobId { number: 1 })\n"
+Apply(Cancel(JobId { number: 1 }))\n"
     );
     Ok(())
 }
@@ -142,7 +165,7 @@ fn bytes_that_are_no_text(rt: HostRuntime) -> Result<(), Fail> {
     let lines = shown(rt.alloc(), text, 4096)?;
     assert_eq!(rt;
         lines.as_str(),
-        "Malformed\nMalformed\nClose { job: JobId { number: 1 }, name: \"\u{e9}\" }\nMalformed\nSend { job: JobId { number: 1 }, bytes: Items { items: [255, 0] } }\n"
+        "Malformed\nMalformed\nClose { job: JobId { number: 1 }, name: \"\u{e9}\" }\nMalformed\nApply(Send { job: JobId { number: 1 }, bytes: Items { items: [255, 0] } })\n"
     );
     Ok(())
 }
@@ -154,7 +177,7 @@ fn numbers(rt: HostRuntime) -> Result<(), Fail> {
     let lines = shown(rt.alloc(), text, 4096)?;
     assert_eq!(rt;
         lines.as_str(),
-        "Cancel(JobId { number: 1 })\nMalformed\nMalformed\nMalformed\nCancel(JobId { number: 2147483647 })\nMalformed\nMalformed\n"
+        "Apply(Cancel(JobId { number: 1 }))\nMalformed\nMalformed\nMalformed\nApply(Cancel(JobId { number: 2147483647 }))\nMalformed\nMalformed\n"
     );
     Ok(())
 }
@@ -165,7 +188,7 @@ fn moments(rt: HostRuntime) -> Result<(), Fail> {
     let lines = shown(rt.alloc(), text, 4096)?;
     assert_eq!(rt;
         lines.as_str(),
-        "Clock(Moment { seconds: 0 })\nClock(Moment { seconds: 4000000000000 })\nMalformed\nMalformed\nMalformed\nMalformed\n"
+        "Apply(Clock(Moment { seconds: 0 }))\nApply(Clock(Moment { seconds: 4000000000000 }))\nMalformed\nMalformed\nMalformed\nMalformed\n"
     );
     Ok(())
 }
@@ -176,8 +199,8 @@ fn notes_of_a_queue(rt: HostRuntime) -> Result<(), Fail> {
     let lines = shown(rt.alloc(), text, 4096)?;
     assert_eq!(rt;
         lines.as_str(),
-        "Info(QueueNotes { queue: \"lab\", info: \"Front desk\", location: \"\" })\n\
-Info(QueueNotes { queue: \"lab\", info: \"\", location: \"Room 4\" })\n\
+        "Apply(Info(QueueNotes { queue: \"lab\", info: \"Front desk\", location: \"\" }))\n\
+Apply(Info(QueueNotes { queue: \"lab\", info: \"\", location: \"Room 4\" }))\n\
 Malformed\n"
     );
     Ok(())
@@ -189,8 +212,8 @@ fn queues_that_accept_or_reject(rt: HostRuntime) -> Result<(), Fail> {
     let lines = shown(rt.alloc(), text, 4096)?;
     assert_eq!(rt;
         lines.as_str(),
-        "SetAccept { queue: \"lab\", accepting: true }\n\
-SetAccept { queue: \"lab\", accepting: false }\n\
+        "Apply(SetAccept { queue: \"lab\", accepting: true })\n\
+Apply(SetAccept { queue: \"lab\", accepting: false })\n\
 Malformed\n\
 Malformed\n"
     );
@@ -202,7 +225,7 @@ fn queues_that_stop_or_go_on(rt: HostRuntime) -> Result<(), Fail> {
     let lines = shown(rt.alloc(), b"enable lab\ndisable lab\n", 4096)?;
     assert_eq!(rt;
         lines.as_str(),
-        "SetStop { queue: \"lab\", stopped: false }\nSetStop { queue: \"lab\", stopped: true }\n"
+        "Apply(SetStop { queue: \"lab\", stopped: false })\nApply(SetStop { queue: \"lab\", stopped: true })\n"
     );
     Ok(())
 }
@@ -214,9 +237,9 @@ hold 1\nhold 1 Indefinite\nhold 1 4000000000001\nhold 0 indefinite\n";
     let lines = shown(rt.alloc(), text, 4096)?;
     assert_eq!(rt;
         lines.as_str(),
-        "Hold { job: JobId { number: 1 }, until: Some(Moment { seconds: 100 }) }\n\
-Hold { job: JobId { number: 1 }, until: None }\n\
-Hold { job: JobId { number: 1 }, until: None }\n\
+        "Apply(Hold { job: JobId { number: 1 }, until: Some(Moment { seconds: 100 }) })\n\
+Apply(Hold { job: JobId { number: 1 }, until: None })\n\
+Apply(Hold { job: JobId { number: 1 }, until: None })\n\
 Malformed\n\
 Malformed\n\
 Malformed\n\
@@ -228,7 +251,10 @@ Malformed\n"
 #[test]
 fn releases(rt: HostRuntime) -> Result<(), Fail> {
     let lines = shown(rt.alloc(), b"release 1\nrelease x\n", 4096)?;
-    assert_eq!(rt; lines.as_str(), "Release(JobId { number: 1 })\nMalformed\n");
+    assert_eq!(rt;
+        lines.as_str(),
+        "Apply(Release(JobId { number: 1 }))\nMalformed\n"
+    );
     Ok(())
 }
 
@@ -264,8 +290,8 @@ fn padded(alloc: Global, front: &[u8], b: u8, count: usize, end: &[u8]) -> Resul
 fn longest_note(rt: HostRuntime) -> Result<(), Fail> {
     let alloc = rt.alloc();
     let text = padded(alloc, b"info lab \"\" ", b'x', 127, b"\n")?;
-    let front = b"Info(QueueNotes { queue: \"lab\", info: \"\", location: \"";
-    let want = padded(alloc, front, b'x', 127, b"\" })\n")?;
+    let front = b"Apply(Info(QueueNotes { queue: \"lab\", info: \"\", location: \"";
+    let want = padded(alloc, front, b'x', 127, b"\" }))\n")?;
     assert_eq!(rt; shown(alloc, &text, 4096)?.as_bytes(), want.as_slice());
     Ok(())
 }
@@ -325,7 +351,7 @@ fn sends_without_their_end(rt: HostRuntime) -> Result<(), Fail> {
     let lines = shown(rt.alloc(), b"send 1 0\n\nsend 1 0", 4096)?;
     assert_eq!(rt;
         lines.as_str(),
-        "Send { job: JobId { number: 1 }, bytes: Items { items: [] } }\nMalformed\n"
+        "Apply(Send { job: JobId { number: 1 }, bytes: Items { items: [] } })\nMalformed\n"
     );
     Ok(())
 }

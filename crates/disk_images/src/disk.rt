@@ -1,12 +1,11 @@
 // The disk that keeps exactly its images.
 ghost use Rattle.std.specs.Prelude.{◌≡◌, ◌+◌, ◌≤◌, ◌⊎◌, ◌∷◌, [], ◌++◌, ◌<◌, ◌-◌, ◌^◌, Some, false, IfOk, IsErr, OnOk, OnErr, IsTrue, length, replicate};
-ghost use Rattle.std.specs.Option.{option_map};
 ghost use Rattle.std.proofs.Common.{subst};
 ghost use Rattle.std.proofs.lemmas.Option.{same_Some};
-ghost use Rattle.spool_disk.specs.Disk.{overwritten, SameOutside, Reads, IsOldOutside, IsSynced, LeavesOnly, HasCause};
-ghost use Rattle.spool_disk.specs.Images.{AddsRange, HasNoneUnsynced, IsImage, IsImageSince};
+ghost use Rattle.spool_disk.specs.Disk.{Reads, IsSynced, IsWritten, ChangesNothing, ChangesOnly, Counts, HasCause};
+ghost use Rattle.spool_disk.specs.Images.{AddsRange, HasNoneUnsynced, IsImage};
 ghost use Rattle.disk_images.specs.ImageLaws.{what_is_read, counts_now, only_now};
-ghost use Rattle.disk_images.specs.Kept.{device_of, past_of, moment_of, moments_of, failure_count, AddsImages};
+ghost use Rattle.disk_images.specs.Kept.{device_of, past_of, moment_of, failure_count, exact_images, AddsImages};
 
 use crate::content::Content;
 use crate::faults::Faults;
@@ -78,7 +77,7 @@ impl<F: Faults> ImageDisk<F> {
         ensures past { (self.new.past.items ≡ self.old.past.items ++ self.old.now ∷ []) ⊎ (self.new.past.items ≡ self.old.past.items) }
         ensures kept { OnOk result (self.old.failures < 2 ^ 64 - 1 → self.new.past.items ≡ self.old.past.items ++ self.old.now ∷ []) }
         ensures left_out { OnErr result (self.new.past.items ≡ self.old.past.items) }
-        ensures cause { HasCause self.old.failures self.new.failures result }
+        ensures cause { Counts self.old.failures self.new.failures result }
     {
         match self.keep_moment() {
             Ok(()) => Ok(()),
@@ -94,25 +93,14 @@ impl<F: Faults> ImageDisk<F> {
 }
 
 impl<F: Faults> Disk for ImageDisk<F> {
-    ghost bytes = { λ d. Some (device_of d).bytes };
+    ghost device = { exact_images };
 
-    ghost size = { λ d. length (device_of d).bytes };
-
-    ghost image = { λ d. IsImage (device_of d) };
-
-    ghost moment = { moment_of };
-
-    ghost image_since = { λ d. IsImageSince (moments_of d) };
-
-    ghost failures = { failure_count };
-
-    ghost reads_image = { λ d r tells. subst (IsImage (device_of d)) (same_Some (device_of d).bytes r tells) (what_is_read (device_of d)) };
-
-    ghost image_size = { λ d c is. is.size };
-
-    ghost counts_now = { λ d. counts_now (past_of d) (device_of d) };
-
-    ghost only_now = { λ d. only_now (past_of d) (device_of d) };
+    ghost lawful = { record {
+      reads_image = λ d r tells. subst (IsImage (device_of d)) (same_Some (device_of d).bytes r tells) (what_is_read (device_of d));
+      image_size = λ d c is. is.size;
+      counts_now = λ d. counts_now (past_of d) (device_of d);
+      only_now = λ d. only_now (past_of d) (device_of d);
+    } };
 
     fn len(&self) -> u64 {
         self.now.len() as u64
@@ -125,13 +113,11 @@ impl<F: Faults> Disk for ImageDisk<F> {
     fn read(&mut self, at: u64, into: &mut [u8]) -> Result<(), DeviceFault>
         requires { at + length into.old ≤ length (device_of self.old).bytes }
         ensures data { OnOk result (Reads (Some (device_of self.old).bytes) at into.new) }
-        ensures stays { Some (device_of self.new).bytes ≡ Some (device_of self.old).bytes }
-        ensures fixed { length (device_of self.new).bytes ≡ length (device_of self.old).bytes }
-        ensures during { LeavesOnly ⟦<ImageDisk<F> as Disk>⟧.moment ⟦<ImageDisk<F> as Disk>⟧.image_since self.old self.new (IsImage (device_of self.old)) }
-        ensures cause { HasCause (failure_count self.old) (failure_count self.new) result }
+        ensures same { ChangesNothing exact_images self.old self.new }
+        ensures cause { HasCause exact_images self.old self.new result }
 
         // Exactly as defined: it stays as it is.
-        ensures same { device_of self.new ≡ device_of self.old }
+        ensures still { device_of self.new ≡ device_of self.old }
         ensures since { AddsImages self.old self.new }
     {
         if self.strikes() {
@@ -145,11 +131,9 @@ impl<F: Faults> Disk for ImageDisk<F> {
 
     fn write(&mut self, at: u64, from: &[u8]) -> Result<(), DeviceFault>
         requires { at + length from.now ≤ length (device_of self.old).bytes }
-        ensures written { OnOk result (Some (device_of self.new).bytes ≡ option_map (overwritten at from.now) (Some (device_of self.old).bytes)) }
-        ensures stays { SameOutside at (length from.now) (device_of self.old).bytes (device_of self.new).bytes }
-        ensures fixed { length (device_of self.new).bytes ≡ length (device_of self.old).bytes }
-        ensures during { LeavesOnly ⟦<ImageDisk<F> as Disk>⟧.moment ⟦<ImageDisk<F> as Disk>⟧.image_since self.old self.new (IsOldOutside (IsImage (device_of self.old)) at (length from.now)) }
-        ensures cause { HasCause (failure_count self.old) (failure_count self.new) result }
+        ensures written { OnOk result (IsWritten exact_images self.old self.new at from.now) }
+        ensures changes { ChangesOnly exact_images self.old self.new at (length from.now) }
+        ensures cause { HasCause exact_images self.old self.new result }
 
         // Exactly as defined: the range is unsynced, after a fault too.
         ensures unsynced { AddsRange at (length from.now) (device_of self.old) (device_of self.new) }
@@ -166,16 +150,14 @@ impl<F: Faults> Disk for ImageDisk<F> {
     }
 
     fn sync(&mut self) -> Result<(), DeviceFault>
-        ensures durable { OnOk result (IsSynced (Some (device_of self.new).bytes) (IsImage (device_of self.new))) }
-        ensures stays { Some (device_of self.new).bytes ≡ Some (device_of self.old).bytes }
-        ensures fixed { length (device_of self.new).bytes ≡ length (device_of self.old).bytes }
-        ensures during { LeavesOnly ⟦<ImageDisk<F> as Disk>⟧.moment ⟦<ImageDisk<F> as Disk>⟧.image_since self.old self.new (IsImage (device_of self.old)) }
-        ensures cause { HasCause (failure_count self.old) (failure_count self.new) result }
+        ensures durable { OnOk result (IsSynced exact_images self.new) }
+        ensures same { ChangesNothing exact_images self.old self.new }
+        ensures cause { HasCause exact_images self.old self.new result }
 
         // Exactly as defined: nothing is unsynced, or all stays as it is. Only at the greatest count of failures, where
         // no call may fail, a moment for which there is no memory isn't kept.
         ensures synced { OnOk result (HasNoneUnsynced (device_of self.new)) }
-        ensures same { OnErr result (device_of self.new ≡ device_of self.old) }
+        ensures still { OnErr result (device_of self.new ≡ device_of self.old) }
         ensures since { failure_count self.old < 2 ^ 64 - 1 → AddsImages self.old self.new }
     {
         if self.strikes() {

@@ -1,16 +1,16 @@
 //! Reading events.
-ghost use Rattle.std.specs.Prelude.{◌≡◌, ◌↔◌, ◌⊎◌, length, IfOk, IfErr, IsOk, Ok, IsErrOf};
+ghost use Rattle.std.specs.Prelude.{◌≡◌, ◌↔◌, ◌⊎◌, ℕ, length, IfOk, IfErr, IsOk, Ok, IsErrOf};
 ghost use Rattle.std.specs.Int.{w8, w16, w32};
 ghost use Rattle.spool_types.specs.declared.event.Event.{Event as Change};
 ghost use Rattle.spool_types.specs.Values.{is_media_type};
 ghost use Rattle.event_codec.specs.Spelling.{IsSpellable, spelling};
-ghost use Rattle.event_codec.specs.Reading.{Gives, ranged_at as ranged_number_at, text_at as text, flag_at as flagged, until_at as until, exit_at as exit, policy_at as policy, filters_at as filters, counted_filters_at as counted_filters, maybe_filters_at as maybe_filters, piece_at as piece, queue_at, notes_at, accept_at, stop_at, job_at, send_at, closing_at, hold_at, release_at, cancel_at, clock_at, start_at, stage_at, abandon_at, whole, reading};
+ghost use Rattle.event_codec.specs.Reading.{Gives, ranged_at as ranged_number_at, text_at as text, flag_at as flagged, until_at as until, exit_at as exit, policy_at as policy, filters_at as filters, counted_filters_at as counted_filters, maybe_filters_at as maybe_filters, piece_at as piece, queue_at, notes_at, accept_at, stop_at, job_at, send_at, closing_at, hold_at, numbered_at, clock_at, stage_at, whole, reading};
 
 use crate::fault::CodecFault;
 use crate::fields::{job_id, moment, part_at, ranged, text_at, u8_at, u16_at, u32_at, u64_at};
 use spool_types::{
-    Closing, Event, Exit, FilterName, Filters, MediaType, MediaTypeKind, Moment, NewJob, NewQueue,
-    Piece, Policy, QueueNotes, StageEnd,
+    Closing, Event, Exit, FilterName, Filters, JobId, MediaType, MediaTypeKind, Moment, NewJob,
+    NewQueue, Piece, Policy, QueueNotes, StageEnd,
 };
 use std::alloc::Global;
 
@@ -281,24 +281,15 @@ fn hold_of(fields: &[u8]) -> Result<Event, CodecFault>
     }
 }
 
-#[tactic(auto, unfolding(crate::specs::Reading::release_at, crate::specs::Reading::ranged_at, crate::specs::Reading::whole))]
-fn release_of(fields: &[u8]) -> Result<Event, CodecFault>
-    ensures { Gives (λ e. e) result (whole (release_at fields.now)) }
+// A job's number, and nothing after it.
+#[tactic(auto, unfolding(crate::specs::Reading::numbered_at, crate::specs::Reading::ranged_at, crate::specs::Reading::whole))]
+fn only_job(fields: &[u8]) -> Result<JobId, CodecFault>
+    ensures { (event : ℕ → Change) → Gives event result (whole (numbered_at event fields.now)) }
 {
     let (number, rest) = u32_at(fields)?;
     let job = job_id(number)?;
     ended(rest)?;
-    Ok(Event::Release(job))
-}
-
-#[tactic(auto, unfolding(crate::specs::Reading::cancel_at, crate::specs::Reading::ranged_at, crate::specs::Reading::whole))]
-fn cancel_of(fields: &[u8]) -> Result<Event, CodecFault>
-    ensures { Gives (λ e. e) result (whole (cancel_at fields.now)) }
-{
-    let (number, rest) = u32_at(fields)?;
-    let job = job_id(number)?;
-    ended(rest)?;
-    Ok(Event::Cancel(job))
+    Ok(job)
 }
 
 #[tactic(auto, unfolding(crate::specs::Reading::clock_at, crate::specs::Reading::ranged_at, crate::specs::Reading::whole))]
@@ -309,16 +300,6 @@ fn clock_of(fields: &[u8]) -> Result<Event, CodecFault>
     let moment = moment(seconds)?;
     ended(rest)?;
     Ok(Event::Clock(moment))
-}
-
-#[tactic(auto, unfolding(crate::specs::Reading::start_at, crate::specs::Reading::ranged_at, crate::specs::Reading::whole))]
-fn start_of(fields: &[u8]) -> Result<Event, CodecFault>
-    ensures { Gives (λ e. e) result (whole (start_at fields.now)) }
-{
-    let (number, rest) = u32_at(fields)?;
-    let job = job_id(number)?;
-    ended(rest)?;
-    Ok(Event::Start(job))
 }
 
 /// No effect can be spelled yet.
@@ -356,16 +337,6 @@ fn stage_of(fields: &[u8]) -> Result<Event, CodecFault>
     }))
 }
 
-#[tactic(auto, unfolding(crate::specs::Reading::abandon_at, crate::specs::Reading::ranged_at, crate::specs::Reading::whole))]
-fn abandon_of(fields: &[u8]) -> Result<Event, CodecFault>
-    ensures { Gives (λ e. e) result (whole (abandon_at fields.now)) }
-{
-    let (number, rest) = u32_at(fields)?;
-    let job = job_id(number)?;
-    ended(rest)?;
-    Ok(Event::Abandon(job))
-}
-
 #[tactic(auto, unfolding(crate::specs::Reading::whole))]
 fn reopen_of(fields: &[u8]) -> Result<Event, CodecFault>
     ensures { Gives (λ e. e) result (whole (Ok (Event.Reopen, fields.now))) }
@@ -388,12 +359,12 @@ fn event_of(alloc: Global, payload: &[u8]) -> Result<Event, CodecFault>
         [0x06, fields @ ..] => send_of(alloc, fields),
         [0x07, fields @ ..] => closing_of(alloc, fields),
         [0x08, fields @ ..] => hold_of(fields),
-        [0x09, fields @ ..] => release_of(fields),
-        [0x0A, fields @ ..] => cancel_of(fields),
+        [0x09, fields @ ..] => Ok(Event::Release(only_job(fields)?)),
+        [0x0A, fields @ ..] => Ok(Event::Cancel(only_job(fields)?)),
         [0x0B, fields @ ..] => clock_of(fields),
-        [0x0C, fields @ ..] => start_of(fields),
+        [0x0C, fields @ ..] => Ok(Event::Start(only_job(fields)?)),
         [0x0D, fields @ ..] => stage_of(fields),
-        [0x0E, fields @ ..] => abandon_of(fields),
+        [0x0E, fields @ ..] => Ok(Event::Abandon(only_job(fields)?)),
         [0x0F, fields @ ..] => reopen_of(fields),
         [_, ..] => Err(CodecFault::Kind),
     }

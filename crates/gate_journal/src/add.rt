@@ -1,63 +1,33 @@
-// The two steps of an append: the record behind the closed gate, and then the gate.
+// The two writes of an append: the record behind the closed gate, and then the gate.
 ghost use Rattle.std.specs.Prelude.{◌≡◌, ◌+◌, ◌<◌, ◌≤◌, ◌^◌, List, ℕ, ◌++◌, [], ◌∷◌, length, OnOk};
-ghost use Rattle.std.specs.Option.{option_map};
-ghost use Rattle.spool_disk.specs.Disk.{overwritten, SameOutside, Tells, IsOldOutside, IsSynced, LeavesOnly, HasCause};
-ghost use Rattle.gate_journal.specs.Entries.{HasEntries, IsBeforeOrAfter, KeepsEntries};
-ghost use Rattle.gate_journal.specs.Frame.{framed};
+ghost use Rattle.spool_disk.specs.Disk.{IsSynced, IsWritten, LeavesOnly, ChangesOnly, HasCause};
+ghost use Rattle.gate_journal.specs.Entries.{record_of, IsBeforeOrAfter, KeepsEntries};
+ghost use Rattle.gate_journal.specs.Frame.{framed, payload_of};
 
-use crate::persist::persist;
-use spool_disk::{DeviceFault, Disk};
+use crate::frame::fill;
+use spool_disk::{DeviceFault, Disk, persist};
 
 /// An open gate. Every other byte is a closed one.
 pub(crate) const OPEN: u8 = 0xA5;
 
-// Writes the frame behind the closed gate at a place and syncs. Until the gate opens, nothing that a crash leaves there has
-// a meaning.
-fn stage_record<D: Disk>(disk: &mut D, place: u64, frame: &[u8]) -> Result<(), DeviceFault>
+// Puts the record of a frame at the closed gate at a place. The gate is opened by a write of its own, and only once all
+// that lies behind it is on the device: else a crash could leave it open before anything.
+pub(crate) fn add<D: Disk>(disk: &mut D, place: u64, frame: &mut [u8]) -> Result<(), DeviceFault>
     requires room { place + 1 < 2 ^ 64 }
-    requires fits { place + 1 + length frame.now ≤ D.size disk.old }
-    ensures written { OnOk result (D.bytes disk.new ≡ option_map (overwritten (place + 1) frame.now) (D.bytes disk.old)) }
-    ensures durable { OnOk result (IsSynced (D.bytes disk.new) (D.image disk.new)) }
-    ensures any_moment { LeavesOnly D.moment D.image_since disk.old disk.new (IsOldOutside (D.image disk.old) (place + 1) (length frame.now)) }
-    ensures stays { Tells (SameOutside (place + 1) (length frame.now)) (D.bytes disk.old) (D.bytes disk.new) }
-    ensures fixed { D.size disk.new ≡ D.size disk.old }
-    ensures cause { HasCause (D.failures disk.old) (D.failures disk.new) result }
+    requires whole { 5 ≤ length frame.old }
+    requires short { length frame.old < 2 ^ 32 }
+    requires fits { place + 1 + length frame.old ≤ D.device.size disk.old }
+    ensures framed { frame.new ≡ framed (payload_of frame.old) }
+    ensures written { OnOk result (IsWritten D.device disk.old disk.new place (record_of (payload_of frame.old) ++ 0 ∷ [])) }
+    ensures durable { OnOk result (IsSynced D.device disk.new) }
+    ensures changes { ChangesOnly D.device disk.old disk.new place (1 + length frame.old) }
+    ensures cause { HasCause D.device disk.old disk.new result }
+    ensures added { OnOk result ((base : ℕ) (payloads : List (List ℕ)) → KeepsEntries D.device disk.old base place payloads →
+        KeepsEntries D.device disk.new base (place + length frame.old) (payloads ++ payload_of frame.old ∷ [])) }
+    ensures any_moment { (base : ℕ) (payloads : List (List ℕ)) → KeepsEntries D.device disk.old base place payloads →
+        LeavesOnly D.device disk.old disk.new (IsBeforeOrAfter base payloads (payload_of frame.old)) }
 {
-    persist(disk, place + 1, frame)
-}
-
-// Opens the gate at a place and syncs. Meanwhile a crash leaves that one byte open or not.
-fn open_gate<D: Disk>(disk: &mut D, place: u64) -> Result<(), DeviceFault>
-    requires fits { place + 1 ≤ D.size disk.old }
-    ensures written { OnOk result (D.bytes disk.new ≡ option_map (overwritten place (165 ∷ [])) (D.bytes disk.old)) }
-    ensures durable { OnOk result (IsSynced (D.bytes disk.new) (D.image disk.new)) }
-    ensures any_moment { LeavesOnly D.moment D.image_since disk.old disk.new (IsOldOutside (D.image disk.old) place 1) }
-    ensures stays { Tells (SameOutside place 1) (D.bytes disk.old) (D.bytes disk.new) }
-    ensures fixed { D.size disk.new ≡ D.size disk.old }
-    ensures cause { HasCause (D.failures disk.old) (D.failures disk.new) result }
-{
+    fill(frame);
+    persist(disk, place + 1, frame)?;
     persist(disk, place, &[OPEN])
-}
-
-// Puts a record at the closed gate at a place. The gate is opened by a write of its own, and only once all that stands
-// behind it is on the device: else a crash could leave it open before anything.
-pub(crate) fn add<D: Disk>(disk: &mut D, place: u64, frame: &[u8]) -> Result<(), DeviceFault>
-    requires room { place + 1 < 2 ^ 64 }
-    requires short { length frame.now < 2 ^ 32 }
-    requires fits { place + 1 + length frame.now ≤ D.size disk.old }
-    ensures written { OnOk result (D.bytes disk.new ≡ option_map (overwritten place (165 ∷ frame.now)) (D.bytes disk.old)) }
-    ensures added { OnOk result ((base : ℕ) (payloads : List (List ℕ)) (payload : List ℕ) →
-        frame.now ≡ framed payload → KeepsEntries D.bytes D.image disk.old base place payloads →
-        (c : List ℕ) → D.image disk.new c → HasEntries base (payloads ++ payload ∷ []) c) }
-    ensures durable { OnOk result (IsSynced (D.bytes disk.new) (D.image disk.new)) }
-    ensures any_moment { (base : ℕ) (payloads : List (List ℕ)) (payload : List ℕ) →
-        frame.now ≡ framed payload → KeepsEntries D.bytes D.image disk.old base place payloads →
-        LeavesOnly D.moment D.image_since disk.old disk.new (IsBeforeOrAfter base payloads payload) }
-    ensures outside { LeavesOnly D.moment D.image_since disk.old disk.new (IsOldOutside (D.image disk.old) place (1 + length frame.now)) }
-    ensures stays { Tells (SameOutside place (1 + length frame.now)) (D.bytes disk.old) (D.bytes disk.new) }
-    ensures fixed { D.size disk.new ≡ D.size disk.old }
-    ensures cause { HasCause (D.failures disk.old) (D.failures disk.new) result }
-{
-    stage_record(disk, place, frame)?;
-    open_gate(disk, place)
 }

@@ -1,14 +1,10 @@
 // The journal of one area.
-ghost use Rattle.std.specs.Prelude.{◌≡◌, ◌<◌, ◌≤◌, ◌+◌, ◌-◌, ◌^◌, ◌↔◌, ◌⊎◌, ◌++◌, [], ◌∷◌, List, ℕ, false, length, OnOk, OnErr, IfOk, IsErrOf, IsTrue, IsSome};
-ghost use Rattle.std.specs.Option.{option_map};
-ghost use Rattle.spool_disk.specs.Disk.{overwritten, SameOutside, Tells, IsOldOutside, IsSynced, LeavesOnly, HasCause};
-ghost use Rattle.gate_journal.specs.Entries.{record_of, IsBeforeOrAfter, KeepsEntries};
-ghost use Rattle.gate_journal.specs.Frame.{payload_of};
+ghost use Rattle.std.specs.Prelude.{◌≡◌, ◌<◌, ◌≤◌, ◌+◌, ◌^◌, [], ◌∷◌, false, length, OnOk, IfOk, IsSome};
+ghost use Rattle.spool_disk.specs.Disk.{IsSynced, IsWritten, ChangesOnly, HasCause};
+ghost use Rattle.gate_journal.specs.Entries.{KeepsEntries};
 
 use crate::add::add;
-use crate::frame::fill;
-use crate::persist::persist;
-use spool_disk::{DeviceFault, Disk};
+use spool_disk::{DeviceFault, Disk, persist};
 
 /// Why nothing was added for certain.
 #[derive(Clone, Copy, Debug, PartialEq, Eq)]
@@ -21,7 +17,7 @@ pub enum JournalFault {
     Dead,
 }
 
-/// Where a journal lies on a disk, and where its closed gate stands. It doesn't hold the disk: each call is given it.
+/// Where a journal lies on a disk, and where its closed gate lies. It doesn't hold the disk: each call is given it.
 #[derive(Drop)]
 pub struct Journal {
     base: u64,
@@ -32,22 +28,21 @@ pub struct Journal {
 }
 
 impl Journal {
-    ghost use Rattle.gate_journal.specs.Journal.{base_of, end_of, place_of, is_dead};
+    ghost use Rattle.gate_journal.specs.Journal.{state_of, base_of, end_of, place_of, is_dead};
+    ghost use Rattle.gate_journal.specs.Appends.{Appends};
 
     /// Begins a journal without entries in the `len` bytes from `base` on: it writes the first closed gate and syncs.
     /// The bytes behind that gate stay. An area of at least 7 bytes has room for one record of one byte.
     pub fn begin<D: Disk>(disk: &mut D, base: u64, len: u64) -> Result<Journal, DeviceFault>
         requires len { 7 ≤ len }
-        requires within { base + len ≤ D.size disk.old }
+        requires within { base + len ≤ D.device.size disk.old }
         requires fits { base + len < 2 ^ 64 }
         ensures journal { IfOk result (λ j. (base_of j ≡ base) × (end_of j ≡ base + len) × (place_of j ≡ base) × (is_dead j ≡ false)) }
-        ensures written { OnOk result (D.bytes disk.new ≡ option_map (overwritten base (0 ∷ [])) (D.bytes disk.old)) }
-        ensures none { OnOk result (IsSome (D.bytes disk.old) → KeepsEntries D.bytes D.image disk.new base base []) }
-        ensures durable { OnOk result (IsSynced (D.bytes disk.new) (D.image disk.new)) }
-        ensures outside { LeavesOnly D.moment D.image_since disk.old disk.new (IsOldOutside (D.image disk.old) base 1) }
-        ensures stays { Tells (SameOutside base 1) (D.bytes disk.old) (D.bytes disk.new) }
-        ensures fixed { D.size disk.new ≡ D.size disk.old }
-        ensures cause { HasCause (D.failures disk.old) (D.failures disk.new) result }
+        ensures written { OnOk result (IsWritten D.device disk.old disk.new base (0 ∷ [])) }
+        ensures none { OnOk result (IsSome (D.device.bytes disk.old) → KeepsEntries D.device disk.new base base []) }
+        ensures durable { OnOk result (IsSynced D.device disk.new) }
+        ensures changes { ChangesOnly D.device disk.old disk.new base 1 }
+        ensures cause { HasCause D.device disk.old disk.new result }
     {
         persist(disk, base, &[0])?;
         Ok(Journal {
@@ -58,7 +53,7 @@ impl Journal {
         })
     }
 
-    /// The journal in the `len` bytes from `base` on whose closed gate stands at `place`, as `next_entry` found it. It
+    /// The journal in the `len` bytes from `base` on whose closed gate lies at `place`, as `next_entry` found it. It
     /// calls no device, so the entries and the images are as they were.
     pub fn resume(base: u64, len: u64, place: u64) -> Journal
         requires fits { base + len < 2 ^ 64 }
@@ -85,36 +80,8 @@ impl Journal {
     pub fn append<D: Disk>(&mut self, disk: &mut D, frame: &mut [u8]) -> Result<u64, JournalFault>
         requires whole { 5 ≤ length frame.old }
         requires short { length frame.old < 2 ^ 32 }
-        requires within { end_of self.old ≤ D.size disk.old }
-
-        ensures dead { IsErrOf result JournalFault.Dead ↔ IsTrue (is_dead self.old) }
-        ensures full { IsErrOf result JournalFault.Full ↔ ((is_dead self.old ≡ false) × (end_of self.old < place_of self.old + length frame.old + 7)) }
-        ensures disk { IsErrOf result JournalFault.Disk → D.failures disk.old < D.failures disk.new }
-        ensures counted { D.failures disk.old ≤ D.failures disk.new }
-        ensures dies { IsTrue (is_dead self.new) ↔ (IsTrue (is_dead self.old) ⊎ IsErrOf result JournalFault.Disk) }
-        ensures untouched { (IsErrOf result JournalFault.Dead ⊎ IsErrOf result JournalFault.Full) → (self.new ≡ self.old) × (disk.new ≡ disk.old) × (frame.new ≡ frame.old) }
-        ensures place { IfOk result (λ at. (at ≡ place_of self.old + 5) × (place_of self.new ≡ place_of self.old + length frame.old)) }
-        ensures held { OnErr result (place_of self.new ≡ place_of self.old) }
-        ensures same { (base_of self.new ≡ base_of self.old) × (end_of self.new ≡ end_of self.old) }
-        ensures payload { payload_of frame.new ≡ payload_of frame.old }
-
-        // The record stands at the gate, and a closed gate behind it.
-        ensures written { OnOk result (D.bytes disk.new ≡ option_map (overwritten (place_of self.old) (record_of (payload_of frame.old) ++ 0 ∷ [])) (D.bytes disk.old)) }
-
-        // Where each image has these entries and no others, it adds one, and a crash meanwhile leaves these or one more.
-        ensures added { OnOk result ((payloads : List (List ℕ)) →
-            KeepsEntries D.bytes D.image disk.old (base_of self.old) (place_of self.old) payloads →
-            KeepsEntries D.bytes D.image disk.new (base_of self.new) (place_of self.new) (payloads ++ payload_of frame.old ∷ [])) }
-        ensures durable { OnOk result (IsSynced (D.bytes disk.new) (D.image disk.new)) }
-        ensures any_moment { (payloads : List (List ℕ)) →
-            KeepsEntries D.bytes D.image disk.old (base_of self.old) (place_of self.old) payloads →
-            LeavesOnly D.moment D.image_since disk.old disk.new (IsBeforeOrAfter (base_of self.old) payloads (payload_of frame.old)) }
-
-        // All but the gate and the frame's range behind it stays.
-        ensures outside { LeavesOnly D.moment D.image_since disk.old disk.new (IsOldOutside (D.image disk.old) (place_of self.old) (1 + length frame.old)) }
-        ensures inside { LeavesOnly D.moment D.image_since disk.old disk.new (IsOldOutside (D.image disk.old) (place_of self.old) (end_of self.old - place_of self.old)) }
-        ensures stays { Tells (SameOutside (place_of self.old) (1 + length frame.old)) (D.bytes disk.old) (D.bytes disk.new) }
-        ensures fixed { D.size disk.new ≡ D.size disk.old }
+        requires within { end_of self.old ≤ D.device.size disk.old }
+        ensures { Appends D.device 7 (state_of self.old) (state_of self.new) disk.old disk.new frame.old frame.new result }
     {
         self.append_with(disk, frame, 7)
     }
@@ -128,36 +95,8 @@ impl Journal {
     ) -> Result<u64, JournalFault>
         requires whole { 5 ≤ length frame.old }
         requires short { length frame.old < 2 ^ 32 }
-        requires within { end_of self.old ≤ D.size disk.old }
-
-        ensures dead { IsErrOf result JournalFault.Dead ↔ IsTrue (is_dead self.old) }
-        ensures full { IsErrOf result JournalFault.Full ↔ ((is_dead self.old ≡ false) × (end_of self.old < place_of self.old + length frame.old + 1)) }
-        ensures disk { IsErrOf result JournalFault.Disk → D.failures disk.old < D.failures disk.new }
-        ensures counted { D.failures disk.old ≤ D.failures disk.new }
-        ensures dies { IsTrue (is_dead self.new) ↔ (IsTrue (is_dead self.old) ⊎ IsErrOf result JournalFault.Disk) }
-        ensures untouched { (IsErrOf result JournalFault.Dead ⊎ IsErrOf result JournalFault.Full) → (self.new ≡ self.old) × (disk.new ≡ disk.old) × (frame.new ≡ frame.old) }
-        ensures place { IfOk result (λ at. (at ≡ place_of self.old + 5) × (place_of self.new ≡ place_of self.old + length frame.old)) }
-        ensures held { OnErr result (place_of self.new ≡ place_of self.old) }
-        ensures same { (base_of self.new ≡ base_of self.old) × (end_of self.new ≡ end_of self.old) }
-        ensures payload { payload_of frame.new ≡ payload_of frame.old }
-
-        // The record stands at the gate, and a closed gate behind it.
-        ensures written { OnOk result (D.bytes disk.new ≡ option_map (overwritten (place_of self.old) (record_of (payload_of frame.old) ++ 0 ∷ [])) (D.bytes disk.old)) }
-
-        // Where each image has these entries and no others, it adds one, and a crash meanwhile leaves these or one more.
-        ensures added { OnOk result ((payloads : List (List ℕ)) →
-            KeepsEntries D.bytes D.image disk.old (base_of self.old) (place_of self.old) payloads →
-            KeepsEntries D.bytes D.image disk.new (base_of self.new) (place_of self.new) (payloads ++ payload_of frame.old ∷ [])) }
-        ensures durable { OnOk result (IsSynced (D.bytes disk.new) (D.image disk.new)) }
-        ensures any_moment { (payloads : List (List ℕ)) →
-            KeepsEntries D.bytes D.image disk.old (base_of self.old) (place_of self.old) payloads →
-            LeavesOnly D.moment D.image_since disk.old disk.new (IsBeforeOrAfter (base_of self.old) payloads (payload_of frame.old)) }
-
-        // All but the gate and the frame's range behind it stays.
-        ensures outside { LeavesOnly D.moment D.image_since disk.old disk.new (IsOldOutside (D.image disk.old) (place_of self.old) (1 + length frame.old)) }
-        ensures inside { LeavesOnly D.moment D.image_since disk.old disk.new (IsOldOutside (D.image disk.old) (place_of self.old) (end_of self.old - place_of self.old)) }
-        ensures stays { Tells (SameOutside (place_of self.old) (1 + length frame.old)) (D.bytes disk.old) (D.bytes disk.new) }
-        ensures fixed { D.size disk.new ≡ D.size disk.old }
+        requires within { end_of self.old ≤ D.device.size disk.old }
+        ensures { Appends D.device 1 (state_of self.old) (state_of self.new) disk.old disk.new frame.old frame.new result }
     {
         self.append_with(disk, frame, 1)
     }
@@ -171,38 +110,10 @@ impl Journal {
     ) -> Result<u64, JournalFault>
         requires whole { 5 ≤ length frame.old }
         requires short { length frame.old < 2 ^ 32 }
-        requires within { end_of self.old ≤ D.size disk.old }
+        requires within { end_of self.old ≤ D.device.size disk.old }
         requires room { 1 ≤ room }
         requires little { room < 2 ^ 32 }
-
-        ensures dead { IsErrOf result JournalFault.Dead ↔ IsTrue (is_dead self.old) }
-        ensures full { IsErrOf result JournalFault.Full ↔ ((is_dead self.old ≡ false) × (end_of self.old < place_of self.old + length frame.old + room)) }
-        ensures disk { IsErrOf result JournalFault.Disk → D.failures disk.old < D.failures disk.new }
-        ensures counted { D.failures disk.old ≤ D.failures disk.new }
-        ensures dies { IsTrue (is_dead self.new) ↔ (IsTrue (is_dead self.old) ⊎ IsErrOf result JournalFault.Disk) }
-        ensures untouched { (IsErrOf result JournalFault.Dead ⊎ IsErrOf result JournalFault.Full) → (self.new ≡ self.old) × (disk.new ≡ disk.old) × (frame.new ≡ frame.old) }
-        ensures place { IfOk result (λ at. (at ≡ place_of self.old + 5) × (place_of self.new ≡ place_of self.old + length frame.old)) }
-        ensures held { OnErr result (place_of self.new ≡ place_of self.old) }
-        ensures same { (base_of self.new ≡ base_of self.old) × (end_of self.new ≡ end_of self.old) }
-        ensures payload { payload_of frame.new ≡ payload_of frame.old }
-
-        // The record stands at the gate, and a closed gate behind it.
-        ensures written { OnOk result (D.bytes disk.new ≡ option_map (overwritten (place_of self.old) (record_of (payload_of frame.old) ++ 0 ∷ [])) (D.bytes disk.old)) }
-
-        // Where each image has these entries and no others, it adds one, and a crash meanwhile leaves these or one more.
-        ensures added { OnOk result ((payloads : List (List ℕ)) →
-            KeepsEntries D.bytes D.image disk.old (base_of self.old) (place_of self.old) payloads →
-            KeepsEntries D.bytes D.image disk.new (base_of self.new) (place_of self.new) (payloads ++ payload_of frame.old ∷ [])) }
-        ensures durable { OnOk result (IsSynced (D.bytes disk.new) (D.image disk.new)) }
-        ensures any_moment { (payloads : List (List ℕ)) →
-            KeepsEntries D.bytes D.image disk.old (base_of self.old) (place_of self.old) payloads →
-            LeavesOnly D.moment D.image_since disk.old disk.new (IsBeforeOrAfter (base_of self.old) payloads (payload_of frame.old)) }
-
-        // All but the gate and the frame's range behind it stays.
-        ensures outside { LeavesOnly D.moment D.image_since disk.old disk.new (IsOldOutside (D.image disk.old) (place_of self.old) (1 + length frame.old)) }
-        ensures inside { LeavesOnly D.moment D.image_since disk.old disk.new (IsOldOutside (D.image disk.old) (place_of self.old) (end_of self.old - place_of self.old)) }
-        ensures stays { Tells (SameOutside (place_of self.old) (1 + length frame.old)) (D.bytes disk.old) (D.bytes disk.new) }
-        ensures fixed { D.size disk.new ≡ D.size disk.old }
+        ensures { Appends D.device room (state_of self.old) (state_of self.new) disk.old disk.new frame.old frame.new result }
     {
         if self.dead {
             return Err(JournalFault::Dead);
@@ -211,7 +122,6 @@ impl Journal {
         if self.end - self.place < size + room {
             return Err(JournalFault::Full);
         }
-        fill(frame);
         let place = self.place;
         match add(disk, place, frame) {
             Ok(()) => {

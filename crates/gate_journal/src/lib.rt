@@ -5,7 +5,7 @@
 //! From the area's base on, records follow one another. A record is a gate, the payload's length in four bytes with the
 //! high byte first, and the payload; the byte behind it is the next gate. A gate is open where it is A5, and closed at
 //! every other value; what is written as a closed gate is 00. The entries are the payloads of the records up to the
-//! first closed gate (`HasEntries`). What stands behind that gate has no meaning. Bytes have one list of entries
+//! first closed gate (`HasEntries`). What lies behind that gate has no meaning. Bytes have one list of entries
 //! (`entries_law`).
 //!
 //! # What it promises to the layer above, on every disk that meets `Disk`
@@ -15,7 +15,8 @@
 //! 3. `Journal::append`, where every image at its start has the old entries and no others (`KeepsEntries`): after Ok
 //!    every image has the old entries and this one (`added`) and nothing is unsynced (`durable`); a crash at any moment
 //!    of the call leaves the old entries, or these and this one (`any_moment`, `IsBeforeOrAfter`), whatever the call
-//!    answers; and all bytes but the gate and the written range stay (`outside`, `inside`, `stays`).
+//!    answers; and all bytes but the gate and the written range stay (`changes`, `inside`). All of it is one record
+//!    (`Appends`), over the room that has to stay free behind the record.
 //! 4. `next_entry` is the entry at a place (`exact`): an entry, the end, or damage where a record leaves the area. From
 //!    the base on it gives the entries one after another, and then the end (`entry`, `at_end`), and what it gives are
 //!    the entries (`goes_on`). It changes nothing.
@@ -48,7 +49,6 @@ mod entry;
 mod frame;
 mod journal;
 mod law;
-mod persist;
 
 pub use entry::{Found, next_entry};
 pub use journal::{Journal, JournalFault};

@@ -6,6 +6,16 @@
 //! [`Table::commit`] changes the rows. So whoever keeps a journal writes the event down between the two, when it can
 //! neither be refused nor want memory.
 //!
+//! # What an event does
+//!
+//! `specs/` says it, and the crates above cite it:
+//!
+//! - `Step`: one row an event, with the causes of its refusals in order, the table after it and its reply; `Changes`:
+//!   what events change in a row; `Fold`: many events in turn.
+//! - `Legal`: what is so of each table that events lead to.
+//! - `Attempts`: how an attempt at a job starts, and what its end, or its loss, makes of the job and its queue; `Losses`:
+//!   what a reopening makes of a job that was processing.
+//!
 //! # Promises
 //!
 //! - *ExactStep*: `prepare` refuses an event exactly where a cause of its refusal stands, with the refusal of the first

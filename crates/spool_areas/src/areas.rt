@@ -1,13 +1,15 @@
 //! The areas of an opened spool.
-ghost use Rattle.std.specs.Prelude.{◌≡◌, ◌<◌, ◌≤◌, ◌+◌, ◌^◌, ◌↔◌, ◌⊎◌, ◌++◌, [], ◌∷◌, List, ℕ, false, length, OnOk, OnErr, IfOk, IsErrOf, IsTrue};
-ghost use Rattle.spool_disk.specs.Disk.{Reads, IsSynced, LeavesOnly, Tells, SameOutside};
-ghost use Rattle.gate_journal.specs.Frame.{payload_of};
-ghost use Rattle.spool_areas.specs.Header.{half, header_len};
-ghost use Rattle.spool_areas.specs.Payloads.{HasBeforeOrAfter};
+ghost use Rattle.std.specs.Prelude.{◌≡◌, ◌≢◌, ◌<◌, ◌≤◌, ◌+◌, ◌^◌, ◌↔◌, ◌⊎◌, [], List, ℕ, false, length, Err, OnOk, OnErr, IsErrOf, IsTrue};
+ghost use Rattle.spool_disk.specs.Disk.{Reads, IsSynced, ChangesNothing, ChangesOnly};
+ghost use Rattle.spool_areas.specs.Header.{header_len};
+ghost use Rattle.spool_areas.specs.Seen.{IsArea};
+ghost use Rattle.spool_areas.specs.AreaAppends.{AreaAppends};
 ghost use Rattle.spool_areas.specs.Current.{KeepsPayloads};
+ghost use Rattle.spool_areas.specs.Checkpoint.{plan_of, frames_of, AreFrames, payloads_in, lengths_in, area_len, other_base, IsChanged, ChangesOver};
 
-use crate::fault::ReadFault;
-use crate::header::HEADER_LEN;
+use crate::checkpoint::{change_over, have_room, rows_have_room};
+use crate::fault::{AreaFault, ReadFault};
+use crate::header::{HEADER_LEN, LAST_EPOCH};
 use gate_journal::{Journal, JournalFault};
 use spool_disk::Disk;
 use std::marker::Model;
@@ -17,6 +19,9 @@ use std::marker::Model;
 pub struct Areas<D: Disk> {
     disk: D,
     base: u64,
+    // how many bytes each of the two areas has
+    len: u64,
+    epoch: u64,
     journal: Journal,
     dead: bool,
 }
@@ -30,23 +35,24 @@ impl<D: Disk> Model for Areas<D> {
 
     ghost view = { current_of };
 
-    ghost invariant = { IsInside D.size };
+    ghost invariant = { IsInside D.device };
 }
 
 impl<D: Disk> Areas<D> {
-    /// The areas of a disk whose current area lies from `base` up to `end`, with the gate behind its records at `gate`.
-    /// It calls no device.
-    pub(crate) fn resume(disk: D, base: u64, end: u64, gate: u64) -> Areas<D>
-        requires area { end ≡ base + half (D.size disk) }
-        requires within { end ≤ D.size disk }
+    /// The areas of a disk whose current area lies from `base` up to `end` and has this epoch, with the gate behind its
+    /// records at `gate`. It calls no device.
+    pub(crate) fn resume(disk: D, base: u64, end: u64, epoch: u64, gate: u64) -> Areas<D>
+        requires area { IsArea base end (D.device.size disk) }
         requires header { base + header_len ≤ gate }
         requires inside { gate < end }
-        ensures { result ≡ record { disk = disk; base = base; end = end; gate = gate; dead = false } }
+        ensures { result ≡ record { disk = disk; base = base; end = end; epoch = epoch; gate = gate; dead = false } }
     {
         let first = base + HEADER_LEN;
         Areas {
             disk,
             base,
+            len: end - base,
+            epoch,
             journal: Journal::resume(first, end - first, gate),
             dead: false,
         }
@@ -59,29 +65,7 @@ impl<D: Disk> Areas<D> {
     pub fn append(&mut self, frame: &mut [u8]) -> Result<u64, JournalFault>
         requires whole { 5 ≤ length frame.old }
         requires short { length frame.old < 2 ^ 32 }
-
-        ensures dead { IsErrOf result JournalFault.Dead ↔ IsTrue self.old.dead }
-        ensures full { IsErrOf result JournalFault.Full ↔ ((self.old.dead ≡ false) × (self.old.end < self.old.gate + length frame.old + 7)) }
-        ensures disk { IsErrOf result JournalFault.Disk → D.failures self.old.disk < D.failures self.new.disk }
-        ensures counted { D.failures self.old.disk ≤ D.failures self.new.disk }
-        ensures dies { IsTrue self.new.dead ↔ (IsTrue self.old.dead ⊎ IsErrOf result JournalFault.Disk) }
-        ensures untouched { (IsErrOf result JournalFault.Dead ⊎ IsErrOf result JournalFault.Full) → (self.new ≡ self.old) × (frame.new ≡ frame.old) }
-        ensures place { IfOk result (λ at. (at ≡ self.old.gate + 5) × (self.new.gate ≡ self.old.gate + length frame.old)) }
-        ensures held { OnErr result (self.new.gate ≡ self.old.gate) }
-        ensures same { (self.new.base ≡ self.old.base) × (self.new.end ≡ self.old.end) }
-        ensures fixed { D.size self.new.disk ≡ D.size self.old.disk }
-
-        // All but the gate and the frame's range behind it stays, and a disk that tells nothing goes on so. What a crash
-        // leaves is as long as the device.
-        ensures stays { Tells (SameOutside self.old.gate (1 + length frame.old)) (D.bytes self.old.disk) (D.bytes self.new.disk) }
-        ensures as_long { LeavesOnly D.moment D.image_since self.old.disk self.new.disk (λ c. length c ≡ D.size self.old.disk) }
-
-        // Where each image has these payloads and no others, it adds one, and a crash meanwhile leaves these or one more.
-        ensures added { OnOk result ((payloads : List (List ℕ)) →
-            KeepsPayloads D.bytes D.image self.old payloads → KeepsPayloads D.bytes D.image self.new (payloads ++ payload_of frame.old ∷ [])) }
-        ensures durable { OnOk result (IsSynced (D.bytes self.new.disk) (D.image self.new.disk)) }
-        ensures any_moment { (payloads : List (List ℕ)) → KeepsPayloads D.bytes D.image self.old payloads →
-            LeavesOnly D.moment D.image_since self.old.disk self.new.disk (HasBeforeOrAfter self.old.base payloads (payload_of frame.old)) }
+        ensures { AreaAppends D.device 7 self.old self.new frame.old frame.new result }
     {
         if self.dead {
             return Err(JournalFault::Dead);
@@ -96,29 +80,7 @@ impl<D: Disk> Areas<D> {
     pub fn append_kept(&mut self, frame: &mut [u8]) -> Result<u64, JournalFault>
         requires whole { 5 ≤ length frame.old }
         requires short { length frame.old < 2 ^ 32 }
-
-        ensures dead { IsErrOf result JournalFault.Dead ↔ IsTrue self.old.dead }
-        ensures full { IsErrOf result JournalFault.Full ↔ ((self.old.dead ≡ false) × (self.old.end < self.old.gate + length frame.old + 1)) }
-        ensures disk { IsErrOf result JournalFault.Disk → D.failures self.old.disk < D.failures self.new.disk }
-        ensures counted { D.failures self.old.disk ≤ D.failures self.new.disk }
-        ensures dies { IsTrue self.new.dead ↔ (IsTrue self.old.dead ⊎ IsErrOf result JournalFault.Disk) }
-        ensures untouched { (IsErrOf result JournalFault.Dead ⊎ IsErrOf result JournalFault.Full) → (self.new ≡ self.old) × (frame.new ≡ frame.old) }
-        ensures place { IfOk result (λ at. (at ≡ self.old.gate + 5) × (self.new.gate ≡ self.old.gate + length frame.old)) }
-        ensures held { OnErr result (self.new.gate ≡ self.old.gate) }
-        ensures same { (self.new.base ≡ self.old.base) × (self.new.end ≡ self.old.end) }
-        ensures fixed { D.size self.new.disk ≡ D.size self.old.disk }
-
-        // All but the gate and the frame's range behind it stays, and a disk that tells nothing goes on so. What a crash
-        // leaves is as long as the device.
-        ensures stays { Tells (SameOutside self.old.gate (1 + length frame.old)) (D.bytes self.old.disk) (D.bytes self.new.disk) }
-        ensures as_long { LeavesOnly D.moment D.image_since self.old.disk self.new.disk (λ c. length c ≡ D.size self.old.disk) }
-
-        // Where each image has these payloads and no others, it adds one, and a crash meanwhile leaves these or one more.
-        ensures added { OnOk result ((payloads : List (List ℕ)) →
-            KeepsPayloads D.bytes D.image self.old payloads → KeepsPayloads D.bytes D.image self.new (payloads ++ payload_of frame.old ∷ [])) }
-        ensures durable { OnOk result (IsSynced (D.bytes self.new.disk) (D.image self.new.disk)) }
-        ensures any_moment { (payloads : List (List ℕ)) → KeepsPayloads D.bytes D.image self.old payloads →
-            LeavesOnly D.moment D.image_since self.old.disk self.new.disk (HasBeforeOrAfter self.old.base payloads (payload_of frame.old)) }
+        ensures { AreaAppends D.device 1 self.old self.new frame.old frame.new result }
     {
         if self.dead {
             return Err(JournalFault::Dead);
@@ -128,20 +90,107 @@ impl<D: Disk> Areas<D> {
         added
     }
 
+    /// Where the first gate of the other area lies, so that the places of rows with payloads of these lengths are known
+    /// before they are put there; or why they can't be. It calls no device.
+    pub fn plan(&self, lengths: &[u64]) -> Result<u64, AreaFault>
+        ensures { result ≡ plan_of self.now lengths.now }
+    {
+        let first = self.other_gate()?;
+        if have_room(first - HEADER_LEN + self.len, first, lengths) {
+            Ok(first)
+        } else {
+            Err(AreaFault::Full)
+        }
+    }
+
+    // Where the first gate of the other area lies.
+    fn other_gate(&self) -> Result<u64, AreaFault>
+        ensures { result ≡ plan_of self.now [] }
+    {
+        if self.dead {
+            return Err(AreaFault::Dead);
+        }
+        if self.epoch == LAST_EPOCH {
+            return Err(AreaFault::EpochEnd);
+        }
+        if self.base == 0 {
+            Ok(self.len + HEADER_LEN)
+        } else {
+            Ok(HEADER_LEN)
+        }
+    }
+
+    /// Puts the rows into the other area and makes it the current one, with the next epoch, in three parts: the gate of
+    /// its header is closed where it reads open; the rest of the header and the records of the rows are written; and that
+    /// gate is opened. Each row is a frame, as in `append`.
+    pub fn checkpoint(&mut self, rows: &mut [Vec<u8>]) -> Result<(), AreaFault>
+        requires frames { AreFrames (frames_of rows.old) }
+
+        // The first three faults are those of a plan for rows of these lengths. Nothing has changed then.
+        ensures refused { (fault : AreaFault) → fault ≢ AreaFault.Disk →
+            (IsErrOf result fault ↔ (plan_of self.old (lengths_in (frames_of rows.old)) ≡ Err fault)) }
+        ensures untouched { (fault : AreaFault) → fault ≢ AreaFault.Disk → IsErrOf result fault → self.new ≡ self.old }
+        ensures disk { IsErrOf result AreaFault.Disk → D.device.failures self.old.disk < D.device.failures self.new.disk }
+        ensures later { D.device.failures self.old.disk ≤ D.device.failures self.new.disk }
+        ensures counted { OnOk result (D.device.failures self.new.disk ≡ D.device.failures self.old.disk) }
+        ensures dies { IsTrue self.new.dead ↔ (IsTrue self.old.dead ⊎ IsErrOf result AreaFault.Disk) }
+        ensures changed { OnOk result (IsChanged self.old (payloads_in (frames_of rows.old)) self.new) }
+        ensures held { OnErr result ((self.new.base ≡ self.old.base) × (self.new.end ≡ self.old.end) × (self.new.epoch ≡ self.old.epoch) × (self.new.gate ≡ self.old.gate)) }
+
+        // The bytes of the old area stay, and a disk that tells nothing goes on so.
+        ensures changes { ChangesOnly D.device self.old.disk self.new.disk (other_base self.old) (area_len self.old) }
+
+        // Where each image has these payloads and no others, it has the rows and no others afterwards. A crash leaves the
+        // payloads until the new header is opened, and from then on these or the rows.
+        ensures added { OnOk result ((payloads : List (List ℕ)) →
+            KeepsPayloads D.device self.old payloads → KeepsPayloads D.device self.new (payloads_in (frames_of rows.old))) }
+        ensures durable { OnOk result (IsSynced D.device self.new.disk) }
+        ensures any_moment { (payloads : List (List ℕ)) → KeepsPayloads D.device self.old payloads →
+            ChangesOver D.device self.old.disk self.new.disk self.old.base payloads (other_base self.old) (payloads_in (frames_of rows.old)) }
+    {
+        let first = self.gate_for(rows)?;
+        let other = first - HEADER_LEN;
+        match change_over(&mut self.disk, other, self.len, self.epoch + 1, rows) {
+            Ok(journal) => {
+                self.base = other;
+                self.epoch += 1;
+                self.journal = journal;
+                Ok(())
+            }
+            Err(_) => {
+                self.dead = true;
+                Err(AreaFault::Disk)
+            }
+        }
+    }
+
+    // Where the first gate of the other area lies, if it has room for these rows.
+    fn gate_for(&self, rows: &[Vec<u8>]) -> Result<u64, AreaFault>
+        requires { AreFrames (frames_of rows.now) }
+        ensures { result ≡ plan_of self.now (lengths_in (frames_of rows.now)) }
+    {
+        let first = self.other_gate()?;
+        if rows_have_room(first - HEADER_LEN + self.len, first, rows) {
+            Ok(first)
+        } else {
+            Err(AreaFault::Full)
+        }
+    }
+
     /// Reads bytes of the current area.
     pub fn read_extent(&mut self, place: u64, into: &mut [u8]) -> Result<(), ReadFault>
         requires inside { place + length into.old ≤ self.old.end }
 
         ensures dead { IsErrOf result ReadFault.Dead ↔ IsTrue self.old.dead }
-        ensures data { OnOk result (Reads (D.bytes self.old.disk) place into.new) }
-        ensures disk { IsErrOf result ReadFault.Disk → D.failures self.old.disk < D.failures self.new.disk }
-        ensures counted { D.failures self.old.disk ≤ D.failures self.new.disk }
+        ensures data { OnOk result (Reads (D.device.bytes self.old.disk) place into.new) }
+        ensures disk { IsErrOf result ReadFault.Disk → D.device.failures self.old.disk < D.device.failures self.new.disk }
+        ensures later { D.device.failures self.old.disk ≤ D.device.failures self.new.disk }
+        ensures counted { OnOk result (D.device.failures self.new.disk ≡ D.device.failures self.old.disk) }
         ensures dies { IsTrue self.new.dead ↔ (IsTrue self.old.dead ⊎ IsErrOf result ReadFault.Disk) }
         ensures untouched { IsErrOf result ReadFault.Dead → self.new ≡ self.old }
-        ensures same { (self.new.base ≡ self.old.base) × (self.new.end ≡ self.old.end) × (self.new.gate ≡ self.old.gate) }
-        ensures fixed { D.size self.new.disk ≡ D.size self.old.disk }
-        ensures stays { D.bytes self.new.disk ≡ D.bytes self.old.disk }
-        ensures any_moment { LeavesOnly D.moment D.image_since self.old.disk self.new.disk (D.image self.old.disk) }
+        ensures same { (self.new.base ≡ self.old.base) × (self.new.end ≡ self.old.end) × (self.new.epoch ≡ self.old.epoch) × (self.new.gate ≡ self.old.gate) }
+        ensures still { ChangesNothing D.device self.old.disk self.new.disk }
+        ensures keeps { (payloads : List (List ℕ)) → KeepsPayloads D.device self.old payloads → KeepsPayloads D.device self.new payloads }
     {
         if self.dead {
             return Err(ReadFault::Dead);

@@ -6,7 +6,8 @@
 //! down. An area is a header of 16 bytes and the journal behind it. A header is a gate, the version 1, an epoch in eight
 //! bytes with the high byte first, and six zeros. The current area is the one whose header is open, and of two the one
 //! with the higher epoch (`current_area`). Its payloads are those of its journal, up to the first closed gate
-//! (`HasPayloads`). Bytes have one reading (`areas_law`). Today only the first area is written; either may be read.
+//! (`HasPayloads`). Bytes have one reading (`areas_law`). While an area is the current one, the header of the other is
+//! closed, or open at a lower epoch (`other_header`), and what else lies there has no meaning.
 //!
 //! # What it promises to the layer above, on every disk that meets `Disk`
 //!
@@ -15,26 +16,33 @@
 //!    (`KeepsPayloads`): after Ok every image has the old payloads and this one (`added`), and nothing is unsynced
 //!    (`durable`); a crash at any moment of the call leaves the old payloads, or these and this one (`any_moment`,
 //!    `HasBeforeOrAfter`), whatever the call answers.
-//! 3. `Areas::read_extent` reads what the disk tells (`data`) and changes nothing.
-//! 4. `Areas::open` finds the current area and where its payloads lie (`found`), and hands the disk back with the fault of
+//! 3. `Areas::checkpoint` puts rows into the other area and makes it the current one. After Ok every image has these rows
+//!    and no others, at the next epoch (`added`, `changed`), and nothing is unsynced (`durable`). A crash meanwhile leaves
+//!    the old payloads until the new header is opened, and from then on these or the rows, whatever the call answers
+//!    (`any_moment`). Bytes of the old area stay (`changes`). `Areas::plan` tells where the rows will lie.
+//! 4. `Areas::read_extent` reads what the disk tells (`data`) and changes nothing (`keeps`).
+//! 5. `Areas::open` finds the current area and where its payloads lie (`found`), and hands the disk back with the fault of
 //!    its headers where there is no such area (`fault`, `back`). It writes nothing: until its sync has answered a crash
 //!    leaves what it was handed, and from then on what a read gives (`synced`). From then on every image has these
 //!    payloads (`keeps`), unless a record behind them leaves the area, whose gate is told (`damage`).
 //!
 //! # The invariants
 //!
-//! The journal lies right behind the header of the current area and ends with the area, inside the device. Unless the
-//! areas are dead, the journal is alive (`IsInside`).
+//! The current area is one of the two, which lie on the device. Its journal lies right behind its header and ends with the
+//! area. Unless the areas are dead, the journal is alive (`IsInside`).
 //!
 //! # Faults and what they leave
 //!
 //! - `MakeFault::Full` exactly where an area would have less than 23 bytes. Nothing has changed.
 //! - `Dead`, before any other fault, exactly where an earlier call met `Disk`. Nothing has changed.
+//! - `AreaFault::EpochEnd` exactly at the greatest epoch, and `AreaFault::Full` exactly where a row, appended in order, would
+//!   meet `Full` (`plan_of`). Nothing has changed.
 //! - `JournalFault::Full` exactly where the record and the room kept behind it don't fit. Nothing has changed.
 //! - `Disk` only where the device's count of faults rose during the call. The areas are dead from then on.
 #![tactic(auto)]
 
 mod areas;
+mod checkpoint;
 mod extent;
 mod fault;
 mod header;
@@ -45,7 +53,7 @@ mod records;
 
 pub use areas::Areas;
 pub use extent::Extent;
-pub use fault::{MakeFault, OpenError, OpenFault, ReadFault};
+pub use fault::{AreaFault, MakeFault, OpenError, OpenFault, ReadFault};
 pub use gate_journal::JournalFault;
 pub use law::areas_law;
 pub use making::make;
@@ -53,6 +61,8 @@ pub use opening::Opened;
 
 #[cfg(test)]
 mod areas_tests;
+#[cfg(test)]
+mod checkpoint_tests;
 #[cfg(test)]
 mod making_tests;
 #[cfg(test)]

@@ -6,8 +6,8 @@ use Rattle.spool_types.specs.declared.event.Event.{Event}
 use Rattle.spool_types.specs.declared.event.Reply.{Reply}
 use Rattle.spool_types.specs.declared.refusal.Refusal.{Refusal}
 use Rattle.spool_types.specs.State.{State}
-use Rattle.spool_types.specs.Fold.{after_one, after_all}
-use Rattle.spool_disk.specs.Disk.{LeavesOnly}
+use Rattle.job_table.specs.Fold.{after_one, after_all}
+use Rattle.spool_disk.specs.Disk.{DiskView, IsLawful, LeavesOnly}
 use Rattle.spool_disk.proofs.Moments.{started, runs_on, weaker_run}
 use Rattle.spool_core.specs.Image.{HasTable, HasBeforeOrAfterEvent}
 use Rattle.spool_core.specs.Driving.{answer_to, replies_to, HasPrefixTable, IsInHand, IsAcknowledged}
@@ -54,27 +54,27 @@ turn_prefix s events taken e n t c next is =
 pub prefix_wider : (s : State) (events : List Event) (a b least most : ℕ) (c : List ℕ) → least ≤ a → b ≤ most → HasPrefixTable s events a b c → HasPrefixTable s events least most c
 prefix_wider s events a b least most c low high has = (has.0, omega (arith, low, has.1), omega (arith, high, has.2), has.3)
 
-module _ {D : Type 0} (moment : D → ℕ) (image_since : D → ℕ → List ℕ → Type 0) (image : D → List ℕ → Type 0) (only_now : (d : D) (c : List ℕ) → image_since d (moment d) c → image d c) where
+module _ {D : Type 0} (v : DiskView D) (lawful : IsLawful v) where
   -- no event yet
-  pub run_none : (s : State) (events : List Event) (d : D) → ((c : List ℕ) → image d c → HasTable s c) → LeavesOnly moment image_since d d (HasPrefixTable s events 0 0)
-  run_none s events d kept = started moment image_since d (HasPrefixTable s events 0 0) (λ c left. (0, omega arith, omega arith, kept c (only_now d c left)))
+  pub run_none : (s : State) (events : List Event) (d : D) → ((c : List ℕ) → v.image d c → HasTable s c) → LeavesOnly v d d (HasPrefixTable s events 0 0)
+  run_none s events d kept = started v d (HasPrefixTable s events 0 0) (λ c left. (0, omega arith, omega arith, kept c (lawful.only_now d c left)))
 
   -- a run that leaves a prefix, and an event after it
-  pub run_more : (s : State) (events : List Event) (least n most : ℕ) (old mid new : D) → least ≤ n → n ≤ most → LeavesOnly moment image_since old mid (HasPrefixTable s events least n)
-      → LeavesOnly moment image_since mid new (HasPrefixTable s events n most) → LeavesOnly moment image_since old new (HasPrefixTable s events least most)
+  pub run_more : (s : State) (events : List Event) (least n most : ℕ) (old mid new : D) → least ≤ n → n ≤ most → LeavesOnly v old mid (HasPrefixTable s events least n)
+      → LeavesOnly v mid new (HasPrefixTable s events n most) → LeavesOnly v old new (HasPrefixTable s events least most)
   run_more s events least n most old mid new low high first second =
-      runs_on moment image_since old mid new (HasPrefixTable s events least most) (HasPrefixTable s events n most)
-      (weaker_run moment image_since old mid (HasPrefixTable s events least most) (HasPrefixTable s events least n) first (λ c has. prefix_wider s events least n least most c (omega arith) high has))
+      runs_on v old mid new (HasPrefixTable s events least most) (HasPrefixTable s events n most)
+      (weaker_run v old mid (HasPrefixTable s events least most) (HasPrefixTable s events least n) first (λ c has. prefix_wider s events least n least most c (omega arith) high has))
       second
       (λ c has. prefix_wider s events n most least most c low (omega arith) has)
 
   -- what was acknowledged before stays so
-  pub acknowledged_on : (s : State) (events : List Event) (m n most : ℕ) (old mid new : D) → m ≤ n → n ≤ most → IsAcknowledged moment image_since s events old mid m n
-      → LeavesOnly moment image_since mid new (HasPrefixTable s events n most) → IsAcknowledged moment image_since s events old new m most
+  pub acknowledged_on : (s : State) (events : List Event) (m n most : ℕ) (old mid new : D) → m ≤ n → n ≤ most → IsAcknowledged v s events old mid m n
+      → LeavesOnly v mid new (HasPrefixTable s events n most) → IsAcknowledged v s events old new m most
   acknowledged_on s events m n most old mid new low high was run = (was.0, was.1, run_more s events m n most was.0 mid new low high was.2 run)
 
   -- the newest event is acknowledged now
-  pub acknowledged_now : (s : State) (events : List Event) (m : ℕ) (old new : D) → LeavesOnly moment image_since old new (HasPrefixTable s events 0 m) → ((c : List ℕ) → image new c → HasTable (after_all s (take m events)) c)
-      → IsAcknowledged moment image_since s events old new m m
+  pub acknowledged_now : (s : State) (events : List Event) (m : ℕ) (old new : D) → LeavesOnly v old new (HasPrefixTable s events 0 m) → ((c : List ℕ) → v.image new c → HasTable (after_all s (take m events)) c)
+      → IsAcknowledged v s events old new m m
   acknowledged_now s events m old new run kept =
-      (new, run, started moment image_since new (HasPrefixTable s events m m) (λ c left. (m, omega arith, omega arith, kept c (only_now new c left))))
+      (new, run, started v new (HasPrefixTable s events m m) (λ c left. (m, omega arith, omega arith, kept c (lawful.only_now new c left))))

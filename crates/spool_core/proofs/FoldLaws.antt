@@ -1,9 +1,11 @@
 -- Payloads that are read as events one after another.
-use Rattle.std.proofs.Common.{◌≡◌, ◌<◌, ◌≤◌, ℕ, zero, suc, ◌+◌, ◌-◌, List, [], ◌∷◌, ◌++◌, length, get_or, take, drop, Option, None, refl, sym, subst, ap, ◌∙◌, arith}
+use Rattle.spool_disk.specs.Disk.{DiskView, IsLawful}
+use Rattle.spool_disk.proofs.Moments.{no_change, twice_still}
+use Rattle.std.proofs.Common.{◌≡◌, ◌<◌, ◌≤◌, ℕ, zero, suc, ◌+◌, ◌-◌, List, [], ◌∷◌, ◌++◌, length, get_or, take, drop, None, refl, sym, subst, ap, ◌∙◌, arith}
 use Rattle.std.proofs.lemmas.List.{map-append, take_more, drop_more, take-append-drop, take_all, drop_all}
 use Rattle.spool_types.specs.declared.event.Event.{Event}
 use Rattle.spool_types.specs.State.{State, nothing}
-use Rattle.spool_types.specs.Step.{refusal_of, after}
+use Rattle.job_table.specs.Step.{refusal_of, after}
 use Rattle.gate_journal.proofs.Steps.{length-records-push}
 use Rattle.spool_areas.specs.declared.extent.Extent.{Extent}
 use Rattle.spool_areas.specs.declared.fault.OpenFault.{OpenFault}
@@ -104,16 +106,16 @@ folded_all base end xs i bytes s all folded =
     )
 
 -- reading on
-module _ {D : Type 0} (bytes : D → Option (List ℕ)) (size failures : D → ℕ) where
-  pub read_not : (areas : Current D) → IsRead bytes size failures areas areas
-  read_not areas = record { base = refl; end = refl; gate = refl; size_is = refl; stays = refl; counted = omega arith }
+module _ {D : Type 0} (v : DiskView D) (lawful : IsLawful v) where
+  pub read_not : (areas : Current D) → IsRead v areas areas
+  read_not areas = record { base = refl; end = refl; epoch = refl; gate = refl; disk = no_change v areas.disk lawful; counted = omega arith }
 
-  pub read_on : (old mid new : Current D) → IsRead bytes size failures old mid → IsRead bytes size failures mid new → IsRead bytes size failures old new
+  pub read_on : (old mid new : Current D) → IsRead v old mid → IsRead v mid new → IsRead v old new
   read_on old mid new first second = record {
     base = second.base ∙ first.base;
     end = second.end ∙ first.end;
+    epoch = second.epoch ∙ first.epoch;
     gate = second.gate ∙ first.gate;
-    size_is = second.size_is ∙ first.size_is;
-    stays = second.stays ∙ first.stays;
+    disk = twice_still v old.disk mid.disk new.disk lawful first.disk second.disk;
     counted = omega (arith, first.counted, second.counted);
   }

@@ -1,12 +1,11 @@
 -- One payload that is read.
-use Rattle.std.proofs.Common.{◌≡◌, ◌≤◌, ℕ, ◌+◌, ◌-◌, List, length, take, drop, Option, Some, Result, Ok, Err, refl, sym, ap, ◌∙◌, arith}
+use Rattle.std.proofs.Common.{◌≡◌, ℕ, ◌+◌, ◌-◌, List, length, take, drop, Option, Some, Result, Ok, Err, refl, sym, ap, ◌∙◌, arith}
 use Rattle.spool_types.specs.declared.event.Event.{Event}
 use Rattle.event_codec.specs.Spelling.{spelling, IsSpellable}
 use Rattle.event_codec.specs.Reading.{Fails}
 use Rattle.event_codec.specs.declared.fault.CodecFault.{CodecFault}
 use Rattle.event_codec.specs.declared.fault.CodecFault.TheVariants.{Kind, Length, Range, Utf8, Memory}
-use Rattle.spool_disk.specs.Disk.{Reads, LeavesOnly}
-use Rattle.spool_disk.proofs.Moments.{runs_on, at_return}
+use Rattle.spool_disk.specs.Disk.{Reads}
 use Rattle.gate_journal.proofs.Places.{read_told}
 use Rattle.spool_areas.specs.declared.extent.Extent.{Extent}
 use Rattle.spool_areas.specs.declared.fault.OpenFault.TheVariants as open_fault
@@ -70,7 +69,3 @@ read_cause P read_fault.Dead dead cause = absurd (dead refl)
 read_cause P read_fault.Disk dead cause = cause refl
 
 -- a run of reads after a run of reads
-module _ {D : Type 0} (moment : D → ℕ) (image_since : D → ℕ → List ℕ → Type 0) (image : D → List ℕ → Type 0) (counts_now : (d : D) (t : ℕ) (c : List ℕ) → t ≤ moment d → image d c → image_since d t c) where
-  pub reads_on : (old mid new : D) → LeavesOnly moment image_since old mid (image old) → LeavesOnly moment image_since mid new (image mid) → LeavesOnly moment image_since old new (image old)
-  reads_on old mid new first second =
-      runs_on moment image_since old mid new (image old) (image mid) first second (at_return moment image_since image counts_now old mid (image old) first)

@@ -1,13 +1,13 @@
 -- One event of a run after those before it.
-use Rattle.std.proofs.Common.{◌≡◌, ◌<◌, ◌≤◌, inl, inr, ℕ, zero, suc, ◌+◌, List, [], ◌∷◌, ◌++◌, length, take, Bool, true, false, Option, IsSome, IsTrue, Result, Err, refl, sym, subst, ap, ◌∙◌, arith, length-append}
+use Rattle.std.proofs.Common.{◌≡◌, ◌<◌, ◌≤◌, inl, inr, ℕ, zero, suc, ◌+◌, List, [], ◌∷◌, ◌++◌, length, take, Bool, true, false, IsSome, IsTrue, Result, Err, refl, sym, subst, ap, ◌∙◌, arith, length-append}
 use Rattle.spool_types.specs.declared.event.Event.{Event}
 use Rattle.spool_types.specs.declared.event.Reply.{Reply}
 use Rattle.spool_types.specs.declared.refusal.Refusal.{Refusal}
 use Rattle.spool_types.specs.State.{State}
 use Rattle.std.proofs.lemmas.Bool.{cases_lt}
-use Rattle.spool_types.specs.Step.{refusal_of}
-use Rattle.spool_types.specs.Fold.{after_one, after_all}
-use Rattle.spool_disk.specs.Disk.{LeavesOnly}
+use Rattle.job_table.specs.Step.{refusal_of}
+use Rattle.job_table.specs.Fold.{after_one, after_all}
+use Rattle.spool_disk.specs.Disk.{DiskView, IsLawful, LeavesOnly}
 use Rattle.spool_disk.proofs.Moments.{weaker_run}
 use Rattle.spool_core.specs.Image.{HasTable, HasBeforeOrAfterEvent}
 use Rattle.spool_core.specs.Standing.{Standing}
@@ -21,21 +21,21 @@ not_dead : (b : Bool) → b ≡ false → b ≡ true → ⊥
 not_dead b p q = cc
 
 -- what a turn does to the disk, whatever it answers
-pub record Turns {D : Type 0} (bytes : D → Option (List ℕ)) (size failures : D → ℕ) (moment : D → ℕ) (image_since : D → ℕ → List ℕ → Type 0) (old : Standing D) (e : Event) (new : Standing D) : Type 0 where
-  pub counted : failures old.disk ≤ failures new.disk
-  pub fixed : size new.disk ≡ size old.disk
-  pub told : IsSome (bytes new.disk) → IsSome (bytes old.disk)
-  pub tells : IsSome (bytes old.disk) → IsSome (bytes new.disk)
-  pub any_moment : old.dead ≡ false → IsSome (bytes old.disk) → LeavesOnly moment image_since old.disk new.disk (HasBeforeOrAfterEvent old.state e)
+pub record Turns {D : Type 0} (v : DiskView D) (old : Standing D) (e : Event) (new : Standing D) : Type 0 where
+  pub counted : v.failures old.disk ≤ v.failures new.disk
+  pub fixed : v.size new.disk ≡ v.size old.disk
+  pub told : IsSome (v.bytes new.disk) → IsSome (v.bytes old.disk)
+  pub tells : IsSome (v.bytes old.disk) → IsSome (v.bytes new.disk)
+  pub any_moment : old.dead ≡ false → IsSome (v.bytes old.disk) → LeavesOnly v old.disk new.disk (HasBeforeOrAfterEvent old.state e)
 
-module _ {D : Type 0} (bytes : D → Option (List ℕ)) (size failures : D → ℕ) (image : D → List ℕ → Type 0) (moment : D → ℕ) (image_since : D → ℕ → List ℕ → Type 0)
-    (only_now : (d : D) (c : List ℕ) → image_since d (moment d) c → image d c) (old : Standing D) (events : List Event) where
-  pub same_replies : (replies others : List (Result Reply Refusal)) (ending : Ending) (new : Standing D) → others ≡ replies → IsOutcome bytes size failures image moment image_since old events replies ending new
-      → IsOutcome bytes size failures image moment image_since old events others ending new
-  same_replies replies others ending new is has = subst (λ (rs : List (Result Reply Refusal)). IsOutcome bytes size failures image moment image_since old events rs ending new) (sym is) has
+module _ {D : Type 0} (v : DiskView D)
+    (lawful : IsLawful v) (old : Standing D) (events : List Event) where
+  pub same_replies : (replies others : List (Result Reply Refusal)) (ending : Ending) (new : Standing D) → others ≡ replies → IsOutcome v old events replies ending new
+      → IsOutcome v old events others ending new
+  same_replies replies others ending new is has = subst (λ (rs : List (Result Reply Refusal)). IsOutcome v old events rs ending new) (sym is) has
 
-  pub driven_none : (replies : List (Result Reply Refusal)) → replies ≡ [] → (old.dead ≡ false → IsSome (bytes old.disk) → KeepsImages image old) → IsDriven bytes size failures image moment image_since old events replies old
-  driven_none replies none kept = subst (λ (rs : List (Result Reply Refusal)). IsDriven bytes size failures image moment image_since old events rs old) (sym none) (record {
+  pub driven_none : (replies : List (Result Reply Refusal)) → replies ≡ [] → (old.dead ≡ false → IsSome (v.bytes old.disk) → KeepsImages v old) → IsDriven v old events replies old
+  driven_none replies none kept = subst (λ (rs : List (Result Reply Refusal)). IsDriven v old events rs old) (sym none) (record {
     fits = omega arith;
     replies_are = refl;
     table = refl;
@@ -47,16 +47,16 @@ module _ {D : Type 0} (bytes : D → Option (List ℕ)) (size failures : D → �
     told = λ t. t;
     tells = λ t. t;
     kept = kept;
-    any_moment = λ alive told. run_none moment image_since image only_now old.state events old.disk (kept alive told);
+    any_moment = λ alive told. run_none v lawful old.state events old.disk (kept alive told);
     acknowledged = λ alive told m le. (
       old.disk,
-      subst (λ (k : ℕ). LeavesOnly moment image_since old.disk old.disk (HasPrefixTable old.state events 0 k)) (omega arith) (run_none moment image_since image only_now old.state events old.disk (kept alive told)),
-      subst (λ (k : ℕ). LeavesOnly moment image_since old.disk old.disk (HasPrefixTable old.state events k 0)) (omega arith) (run_none moment image_since image only_now old.state events old.disk (kept alive told)),
+      subst (λ (k : ℕ). LeavesOnly v old.disk old.disk (HasPrefixTable old.state events 0 k)) (omega arith) (run_none v lawful old.state events old.disk (kept alive told)),
+      subst (λ (k : ℕ). LeavesOnly v old.disk old.disk (HasPrefixTable old.state events k 0)) (omega arith) (run_none v lawful old.state events old.disk (kept alive told)),
     );
   })
 
-  module _ (replies : List (Result Reply Refusal)) (now : Standing D) (driven : IsDriven bytes size failures image moment image_since old events replies now) where
-    pub end_of_all : length replies ≡ length events → IsOutcome bytes size failures image moment image_since old events replies End now
+  module _ (replies : List (Result Reply Refusal)) (now : Standing D) (driven : IsDriven v old events replies now) where
+    pub end_of_all : length replies ≡ length events → IsOutcome v old events replies End now
     end_of_all all = record {
       replies_are = driven.replies_are;
       table = driven.table;
@@ -71,7 +71,7 @@ module _ {D : Type 0} (bytes : D → Option (List ℕ)) (size failures : D → �
       acknowledged = driven.acknowledged;
     }
 
-    pub end_of_memory : length replies < length events → IsOutcome bytes size failures image moment image_since old events replies Memory now
+    pub end_of_memory : length replies < length events → IsOutcome v old events replies Memory now
     end_of_memory fewer = record {
       replies_are = driven.replies_are;
       table = driven.table;
@@ -86,7 +86,7 @@ module _ {D : Type 0} (bytes : D → Option (List ℕ)) (size failures : D → �
       acknowledged = driven.acknowledged;
     }
 
-    module _ (taken : List Event) (e : Event) (next : IsNext events taken e (length replies)) (new : Standing D) (turns : Turns bytes size failures moment image_since now e new) where
+    module _ (taken : List Event) (e : Event) (next : IsNext events taken e (length replies)) (new : Standing D) (turns : Turns v now e new) where
       now_alive : old.dead ≡ false → now.dead ≡ false
       now_alive alive = driven.dead ∙ alive
 
@@ -94,25 +94,25 @@ module _ {D : Type 0} (bytes : D → Option (List ℕ)) (size failures : D → �
       now_table = driven.table ∙ ap (after_all old.state) next.before
 
       -- the event in hand is on the device or not
-      turn_run : old.dead ≡ false → IsSome (bytes old.disk) → LeavesOnly moment image_since now.disk new.disk (HasPrefixTable old.state events (length replies) (length replies + 1))
+      turn_run : old.dead ≡ false → IsSome (v.bytes old.disk) → LeavesOnly v now.disk new.disk (HasPrefixTable old.state events (length replies) (length replies + 1))
       turn_run alive told =
-          weaker_run moment image_since now.disk new.disk (HasPrefixTable old.state events (length replies) (length replies + 1)) (HasBeforeOrAfterEvent now.state e)
+          weaker_run v now.disk new.disk (HasPrefixTable old.state events (length replies) (length replies + 1)) (HasBeforeOrAfterEvent now.state e)
           (turns.any_moment (now_alive alive) (driven.tells told))
           (λ c has. turn_prefix old.state events taken e (length replies) now.state c next now_table has)
 
-      run_with : old.dead ≡ false → IsSome (bytes old.disk) → LeavesOnly moment image_since old.disk new.disk (HasPrefixTable old.state events 0 (length replies + 1))
+      run_with : old.dead ≡ false → IsSome (v.bytes old.disk) → LeavesOnly v old.disk new.disk (HasPrefixTable old.state events 0 (length replies + 1))
       run_with alive told =
-          run_more moment image_since image only_now old.state events 0 (length replies) (length replies + 1) old.disk now.disk new.disk (omega arith) (omega arith) (driven.any_moment alive told) (turn_run alive told)
+          run_more v lawful old.state events 0 (length replies) (length replies + 1) old.disk now.disk new.disk (omega arith) (omega arith) (driven.any_moment alive told) (turn_run alive told)
 
-      acknowledged_with : old.dead ≡ false → IsSome (bytes old.disk) → (m : ℕ) → m ≤ length replies → IsAcknowledged moment image_since old.state events old.disk new.disk m (length replies + 1)
+      acknowledged_with : old.dead ≡ false → IsSome (v.bytes old.disk) → (m : ℕ) → m ≤ length replies → IsAcknowledged v old.state events old.disk new.disk m (length replies + 1)
       acknowledged_with alive told m le =
-          acknowledged_on moment image_since image only_now old.state events m (length replies) (length replies + 1) old.disk now.disk new.disk le (omega arith) (driven.acknowledged alive told m le) (turn_run alive told)
+          acknowledged_on v lawful old.state events m (length replies) (length replies + 1) old.disk now.disk new.disk le (omega arith) (driven.acknowledged alive told m le) (turn_run alive told)
 
-      counted_with : failures old.disk ≤ failures new.disk
+      counted_with : v.failures old.disk ≤ v.failures new.disk
       counted_with = omega (arith, driven.counted, turns.counted)
 
       -- the device failed
-      end_of_disk : IsBroken failures now e new → IsOutcome bytes size failures image moment image_since old events replies Disk new
+      end_of_disk : IsBroken v now e new → IsOutcome v old events replies Disk new
       end_of_disk broken = record {
         replies_are = driven.replies_are;
         table = broken.table ∙ driven.table;
@@ -128,9 +128,9 @@ module _ {D : Type 0} (bytes : D → Option (List ℕ)) (size failures : D → �
       }
 
       -- nothing has changed
-      end_unchanged : (ending : Ending) → IsEnding failures old events (length replies) ending now → reach ending (length replies) ≡ length replies → new ≡ now
-          → IsOutcome bytes size failures image moment image_since old events replies ending new
-      end_unchanged ending is reaches same = subst (λ (s : Standing D). IsOutcome bytes size failures image moment image_since old events replies ending s) (sym same) (record {
+      end_unchanged : (ending : Ending) → IsEnding v old events (length replies) ending now → reach ending (length replies) ≡ length replies → new ≡ now
+          → IsOutcome v old events replies ending new
+      end_unchanged ending is reaches same = subst (λ (s : Standing D). IsOutcome v old events replies ending s) (sym same) (record {
         replies_are = driven.replies_are;
         table = driven.table;
         ending_is = is;
@@ -140,15 +140,15 @@ module _ {D : Type 0} (bytes : D → Option (List ℕ)) (size failures : D → �
         told = driven.told;
         tells = driven.tells;
         kept = λ alive told. driven.kept (sym driven.dead ∙ alive) told;
-        any_moment = λ alive told. subst (λ (k : ℕ). LeavesOnly moment image_since old.disk now.disk (HasPrefixTable old.state events 0 k)) (sym reaches) (driven.any_moment alive told);
-        acknowledged = λ alive told m le. subst (λ (k : ℕ). IsAcknowledged moment image_since old.state events old.disk now.disk m k) (sym reaches) (driven.acknowledged alive told m le);
+        any_moment = λ alive told. subst (λ (k : ℕ). LeavesOnly v old.disk now.disk (HasPrefixTable old.state events 0 k)) (sym reaches) (driven.any_moment alive told);
+        acknowledged = λ alive told m le. subst (λ (k : ℕ). IsAcknowledged v old.state events old.disk now.disk m k) (sym reaches) (driven.acknowledged alive told m le);
       })
 
       none_answered : (n : ℕ) → (0 < n → old.dead ≡ false) → IsTrue old.dead → n ≡ 0
       none_answered zero alive dead = refl
       none_answered (suc n) alive dead = absurd (not_dead old.dead (alive (omega arith)) dead)
 
-      pub end_of_turn : (ending : Ending) → IsTurn failures now e (Err ending) new → IsOutcome bytes size failures image moment image_since old events replies ending new
+      pub end_of_turn : (ending : Ending) → IsTurn v now e (Err ending) new → IsOutcome v old events replies ending new
       end_of_turn End is = absurd is
       end_of_turn Memory is = end_unchanged Memory (next.fits, driven.dead) refl is.1
       end_of_turn Full is = end_unchanged Full (e, next.hand, is.0) refl is.1
@@ -159,14 +159,14 @@ module _ {D : Type 0} (bytes : D → Option (List ℕ)) (size failures : D → �
           end_unchanged Dead (dead, first, omega (arith, next.fits), driven.same dead) refl is.1
 
       -- one more answer
-      pub driven_more : (answer : Result Reply Refusal) (more : List (Result Reply Refusal)) → more ≡ replies ++ answer ∷ [] → IsAnswered now e answer new → (IsSome (bytes now.disk) → KeepsImages image now → KeepsImages image new)
-          → IsDriven bytes size failures image moment image_since old events more new
+      pub driven_more : (answer : Result Reply Refusal) (more : List (Result Reply Refusal)) → more ≡ replies ++ answer ∷ [] → IsAnswered now e answer new → (IsSome (v.bytes now.disk) → KeepsImages v now → KeepsImages v new)
+          → IsDriven v old events more new
       driven_more answer more is answered kept =
           let long : length more ≡ length replies + 1 = omega (arith, ap length is, length-append replies (answer ∷ [])) in
           let whole : take (length more) events ≡ taken ++ e ∷ [] = ap (λ (n : ℕ). take n events) long ∙ next.after in
           let old_alive : old.dead ≡ false = sym driven.dead ∙ answered.alive in
           let table : new.state ≡ after_all old.state (take (length more) events) = answered.table ∙ ap (λ (s : State). after_one s e) now_table ∙ sym (after_all_last old.state taken e) ∙ ap (after_all old.state) (sym whole) in
-          let keeps : IsSome (bytes old.disk) → KeepsImages image new = λ told. kept (driven.tells told) (driven.kept old_alive told) in
+          let keeps : IsSome (v.bytes old.disk) → KeepsImages v new = λ told. kept (driven.tells told) (driven.kept old_alive told) in
           record {
             fits = omega (arith, long, next.fits);
             replies_are =
@@ -184,14 +184,14 @@ module _ {D : Type 0} (bytes : D → Option (List ℕ)) (size failures : D → �
             told = λ t. driven.told (turns.told t);
             tells = λ t. turns.tells (driven.tells t);
             kept = λ alive told. keeps told;
-            any_moment = λ alive told. subst (λ (k : ℕ). LeavesOnly moment image_since old.disk new.disk (HasPrefixTable old.state events 0 k)) (sym long) (run_with alive told);
+            any_moment = λ alive told. subst (λ (k : ℕ). LeavesOnly v old.disk new.disk (HasPrefixTable old.state events 0 k)) (sym long) (run_with alive told);
             acknowledged = λ alive told m le. elim (cases_lt (length replies) m) [
               | inl newest ↦
                   let is_last : m ≡ length more = omega (arith, le, newest, long) in
-                  subst (λ (k : ℕ). IsAcknowledged moment image_since old.state events old.disk new.disk k (length more)) (sym is_last)
-                  (acknowledged_now moment image_since image only_now old.state events (length more) old.disk new.disk
-                  (subst (λ (k : ℕ). LeavesOnly moment image_since old.disk new.disk (HasPrefixTable old.state events 0 k)) (sym long) (run_with alive told))
+                  subst (λ (k : ℕ). IsAcknowledged v old.state events old.disk new.disk k (length more)) (sym is_last)
+                  (acknowledged_now v lawful old.state events (length more) old.disk new.disk
+                  (subst (λ (k : ℕ). LeavesOnly v old.disk new.disk (HasPrefixTable old.state events 0 k)) (sym long) (run_with alive told))
                   (λ c left. subst (λ (s : State). HasTable s c) table (keeps told c left)))
-              | inr before ↦ subst (λ (k : ℕ). IsAcknowledged moment image_since old.state events old.disk new.disk m k) (sym long) (acknowledged_with alive told m before)
+              | inr before ↦ subst (λ (k : ℕ). IsAcknowledged v old.state events old.disk new.disk m k) (sym long) (acknowledged_with alive told m before)
             ];
           }

@@ -4,9 +4,9 @@ use Rattle.spool_types.specs.declared.event.Event.{Event}
 use Rattle.spool_types.specs.declared.event.Reply.{Reply}
 use Rattle.spool_types.specs.declared.refusal.Refusal.{Refusal}
 use Rattle.spool_types.specs.State.{State}
-use Rattle.spool_types.specs.Step.{refusal_of, reply_to}
-use Rattle.spool_types.specs.Fold.{after_one, after_all}
-use Rattle.spool_disk.specs.Disk.{LeavesOnly}
+use Rattle.job_table.specs.Step.{refusal_of, reply_to}
+use Rattle.job_table.specs.Fold.{after_one, after_all}
+use Rattle.spool_disk.specs.Disk.{DiskView, LeavesOnly}
 use Rattle.spool_core.specs.Image.{HasTable}
 use Rattle.spool_core.specs.Standing.{Standing, IsFull}
 use Rattle.spool_core.specs.declared.driving.Ending.{Ending}
@@ -42,53 +42,53 @@ abbrev pub IsInHand : List Event → ℕ → Event → Type 0
 IsInHand events n e = slice_get events n ≡ Some e
 
 -- Why it ended where n of the events had been answered, and what it left.
-abbrev pub IsEnding : {D : Type 0} → (D → ℕ) → Standing D → List Event → ℕ → Ending → Standing D → Type 0
-IsEnding failures old events n End new = (n ≡ length events) × (new.dead ≡ old.dead)
-IsEnding failures old events n Memory new = (n < length events) × (new.dead ≡ old.dead)
-IsEnding failures old events n Full new = (e : Event) × IsInHand events n e × IsFull new e
-IsEnding failures old events n Disk new =
-    (e : Event) × IsInHand events n e × (refusal_of new.state e ≡ None) × (old.dead ≡ false) × (new.dead ≡ true) × (failures old.disk < failures new.disk)
-IsEnding failures old events n Dead new = IsTrue old.dead × (n ≡ 0) × (0 < length events) × (new ≡ old)
+abbrev pub IsEnding : {D : Type 0} → DiskView D → Standing D → List Event → ℕ → Ending → Standing D → Type 0
+IsEnding v old events n End new = (n ≡ length events) × (new.dead ≡ old.dead)
+IsEnding v old events n Memory new = (n < length events) × (new.dead ≡ old.dead)
+IsEnding v old events n Full new = (e : Event) × IsInHand events n e × IsFull new e
+IsEnding v old events n Disk new =
+    (e : Event) × IsInHand events n e × (refusal_of new.state e ≡ None) × (old.dead ≡ false) × (new.dead ≡ true) × (v.failures old.disk < v.failures new.disk)
+IsEnding v old events n Dead new = IsTrue old.dead × (n ≡ 0) × (0 < length events) × (new ≡ old)
 
 -- There is a moment such that a crash before it leaves the table of at most the first m events, and a crash after it the
 -- table of at least these m: from that moment on none of them is lost.
-abbrev pub IsAcknowledged : {D : Type 0} → (D → ℕ) → (D → ℕ → List ℕ → Type 0) → State → List Event → D → D → ℕ → ℕ → Type 0
-IsAcknowledged {D} moment image_since s events old new m most =
-    (d : D) × LeavesOnly moment image_since old d (HasPrefixTable s events 0 m) × LeavesOnly moment image_since d new (HasPrefixTable s events m most)
+abbrev pub IsAcknowledged : {D : Type 0} → DiskView D → State → List Event → D → D → ℕ → ℕ → Type 0
+IsAcknowledged {D} v s events old new m most =
+    (d : D) × LeavesOnly v old d (HasPrefixTable s events 0 m) × LeavesOnly v d new (HasPrefixTable s events m most)
 
 -- What a crash leaves of a spool with this table, as long as the device hasn't failed.
-abbrev pub KeepsImages : {D : Type 0} → (D → List ℕ → Type 0) → Standing D → Type 0
-KeepsImages image spool = (c : List ℕ) → image spool.disk c → HasTable spool.state c
+abbrev pub KeepsImages : {D : Type 0} → DiskView D → Standing D → Type 0
+KeepsImages v spool = (c : List ℕ) → v.image spool.disk c → HasTable spool.state c
 
 -- The first n of the events were answered, and the device hasn't failed since.
-pub record IsDriven {D : Type 0} (bytes : D → Option (List ℕ)) (size failures : D → ℕ) (image : D → List ℕ → Type 0) (moment : D → ℕ) (image_since : D → ℕ → List ℕ → Type 0) (old : Standing D) (events : List Event) (replies : List (Result Reply Refusal)) (new : Standing D) : Type 0 where
+pub record IsDriven {D : Type 0} (v : DiskView D) (old : Standing D) (events : List Event) (replies : List (Result Reply Refusal)) (new : Standing D) : Type 0 where
   pub fits : length replies ≤ length events
   pub replies_are : replies ≡ replies_to old.state (take (length replies) events)
   pub table : new.state ≡ after_all old.state (take (length replies) events)
   pub alive : 0 < length replies → old.dead ≡ false
   pub dead : new.dead ≡ old.dead
   pub same : IsTrue old.dead → new ≡ old
-  pub counted : failures old.disk ≤ failures new.disk
-  pub fixed : size new.disk ≡ size old.disk
-  pub told : IsSome (bytes new.disk) → IsSome (bytes old.disk)
-  pub tells : IsSome (bytes old.disk) → IsSome (bytes new.disk)
-  pub kept : old.dead ≡ false → IsSome (bytes old.disk) → KeepsImages image new
-  pub any_moment : old.dead ≡ false → IsSome (bytes old.disk) → LeavesOnly moment image_since old.disk new.disk (HasPrefixTable old.state events 0 (length replies))
-  pub acknowledged : old.dead ≡ false → IsSome (bytes old.disk) → (m : ℕ) → m ≤ length replies →
-      IsAcknowledged moment image_since old.state events old.disk new.disk m (length replies)
+  pub counted : v.failures old.disk ≤ v.failures new.disk
+  pub fixed : v.size new.disk ≡ v.size old.disk
+  pub told : IsSome (v.bytes new.disk) → IsSome (v.bytes old.disk)
+  pub tells : IsSome (v.bytes old.disk) → IsSome (v.bytes new.disk)
+  pub kept : old.dead ≡ false → IsSome (v.bytes old.disk) → KeepsImages v new
+  pub any_moment : old.dead ≡ false → IsSome (v.bytes old.disk) → LeavesOnly v old.disk new.disk (HasPrefixTable old.state events 0 (length replies))
+  pub acknowledged : old.dead ≡ false → IsSome (v.bytes old.disk) → (m : ℕ) → m ≤ length replies →
+      IsAcknowledged v old.state events old.disk new.disk m (length replies)
 
 -- The run ended so, with these replies.
-pub record IsOutcome {D : Type 0} (bytes : D → Option (List ℕ)) (size failures : D → ℕ) (image : D → List ℕ → Type 0) (moment : D → ℕ) (image_since : D → ℕ → List ℕ → Type 0) (old : Standing D) (events : List Event) (replies : List (Result Reply Refusal)) (ending : Ending) (new : Standing D) : Type 0 where
+pub record IsOutcome {D : Type 0} (v : DiskView D) (old : Standing D) (events : List Event) (replies : List (Result Reply Refusal)) (ending : Ending) (new : Standing D) : Type 0 where
   pub replies_are : replies ≡ replies_to old.state (take (length replies) events)
   pub table : new.state ≡ after_all old.state (take (length replies) events)
-  pub ending_is : IsEnding failures old events (length replies) ending new
+  pub ending_is : IsEnding v old events (length replies) ending new
   pub alive : 0 < length replies → old.dead ≡ false
-  pub counted : failures old.disk ≤ failures new.disk
-  pub fixed : size new.disk ≡ size old.disk
-  pub told : IsSome (bytes new.disk) → IsSome (bytes old.disk)
-  pub tells : IsSome (bytes old.disk) → IsSome (bytes new.disk)
-  pub kept : new.dead ≡ false → IsSome (bytes old.disk) → KeepsImages image new
-  pub any_moment : old.dead ≡ false → IsSome (bytes old.disk) →
-      LeavesOnly moment image_since old.disk new.disk (HasPrefixTable old.state events 0 (reach ending (length replies)))
-  pub acknowledged : old.dead ≡ false → IsSome (bytes old.disk) → (m : ℕ) → m ≤ length replies →
-      IsAcknowledged moment image_since old.state events old.disk new.disk m (reach ending (length replies))
+  pub counted : v.failures old.disk ≤ v.failures new.disk
+  pub fixed : v.size new.disk ≡ v.size old.disk
+  pub told : IsSome (v.bytes new.disk) → IsSome (v.bytes old.disk)
+  pub tells : IsSome (v.bytes old.disk) → IsSome (v.bytes new.disk)
+  pub kept : new.dead ≡ false → IsSome (v.bytes old.disk) → KeepsImages v new
+  pub any_moment : old.dead ≡ false → IsSome (v.bytes old.disk) →
+      LeavesOnly v old.disk new.disk (HasPrefixTable old.state events 0 (reach ending (length replies)))
+  pub acknowledged : old.dead ≡ false → IsSome (v.bytes old.disk) → (m : ℕ) → m ≤ length replies →
+      IsAcknowledged v old.state events old.disk new.disk m (reach ending (length replies))

@@ -1,8 +1,9 @@
 -- The payloads of an area, read as events one after another.
-use Rattle.std.specs.Prelude.{◌≡◌, ◌≤◌, ℕ, ◌-◌, List, ◌∷◌, ◌++◌, length, take, drop, Option, ⊤, None}
+use Rattle.spool_disk.specs.Disk.{DiskView, ChangesNothing}
+use Rattle.std.specs.Prelude.{◌≡◌, ◌≤◌, ℕ, ◌-◌, List, ◌∷◌, ◌++◌, length, take, drop, ⊤, None}
 use Rattle.spool_types.specs.declared.event.Event.{Event}
 use Rattle.spool_types.specs.State.{State}
-use Rattle.spool_types.specs.Step.{refusal_of}
+use Rattle.job_table.specs.Step.{refusal_of}
 use Rattle.event_codec.specs.Spelling.{spelling, IsSpellable}
 use Rattle.event_codec.specs.declared.fault.CodecFault.{CodecFault}
 use Rattle.event_codec.specs.declared.fault.CodecFault.TheVariants as codec
@@ -73,10 +74,10 @@ pub record IsFolded (base end : ℕ) (extents : List Extent) (n : ℕ) (bytes : 
   pub follow : Follow (gate_after base (payloads_at bytes (take n extents))) (drop n extents) end
 
 -- The areas were read, and are as they were.
-pub record IsRead {D : Type 0} (bytes : D → Option (List ℕ)) (size failures : D → ℕ) (old new : Current D) : Type 0 where
+pub record IsRead {D : Type 0} (v : DiskView D) (old new : Current D) : Type 0 where
   pub base : new.base ≡ old.base
   pub end : new.end ≡ old.end
+  pub epoch : new.epoch ≡ old.epoch
   pub gate : new.gate ≡ old.gate
-  pub size_is : size new.disk ≡ size old.disk
-  pub stays : bytes new.disk ≡ bytes old.disk
-  pub counted : failures old.disk ≤ failures new.disk
+  pub disk : ChangesNothing v old.disk new.disk
+  pub counted : v.failures old.disk ≤ v.failures new.disk

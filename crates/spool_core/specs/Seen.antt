@@ -1,10 +1,11 @@
 -- What the fields of a spool mean.
-use Rattle.std.specs.Prelude.{◌≡◌, ◌≤◌, ℕ, ◌+◌, ◌-◌, List, false, Option, IsSome}
+use Rattle.spool_disk.specs.Disk.{DiskView}
+use Rattle.std.specs.Prelude.{◌≡◌, ◌≤◌, ℕ, ◌+◌, ◌-◌, List, false, IsSome}
 use Rattle.spool_types.specs.State.{State}
 use Rattle.spool_areas.specs.Header.{half}
 use Rattle.spool_areas.specs.Current.{Current, KeepsPayloads}
 use Rattle.spool_core.specs.History.{IsHistory}
-use Rattle.spool_types.specs.Attempts.{HasNoProcessing}
+use Rattle.job_table.specs.Attempts.{HasNoProcessing}
 use Rattle.spool_core.specs.Image.{kept_room}
 use Rattle.spool_core.specs.Standing.{Standing}
 use Rattle.spool_core.specs.declared.spool.Spool.TheInside.{Inside}
@@ -17,19 +18,19 @@ abbrev pub standing_of : {D : Type 0} → Inside D → Standing D
 standing_of a = standing_at a.areas a.table.state
 
 -- each image of the disk has the history of the table in its current area
-pub record KeepsTable {D : Type 0} (bytes : D → Option (List ℕ)) (image : D → List ℕ → Type 0) (areas : Current D) (s : State) : Type 0 where
+pub record KeepsTable {D : Type 0} (v : DiskView D) (areas : Current D) (s : State) : Type 0 where
   pub payloads : List (List ℕ)
-  pub kept : KeepsPayloads bytes image areas payloads
+  pub kept : KeepsPayloads v areas payloads
   pub history : IsHistory payloads s
 
 -- The area ends at half of the disk's bytes from its base on, and the gate lies in it; where a job is processing, the room
 -- for the record of a reopening lies behind the gate. As long as the device hasn't failed, its images have the table,
 -- where it tells them.
-pub record IsStandingAt {D : Type 0} (bytes : D → Option (List ℕ)) (size : D → ℕ) (image : D → List ℕ → Type 0) (areas : Current D) (s : State) : Type 0 where
-  pub ends : areas.end ≡ areas.base + half (size areas.disk)
+pub record IsStandingAt {D : Type 0} (v : DiskView D) (areas : Current D) (s : State) : Type 0 where
+  pub ends : areas.end ≡ areas.base + half (v.size areas.disk)
   pub inside : areas.gate ≤ areas.end
   pub roomy : ¬ (HasNoProcessing s) → areas.gate + kept_room ≤ areas.end
-  pub table : areas.dead ≡ false → IsSome (bytes areas.disk) → KeepsTable bytes image areas s
+  pub table : areas.dead ≡ false → IsSome (v.bytes areas.disk) → KeepsTable v areas s
 
-abbrev pub IsStanding : {D : Type 0} → (D → Option (List ℕ)) → (D → ℕ) → (D → List ℕ → Type 0) → Inside D → Type 0
-IsStanding bytes size image a = IsStandingAt bytes size image a.areas a.table.state
+abbrev pub IsStanding : {D : Type 0} → DiskView D → Inside D → Type 0
+IsStanding v a = IsStandingAt v a.areas a.table.state

@@ -1,9 +1,10 @@
 -- An opened spool as its callers see it.
+use Rattle.spool_disk.specs.Disk.{DiskView}
 use Rattle.std.specs.Prelude.{◌≡◌, ◌<◌, ◌≤◌, ◌^◌, ℕ, ◌+◌, ◌-◌, List, [], length, Bool, true, false, IsTrue, Option, None, Some, Result, Ok, Err}
 use Rattle.spool_types.specs.declared.event.Event.{Event}
 use Rattle.spool_types.specs.declared.event.Reply.{Reply}
 use Rattle.spool_types.specs.State.{State, Job, job_at}
-use Rattle.spool_types.specs.Step.{refusal_of, step}
+use Rattle.job_table.specs.Step.{refusal_of, step}
 use Rattle.event_codec.specs.Spelling.{spelling, IsSpellable}
 use Rattle.gate_journal.specs.Frame.{payload_of}
 use Rattle.spool_core.specs.declared.spool.apply_fault.ApplyFault.{ApplyFault}
@@ -32,12 +33,12 @@ pub record IsDone {D : Type 0} (old : Standing D) (e : Event) (reply : Reply) (n
   pub room : new.room ≡ old.room - record_len e
   pub alive : new.dead ≡ false
 
-pub record IsFailed {D : Type 0} (failures : D → ℕ) (old : Standing D) (e : Event) (new : Standing D) : Type 0 where
+pub record IsFailed {D : Type 0} (v : DiskView D) (old : Standing D) (e : Event) (new : Standing D) : Type 0 where
   pub fits : Fits old e
   pub state : new.state ≡ old.state
   pub room : new.room ≡ old.room
   pub dead : new.dead ≡ true
-  pub cause : failures old.disk < failures new.disk
+  pub cause : v.failures old.disk < v.failures new.disk
 
 pub record IsFull {D : Type 0} (old : Standing D) (e : Event) : Type 0 where
   pub alive : old.dead ≡ false
@@ -45,13 +46,13 @@ pub record IsFull {D : Type 0} (old : Standing D) (e : Event) : Type 0 where
   pub room : old.room < record_len e + 7
 
 -- Each answer of an apply, with its cause and what it leaves. In this order: dead, refused, no memory, full, failed.
-abbrev pub IsAnswer : {D : Type 0} → (D → ℕ) → Standing D → Event → Result Reply ApplyFault → Standing D → Type 0
-IsAnswer failures old e (Ok reply) new = IsDone old e reply new
-IsAnswer failures old e (Err Dead) new = IsTrue old.dead × (new ≡ old)
-IsAnswer failures old e (Err (Refused r)) new = (old.dead ≡ false) × (step old.state e ≡ Err r) × (new ≡ old)
-IsAnswer failures old e (Err Memory) new = (old.dead ≡ false) × (refusal_of old.state e ≡ None) × (new ≡ old)
-IsAnswer failures old e (Err Full) new = IsFull old e × (new ≡ old)
-IsAnswer failures old e (Err Disk) new = IsFailed failures old e new
+abbrev pub IsAnswer : {D : Type 0} → DiskView D → Standing D → Event → Result Reply ApplyFault → Standing D → Type 0
+IsAnswer v old e (Ok reply) new = IsDone old e reply new
+IsAnswer v old e (Err Dead) new = IsTrue old.dead × (new ≡ old)
+IsAnswer v old e (Err (Refused r)) new = (old.dead ≡ false) × (step old.state e ≡ Err r) × (new ≡ old)
+IsAnswer v old e (Err Memory) new = (old.dead ≡ false) × (refusal_of old.state e ≡ None) × (new ≡ old)
+IsAnswer v old e (Err Full) new = IsFull old e × (new ≡ old)
+IsAnswer v old e (Err Disk) new = IsFailed v old e new
 
 -- The event is journalled: its record fitted, and its room is taken.
 pub record IsRecorded {D : Type 0} (old : Standing D) (e : Event) (new : Standing D) : Type 0 where
@@ -61,9 +62,9 @@ pub record IsRecorded {D : Type 0} (old : Standing D) (e : Event) (new : Standin
   pub alive : new.dead ≡ false
 
 -- the same answers before the event is committed to the table
-abbrev pub IsJournalled : {D : Type 0} → (D → ℕ) → Standing D → Event → Result ℕ ApplyFault → Standing D → Type 0
-IsJournalled failures old e (Ok place) new = IsRecorded old e new
-IsJournalled failures old e (Err fault) new = IsAnswer failures old e (Err fault) new
+abbrev pub IsJournalled : {D : Type 0} → DiskView D → Standing D → Event → Result ℕ ApplyFault → Standing D → Type 0
+IsJournalled v old e (Ok place) new = IsRecorded old e new
+IsJournalled v old e (Err fault) new = IsAnswer v old e (Err fault) new
 
 -- the frame of an event's record
 pub record IsFrameOf (e : Event) (frame : List ℕ) : Type 0 where

@@ -1,10 +1,11 @@
 -- One event of a run.
-use Rattle.std.specs.Prelude.{◌≡◌, ◌<◌, ℕ, true, false, IsTrue, None, Result, Ok, Err}
+use Rattle.spool_disk.specs.Disk.{DiskView}
+use Rattle.std.specs.Prelude.{◌≡◌, ◌<◌, true, false, IsTrue, None, Result, Ok, Err}
 use Rattle.spool_types.specs.declared.event.Event.{Event}
 use Rattle.spool_types.specs.declared.event.Reply.{Reply}
 use Rattle.spool_types.specs.declared.refusal.Refusal.{Refusal}
-use Rattle.spool_types.specs.Step.{refusal_of}
-use Rattle.spool_types.specs.Fold.{after_one}
+use Rattle.job_table.specs.Step.{refusal_of}
+use Rattle.job_table.specs.Fold.{after_one}
 use Rattle.spool_core.specs.Standing.{Standing, IsFull}
 use Rattle.spool_core.specs.Driving.{answer_to}
 use Rattle.spool_core.specs.declared.driving.Ending.{Ending}
@@ -18,17 +19,17 @@ pub record IsAnswered {D : Type 0} (old : Standing D) (e : Event) (answer : Resu
   pub dead : new.dead ≡ false
 
 -- the device failed
-pub record IsBroken {D : Type 0} (failures : D → ℕ) (old : Standing D) (e : Event) (new : Standing D) : Type 0 where
+pub record IsBroken {D : Type 0} (v : DiskView D) (old : Standing D) (e : Event) (new : Standing D) : Type 0 where
   pub alive : old.dead ≡ false
   pub accepted : refusal_of old.state e ≡ None
   pub table : new.state ≡ old.state
   pub dead : new.dead ≡ true
-  pub cause : failures old.disk < failures new.disk
+  pub cause : v.failures old.disk < v.failures new.disk
 
-abbrev pub IsTurn : {D : Type 0} → (D → ℕ) → Standing D → Event → Result (Result Reply Refusal) Ending → Standing D → Type 0
-IsTurn failures old e (Ok answer) new = IsAnswered old e answer new
-IsTurn failures old e (Err End) new = ⊥
-IsTurn failures old e (Err Memory) new = (old.dead ≡ false) × (new ≡ old)
-IsTurn failures old e (Err Full) new = IsFull old e × (new ≡ old)
-IsTurn failures old e (Err Disk) new = IsBroken failures old e new
-IsTurn failures old e (Err Dead) new = IsTrue old.dead × (new ≡ old)
+abbrev pub IsTurn : {D : Type 0} → DiskView D → Standing D → Event → Result (Result Reply Refusal) Ending → Standing D → Type 0
+IsTurn v old e (Ok answer) new = IsAnswered old e answer new
+IsTurn v old e (Err End) new = ⊥
+IsTurn v old e (Err Memory) new = (old.dead ≡ false) × (new ≡ old)
+IsTurn v old e (Err Full) new = IsFull old e × (new ≡ old)
+IsTurn v old e (Err Disk) new = IsBroken v old e new
+IsTurn v old e (Err Dead) new = IsTrue old.dead × (new ≡ old)

@@ -6,8 +6,8 @@ ghost use Rattle.spool_types.specs.declared.event.NewJob.{NewJob};
 ghost use Rattle.spool_types.specs.declared.event.Event.TheVariants.{Create};
 ghost use Rattle.spool_types.specs.declared.refusal.Refusal.TheVariants.{JobEnded};
 ghost use Rattle.spool_types.specs.State.{Job, job_at};
-ghost use Rattle.spool_types.specs.Step.{refusal_of};
-ghost use Rattle.spool_types.specs.Fold.{after_all};
+ghost use Rattle.job_table.specs.Step.{refusal_of};
+ghost use Rattle.job_table.specs.Fold.{after_all};
 ghost use Rattle.job_table.specs.Ended.{HasEndedJob, subject};
 ghost use Rattle.spool_core.specs.Image.{HasTable, HasBeforeOrAfterEvent};
 ghost use Rattle.spool_core.specs.Standing.{IsFull};
@@ -45,13 +45,13 @@ pub struct Driven {
 
 // Applies one event. A refusal is an answer, and any other fault ends the run.
 fn turn<D: Disk>(spool: &mut Spool<D>, event: Event) -> Result<Result<Reply, Refusal>, Ending>
-    ensures turn { IsTurn D.failures spool.old event result spool.new }
-    ensures counted { D.failures spool.old.disk ≤ D.failures spool.new.disk }
-    ensures fixed { D.size spool.new.disk ≡ D.size spool.old.disk }
-    ensures told { IsSome (D.bytes spool.new.disk) ↔ IsSome (D.bytes spool.old.disk) }
-    ensures any_moment { spool.old.dead ≡ false → IsSome (D.bytes spool.old.disk) →
-        LeavesOnly D.moment D.image_since spool.old.disk spool.new.disk (HasBeforeOrAfterEvent spool.old.state event) }
-    ensures kept { OnOk result (IsSome (D.bytes spool.old.disk) → KeepsImages D.image spool.old → KeepsImages D.image spool.new) }
+    ensures turn { IsTurn D.device spool.old event result spool.new }
+    ensures later { D.device.failures spool.old.disk ≤ D.device.failures spool.new.disk }
+    ensures fixed { D.device.size spool.new.disk ≡ D.device.size spool.old.disk }
+    ensures told { IsSome (D.device.bytes spool.new.disk) ↔ IsSome (D.device.bytes spool.old.disk) }
+    ensures any_moment { spool.old.dead ≡ false → IsSome (D.device.bytes spool.old.disk) →
+        LeavesOnly D.device spool.old.disk spool.new.disk (HasBeforeOrAfterEvent spool.old.state event) }
+    ensures kept { OnOk result (IsSome (D.device.bytes spool.old.disk) → KeepsImages D.device spool.old → KeepsImages D.device spool.new) }
 {
     match spool.apply(event) {
         Ok(reply) => Ok(Ok(reply)),
@@ -65,14 +65,14 @@ fn turn<D: Disk>(spool: &mut Spool<D>, event: Event) -> Result<Result<Reply, Ref
 
 // What a crash leaves of a spool before anything is applied.
 fn look<D: Disk>(spool: &Spool<D>)
-    ensures { spool.now.dead ≡ false → IsSome (D.bytes spool.now.disk) → KeepsImages D.image spool.now }
+    ensures { spool.now.dead ≡ false → IsSome (D.device.bytes spool.now.disk) → KeepsImages D.device spool.now }
 {
     spool.table();
 }
 
 // Applies the events up to the end of the run. A reply's place is reserved before its event is applied.
 fn run<D: Disk>(alloc: Global, spool: &mut Spool<D>, events: Vec<Event>) -> Driven
-    ensures { IsOutcome D.bytes D.size D.failures D.image D.moment D.image_since spool.old events.items result.replies.items result.ending spool.new }
+    ensures { IsOutcome D.device spool.old events.items result.replies.items result.ending spool.new }
 {
     let mut replies = Vec::new(alloc);
     look(spool);
@@ -95,18 +95,18 @@ pub fn drive<D: Disk>(alloc: Global, spool: &mut Spool<D>, events: Vec<Event>) -
     // What was answered, and the table that it led to.
     ensures replies { result.replies.items ≡ replies_to spool.old.state (take (length result.replies.items) events.items) }
     ensures table { spool.new.state ≡ after_all spool.old.state (take (length result.replies.items) events.items) }
-    ensures ending { IsEnding D.failures spool.old events.items (length result.replies.items) result.ending spool.new }
+    ensures ending { IsEnding D.device spool.old events.items (length result.replies.items) result.ending spool.new }
     ensures alive { 0 < length result.replies.items → spool.old.dead ≡ false }
 
     // A crash at any moment leaves the table after some of the events.
-    ensures any_moment { spool.old.dead ≡ false → IsSome (D.bytes spool.old.disk) →
-        LeavesOnly D.moment D.image_since spool.old.disk spool.new.disk (HasPrefixTable spool.old.state events.items 0 (reach result.ending (length result.replies.items))) }
+    ensures any_moment { spool.old.dead ≡ false → IsSome (D.device.bytes spool.old.disk) →
+        LeavesOnly D.device spool.old.disk spool.new.disk (HasPrefixTable spool.old.state events.items 0 (reach result.ending (length result.replies.items))) }
 
     // No acknowledged event is lost: once the m-th reply was given, a crash leaves a table that holds the first m events.
-    ensures acknowledged { spool.old.dead ≡ false → IsSome (D.bytes spool.old.disk) → (m : ℕ) → m ≤ length result.replies.items →
-        IsAcknowledged D.moment D.image_since spool.old.state events.items spool.old.disk spool.new.disk m (reach result.ending (length result.replies.items)) }
-    ensures kept { spool.new.dead ≡ false → IsSome (D.bytes spool.old.disk) → (c : List ℕ) → D.image spool.new.disk c → HasTable spool.new.state c }
-    ensures after_fault { spool.old.dead ≡ false → IsSome (D.bytes spool.old.disk) → (c : List ℕ) → D.image spool.new.disk c →
+    ensures acknowledged { spool.old.dead ≡ false → IsSome (D.device.bytes spool.old.disk) → (m : ℕ) → m ≤ length result.replies.items →
+        IsAcknowledged D.device spool.old.state events.items spool.old.disk spool.new.disk m (reach result.ending (length result.replies.items)) }
+    ensures kept { spool.new.dead ≡ false → IsSome (D.device.bytes spool.old.disk) → (c : List ℕ) → D.device.image spool.new.disk c → HasTable spool.new.state c }
+    ensures after_fault { spool.old.dead ≡ false → IsSome (D.device.bytes spool.old.disk) → (c : List ℕ) → D.device.image spool.new.disk c →
         HasPrefixTable spool.old.state events.items (length result.replies.items) (reach result.ending (length result.replies.items)) c }
 
     // A job that has ended stays as it is, and what would change it is refused.
@@ -114,9 +114,9 @@ pub fn drive<D: Disk>(alloc: Global, spool: &mut Spool<D>, events: Vec<Event>) -
     ensures refused { (j : ℕ) (job : Job) (e : Change) → HasEndedJob spool.old.state j job → subject e ≡ Some j → refusal_of spool.new.state e ≡ Some JobEnded }
     ensures number { (j : ℕ) (job : Job) (n : NewJob) → HasEndedJob spool.old.state j job → n.job ≡ j → IsSome (refusal_of spool.new.state (Create n)) }
 
-    ensures counted { D.failures spool.old.disk ≤ D.failures spool.new.disk }
-    ensures fixed { D.size spool.new.disk ≡ D.size spool.old.disk }
-    ensures told { IsSome (D.bytes spool.new.disk) ↔ IsSome (D.bytes spool.old.disk) }
+    ensures counted { D.device.failures spool.old.disk ≤ D.device.failures spool.new.disk }
+    ensures fixed { D.device.size spool.new.disk ≡ D.device.size spool.old.disk }
+    ensures told { IsSome (D.device.bytes spool.new.disk) ↔ IsSome (D.device.bytes spool.old.disk) }
 {
     ended_jobs_stay();
     run(alloc, spool, events)

@@ -1,7 +1,6 @@
 //! The table that the payloads of an area lead to.
 ghost use Rattle.std.specs.Prelude.{◌≡◌, ◌<◌, ◌≤◌, ◌+◌, List, ℕ, Some, None, false, OnOk, IfOk, IfErr};
-ghost use Rattle.spool_disk.specs.Disk.{LeavesOnly};
-ghost use Rattle.spool_types.specs.Step.{refusal_of, after};
+ghost use Rattle.job_table.specs.Step.{refusal_of, after};
 ghost use Rattle.spool_areas.specs.Header.{header_len};
 ghost use Rattle.spool_areas.specs.Payloads.{gate_after};
 ghost use Rattle.spool_areas.specs.Extents.{payloads_at, Follow};
@@ -28,13 +27,13 @@ pub(crate) fn fold<D: Disk>(
     requires alive { areas.old.dead ≡ false }
     requires lie { Follow (areas.old.base + header_len) payloads.now areas.old.gate }
     requires inside { areas.old.gate ≤ areas.old.end }
-    ensures table { IfOk result (λ t. (r : List ℕ) → D.bytes areas.old.disk ≡ Some r → IsHistory (payloads_at r payloads.now) t.state) }
-    ensures gate { OnOk result ((r : List ℕ) → D.bytes areas.old.disk ≡ Some r → areas.old.gate ≡ gate_after areas.old.base (payloads_at r payloads.now)) }
-    ensures fault { IfErr result (λ e. (r : List ℕ) → D.bytes areas.old.disk ≡ Some r → IsFoldFault areas.old.base payloads.now r e) }
-    ensures cause { IfErr result (λ e. e ≡ OpenFault.Disk → D.failures areas.old.disk < D.failures areas.new.disk) }
+    ensures table { IfOk result (λ t. (r : List ℕ) → D.device.bytes areas.old.disk ≡ Some r → IsHistory (payloads_at r payloads.now) t.state) }
+    ensures gate { OnOk result ((r : List ℕ) → D.device.bytes areas.old.disk ≡ Some r → areas.old.gate ≡ gate_after areas.old.base (payloads_at r payloads.now)) }
+    ensures fault { IfErr result (λ e. (r : List ℕ) → D.device.bytes areas.old.disk ≡ Some r → IsFoldFault areas.old.base payloads.now r e) }
+    ensures cause { IfErr result (λ e. e ≡ OpenFault.Disk → D.device.failures areas.old.disk < D.device.failures areas.new.disk) }
     ensures alive { OnOk result (areas.new.dead ≡ false) }
-    ensures same { IsRead D.bytes D.size D.failures areas.old areas.new }
-    ensures any_moment { LeavesOnly D.moment D.image_since areas.old.disk areas.new.disk (D.image areas.old.disk) }
+    ensures same { IsRead D.device areas.old areas.new }
+    ensures counted { OnOk result (D.device.failures areas.new.disk ≡ D.device.failures areas.old.disk) }
 {
     let mut table = Table::new(alloc);
     let mut buffer = Vec::new(alloc);
@@ -61,12 +60,12 @@ fn read_event<D: Disk>(
     requires alive { areas.old.dead ≡ false }
     requires head { 5 ≤ extent.place }
     requires inside { extent.place + extent.len ≤ areas.old.end }
-    ensures event { IfOk result (λ event. (r : List ℕ) → D.bytes areas.old.disk ≡ Some r → IsEventAt r extent event) }
-    ensures fault { IfErr result (λ e. (r : List ℕ) → D.bytes areas.old.disk ≡ Some r → IsReadFault r extent e) }
-    ensures cause { IfErr result (λ e. e ≡ OpenFault.Disk → D.failures areas.old.disk < D.failures areas.new.disk) }
+    ensures event { IfOk result (λ event. (r : List ℕ) → D.device.bytes areas.old.disk ≡ Some r → IsEventAt r extent event) }
+    ensures fault { IfErr result (λ e. (r : List ℕ) → D.device.bytes areas.old.disk ≡ Some r → IsReadFault r extent e) }
+    ensures cause { IfErr result (λ e. e ≡ OpenFault.Disk → D.device.failures areas.old.disk < D.device.failures areas.new.disk) }
     ensures alive { OnOk result (areas.new.dead ≡ false) }
-    ensures same { IsRead D.bytes D.size D.failures areas.old areas.new }
-    ensures any_moment { LeavesOnly D.moment D.image_since areas.old.disk areas.new.disk (D.image areas.old.disk) }
+    ensures same { IsRead D.device areas.old areas.new }
+    ensures counted { OnOk result (D.device.failures areas.new.disk ≡ D.device.failures areas.old.disk) }
 {
     buffer.clear();
     match buffer.resize(extent.len as usize, 0) {

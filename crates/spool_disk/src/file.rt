@@ -1,7 +1,7 @@
 // A file of the system as a disk.
 ghost use Rattle.std.specs.Prelude.{◌≡◌, None, IfOk};
 ghost use Rattle.std.proofs.lemmas.Option.{none-some};
-ghost use Rattle.spool_disk.specs.Disk.{HasCause};
+ghost use Rattle.spool_disk.specs.Disk.{Counts};
 ghost use Rattle.spool_disk.specs.File.{file_len, file_faults};
 
 use crate::{DeviceFault, Disk};
@@ -39,7 +39,7 @@ impl FileDisk {
     // of a disk that tells nothing.
     fn counted(&mut self, answer: io::Result<()>) -> Result<(), DeviceFault>
         ensures len { self.new.len ≡ self.old.len }
-        ensures cause { HasCause self.old.faults self.new.faults result }
+        ensures cause { Counts self.old.faults self.new.faults result }
     {
         if answer.is_ok() || self.faults == u64::MAX {
             return Ok(());
@@ -50,25 +50,21 @@ impl FileDisk {
 }
 
 impl Disk for FileDisk {
-    ghost bytes = { λ d. None };
+    ghost device = { record {
+      bytes = λ d. None;
+      size = λ d. file_len d;
+      image = λ d c. ⊥;
+      moment = λ d. 0;
+      image_since = λ d t c. ⊥;
+      failures = λ d. file_faults d;
+    } };
 
-    ghost size = { λ d. file_len d };
-
-    ghost image = { λ d c. ⊥ };
-
-    ghost moment = { λ d. 0 };
-
-    ghost image_since = { λ d t c. ⊥ };
-
-    ghost failures = { λ d. file_faults d };
-
-    ghost reads_image = { λ d r tells. absurd (none-some r tells) };
-
-    ghost image_size = { λ d c is. absurd is };
-
-    ghost counts_now = { λ d t c le now. now };
-
-    ghost only_now = { λ d c left. left };
+    ghost lawful = { record {
+      reads_image = λ d r tells. absurd (none-some r tells);
+      image_size = λ d c is. absurd is;
+      counts_now = λ d t c le now. now;
+      only_now = λ d c left. left;
+    } };
 
     fn len(&self) -> u64 {
         self.len

@@ -1,8 +1,7 @@
 // A disk that passes so many calls on, and then fails each one without effect.
 ghost use Rattle.std.specs.Prelude.{◌≡◌, ◌+◌, ◌-◌, ◌≤◌, ◌<◌, ◌^◌, length, OnOk, IsErr};
-ghost use Rattle.std.specs.Option.{option_map};
-ghost use Rattle.spool_disk.specs.Disk.{overwritten, SameOutside, Reads, Tells, IsOldOutside, IsSynced, LeavesOnly, HasCause};
-ghost use Rattle.spool_disk.specs.Fuse.{disk_of, calls_left, fault_count, IsFused};
+ghost use Rattle.spool_disk.specs.Disk.{Reads, IsSynced, IsWritten, ChangesNothing, ChangesOnly, Counts, HasCause};
+ghost use Rattle.spool_disk.specs.Fuse.{disk_of, calls_left, fault_count, behind_fuse, IsFused};
 
 use crate::surely::{read_surely, sync_surely, write_surely};
 use crate::{DeviceFault, Disk};
@@ -65,7 +64,7 @@ impl<D: Disk> FuseDisk<D> {
         ensures same { result ≡ answer }
         ensures disk { disk_of self.new ≡ disk_of self.old }
         ensures left { calls_left self.new ≡ calls_left self.old }
-        ensures cause { HasCause (fault_count self.old) (fault_count self.new) result }
+        ensures cause { Counts (fault_count self.old) (fault_count self.new) result }
     {
         if answer.is_err() {
             self.faults += 1;
@@ -75,25 +74,14 @@ impl<D: Disk> FuseDisk<D> {
 }
 
 impl<D: Disk> Disk for FuseDisk<D> {
-    ghost bytes = { λ f. D.bytes (disk_of f) };
+    ghost device = { behind_fuse D.device };
 
-    ghost size = { λ f. D.size (disk_of f) };
-
-    ghost image = { λ f. D.image (disk_of f) };
-
-    ghost moment = { λ f. D.moment (disk_of f) };
-
-    ghost image_since = { λ f. D.image_since (disk_of f) };
-
-    ghost failures = { λ f. fault_count f };
-
-    ghost reads_image = { λ f. D.reads_image (disk_of f) };
-
-    ghost image_size = { λ f. D.image_size (disk_of f) };
-
-    ghost counts_now = { λ f. D.counts_now (disk_of f) };
-
-    ghost only_now = { λ f. D.only_now (disk_of f) };
+    ghost lawful = { record {
+      reads_image = λ f. D.lawful.reads_image (disk_of f);
+      image_size = λ f. D.lawful.image_size (disk_of f);
+      counts_now = λ f. D.lawful.counts_now (disk_of f);
+      only_now = λ f. D.lawful.only_now (disk_of f);
+    } };
 
     fn len(&self) -> u64 {
         self.disk.len()
@@ -104,13 +92,11 @@ impl<D: Disk> Disk for FuseDisk<D> {
     }
 
     fn read(&mut self, at: u64, into: &mut [u8]) -> Result<(), DeviceFault>
-        requires { at + length into.old ≤ D.size (disk_of self.old) }
-        ensures data { OnOk result (Reads (D.bytes (disk_of self.old)) at into.new) }
-        ensures stays { D.bytes (disk_of self.new) ≡ D.bytes (disk_of self.old) }
-        ensures fixed { D.size (disk_of self.new) ≡ D.size (disk_of self.old) }
-        ensures during { LeavesOnly ⟦<FuseDisk<D> as Disk>⟧.moment ⟦<FuseDisk<D> as Disk>⟧.image_since self.old self.new (D.image (disk_of self.old)) }
-        ensures cause { HasCause (fault_count self.old) (fault_count self.new) result }
-        ensures fuse { fault_count self.old < 2 ^ 64 - 1 → IsFused D.failures self.old self.new result }
+        requires { at + length into.old ≤ D.device.size (disk_of self.old) }
+        ensures data { OnOk result (Reads (D.device.bytes (disk_of self.old)) at into.new) }
+        ensures same { ChangesNothing (behind_fuse D.device) self.old self.new }
+        ensures cause { HasCause (behind_fuse D.device) self.old self.new result }
+        ensures fuse { fault_count self.old < 2 ^ 64 - 1 → IsFused D.device self.old self.new result }
     {
         if self.faults == u64::MAX {
             read_surely(&mut self.disk, at, into);
@@ -122,13 +108,11 @@ impl<D: Disk> Disk for FuseDisk<D> {
     }
 
     fn write(&mut self, at: u64, from: &[u8]) -> Result<(), DeviceFault>
-        requires { at + length from.now ≤ D.size (disk_of self.old) }
-        ensures written { OnOk result (D.bytes (disk_of self.new) ≡ option_map (overwritten at from.now) (D.bytes (disk_of self.old))) }
-        ensures stays { Tells (SameOutside at (length from.now)) (D.bytes (disk_of self.old)) (D.bytes (disk_of self.new)) }
-        ensures fixed { D.size (disk_of self.new) ≡ D.size (disk_of self.old) }
-        ensures during { LeavesOnly ⟦<FuseDisk<D> as Disk>⟧.moment ⟦<FuseDisk<D> as Disk>⟧.image_since self.old self.new (IsOldOutside (D.image (disk_of self.old)) at (length from.now)) }
-        ensures cause { HasCause (fault_count self.old) (fault_count self.new) result }
-        ensures fuse { fault_count self.old < 2 ^ 64 - 1 → IsFused D.failures self.old self.new result }
+        requires { at + length from.now ≤ D.device.size (disk_of self.old) }
+        ensures written { OnOk result (IsWritten (behind_fuse D.device) self.old self.new at from.now) }
+        ensures changes { ChangesOnly (behind_fuse D.device) self.old self.new at (length from.now) }
+        ensures cause { HasCause (behind_fuse D.device) self.old self.new result }
+        ensures fuse { fault_count self.old < 2 ^ 64 - 1 → IsFused D.device self.old self.new result }
     {
         if self.faults == u64::MAX {
             write_surely(&mut self.disk, at, from);
@@ -140,12 +124,10 @@ impl<D: Disk> Disk for FuseDisk<D> {
     }
 
     fn sync(&mut self) -> Result<(), DeviceFault>
-        ensures durable { OnOk result (IsSynced (D.bytes (disk_of self.new)) (D.image (disk_of self.new))) }
-        ensures stays { D.bytes (disk_of self.new) ≡ D.bytes (disk_of self.old) }
-        ensures fixed { D.size (disk_of self.new) ≡ D.size (disk_of self.old) }
-        ensures during { LeavesOnly ⟦<FuseDisk<D> as Disk>⟧.moment ⟦<FuseDisk<D> as Disk>⟧.image_since self.old self.new (D.image (disk_of self.old)) }
-        ensures cause { HasCause (fault_count self.old) (fault_count self.new) result }
-        ensures fuse { fault_count self.old < 2 ^ 64 - 1 → IsFused D.failures self.old self.new result }
+        ensures durable { OnOk result (IsSynced (behind_fuse D.device) self.new) }
+        ensures same { ChangesNothing (behind_fuse D.device) self.old self.new }
+        ensures cause { HasCause (behind_fuse D.device) self.old self.new result }
+        ensures fuse { fault_count self.old < 2 ^ 64 - 1 → IsFused D.device self.old self.new result }
     {
         if self.faults == u64::MAX {
             sync_surely(&mut self.disk);

@@ -4,13 +4,17 @@
 //!
 //! # What it promises to the layer above
 //!
+//! What is seen of a disk is one value, `DiskView` (its member `device`), and every statement about disks takes that
+//! value: its bytes, its length, its images, the moment, the images since a moment, and its count of failures.
+//!
 //! 1. *Images* (`Disk`): a disk has images, the bytes that a crash may leave now (`image`) and since an earlier moment
-//!    (`image_since`). What a read gives is always one of them. `read` and `sync` add no image (`during`). `write` adds
-//!    at most old images with other bytes in the written range, also where it fails (`during`). After a `sync` that
-//!    answers Ok what a read gives is the only image (`durable`).
-//! 2. A fault has a cause (`cause`): the count `faults` rose during the call. At the greatest count no call fails.
+//!    (`image_since`). What a read gives is always one of them. `read` and `sync` add no image (`ChangesNothing`). `write`
+//!    adds at most old images with other bytes in the written range, also where it fails (`ChangesOnly`). After a `sync`
+//!    that answers Ok what a read gives is the only image (`durable`).
+//! 2. A fault has a cause (`cause`): the count `faults` rose during the call, and after an answer Ok it is as before. At
+//!    the greatest count no call fails.
 //! 3. A write that answers Ok leaves exactly the given bytes at their place (`written`); one that fails may leave any
-//!    bytes there, and all others as they were (`stays`). A length never changes (`fixed`).
+//!    bytes there, and all others as they were (`ChangesOnly`). A length never changes.
 //!
 //! All of 1 is a bound from above. A disk that loses less than it might meets it too, and needs no record of its calls.
 //! The crate `disk_images` has a disk that keeps exactly these images, so the bound is met by the worst device too.
@@ -30,12 +34,14 @@
 #![tactic(auto)]
 
 mod disk;
+mod durable;
 mod file;
 mod fuse;
 mod memory;
 mod surely;
 
 pub use disk::{DeviceFault, Disk};
+pub use durable::persist;
 pub use file::FileDisk;
 pub use fuse::FuseDisk;
 pub use memory::MemDisk;

@@ -42,25 +42,21 @@ fn overwrite(bytes: &mut [u8], at: usize, from: &[u8])
 }
 
 impl Disk for MemDisk {
-    ghost bytes = { λ d. Some (mem_bytes d) };
+    ghost device = { record {
+      bytes = λ d. Some (mem_bytes d);
+      size = λ d. length (mem_bytes d);
+      image = λ d c. c ≡ mem_bytes d;
+      moment = λ d. 0;
+      image_since = λ d t c. c ≡ mem_bytes d;
+      failures = λ d. 0;
+    } };
 
-    ghost size = { λ d. length (mem_bytes d) };
-
-    ghost image = { λ d c. c ≡ mem_bytes d };
-
-    ghost moment = { λ d. 0 };
-
-    ghost image_since = { λ d t c. c ≡ mem_bytes d };
-
-    ghost failures = { λ d. 0 };
-
-    ghost reads_image = { λ d r tells. sym (same_Some (mem_bytes d) r tells) };
-
-    ghost image_size = { λ d c is. ap length is };
-
-    ghost counts_now = { λ d t c le now. now };
-
-    ghost only_now = { λ d c left. left };
+    ghost lawful = { record {
+      reads_image = λ d r tells. sym (same_Some (mem_bytes d) r tells);
+      image_size = λ d c is. ap length is;
+      counts_now = λ d t c le now. now;
+      only_now = λ d c left. left;
+    } };
 
     fn len(&self) -> u64 {
         self.bytes.len() as u64

@@ -5,7 +5,7 @@ use Rattle.spool_types.specs.declared.event.Event.{Event}
 use Rattle.spool_types.specs.declared.event.Reply.{Reply}
 use Rattle.spool_types.specs.declared.refusal.Refusal.{Refusal}
 use Rattle.spool_types.specs.State.{State}
-use Rattle.spool_types.specs.Step.{step}
+use Rattle.job_table.specs.Step.{step}
 use Rattle.spool_disk.specs.Disk.{LeavesOnly}
 use Rattle.spool_disk.proofs.Moments.{runs_on, weaker_run}
 use Rattle.spool_core.specs.Standing.{Standing}
@@ -39,21 +39,21 @@ dead_last v s (t ∷ ts) is h =
 
 -- a turn, and then more turns, of which a crash leaves what is known where the spool lives on
 after_turn : {D : Type 0} (v : Setting D) (m : Standing D) (t : Turn D) (ts : List (Turn D)) (b : Bool) → t.next.dead ≡ b → IsTurn v m t → AreTurns v t.next ts → m.dead ≡ false → IsSome (v.device.bytes m.disk)
-    → (t.next.dead ≡ false → LeavesOnly v.device.moment v.device.image_since t.next.disk (last_standing t.next ts).disk (IsAlong v.mime t.next ts))
-    → LeavesOnly v.device.moment v.device.image_since m.disk (last_standing t.next ts).disk (IsAlong v.mime m (t ∷ ts))
-after_turn v m t ts false is one more alive tells rest = runs_on v.device.moment v.device.image_since m.disk t.next.disk (last_standing t.next ts).disk (IsAlong v.mime m (t ∷ ts)) (IsAlong v.mime t.next ts)
-    (weaker_run v.device.moment v.device.image_since m.disk t.next.disk (IsAlong v.mime m (t ∷ ts)) (HasBeforeOrAfterCommand v.mime m.state t.command) (one.crash alive tells) (λ c. ⊎_elim (λ before. inl before) (λ after. inr (inl after))))
+    → (t.next.dead ≡ false → LeavesOnly v.device t.next.disk (last_standing t.next ts).disk (IsAlong v.mime t.next ts))
+    → LeavesOnly v.device m.disk (last_standing t.next ts).disk (IsAlong v.mime m (t ∷ ts))
+after_turn v m t ts false is one more alive tells rest = runs_on v.device m.disk t.next.disk (last_standing t.next ts).disk (IsAlong v.mime m (t ∷ ts)) (IsAlong v.mime t.next ts)
+    (weaker_run v.device m.disk t.next.disk (IsAlong v.mime m (t ∷ ts)) (HasBeforeOrAfterCommand v.mime m.state t.command) (one.crash alive tells) (λ c. ⊎_elim (λ before. inl before) (λ after. inr (inl after))))
     (rest is)
     (λ c along. inr (inr along))
-after_turn v m t ts true is one more alive tells rest = subst (λ x. LeavesOnly v.device.moment v.device.image_since m.disk x.disk (IsAlong v.mime m (t ∷ ts))) (sym (dead_last v t.next ts is more))
-    (weaker_run v.device.moment v.device.image_since m.disk t.next.disk (IsAlong v.mime m (t ∷ ts)) (HasBeforeOrAfterCommand v.mime m.state t.command) (one.crash alive tells) (λ c. ⊎_elim (λ before. inl before) (λ after. inr (inl after))))
+after_turn v m t ts true is one more alive tells rest = subst (λ x. LeavesOnly v.device m.disk x.disk (IsAlong v.mime m (t ∷ ts))) (sym (dead_last v t.next ts is more))
+    (weaker_run v.device m.disk t.next.disk (IsAlong v.mime m (t ∷ ts)) (HasBeforeOrAfterCommand v.mime m.state t.command) (one.crash alive tells) (λ c. ⊎_elim (λ before. inl before) (λ after. inr (inl after))))
 
 -- turns from an opened spool on
-along : {D : Type 0} (v : Setting D) (m : Standing D) (ts : List (Turn D)) → OnlyNow v.device → IsKept v.device m → AreTurns v m ts → m.dead ≡ false → IsSome (v.device.bytes m.disk) → LeavesOnly v.device.moment v.device.image_since m.disk (last_standing m ts).disk (IsAlong v.mime m ts)
+along : {D : Type 0} (v : Setting D) (m : Standing D) (ts : List (Turn D)) → OnlyNow v.device → IsKept v.device m → AreTurns v m ts → m.dead ≡ false → IsSome (v.device.bytes m.disk) → LeavesOnly v.device m.disk (last_standing m ts).disk (IsAlong v.mime m ts)
 along v m [] now kept h alive tells = unmoved v.device m (IsAlong v.mime m []) now kept (λ c has. has) alive tells
 along v m (t ∷ ts) now kept h alive tells = after_turn v m t ts t.next.dead refl h.0 h.1 alive tells (λ lives. along v t.next ts now h.0.kept h.1 lives (h.0.told.1 tells))
 
 -- the same behind the first of them
-pub along_others : {D : Type 0} (v : Setting D) (s : Standing D) (first others : List (Turn D)) → OnlyNow v.device → IsKept v.device s → AreTurns v s (first ++ others) → (last_standing s first).dead ≡ false → IsSome (v.device.bytes (last_standing s first).disk) → LeavesOnly v.device.moment v.device.image_since (last_standing s first).disk (last_standing s (first ++ others)).disk (IsAlong v.mime (last_standing s first) others)
+pub along_others : {D : Type 0} (v : Setting D) (s : Standing D) (first others : List (Turn D)) → OnlyNow v.device → IsKept v.device s → AreTurns v s (first ++ others) → (last_standing s first).dead ≡ false → IsSome (v.device.bytes (last_standing s first).disk) → LeavesOnly v.device (last_standing s first).disk (last_standing s (first ++ others)).disk (IsAlong v.mime (last_standing s first) others)
 along_others v s [] others now kept h alive tells = along v s others now kept h alive tells
 along_others v s (t ∷ first) others now kept h alive tells = along_others v t.next first others now h.0.kept h.1 alive tells

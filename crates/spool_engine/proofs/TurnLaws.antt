@@ -10,10 +10,10 @@ use Rattle.spool_types.specs.declared.event.NewQueue.{NewQueue}
 use Rattle.spool_types.specs.declared.event.Reply.{Reply}
 use Rattle.spool_types.specs.declared.refusal.Refusal.{Refusal}
 use Rattle.spool_types.specs.State.{State}
-use Rattle.spool_types.specs.Step.{step, answered, refusal_of}
-use Rattle.spool_types.specs.Fold.{after_all, after_one, unless_refused}
+use Rattle.job_table.specs.Step.{answered, refusal_of}
+use Rattle.job_table.specs.Fold.{after_all, after_one, unless_refused}
 use Rattle.device_uri.specs.Devices.{is_device_uri}
-use Rattle.spool_disk.specs.Disk.{LeavesOnly}
+use Rattle.spool_disk.specs.Disk.{DiskView, LeavesOnly}
 use Rattle.spool_disk.proofs.Moments.{started}
 use Rattle.command_lines.specs.Pending.{Pending, Leads, to_come}
 use Rattle.command_lines.specs.Replies.{refusal_line}
@@ -25,41 +25,38 @@ use Rattle.spool_core.specs.Standing.{Standing, IsAnswer}
 use Rattle.spool_core.specs.declared.spool.apply_fault.ApplyFault.{ApplyFault}
 use Rattle.spool_core.specs.declared.spool.apply_fault.ApplyFault.TheVariants.{Dead, Refused, Memory, Full, Disk}
 use Rattle.spool_engine.specs.Mime.{Mime}
-use Rattle.spool_engine.specs.Script.{reply_of, after_command, said_of, event_of, step_line, step_state, accepted_line, reply_line, script_text, script_events, event_then}
-use Rattle.spool_engine.specs.Runs.{Device, Setting, Outcome, Turn, served, no_memory, full, disk, dead, unread, IsServed, IsTaken, IsStep, IsTurn, IsOutcome, IsKept, HasBeforeOrAfterCommand, AreTurns, last_standing, texts_of, commands_in, AllServed, Wrote, WroteSome, Lead, Serves, Drains, DrainsEnd}
-use Rattle.spool_engine.specs.Answers.{answer_line, plain_line, IsApplied, Takes}
+use Rattle.spool_engine.specs.Script.{Meaning, says, asks, meaning, event_in, reply_by, after_by, reply_of, after_command, step_line, step_state, reply_line, script_text, script_events, event_then}
+use Rattle.spool_engine.specs.Runs.{Setting, Outcome, Turn, served, no_memory, full, disk, dead, unread, IsServed, IsTaken, IsStep, IsTurn, IsOutcome, IsKept, HasBeforeOrAfterCommand, AreTurns, last_standing, texts_of, commands_in, AllServed, Wrote, WroteSome, Lead, Serves, Drains, DrainsEnd}
+use Rattle.spool_engine.specs.Answers.{answer_line, IsApplied, Takes}
 use Rattle.spool_engine.specs.declared.fault.RunFault.{RunFault}
 use Rattle.spool_engine.specs.declared.fault.RunFault.TheVariants.{Read, Write, Memory as Wanted}
 
 -- since this moment there is no other
-abbrev pub OnlyNow : {D : Type 0} → Device D → Type 0
+abbrev pub OnlyNow : {D : Type 0} → DiskView D → Type 0
 OnlyNow {D} v = (d : D) (c : List ℕ) → v.image_since d (v.moment d) c → v.image d c
 
 -- where nothing is done a crash leaves the table
-pub unmoved : {D : Type 0} (v : Device D) (s : Standing D) (P : List ℕ → Type 0) → OnlyNow v → IsKept v s → ((c : List ℕ) → HasTable s.state c → P c) → s.dead ≡ false → IsSome (v.bytes s.disk) → LeavesOnly v.moment v.image_since s.disk s.disk P
-unmoved v s P now kept weaker alive tells = started v.moment v.image_since s.disk P (λ c since. weaker c (kept alive tells c (now s.disk c since)))
+pub unmoved : {D : Type 0} (v : DiskView D) (s : Standing D) (P : List ℕ → Type 0) → OnlyNow v → IsKept v s → ((c : List ℕ) → HasTable s.state c → P c) → s.dead ≡ false → IsSome (v.bytes s.disk) → LeavesOnly v s.disk s.disk P
+unmoved v s P now kept weaker alive tells = started v s.disk P (λ c since. weaker c (kept alive tells c (now s.disk c since)))
 
 -- the state of a step is the one of the fold
 step_folds : (s : State) (e : Event) (o : Option Refusal) → step_state s (answered s e o) ≡ unless_refused s e o
 step_folds s e None = refl
 step_folds s e (Some r) = refl
 
-same_after : (m : Mime) (s : State) (c : Command) (e : Event) → event_of m s c ≡ Some e → after_command m s c ≡ after_one s e
-same_after m s c e is = ap (λ o. elim o [ None ↦ s | Some e ↦ step_state s (step s e) ]) is ∙ step_folds s e (refusal_of s e)
-
-same_reply : (m : Mime) (s : State) (c : Command) (e : Event) → event_of m s c ≡ Some e → reply_of m s c ≡ step_line e (step s e)
-same_reply m s c e is = ap (λ o. elim o [ None ↦ said_of s c | Some e ↦ step_line e (step s e) ]) is
+same_after : (m : Mime) (s : State) (c : Command) (e : Event) (line : Reply → List ℕ) → meaning m s c ≡ asks e line → after_command m s c ≡ after_one s e
+same_after m s c e line is = ap (after_by s) is ∙ step_folds s e (refusal_of s e)
 
 -- a command that is no event changes nothing
-said_turn : {D : Type 0} (v : Setting D) (s : Standing D) (c : Command) (text : List ℕ) → OnlyNow v.device → IsKept v.device s → event_of v.mime s.state c ≡ None → text ≡ said_of s.state c → (t : Turn D) × Takes v s c t s × (t.text ≡ text)
-said_turn v s c text now kept is e = (
+said_turn : {D : Type 0} (v : Setting D) (s : Standing D) (c : Command) (text : List ℕ) → OnlyNow v.device → IsKept v.device s → meaning v.mime s.state c ≡ says text → (t : Turn D) × Takes v s c t s × (t.text ≡ text)
+said_turn v s c text now kept is = (
   record { command = c; outcome = served; text = text; next = s },
   record {
     legal = record {
       outcome = record {
-        text = e ∙ sym (ap (λ o. elim o [ None ↦ said_of s.state c | Some e ↦ step_line e (step s.state e) ]) is);
-        state = sym (ap (λ o. elim o [ None ↦ s.state | Some e ↦ step_state s.state (step s.state e) ]) is);
-        step = subst (λ o. IsStep s o s) (sym is) refl;
+        text = sym (ap (reply_by s.state) is);
+        state = sym (ap (after_by s.state) is);
+        step = subst (λ w. IsStep s (event_in w) s) (sym is) refl;
       };
       counted = omega arith;
       told = (λ h. h, λ h. h);
@@ -73,16 +70,16 @@ said_turn v s c text now kept is e = (
 )
 
 -- a turn whose event went so
-applied_turn : {D : Type 0} (v : Setting D) (s s' : Standing D) (c : Command) (e : Event) (a : Result Reply ApplyFault) (o : Outcome) (text : List ℕ) → event_of v.mime s.state c ≡ Some e → IsApplied v.device s e a s'
+applied_turn : {D : Type 0} (v : Setting D) (s s' : Standing D) (c : Command) (e : Event) (line : Reply → List ℕ) (a : Result Reply ApplyFault) (o : Outcome) (text : List ℕ) → meaning v.mime s.state c ≡ asks e line → IsApplied v.device s e a s'
     → IsOutcome v s (record { command = c; outcome = o; text = text; next = s' }) o → (t : Turn D) × Takes v s c t s' × (t.text ≡ text)
-applied_turn v s s' c e a o text is h out = (
+applied_turn v s s' c e line a o text is h out = (
   record { command = c; outcome = o; text = text; next = s' },
   record {
     legal = record {
       outcome = out;
       counted = h.counted;
       told = h.told;
-      crash = λ alive tells. subst (λ after. LeavesOnly v.device.moment v.device.image_since s.disk s'.disk (λ image. HasTable s.state image ⊎ HasTable after image)) (sym (same_after v.mime s.state c e is)) (h.crash alive tells);
+      crash = λ alive tells. subst (λ after. LeavesOnly v.device s.disk s'.disk (λ image. HasTable s.state image ⊎ HasTable after image)) (sym (same_after v.mime s.state c e line is)) (h.crash alive tells);
       kept = h.kept;
     };
     command = refl;
@@ -91,21 +88,21 @@ applied_turn v s s' c e a o text is h out = (
   refl,
 )
 
-pub event_turn : {D : Type 0} (v : Setting D) (s s' : Standing D) (c : Command) (e : Event) (a : Result Reply ApplyFault) → event_of v.mime s.state c ≡ Some e → IsApplied v.device s e a s' → (t : Turn D) × Takes v s c t s' × (t.text ≡ answer_line e a)
-event_turn v s s' c e (Ok reply) is h = applied_turn v s s' c e (Ok reply) served (accepted_line e reply) is h (record {
-  text = sym (same_reply v.mime s.state c e is ∙ ap (step_line e) h.cause.step);
-  state = sym (ap (λ o. elim o [ None ↦ s.state | Some e ↦ step_state s.state (step s.state e) ]) is ∙ ap (step_state s.state) h.cause.step);
-  step = subst (λ o. IsStep s o s') (sym is) (subst (λ r. IsTaken s e r s') (sym h.cause.step) h.cause);
+pub event_turn : {D : Type 0} (v : Setting D) (s s' : Standing D) (c : Command) (e : Event) (line : Reply → List ℕ) (a : Result Reply ApplyFault) → meaning v.mime s.state c ≡ asks e line → IsApplied v.device s e a s' → (t : Turn D) × Takes v s c t s' × (t.text ≡ answer_line line a)
+event_turn v s s' c e line (Ok reply) is h = applied_turn v s s' c e line (Ok reply) served (line reply) is h (record {
+  text = sym (ap (reply_by s.state) is ∙ ap (step_line line) h.cause.step);
+  state = sym (ap (after_by s.state) is ∙ ap (step_state s.state) h.cause.step);
+  step = subst (λ w. IsStep s (event_in w) s') (sym is) (subst (λ r. IsTaken s e r s') (sym h.cause.step) h.cause);
 })
-event_turn v s s' c e (Err (Refused refusal)) is h = applied_turn v s s' c e (Err (Refused refusal)) served (refusal_line refusal) is h (record {
-  text = sym (same_reply v.mime s.state c e is ∙ ap (step_line e) h.cause.1);
-  state = ap (λ v. v.state) h.cause.2 ∙ sym (ap (λ o. elim o [ None ↦ s.state | Some e ↦ step_state s.state (step s.state e) ]) is ∙ ap (step_state s.state) h.cause.1);
-  step = subst (λ o. IsStep s o s') (sym is) (subst (λ r. IsTaken s e r s') (sym h.cause.1) (h.cause.0, h.cause.2));
+event_turn v s s' c e line (Err (Refused refusal)) is h = applied_turn v s s' c e line (Err (Refused refusal)) served (refusal_line refusal) is h (record {
+  text = sym (ap (reply_by s.state) is ∙ ap (step_line line) h.cause.1);
+  state = ap (λ v. v.state) h.cause.2 ∙ sym (ap (after_by s.state) is ∙ ap (step_state s.state) h.cause.1);
+  step = subst (λ w. IsStep s (event_in w) s') (sym is) (subst (λ r. IsTaken s e r s') (sym h.cause.1) (h.cause.0, h.cause.2));
 })
-event_turn v s s' c e (Err Dead) is h = applied_turn v s s' c e (Err Dead) dead (codes "error dead\n") is h (record { event = e; is = is; cause = h.cause; text = refl })
-event_turn v s s' c e (Err Memory) is h = applied_turn v s s' c e (Err Memory) no_memory (codes "error memory\n") is h (record { event = e; is = is; cause = h.cause; text = refl })
-event_turn v s s' c e (Err Full) is h = applied_turn v s s' c e (Err Full) full (codes "error full\n") is h (record { event = e; is = is; cause = h.cause; text = refl })
-event_turn v s s' c e (Err Disk) is h = applied_turn v s s' c e (Err Disk) disk (codes "error disk\n") is h (record { event = e; is = is; cause = h.cause; text = refl })
+event_turn v s s' c e line (Err Dead) is h = applied_turn v s s' c e line (Err Dead) dead (codes "error dead\n") is h (record { event = e; is = ap event_in is; cause = h.cause; text = refl })
+event_turn v s s' c e line (Err Memory) is h = applied_turn v s s' c e line (Err Memory) no_memory (codes "error memory\n") is h (record { event = e; is = ap event_in is; cause = h.cause; text = refl })
+event_turn v s s' c e line (Err Full) is h = applied_turn v s s' c e line (Err Full) full (codes "error full\n") is h (record { event = e; is = ap event_in is; cause = h.cause; text = refl })
+event_turn v s s' c e line (Err Disk) is h = applied_turn v s s' c e line (Err Disk) disk (codes "error disk\n") is h (record { event = e; is = ap event_in is; cause = h.cause; text = refl })
 
 -- a text that is Ok has other bytes, where these are the same
 same_bytes : {X E : Type 0} (bytes : X → List ℕ) (r : Result X E) (a b : List ℕ) → b ≡ a → IfOk r (λ text. bytes text ≡ a) → IfOk r (λ text. bytes text ≡ b)
@@ -113,17 +110,17 @@ same_bytes bytes (Ok x) a b e h = h ∙ sym e
 same_bytes bytes (Err fault) a b e h = h
 
 -- a command that is an event, and the text that tells how it went
-pub event_told : {X E D : Type 0} (bytes : X → List ℕ) (r : Result X E) (v : Setting D) (s s' : Standing D) (c : Command) (e : Event) (line : Result Reply ApplyFault → List ℕ) → ((a : Result Reply ApplyFault) → line a ≡ answer_line e a) → event_of v.mime s.state c ≡ Some e
-    → (a : Result Reply ApplyFault) × IsApplied v.device s e a s' × IfOk r (λ text. bytes text ≡ line a)
+pub event_told : {X E D : Type 0} (bytes : X → List ℕ) (r : Result X E) (v : Setting D) (s s' : Standing D) (c : Command) (e : Event) (line : Reply → List ℕ) → meaning v.mime s.state c ≡ asks e line
+    → (a : Result Reply ApplyFault) × IsApplied v.device s e a s' × IfOk r (λ text. bytes text ≡ answer_line line a)
     → (t : Turn D) × Takes v s c t s' × IfOk r (λ text. bytes text ≡ t.text)
-event_told bytes r v s s' c e line same is (a, went, text) =
-    let (t, takes, told) = event_turn v s s' c e a is went in
-    (t, takes, same_bytes bytes r (line a) t.text (told ∙ sym (same a)) text)
+event_told bytes r v s s' c e line is (a, went, text) =
+    let (t, takes, told) = event_turn v s s' c e line a is went in
+    (t, takes, same_bytes bytes r (answer_line line a) t.text told text)
 
 -- a command that is no event
-pub said_told : {X E D : Type 0} (bytes : X → List ℕ) (r : Result X E) (v : Setting D) (s : Standing D) (c : Command) (text : List ℕ) → OnlyNow v.device → IsKept v.device s → event_of v.mime s.state c ≡ None → text ≡ said_of s.state c → IfOk r (λ x. bytes x ≡ text) → (t : Turn D) × Takes v s c t s × IfOk r (λ x. bytes x ≡ t.text)
-said_told bytes r v s c text now kept is e h =
-    let (t, takes, told) = said_turn v s c text now kept is e in
+pub said_told : {X E D : Type 0} (bytes : X → List ℕ) (r : Result X E) (v : Setting D) (s : Standing D) (c : Command) (text : List ℕ) → OnlyNow v.device → IsKept v.device s → meaning v.mime s.state c ≡ says text → IfOk r (λ x. bytes x ≡ text) → (t : Turn D) × Takes v s c t s × IfOk r (λ x. bytes x ≡ t.text)
+said_told bytes r v s c text now kept is h =
+    let (t, takes, told) = said_turn v s c text now kept is in
     (t, takes, same_bytes bytes r text t.text told h)
 
 -- a queue whose URI wasn't read for want of memory
@@ -145,23 +142,18 @@ unread_told bytes r v s q now kept h = (
 )
 
 -- a queue with the URI of a device is an event, and with another none
-pub queue_event : (m : Mime) (s : State) (q : NewQueue) → is_device_uri q.uri ≡ true → event_of m s (Queue q) ≡ Some (AddQueue q)
-queue_event m s q is = ap (λ b. cond b (Some (AddQueue q)) None) is
+pub queue_event : (m : Mime) (s : State) (q : NewQueue) → is_device_uri q.uri ≡ true → meaning m s (Queue q) ≡ asks (AddQueue q) reply_line
+queue_event m s q is = ap (λ b. cond b (asks (AddQueue q) reply_line) (says (codes "error uri\n"))) is
 
-pub no_queue_event : (m : Mime) (s : State) (q : NewQueue) → is_device_uri q.uri ≡ false → event_of m s (Queue q) ≡ None
-no_queue_event m s q is = ap (λ b. cond b (Some (AddQueue q)) None) is
+pub no_queue_event : (m : Mime) (s : State) (q : NewQueue) → is_device_uri q.uri ≡ false → meaning m s (Queue q) ≡ says (codes "error uri\n")
+no_queue_event m s q is = ap (λ b. cond b (asks (AddQueue q) reply_line) (says (codes "error uri\n"))) is
 
 -- the turn of a command by another name
 pub same_command : {X E D : Type 0} (bytes : X → List ℕ) (r : Result X E) (v : Setting D) (s s' : Standing D) (c c' : Command) → c ≡ c' → (t : Turn D) × Takes v s c' t s' × IfOk r (λ x. bytes x ≡ t.text) → (t : Turn D) × Takes v s c t s' × IfOk r (λ x. bytes x ≡ t.text)
 same_command bytes r v s s' c c' e (t, takes, told) = (t, record { legal = takes.legal; command = takes.command ∙ sym e; next = takes.next }, told)
 
--- a reply that tells its event alone
-pub plain : (e : Event) → ((reply : Reply) → accepted_line e reply ≡ reply_line reply) → (a : Result Reply ApplyFault) → plain_line a ≡ answer_line e a
-plain e same (Ok reply) = sym (same reply)
-plain e same (Err fault) = refl
-
 -- an event for which there was nothing to be done, so that the spool is as it was
-pub unasked : {D : Type 0} (v : Device D) (s : Standing D) (e : Event) (a : Result Reply ApplyFault) → OnlyNow v → IsKept v s → IsAnswer v.failures s e a s → IsApplied v s e a s
+pub unasked : {D : Type 0} (v : DiskView D) (s : Standing D) (e : Event) (a : Result Reply ApplyFault) → OnlyNow v → IsKept v s → IsAnswer v s e a s → IsApplied v s e a s
 unasked v s e a now kept h = record {
   cause = h;
   counted = omega arith;
@@ -171,11 +163,11 @@ unasked v s e a now kept h = record {
 }
 
 -- the same spool by another name
-pub kept_as : {D : Type 0} (v : Device D) (s s' : Standing D) → s ≡ s' → IsKept v s → IsKept v s'
+pub kept_as : {D : Type 0} (v : DiskView D) (s s' : Standing D) → s ≡ s' → IsKept v s → IsKept v s'
 kept_as v s s' e kept = subst (IsKept v) e kept
 
 -- after every answer of the spool a crash leaves the table that is shown
-still_kept : {D : Type 0} (v : Device D) (s s' : Standing D) (e : Event) (a : Result Reply ApplyFault) → IsAnswer v.failures s e a s' → (IsSome (v.bytes s'.disk) ↔ IsSome (v.bytes s.disk))
+still_kept : {D : Type 0} (v : DiskView D) (s s' : Standing D) (e : Event) (a : Result Reply ApplyFault) → IsAnswer v s e a s' → (IsSome (v.bytes s'.disk) ↔ IsSome (v.bytes s.disk))
     → OnOk a (IsSome (v.bytes s.disk) → (c : List ℕ) → v.image s'.disk c → HasTable s'.state c) → IsKept v s → IsKept v s'
 still_kept v s s' e (Ok reply) h told ok kept = λ alive tells c now. ok (told.0 tells) c now
 still_kept v s s' e (Err Dead) h told ok kept = kept_as v s s' (sym h.1) kept
@@ -185,8 +177,8 @@ still_kept v s s' e (Err Full) h told ok kept = kept_as v s s' (sym h.1) kept
 still_kept v s s' e (Err Disk) h told ok kept = λ alive tells c now. absurd (let died = h.dead in cc)
 
 -- what the spool says of an event
-pub spool_applied : {D : Type 0} (v : Device D) (s s' : Standing D) (e : Event) (a : Result Reply ApplyFault) → IsAnswer v.failures s e a s' → v.failures s.disk ≤ v.failures s'.disk → (IsSome (v.bytes s'.disk) ↔ IsSome (v.bytes s.disk))
-    → (s.dead ≡ false → IsSome (v.bytes s.disk) → LeavesOnly v.moment v.image_since s.disk s'.disk (HasBeforeOrAfterEvent s.state e))
+pub spool_applied : {D : Type 0} (v : DiskView D) (s s' : Standing D) (e : Event) (a : Result Reply ApplyFault) → IsAnswer v s e a s' → v.failures s.disk ≤ v.failures s'.disk → (IsSome (v.bytes s'.disk) ↔ IsSome (v.bytes s.disk))
+    → (s.dead ≡ false → IsSome (v.bytes s.disk) → LeavesOnly v s.disk s'.disk (HasBeforeOrAfterEvent s.state e))
     → OnOk a (IsSome (v.bytes s.disk) → (c : List ℕ) → v.image s'.disk c → HasTable s'.state c) → IsKept v s → IsApplied v s e a s'
 spool_applied v s s' e a h counted told crash ok kept = record {
   cause = h;
@@ -320,9 +312,9 @@ ends_stop v s m p ts rest rest' a b h e = record {
 }
 
 -- a command's event, and then more events
-command_folds : (s : State) (o : Option Event) (es : List Event) → after_all s (event_then o es) ≡ after_all (elim o [ None ↦ s | Some e ↦ step_state s (step s e) ]) es
-command_folds s None es = refl
-command_folds s (Some e) es = ap (λ v. after_all v es) (sym (step_folds s e (refusal_of s e)))
+command_folds : (s : State) (w : Meaning) (es : List Event) → after_all s (event_then (event_in w) es) ≡ after_all (after_by s w) es
+command_folds s (says text) es = refl
+command_folds s (asks e line) es = ap (λ v. after_all v es) (sym (step_folds s e (refusal_of s e)))
 
 -- where nothing failed, the replies are the script's, and the last table is the fold of its events
 pub served_all : {D : Type 0} (v : Setting D) (s : Standing D) (ts : List (Turn D)) → AreTurns v s ts → AllServed ts → (texts_of ts ≡ script_text v.mime s.state (commands_in ts)) × ((last_standing s ts).state ≡ after_all s.state (script_events v.mime s.state (commands_in ts)))
@@ -332,5 +324,5 @@ served_all v s (t ∷ ts) h k =
     let more = served_all v t.next ts h.1 k.1 in (
       ap (λ l. l ++ texts_of ts) one.text ∙ ap (λ l. reply_of v.mime s.state t.command ++ l) (more.0 ∙ ap (λ x. script_text v.mime x (commands_in ts)) one.state),
       more.1 ∙ ap (λ x. after_all x (script_events v.mime x (commands_in ts))) one.state
-          ∙ sym (command_folds s.state (event_of v.mime s.state t.command) (script_events v.mime (after_command v.mime s.state t.command) (commands_in ts))),
+          ∙ sym (command_folds s.state (meaning v.mime s.state t.command) (script_events v.mime (after_command v.mime s.state t.command) (commands_in ts))),
     )

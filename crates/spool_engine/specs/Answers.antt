@@ -2,15 +2,14 @@
 use Rattle.std.specs.Prelude.{◌≡◌, ◌≤◌, ◌↔◌, ℕ, List, codes, false, IsSome, Result, Ok, Err}
 use Rattle.spool_types.specs.declared.event.Event.{Event}
 use Rattle.spool_types.specs.declared.event.Reply.{Reply}
-use Rattle.spool_disk.specs.Disk.{LeavesOnly}
+use Rattle.spool_disk.specs.Disk.{DiskView, LeavesOnly}
 use Rattle.command_lines.specs.declared.command.Command.{Command}
 use Rattle.command_lines.specs.Replies.{refusal_line}
 use Rattle.spool_core.specs.Image.{HasBeforeOrAfterEvent}
 use Rattle.spool_core.specs.Standing.{Standing, IsAnswer}
 use Rattle.spool_core.specs.declared.spool.apply_fault.ApplyFault.{ApplyFault}
 use Rattle.spool_core.specs.declared.spool.apply_fault.ApplyFault.TheVariants.{Dead, Refused, Memory, Full, Disk}
-use Rattle.spool_engine.specs.Script.{accepted_line, reply_line}
-use Rattle.spool_engine.specs.Runs.{Device, Setting, Turn, IsTurn, IsKept}
+use Rattle.spool_engine.specs.Runs.{Setting, Turn, IsTurn, IsKept}
 
 -- the line for a fault
 abbrev pub fault_line : ApplyFault → List ℕ
@@ -20,23 +19,18 @@ fault_line Memory = codes "error memory\n"
 fault_line Full = codes "error full\n"
 fault_line Disk = codes "error disk\n"
 
--- the line that tells how an event went
-abbrev pub answer_line : Event → Result Reply ApplyFault → List ℕ
-answer_line e (Ok reply) = accepted_line e reply
-answer_line e (Err fault) = fault_line fault
-
--- the same where the reply alone tells it
-abbrev pub plain_line : Result Reply ApplyFault → List ℕ
-plain_line (Ok reply) = reply_line reply
-plain_line (Err fault) = fault_line fault
+-- the line that tells how an event went, where this line tells its reply
+abbrev pub answer_line : (Reply → List ℕ) → Result Reply ApplyFault → List ℕ
+answer_line line (Ok reply) = line reply
+answer_line line (Err fault) = fault_line fault
 
 -- an event that was answered so, and what a crash meanwhile and behind it leaves
-pub record IsApplied {D : Type 0} (device : Device D) (old : Standing D) (e : Event) (answer : Result Reply ApplyFault) (new : Standing D) : Type 0 where
-  pub cause : IsAnswer device.failures old e answer new
+pub record IsApplied {D : Type 0} (device : DiskView D) (old : Standing D) (e : Event) (answer : Result Reply ApplyFault) (new : Standing D) : Type 0 where
+  pub cause : IsAnswer device old e answer new
   pub counted : device.failures old.disk ≤ device.failures new.disk
   pub told : IsSome (device.bytes new.disk) ↔ IsSome (device.bytes old.disk)
   pub crash : old.dead ≡ false → IsSome (device.bytes old.disk) →
-      LeavesOnly device.moment device.image_since old.disk new.disk (HasBeforeOrAfterEvent old.state e)
+      LeavesOnly device old.disk new.disk (HasBeforeOrAfterEvent old.state e)
   pub kept : IsKept device new
 
 -- a turn of this command, before its text is written

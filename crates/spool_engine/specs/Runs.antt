@@ -7,9 +7,9 @@ use Rattle.spool_types.specs.declared.event.NewQueue.{NewQueue}
 use Rattle.spool_types.specs.declared.event.Reply.{Reply}
 use Rattle.spool_types.specs.declared.refusal.Refusal.{Refusal}
 use Rattle.spool_types.specs.State.{State}
-use Rattle.spool_types.specs.Step.{refusal_of, step}
-use Rattle.spool_types.specs.Fold.{after_all}
-use Rattle.spool_disk.specs.Disk.{LeavesOnly}
+use Rattle.job_table.specs.Step.{refusal_of, step}
+use Rattle.job_table.specs.Fold.{after_all}
+use Rattle.spool_disk.specs.Disk.{DiskView, LeavesOnly}
 use Rattle.command_lines.specs.Text.{commands_of}
 use Rattle.command_lines.specs.Pending.{Pending, Leads, to_come}
 use Rattle.command_lines.specs.declared.command.Command.{Command}
@@ -21,23 +21,12 @@ use Rattle.spool_engine.specs.Script.{event_of, reply_of, after_command, replies
 use Rattle.spool_engine.specs.declared.fault.RunFault.{RunFault}
 use Rattle.spool_engine.specs.declared.fault.RunFault.TheVariants.{Read, Write, Memory}
 
--- what is said of a disk: the bytes that it tells, what a crash may leave now or since a moment, and how often it failed
-pub record Device (D : Type 0) : Type 1 where
-  pub bytes : D → Option (List ℕ)
-  pub image : D → List ℕ → Type 0
-  pub moment : D → ℕ
-  pub image_since : D → ℕ → List ℕ → Type 0
-  pub failures : D → ℕ
-
-abbrev pub device : {D : Type 0} → (D → Option (List ℕ)) → (D → List ℕ → Type 0) → (D → ℕ) → (D → ℕ → List ℕ → Type 0) → (D → ℕ) → Device D
-device bytes image moment image_since failures = record { bytes = bytes; image = image; moment = moment; image_since = image_since; failures = failures }
-
 -- what a run stands on: a disk, and what documents are read by
 pub record Setting (D : Type 0) : Type 1 where
-  pub device : Device D
+  pub device : DiskView D
   pub mime : Mime
 
-abbrev pub setting : {D : Type 0} → Device D → Mime → Setting D
+abbrev pub setting : {D : Type 0} → DiskView D → Mime → Setting D
 setting device mime = record { device = device; mime = mime }
 
 -- an engine as its callers see it
@@ -98,12 +87,12 @@ abbrev pub IsOutcome : {D : Type 0} → Setting D → Standing D → Turn D → 
 IsOutcome v s t served = IsServed v.mime s t
 IsOutcome v s t no_memory = Fails v.mime s t (codes "error memory\n") (λ e. (s.dead ≡ false) × (refusal_of s.state e ≡ None) × (t.next ≡ s))
 IsOutcome v s t full = Fails v.mime s t (codes "error full\n") (λ e. IsFull s e × (t.next ≡ s))
-IsOutcome v s t disk = Fails v.mime s t (codes "error disk\n") (λ e. IsFailed v.device.failures s e t.next)
+IsOutcome v s t disk = Fails v.mime s t (codes "error disk\n") (λ e. IsFailed v.device s e t.next)
 IsOutcome v s t unread = IsUnread s t
 IsOutcome v s t dead = Fails v.mime s t (codes "error dead\n") (λ e. IsTrue s.dead × (t.next ≡ s))
 
 -- Until the device has failed a crash leaves the table, where the disk tells its bytes.
-abbrev pub IsKept : {D : Type 0} → Device D → Standing D → Type 0
+abbrev pub IsKept : {D : Type 0} → DiskView D → Standing D → Type 0
 IsKept device s = s.dead ≡ false → IsSome (device.bytes s.disk) → (c : List ℕ) → device.image s.disk c → HasTable s.state c
 
 -- the table before the command, or the one after it
@@ -117,7 +106,7 @@ pub record IsTurn {D : Type 0} (v : Setting D) (s : Standing D) (t : Turn D) : T
   pub counted : v.device.failures s.disk ≤ v.device.failures t.next.disk
   pub told : IsSome (v.device.bytes t.next.disk) ↔ IsSome (v.device.bytes s.disk)
   pub crash : s.dead ≡ false → IsSome (v.device.bytes s.disk) →
-      LeavesOnly v.device.moment v.device.image_since s.disk t.next.disk (HasBeforeOrAfterCommand v.mime s.state t.command)
+      LeavesOnly v.device s.disk t.next.disk (HasBeforeOrAfterCommand v.mime s.state t.command)
   pub kept : IsKept v.device t.next
 
 -- each turn is one on the spool that it found

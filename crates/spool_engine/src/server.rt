@@ -3,17 +3,15 @@ ghost use Rattle.std.specs.Prelude.{◌≡◌, ℕ, List, Option, Some, Result, 
 ghost use Rattle.std.specs.Option.{option_and_then, option_copied};
 ghost use Rattle.std.specs.FinMap as finite;
 ghost use Rattle.spool_types.specs.State.{job_at};
-ghost use Rattle.spool_types.specs.Step.{refusal_of};
-ghost use Rattle.spool_types.specs.declared.event.Closing.{Closing};
 ghost use Rattle.spool_types.specs.declared.event.Reply.{Reply};
 ghost use Rattle.command_lines.specs.Replies.{jobs_text, queues_text};
 ghost use Rattle.command_lines.specs.declared.command.Command.{Command};
 ghost use Rattle.spool_core.specs.declared.spool.apply_fault.ApplyFault.{ApplyFault};
 ghost use Rattle.spool_engine.specs.Mime.{Mime as MimeDatabase};
-ghost use Rattle.spool_engine.specs.Script.{closing_of, document_in, filters_to, queue_of as queue_at_job, stages_of};
+ghost use Rattle.spool_engine.specs.Script.{closing_line, closing_of, document_in, filters_to, queue_of as queue_at_job, reply_line, stages_of};
 ghost use Rattle.spool_engine.specs.Script.{next_number as number_after};
-ghost use Rattle.spool_engine.specs.Runs.{device, setting, IsKept, Turn, Serves, IsRun, Drains, DrainsEnd, DrainsPiece};
-ghost use Rattle.spool_engine.specs.Answers.{IsApplied, Takes, answer_line, plain_line};
+ghost use Rattle.spool_engine.specs.Runs.{setting, IsKept, Turn, Serves, IsRun, Drains, DrainsEnd, DrainsPiece};
+ghost use Rattle.spool_engine.specs.Answers.{IsApplied, Takes, answer_line};
 
 use crate::answers::{answer_text, fault_text};
 use crate::fault::RunFault;
@@ -43,7 +41,7 @@ pub(crate) struct Server<D: Disk> {
 
 impl<D: Disk> Model for Server<D> {
     ghost use Rattle.spool_core.specs.Standing.{Standing};
-    ghost use Rattle.spool_engine.specs.Runs.{device, IsKept};
+    ghost use Rattle.spool_engine.specs.Runs.{IsKept};
     ghost use Rattle.std.specs.Coded.{codes};
     ghost use Rattle.std.specs.FinMap as map;
 
@@ -53,7 +51,7 @@ impl<D: Disk> Model for Server<D> {
 
     ghost view = { λ e. e.spool };
 
-    ghost invariant = { λ e. IsKept (device D.bytes D.image D.moment D.image_since D.failures) e.spool };
+    ghost invariant = { λ e. IsKept D.device e.spool };
 }
 
 impl<D: Disk> Server<D> {
@@ -78,7 +76,7 @@ impl<D: Disk> Server<D> {
     pub fn met_fault(&self) -> bool
         ensures dead { result ≡ self.now.dead }
         // Until then a crash leaves the table that is shown.
-        ensures kept { IsKept (device D.bytes D.image D.moment D.image_since D.failures) self.now }
+        ensures kept { IsKept D.device self.now }
     {
         self.spool.is_dead()
     }
@@ -92,7 +90,7 @@ impl<D: Disk> Server<D> {
 
     // Applies an event.
     fn apply(&mut self, event: Event) -> Result<Reply, ApplyFault>
-        ensures { IsApplied (device D.bytes D.image D.moment D.image_since D.failures) self.old event result self.new }
+        ensures { IsApplied D.device self.old event result self.new }
     {
         self.spool.apply(event)
     }
@@ -100,8 +98,8 @@ impl<D: Disk> Server<D> {
     // Applies an event, and makes the text of its reply, where that is told by the reply alone.
     fn serve_event(&mut self, event: Event) -> Result<Vec<u8>, AllocError>
         ensures { (answer : Result Reply ApplyFault) ×
-            IsApplied (device D.bytes D.image D.moment D.image_since D.failures) self.old event answer self.new ×
-            IfOk result (λ text. text.items ≡ plain_line answer) }
+            IsApplied D.device self.old event answer self.new ×
+            IfOk result (λ text. text.items ≡ answer_line reply_line answer) }
     {
         let answer = self.apply(event);
         answer_text(self.alloc, answer)
@@ -110,7 +108,7 @@ impl<D: Disk> Server<D> {
     // Makes a queue, where its URI is that of a device, and the text of the reply.
     fn add_queue(&mut self, queue: NewQueue) -> Result<Vec<u8>, AllocError>
         ensures { (m : MimeDatabase) → (t : Turn D) ×
-            Takes (setting (device D.bytes D.image D.moment D.image_since D.failures) m) self.old (Command.Queue queue) t self.new ×
+            Takes (setting D.device m) self.old (Command.Queue queue) t self.new ×
             IfOk result (λ text. text.items ≡ t.text) }
     {
         match DeviceUri::parse(self.alloc, queue.uri.as_str()) {
@@ -123,14 +121,14 @@ impl<D: Disk> Server<D> {
     // Closes a job, and makes the text of its reply. A document is read only where the job can be closed.
     fn close(&mut self, mime: &Mime, job: JobId, name: &str) -> Result<Vec<u8>, AllocError>
         ensures { (answer : Result Reply ApplyFault) ×
-            IsApplied (device D.bytes D.image D.moment D.image_since D.failures)
+            IsApplied D.device
             self.old (Event.Close (closing_of mime.now self.old.state job name.now)) answer self.new ×
-            IfOk result (λ text. text.items ≡ answer_line (Event.Close (closing_of mime.now self.old.state job name.now)) answer) }
+            IfOk result (λ text. text.items ≡ answer_line (closing_line (closing_of mime.now self.old.state job name.now)) answer) }
     {
         if self.met_fault() {
             return fault_text(self.alloc, ApplyFault::Dead);
         }
-        if let Some(refusal) = self.close_refusal(job) {
+        if let Some(refusal) = self.table().close_refusal(job) {
             return fault_text(self.alloc, ApplyFault::Refused(refusal));
         }
         let (closing, media) = match self.closing(mime, job, name) {
@@ -142,22 +140,6 @@ impl<D: Disk> Server<D> {
             Ok(_) => print_reply(self.alloc, &Answer::Closed { media, stages }),
             Err(fault) => fault_text(self.alloc, fault),
         }
-    }
-
-    // Why a job can't be closed, if the table refuses it.
-    fn close_refusal(&self, job: JobId) -> Option<Refusal>
-        ensures { (c : Closing) → c.job ≡ job → result ≡ refusal_of self.now.state (Event.Close c) }
-    {
-        let Some(row) = self.table().job(job) else {
-            return Some(Refusal::NoJob);
-        };
-        if row.phase.has_ended() {
-            return Some(Refusal::JobEnded);
-        }
-        if !row.phase.is_incoming() {
-            return Some(Refusal::NotIncoming);
-        }
-        None
     }
 
     // The event that closes a job, and its media type once more for the reply.
@@ -224,29 +206,17 @@ impl<D: Disk> Server<D> {
     // Serves a command, and makes the text of its reply.
     fn serve(&mut self, mime: &Mime, command: Command) -> Result<Vec<u8>, AllocError>
         ensures { (t : Turn D) ×
-            Takes (setting (device D.bytes D.image D.moment D.image_since D.failures) mime.now) self.old command t self.new ×
+            Takes (setting D.device mime.now) self.old command t self.new ×
             IfOk result (λ text. text.items ≡ t.text) }
     {
         match command {
+            Command::Apply(event) => self.serve_event(event),
             Command::Queue(queue) => self.add_queue(queue),
-            Command::Info(notes) => self.serve_event(Event::Info(notes)),
-            Command::SetAccept { queue, accepting } => {
-                self.serve_event(Event::SetAccept { queue, accepting })
-            }
-            Command::SetStop { queue, stopped } => {
-                self.serve_event(Event::SetStop { queue, stopped })
-            }
             Command::Create(creation) => {
                 let job = new_job(self.next_number(), creation);
                 self.serve_event(Event::Create(job))
             }
-            Command::Send { job, bytes } => self.serve_event(Event::Send { job, bytes }),
             Command::Close { job, name } => self.close(mime, job, name.as_str()),
-            Command::Hold { job, until } => self.serve_event(Event::Hold { job, until }),
-            Command::Release(job) => self.serve_event(Event::Release(job)),
-            Command::Abandon(job) => self.serve_event(Event::Abandon(job)),
-            Command::Cancel(job) => self.serve_event(Event::Cancel(job)),
-            Command::Clock(moment) => self.serve_event(Event::Clock(moment)),
             Command::OversizedSend => print_reply(self.alloc, &Answer::Refused(Refusal::TooLong)),
             Command::Jobs => self.jobs(),
             Command::Queues => self.queues(),
@@ -259,7 +229,7 @@ impl<D: Disk> Server<D> {
         ensures text { IfOk result (λ text.
             text.items ≡ jobs_text self.now.state.moment (finite.values self.now.state.jobs)) }
         // Until the device has failed a crash leaves what is listed.
-        ensures kept { IsKept (device D.bytes D.image D.moment D.image_since D.failures) self.now }
+        ensures kept { IsKept D.device self.now }
     {
         let rows = self.table().jobs();
         let now = self.table().now();
@@ -271,7 +241,7 @@ impl<D: Disk> Server<D> {
         ensures text { IfOk result (λ text.
             text.items ≡ queues_text (finite.values self.now.state.jobs) (finite.values self.now.state.queues)) }
         // Until the device has failed a crash leaves what is listed.
-        ensures kept { IsKept (device D.bytes D.image D.moment D.image_since D.failures) self.now }
+        ensures kept { IsKept D.device self.now }
     {
         let table = self.table();
         print_reply(
@@ -290,7 +260,7 @@ impl<D: Disk> Server<D> {
         command: Command,
         writer: &mut W,
     ) -> Result<(), RunFault>
-        ensures { (t : Turn D) × Serves (setting (device D.bytes D.image D.moment D.image_since D.failures) mime.now)
+        ensures { (t : Turn D) × Serves (setting D.device mime.now)
             self.old command t self.new result (W.contents writer.old) (W.contents writer.new) }
     {
         match self.serve(mime, command) {
@@ -309,7 +279,7 @@ impl<D: Disk> Server<D> {
         commands: &mut Commands,
         writer: &mut W,
     ) -> Result<(), RunFault>
-        ensures { (turns : List (Turn D)) × Drains (setting (device D.bytes D.image D.moment D.image_since D.failures) mime.now)
+        ensures { (turns : List (Turn D)) × Drains (setting D.device mime.now)
             self.old commands.old turns self.new commands.new result (W.contents writer.old) (W.contents writer.new) }
     {
         'commands: loop {
@@ -332,7 +302,7 @@ impl<D: Disk> Server<D> {
         writer: &mut W,
     ) -> Result<(), RunFault>
         ensures { (turns : List (Turn D)) × (rest : List Command) ×
-            DrainsEnd (setting (device D.bytes D.image D.moment D.image_since D.failures) mime.now)
+            DrainsEnd (setting D.device mime.now)
             self.old commands.old turns self.new rest result (W.contents writer.old) (W.contents writer.new) ×
             OnOk result (rest ≡ []) }
     {
@@ -356,7 +326,7 @@ impl<D: Disk> Server<D> {
         piece: &[u8],
         writer: &mut W,
     ) -> Result<(), RunFault>
-        ensures { (turns : List (Turn D)) × DrainsPiece (setting (device D.bytes D.image D.moment D.image_since D.failures) mime.now)
+        ensures { (turns : List (Turn D)) × DrainsPiece (setting D.device mime.now)
             piece.now self.old commands.old turns self.new commands.new result (W.contents writer.old) (W.contents writer.new) }
     {
         match commands.feed(piece) {
@@ -374,7 +344,7 @@ impl<D: Disk> Server<D> {
         writer: &mut W,
     ) -> Result<(), RunFault>
         ensures { (text : List ℕ) × (turns : List (Turn D)) ×
-            IsRun (setting (device D.bytes D.image D.moment D.image_since D.failures) mime.now) (R.remaining reader.old)
+            IsRun (setting D.device mime.now) (R.remaining reader.old)
             self.old text turns self.new result (W.contents writer.old) (W.contents writer.new) }
     {
         let mut commands = Commands::new(self.alloc);

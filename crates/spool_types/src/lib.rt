@@ -9,13 +9,11 @@
 //!
 //! - `Values`, `Limits`: what texts may hold, and how much of each thing there may be.
 //! - `Phases`: which phases have ended, which hold is in force, and how a job is shown.
-//! - `State`, `Legal`: a table of queues and jobs, and what is so of each table that events lead to.
-//! - `Step`: for each event the causes of its refusals in order, its effect and its reply; `Changes`: what events change
-//!   in a row.
-//! - `Fold`: many events in turn.
-//! - `Verdicts`: what becomes of a job whose child ended; `Next`: which job of a queue is to be started next.
-//! - `Attempts`: how an attempt at a job starts, and what its end, or its loss, makes of the job and its queue.
+//! - `State`: a table of queues and jobs. `Busy`: whether a job of a queue is processing.
 //! - `Refusals`, `Warnings`: how a refusal and the kind of a warning are told.
+//!
+//! What an event does to a table is said in `job_table`, what becomes of a job whose child ended in `backend_codes`, and
+//! which job is next in `queue_sched`.
 //!
 //! # Promises
 //!

@@ -1,15 +1,16 @@
 //! Why an event is refused: its causes in order, of which the first that stands decides.
-ghost use Rattle.std.specs.Prelude.{◌≡◌, Bool, true, false, not, List, [], ◌∷◌, Some, is_none, IfOk, IfErr};
+ghost use Rattle.std.specs.Prelude.{◌≡◌, Bool, true, false, not, List, [], ◌∷◌, Some, IfOk, IfErr};
+ghost use Rattle.spool_types.specs.declared.event.Closing.{Closing};
 ghost use Rattle.spool_types.specs.declared.refusal.Refusal.{Refusal};
-ghost use Rattle.spool_types.specs.Attempts.{is_in_stage as is_stage};
+ghost use Rattle.job_table.specs.Attempts.{is_in_stage as is_stage};
 ghost use Rattle.spool_types.specs.Phases.{has_ended, is_incoming, is_processing, is_waiting};
-ghost use Rattle.spool_types.specs.State.{job_of, queue_at, job_at};
-ghost use Rattle.spool_types.specs.Step.{first_cause, passes, refusal_of};
+ghost use Rattle.spool_types.specs.State.{job_of, job_at};
+ghost use Rattle.job_table.specs.Step.{about_job, about_queue, first_cause, refusal_of, where_it};
 
 use super::Table;
 use spool_types::{
-    Closing, Event, JobId, JobRow, Moment, NewJob, NewQueue, Phase, Piece, QueueName, QueueNotes,
-    Refusal, StageEnd,
+    Event, JobId, JobRow, Moment, NewJob, NewQueue, Phase, Piece, QueueName, QueueNotes, Refusal,
+    StageEnd,
 };
 
 /// The most queues of a table.
@@ -30,7 +31,7 @@ impl Table {
             Event::SetStop { queue, stopped } => self.set_stop_refusal(queue, *stopped),
             Event::Create(job) => self.create_refusal(job),
             Event::Send { job, bytes } => self.send_refusal(*job, bytes),
-            Event::Close(closing) => self.close_refusal(closing),
+            Event::Close(closing) => self.close_refusal(closing.job),
             Event::Hold { job, until } => self.hold_refusal(*job, *until),
             Event::Release(job) => self.release_refusal(*job),
             Event::Cancel(job) => self.cancel_refusal(*job),
@@ -73,7 +74,7 @@ impl Table {
 
     // Of an event about a queue that is refused only where the queue isn't there.
     fn no_queue_refusal(&self, queue: &QueueName) -> Option<Refusal>
-        ensures { result ≡ first_cause ((is_none (queue_at self.now.state queue.now), Refusal.NoQueue) ∷ []) }
+        ensures { result ≡ first_cause (about_queue self.now.state queue.now []) }
     {
         match self.queue(queue) {
             Some(_) => None,
@@ -111,10 +112,11 @@ impl Table {
         }
     }
 
-    fn close_refusal(&self, closing: &Closing) -> Option<Refusal>
-        ensures { result ≡ refusal_of self.now.state (Event.Close closing.now) }
+    /// Why a job can't be closed, whatever its type and its filters are found to be, if it can't.
+    pub fn close_refusal(&self, job: JobId) -> Option<Refusal>
+        ensures { (c : Closing) → c.job ≡ job → result ≡ refusal_of self.now.state (Event.Close c) }
     {
-        self.incoming_job(closing.job).err()
+        self.incoming_job(job).err()
     }
 
     fn hold_refusal(&self, job: JobId, until: Option<Moment>) -> Option<Refusal>
@@ -170,11 +172,8 @@ impl Table {
         ensures found { IfOk result (λ r. job_at self.now.state job ≡ Some (job_of r.now)) }
         ensures live { IfOk result (λ r. has_ended r.now.phase ≡ false) }
         ensures incoming { IfOk result (λ r. is_incoming r.now.phase ≡ true) }
-        ensures refused { (rest : List (Bool × Refusal)) → IfErr result (λ x. first_cause (
-            (is_none (job_at self.now.state job), Refusal.NoJob)
-            ∷ (passes (λ r. has_ended r.phase) (job_at self.now.state job), Refusal.JobEnded)
-            ∷ (passes (λ r. not (is_incoming r.phase)) (job_at self.now.state job), Refusal.NotIncoming)
-            ∷ rest) ≡ Some x) }
+        ensures refused { (rest : List (Bool × Refusal)) → IfErr result (λ x. first_cause (about_job self.now.state job (
+            where_it (job_at self.now.state job) (λ r. not (is_incoming r.phase)) Refusal.NotIncoming ∷ rest)) ≡ Some x) }
     {
         match self.live_job(job) {
             Ok(row) if !row.phase.is_incoming() => Err(Refusal::NotIncoming),
@@ -187,11 +186,8 @@ impl Table {
         ensures found { IfOk result (λ r. job_at self.now.state job ≡ Some (job_of r.now)) }
         ensures live { IfOk result (λ r. has_ended r.now.phase ≡ false) }
         ensures idle { IfOk result (λ r. is_processing r.now.phase ≡ false) }
-        ensures refused { (rest : List (Bool × Refusal)) → IfErr result (λ x. first_cause (
-            (is_none (job_at self.now.state job), Refusal.NoJob)
-            ∷ (passes (λ r. has_ended r.phase) (job_at self.now.state job), Refusal.JobEnded)
-            ∷ (passes (λ r. is_processing r.phase) (job_at self.now.state job), Refusal.NotWaiting)
-            ∷ rest) ≡ Some x) }
+        ensures refused { (rest : List (Bool × Refusal)) → IfErr result (λ x. first_cause (about_job self.now.state job (
+            where_it (job_at self.now.state job) (λ r. is_processing r.phase) Refusal.NotWaiting ∷ rest)) ≡ Some x) }
     {
         match self.live_job(job) {
             Ok(row) if row.phase.is_processing() => Err(Refusal::NotWaiting),
@@ -204,11 +200,8 @@ impl Table {
         ensures found { IfOk result (λ r. job_at self.now.state job ≡ Some (job_of r.now)) }
         ensures live { IfOk result (λ r. has_ended r.now.phase ≡ false) }
         ensures waiting { IfOk result (λ r. is_waiting r.now.phase ≡ true) }
-        ensures refused { (rest : List (Bool × Refusal)) → IfErr result (λ x. first_cause (
-            (is_none (job_at self.now.state job), Refusal.NoJob)
-            ∷ (passes (λ r. has_ended r.phase) (job_at self.now.state job), Refusal.JobEnded)
-            ∷ (passes (λ r. not (is_waiting r.phase)) (job_at self.now.state job), Refusal.NotWaiting)
-            ∷ rest) ≡ Some x) }
+        ensures refused { (rest : List (Bool × Refusal)) → IfErr result (λ x. first_cause (about_job self.now.state job (
+            where_it (job_at self.now.state job) (λ r. not (is_waiting r.phase)) Refusal.NotWaiting ∷ rest)) ≡ Some x) }
     {
         match self.live_job(job) {
             Ok(row) if !row.phase.is_waiting() => Err(Refusal::NotWaiting),
@@ -221,11 +214,8 @@ impl Table {
         ensures found { IfOk result (λ r. job_at self.now.state job ≡ Some (job_of r.now)) }
         ensures live { IfOk result (λ r. has_ended r.now.phase ≡ false) }
         ensures processing { IfOk result (λ r. is_processing r.now.phase ≡ true) }
-        ensures refused { (rest : List (Bool × Refusal)) → IfErr result (λ x. first_cause (
-            (is_none (job_at self.now.state job), Refusal.NoJob)
-            ∷ (passes (λ r. has_ended r.phase) (job_at self.now.state job), Refusal.JobEnded)
-            ∷ (passes (λ r. not (is_processing r.phase)) (job_at self.now.state job), Refusal.NotProcessing)
-            ∷ rest) ≡ Some x) }
+        ensures refused { (rest : List (Bool × Refusal)) → IfErr result (λ x. first_cause (about_job self.now.state job (
+            where_it (job_at self.now.state job) (λ r. not (is_processing r.phase)) Refusal.NotProcessing ∷ rest)) ≡ Some x) }
     {
         match self.live_job(job) {
             Ok(row) if !row.phase.is_processing() => Err(Refusal::NotProcessing),
@@ -237,10 +227,7 @@ impl Table {
     fn live_job(&self, job: JobId) -> Result<&JobRow, Refusal>
         ensures found { IfOk result (λ r. job_at self.now.state job ≡ Some (job_of r.now)) }
         ensures live { IfOk result (λ r. has_ended r.now.phase ≡ false) }
-        ensures refused { (rest : List (Bool × Refusal)) → IfErr result (λ x. first_cause (
-            (is_none (job_at self.now.state job), Refusal.NoJob)
-            ∷ (passes (λ r. has_ended r.phase) (job_at self.now.state job), Refusal.JobEnded)
-            ∷ rest) ≡ Some x) }
+        ensures refused { (rest : List (Bool × Refusal)) → IfErr result (λ x. first_cause (about_job self.now.state job rest) ≡ Some x) }
     {
         match self.job(job) {
             None => Err(Refusal::NoJob),

@@ -1,9 +1,9 @@
 //! The record of an event in the journal.
 ghost use Rattle.std.specs.Prelude.{◌≡◌, ◌<◌, ◌≤◌, ◌↔◌, OnOk, OnErr, IfErr, IsErrOf, IsSome, false};
-ghost use Rattle.spool_types.specs.Attempts.{HasNoProcessing, reopened};
-ghost use Rattle.spool_types.specs.Legal.{IsLegal};
+ghost use Rattle.job_table.specs.Attempts.{HasNoProcessing, reopened};
+ghost use Rattle.job_table.specs.Legal.{IsLegal};
 ghost use Rattle.spool_types.specs.declared.event.Event.TheVariants as Event;
-ghost use Rattle.spool_types.specs.Step.{after};
+ghost use Rattle.job_table.specs.Step.{after};
 ghost use Rattle.spool_disk.specs.Disk.{IsSynced, LeavesOnly};
 ghost use Rattle.job_table.specs.Contents.{IsPrepared};
 ghost use Rattle.spool_core.specs.Image.{HasBeforeOrAfterEvent, IsReopeningFault};
@@ -27,23 +27,24 @@ pub(super) fn journal<D: Disk>(
     frame: &mut Vec<u8>,
     event: &Event,
 ) -> Result<u64, ApplyFault>
-    requires { IsStandingAt D.bytes D.size D.image areas.old table.old.state }
+    requires { IsStandingAt D.device areas.old table.old.state }
 
-    ensures answer { IsJournalled D.failures (standing_at areas.old table.old.state) event.now result (standing_at areas.new table.old.state) }
+    ensures answer { IsJournalled D.device (standing_at areas.old table.old.state) event.now result (standing_at areas.new table.old.state) }
     ensures same { table.new.state ≡ table.old.state }
     ensures prepared { OnOk result (IsPrepared table.new event.now) }
-    ensures counted { D.failures areas.old.disk ≤ D.failures areas.new.disk }
-    ensures fixed { D.size areas.new.disk ≡ D.size areas.old.disk }
-    ensures told { IsSome (D.bytes areas.new.disk) ↔ IsSome (D.bytes areas.old.disk) }
+    ensures later { D.device.failures areas.old.disk ≤ D.device.failures areas.new.disk }
+    ensures counted { OnOk result (D.device.failures areas.new.disk ≡ D.device.failures areas.old.disk) }
+    ensures fixed { D.device.size areas.new.disk ≡ D.device.size areas.old.disk }
+    ensures told { IsSome (D.device.bytes areas.new.disk) ↔ IsSome (D.device.bytes areas.old.disk) }
 
     // Whatever it answers, a crash at any moment of it leaves the table before the event or the one after it.
-    ensures any_moment { areas.old.dead ≡ false → IsSome (D.bytes areas.old.disk) →
-        LeavesOnly D.moment D.image_since areas.old.disk areas.new.disk (HasBeforeOrAfterEvent table.old.state event.now) }
+    ensures any_moment { areas.old.dead ≡ false → IsSome (D.device.bytes areas.old.disk) →
+        LeavesOnly D.device areas.old.disk areas.new.disk (HasBeforeOrAfterEvent table.old.state event.now) }
 
     // After Ok a crash leaves the one after it, and nothing is unsynced; after an error, but of the device, the one before.
-    ensures added { OnOk result (IsStandingAt D.bytes D.size D.image areas.new (after table.old.state event.now)) }
-    ensures kept { OnErr result (IsStandingAt D.bytes D.size D.image areas.new table.old.state) }
-    ensures durable { OnOk result (IsSynced (D.bytes areas.new.disk) (D.image areas.new.disk)) }
+    ensures added { OnOk result (IsStandingAt D.device areas.new (after table.old.state event.now)) }
+    ensures kept { OnErr result (IsStandingAt D.device areas.new table.old.state) }
+    ensures durable { OnOk result (IsSynced D.device areas.new.disk) }
 {
     if areas.is_dead() {
         return Err(ApplyFault::Dead);
@@ -71,7 +72,7 @@ pub(super) fn journal_reopening<D: Disk>(
     table: &mut Table,
     frame: &mut Vec<u8>,
 ) -> Result<u64, OpenFault>
-    requires standing { IsStandingAt D.bytes D.size D.image areas.old table.old.state }
+    requires standing { IsStandingAt D.device areas.old table.old.state }
     requires alive { areas.old.dead ≡ false }
     requires legal { IsLegal table.old.state }
     requires busy { ¬ (HasNoProcessing table.old.state) }
@@ -81,16 +82,17 @@ pub(super) fn journal_reopening<D: Disk>(
     ensures alive { OnOk result (areas.new.dead ≡ false) }
     ensures fault { IfErr result IsReopeningFault }
     ensures unchanged { IsErrOf result OpenFault.Memory → areas.new ≡ areas.old }
-    ensures cause { IsErrOf result OpenFault.Disk → D.failures areas.old.disk < D.failures areas.new.disk }
-    ensures counted { D.failures areas.old.disk ≤ D.failures areas.new.disk }
-    ensures fixed { D.size areas.new.disk ≡ D.size areas.old.disk }
-    ensures told { IsSome (D.bytes areas.new.disk) ↔ IsSome (D.bytes areas.old.disk) }
+    ensures cause { IsErrOf result OpenFault.Disk → D.device.failures areas.old.disk < D.device.failures areas.new.disk }
+    ensures later { D.device.failures areas.old.disk ≤ D.device.failures areas.new.disk }
+    ensures counted { OnOk result (D.device.failures areas.new.disk ≡ D.device.failures areas.old.disk) }
+    ensures fixed { D.device.size areas.new.disk ≡ D.device.size areas.old.disk }
+    ensures told { IsSome (D.device.bytes areas.new.disk) ↔ IsSome (D.device.bytes areas.old.disk) }
 
     // Whatever it answers, a crash at any moment of it leaves the table before the reopening or the one after it.
-    ensures any_moment { LeavesOnly D.moment D.image_since areas.old.disk areas.new.disk (λ c. IsSome (D.bytes areas.old.disk) → HasBeforeOrAfterEvent table.old.state Event.Reopen c) }
-    ensures added { OnOk result (IsStandingAt D.bytes D.size D.image areas.new (reopened table.old.state)) }
+    ensures any_moment { LeavesOnly D.device areas.old.disk areas.new.disk (λ c. IsSome (D.device.bytes areas.old.disk) → HasBeforeOrAfterEvent table.old.state Event.Reopen c) }
+    ensures added { OnOk result (IsStandingAt D.device areas.new (reopened table.old.state)) }
     ensures idle { HasNoProcessing (reopened table.old.state) }
-    ensures kept { OnErr result (IsStandingAt D.bytes D.size D.image areas.new table.old.state) }
+    ensures kept { OnErr result (IsStandingAt D.device areas.new table.old.state) }
 {
     reopening();
     let event = Event::Reopen;

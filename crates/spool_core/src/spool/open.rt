@@ -1,10 +1,10 @@
 //! Opening a spool.
 ghost use Rattle.std.specs.Prelude.{◌≡◌, ◌<◌, ◌≤◌, ◌⊎◌, ◌↔◌, List, ℕ, Some, IsSome, IsTrue, false, IfOk, IfErr, OnOk, IsErrOf};
-ghost use Rattle.spool_types.specs.Attempts.{HasNoProcessing, reopened};
-ghost use Rattle.spool_types.specs.Legal.{IsLegal};
+ghost use Rattle.job_table.specs.Attempts.{HasNoProcessing, reopened};
+ghost use Rattle.job_table.specs.Legal.{IsLegal};
 ghost use Rattle.spool_types.specs.State.{State};
 ghost use Rattle.spool_types.specs.declared.event.Event.TheVariants as Event;
-ghost use Rattle.spool_disk.specs.Disk.{LeavesOnly};
+ghost use Rattle.spool_disk.specs.Disk.{LeavesOnly, ChangesNothing};
 ghost use Rattle.spool_core.specs.Image.{HasTable, HasRoom, HasBeforeOrAfterEvent, IsReopenedFrom, IsMidway, IsFaultOf, IsReopeningFault, kept_room};
 
 use super::Spool;
@@ -27,29 +27,29 @@ impl<D: Disk> Spool<D> {
     pub fn open(alloc: Global, disk: D) -> Result<Spool<D>, OpenError<D>>
         // The table is that of the bytes after the policy, the room is that of the disk then, and a fault of the bytes is
         // theirs.
-        ensures opened { IfOk result (λ spool. (r : List ℕ) → D.bytes disk ≡ Some r → IsReopenedFrom spool.state r) }
-        ensures room { IfOk result (λ spool. (r : List ℕ) → D.bytes spool.disk ≡ Some r → HasRoom spool.room r) }
-        ensures fault { IfErr result (λ e. (r : List ℕ) → D.bytes disk ≡ Some r → IsFaultOf r e.fault) }
+        ensures opened { IfOk result (λ spool. (r : List ℕ) → D.device.bytes disk ≡ Some r → IsReopenedFrom spool.state r) }
+        ensures room { IfOk result (λ spool. (r : List ℕ) → D.device.bytes spool.disk ≡ Some r → HasRoom spool.room r) }
+        ensures fault { IfErr result (λ e. (r : List ℕ) → D.device.bytes disk ≡ Some r → IsFaultOf r e.fault) }
         ensures alive { IfOk result (λ spool. spool.dead ≡ false) }
-        ensures cause { IfErr result (λ e. e.fault ≡ OpenFault.Disk → D.failures disk < D.failures e.disk) }
-        ensures counted { IfOk result (λ spool. D.failures disk ≤ D.failures spool.disk) }
-        ensures counted_back { IfErr result (λ e. D.failures disk ≤ D.failures e.disk) }
-        ensures size { IfOk result (λ spool. D.size spool.disk ≡ D.size disk) }
-        ensures told { IfOk result (λ spool. IsSome (D.bytes spool.disk) ↔ IsSome (D.bytes disk)) }
+        ensures cause { IfErr result (λ e. e.fault ≡ OpenFault.Disk → D.device.failures disk < D.device.failures e.disk) }
+        ensures counted { IfOk result (λ spool. D.device.failures spool.disk ≡ D.device.failures disk) }
+        ensures counted_back { IfErr result (λ e. D.device.failures disk ≤ D.device.failures e.disk) }
+        ensures size { IfOk result (λ spool. D.device.size spool.disk ≡ D.device.size disk) }
+        ensures told { IfOk result (λ spool. IsSome (D.device.bytes spool.disk) ↔ IsSome (D.device.bytes disk)) }
 
         // Where no job is processing it writes nothing.
-        ensures unwritten { IfOk result (λ spool. (r : List ℕ) (t : State) → D.bytes disk ≡ Some r → HasTable t r → HasNoProcessing t → D.bytes spool.disk ≡ Some r) }
+        ensures unwritten { IfOk result (λ spool. (r : List ℕ) (t : State) → D.device.bytes disk ≡ Some r → HasTable t r → HasNoProcessing t → D.device.bytes spool.disk ≡ Some r) }
 
         // Until its first sync has answered a crash leaves what it was handed, and from then on an image with the table of
         // the bytes, or that one after the policy.
-        ensures synced { IfOk result (λ spool. (synced : D) × LeavesOnly D.moment D.image_since disk synced (D.image disk)
-            × LeavesOnly D.moment D.image_since synced spool.disk (λ c. (r : List ℕ) → D.bytes disk ≡ Some r → IsMidway r c)) }
-        ensures kept { IfOk result (λ spool. IsSome (D.bytes disk) → (c : List ℕ) → D.image spool.disk c → HasTable spool.state c) }
+        ensures synced { IfOk result (λ spool. (synced : D) × LeavesOnly D.device disk synced (D.device.image disk)
+            × LeavesOnly D.device synced spool.disk (λ c. (r : List ℕ) → D.device.bytes disk ≡ Some r → IsMidway r c)) }
+        ensures kept { IfOk result (λ spool. IsSome (D.device.bytes disk) → (c : List ℕ) → D.device.image spool.disk c → HasTable spool.state c) }
 
         // An error hands the disk back. But for a failed device it reads as before and has no new image.
-        ensures back { IfErr result (λ e. ¬ (e.fault ≡ OpenFault.Disk) → (D.bytes e.disk ≡ D.bytes disk) × LeavesOnly D.moment D.image_since disk e.disk (D.image disk)) }
-        ensures failed { IfErr result (λ e. (D.size e.disk ≡ D.size disk)
-            × LeavesOnly D.moment D.image_since disk e.disk (λ c. D.image disk c ⊎ ((r : List ℕ) → D.bytes disk ≡ Some r → IsMidway r c))) }
+        ensures back { IfErr result (λ e. ¬ (e.fault ≡ OpenFault.Disk) → (D.device.bytes e.disk ≡ D.device.bytes disk) × LeavesOnly D.device disk e.disk (D.device.image disk)) }
+        ensures failed { IfErr result (λ e. (D.device.size e.disk ≡ D.device.size disk)
+            × LeavesOnly D.device disk e.disk (λ c. D.device.image disk c ⊎ ((r : List ℕ) → D.device.bytes disk ≡ Some r → IsMidway r c))) }
 
         // No attempt goes over a restart.
         ensures idle { IfOk result (λ spool. HasNoProcessing spool.state) }
@@ -74,23 +74,22 @@ impl<D: Disk> Spool<D> {
     // Syncs a disk, and makes the table anew from the events of its current area. It writes nothing.
     fn load(alloc: Global, disk: D) -> Result<Spool<D>, OpenError<D>>
         // The table and the room are those of the bytes, and a fault of the bytes is theirs.
-        ensures opened { IfOk result (λ spool. (r : List ℕ) → D.bytes disk ≡ Some r → HasTable spool.state r) }
-        ensures room { IfOk result (λ spool. (r : List ℕ) → D.bytes disk ≡ Some r → HasRoom spool.room r) }
-        ensures fault { IfErr result (λ e. (r : List ℕ) → D.bytes disk ≡ Some r → IsFaultOf r e.fault) }
+        ensures opened { IfOk result (λ spool. (r : List ℕ) → D.device.bytes disk ≡ Some r → HasTable spool.state r) }
+        ensures room { IfOk result (λ spool. (r : List ℕ) → D.device.bytes disk ≡ Some r → HasRoom spool.room r) }
+        ensures fault { IfErr result (λ e. (r : List ℕ) → D.device.bytes disk ≡ Some r → IsFaultOf r e.fault) }
         ensures alive { IfOk result (λ spool. spool.dead ≡ false) }
-        ensures cause { IfErr result (λ e. e.fault ≡ OpenFault.Disk → D.failures disk < D.failures e.disk) }
-        ensures counted { IfOk result (λ spool. D.failures disk ≤ D.failures spool.disk) }
-        ensures counted_back { IfErr result (λ e. D.failures disk ≤ D.failures e.disk) }
+        ensures cause { IfErr result (λ e. e.fault ≡ OpenFault.Disk → D.device.failures disk < D.device.failures e.disk) }
+        ensures counted { IfOk result (λ spool. D.device.failures spool.disk ≡ D.device.failures disk) }
+        ensures counted_back { IfErr result (λ e. D.device.failures disk ≤ D.device.failures e.disk) }
 
         // It writes nothing.
-        ensures stays { IfOk result (λ spool. (D.bytes spool.disk ≡ D.bytes disk) × (D.size spool.disk ≡ D.size disk)) }
-        ensures held { IfOk result (λ spool. LeavesOnly D.moment D.image_since disk spool.disk (D.image disk)) }
-        ensures back { IfErr result (λ e. (D.bytes e.disk ≡ D.bytes disk) × (D.size e.disk ≡ D.size disk) × LeavesOnly D.moment D.image_since disk e.disk (D.image disk)) }
+        ensures same { IfOk result (λ spool. ChangesNothing D.device disk spool.disk) }
+        ensures back { IfErr result (λ e. ChangesNothing D.device disk e.disk) }
 
         // Until its first sync has answered a crash leaves what it was handed, and from then on an image with this table.
-        ensures synced { IfOk result (λ spool. (synced : D) × LeavesOnly D.moment D.image_since disk synced (D.image disk)
-            × LeavesOnly D.moment D.image_since synced spool.disk (λ c. (r : List ℕ) → D.bytes disk ≡ Some r → (c ≡ r) × HasTable spool.state c)) }
-        ensures kept { IfOk result (λ spool. IsSome (D.bytes disk) → (c : List ℕ) → D.image spool.disk c → HasTable spool.state c) }
+        ensures synced { IfOk result (λ spool. (synced : D) × LeavesOnly D.device disk synced (D.device.image disk)
+            × LeavesOnly D.device synced spool.disk (λ c. (r : List ℕ) → D.device.bytes disk ≡ Some r → (c ≡ r) × HasTable spool.state c)) }
+        ensures kept { IfOk result (λ spool. IsSome (D.device.bytes disk) → (c : List ℕ) → D.device.image spool.disk c → HasTable spool.state c) }
     {
         let Opened {
             mut areas,
@@ -139,13 +138,14 @@ impl<D: Disk> Spool<D> {
         ensures alive { OnOk result (self.new.dead ≡ false) }
         ensures fault { IfErr result IsReopeningFault }
         ensures unchanged { IsErrOf result OpenFault.Memory → self.new ≡ self.old }
-        ensures cause { IsErrOf result OpenFault.Disk → D.failures self.old.disk < D.failures self.new.disk }
-        ensures counted { D.failures self.old.disk ≤ D.failures self.new.disk }
-        ensures fixed { D.size self.new.disk ≡ D.size self.old.disk }
-        ensures told { IsSome (D.bytes self.new.disk) ↔ IsSome (D.bytes self.old.disk) }
-        ensures any_moment { LeavesOnly D.moment D.image_since self.old.disk self.new.disk (λ c. IsSome (D.bytes self.old.disk) → HasBeforeOrAfterEvent self.old.state Event.Reopen c) }
-        ensures kept { OnOk result (IsSome (D.bytes self.old.disk) → (c : List ℕ) → D.image self.new.disk c → HasTable self.new.state c) }
-        ensures room { OnOk result ((r : List ℕ) → D.bytes self.new.disk ≡ Some r → HasRoom self.new.room r) }
+        ensures cause { IsErrOf result OpenFault.Disk → D.device.failures self.old.disk < D.device.failures self.new.disk }
+        ensures later { D.device.failures self.old.disk ≤ D.device.failures self.new.disk }
+        ensures counted { OnOk result (D.device.failures self.new.disk ≡ D.device.failures self.old.disk) }
+        ensures fixed { D.device.size self.new.disk ≡ D.device.size self.old.disk }
+        ensures told { IsSome (D.device.bytes self.new.disk) ↔ IsSome (D.device.bytes self.old.disk) }
+        ensures any_moment { LeavesOnly D.device self.old.disk self.new.disk (λ c. IsSome (D.device.bytes self.old.disk) → HasBeforeOrAfterEvent self.old.state Event.Reopen c) }
+        ensures kept { OnOk result (IsSome (D.device.bytes self.old.disk) → (c : List ℕ) → D.device.image self.new.disk c → HasTable self.new.state c) }
+        ensures room { OnOk result ((r : List ℕ) → D.device.bytes self.new.disk ≡ Some r → HasRoom self.new.room r) }
     {
         match journal_reopening(&mut self.areas, &mut self.table, &mut self.frame) {
             Ok(place) => {

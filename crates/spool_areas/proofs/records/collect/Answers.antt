@@ -1,6 +1,5 @@
-use Rattle.std.proofs.Common.{◌+◌, List, ◌++◌, [], ◌∷◌, arith, refl, sym, ◌∙◌, subst}
-use Rattle.spool_disk.proofs.Moments.{started}
-use Rattle.spool_areas.proofs.Reading.{reads_on}
+use Rattle.std.proofs.Common.{◌+◌, List, ◌++◌, [], ◌∷◌, refl, sym, ◌∙◌, subst}
+use Rattle.spool_disk.proofs.Moments.{no_change, twice_still}
 use Rattle.gate_journal.specs.Entries.{HasFirst}
 use Rattle.spool_areas.specs.declared.extent.Extent.{Extent}
 use Rattle.spool_areas.specs.Extents.{Follow, payloads_at}
@@ -12,10 +11,8 @@ loop-found-init g c = record {
   inside = c.requires.inside;
   follow = subst (λ (l : List Extent). Follow c.args.first l c.args.first) (sym c.new-payloads.ensures.items) refl;
   so_far = λ r tells. subst (λ (l : List Extent). HasFirst c.args.first c.args.first (payloads_at r l) r) (sym c.new-payloads.ensures.items) (none_first c.args.first r);
-  counted = omega arith;
-  stays = refl;
-  fixed = refl;
-  during = started g.D.Disk.moment g.D.Disk.image_since c.args.disk.now (g.D.Disk.image c.args.disk.now) (g.met.D.Disk.only_now c.args.disk.now);
+  counted = refl;
+  same = no_change g.D.Disk.device c.args.disk.now g.met.D.Disk.lawful;
 }
 
 pub loop-found-preserved : goal.loop-found-preserved
@@ -30,9 +27,7 @@ loop-found-preserved g c =
       follow = subst (λ (l : List Extent). Follow c.args.first l next) (sym items) (follow_push c.args.first xs c.loop-found.gate x c.loop-found.invariant.follow lies.0);
       so_far = λ r tells. subst (λ (l : List Extent). HasFirst c.args.first next (payloads_at r l) r) (sym items)
           (first_push c.args.first c.loop-found.gate xs x c.in-Ok.found r c.in-Entry.is
-          (c.in-Ok.ensures.goes_on r c.args.first (payloads_at r xs) (c.loop-found.invariant.stays ∙ tells) (c.loop-found.invariant.so_far r tells)));
-      counted = omega (arith, c.loop-found.invariant.counted, c.next_entry.ensures.cause.later);
-      stays = c.next_entry.ensures.stays ∙ c.loop-found.invariant.stays;
-      fixed = c.next_entry.ensures.fixed ∙ c.loop-found.invariant.fixed;
-      during = reads_on g.D.Disk.moment g.D.Disk.image_since g.D.Disk.image g.met.D.Disk.counts_now c.args.disk.now c.loop-found.disk c.next_entry.new.disk c.loop-found.invariant.during c.next_entry.ensures.any_moment;
+          (c.in-Ok.ensures.goes_on r c.args.first (payloads_at r xs) (c.loop-found.invariant.same.bytes ∙ tells) (c.loop-found.invariant.so_far r tells)));
+      counted = c.in-Ok.ensures.cause.same ∙ c.loop-found.invariant.counted;
+      same = twice_still g.D.Disk.device c.args.disk.now c.loop-found.disk c.next_entry.new.disk g.met.D.Disk.lawful c.loop-found.invariant.same c.next_entry.ensures.same;
     }

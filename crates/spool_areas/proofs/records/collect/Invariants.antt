@@ -1,5 +1,5 @@
-use Rattle.std.proofs.Common.{◌≡◌, ◌<◌, ◌≤◌, List, ℕ, Some, ◌-◌}
-use Rattle.spool_disk.specs.Disk.{LeavesOnly}
+use Rattle.std.proofs.Common.{◌≡◌, ◌<◌, List, ℕ, Some, ◌-◌}
+use Rattle.spool_disk.specs.Disk.{ChangesNothing}
 use Rattle.gate_journal.specs.Entries.{HasFirst}
 use Rattle.spool_areas.specs.Extents.{payloads_at, Follow}
 use Rattle.spool_areas.proofs.records.collect.Given as goal
@@ -8,11 +8,9 @@ abbrev pub invariant-loop-found : goal.invariant-loop-found
 invariant-loop-found g l = record {
   inside : l.gate < l.end;
   follow : Follow l.first l.payloads.items l.gate;
-  so_far : (r : List ℕ) → g.D.Disk.bytes l.fn.disk ≡ Some r → HasFirst l.first l.gate (payloads_at r l.payloads.items) r;
-  counted : g.D.Disk.failures l.fn.disk ≤ g.D.Disk.failures l.disk;
-  stays : g.D.Disk.bytes l.disk ≡ g.D.Disk.bytes l.fn.disk;
-  fixed : g.D.Disk.size l.disk ≡ g.D.Disk.size l.fn.disk;
-  during : LeavesOnly g.D.Disk.moment g.D.Disk.image_since l.fn.disk l.disk (g.D.Disk.image l.fn.disk);
+  so_far : (r : List ℕ) → g.D.Disk.device.bytes l.fn.disk ≡ Some r → HasFirst l.first l.gate (payloads_at r l.payloads.items) r;
+  counted : g.D.Disk.device.failures l.disk ≡ g.D.Disk.device.failures l.fn.disk;
+  same : ChangesNothing g.D.Disk.device l.fn.disk l.disk;
 }
 
 abbrev pub decreases-loop-found : goal.decreases-loop-found

@@ -1,5 +1,5 @@
 use Rattle.std.proofs.Common.{◌≡◌, ◌⊎◌, ℕ, List, Some, Err, refl, sym, subst, ap, ◌∙◌}
-use Rattle.spool_types.specs.Attempts.{HasNoProcessing}
+use Rattle.job_table.specs.Attempts.{HasNoProcessing}
 use Rattle.spool_disk.specs.Disk.{LeavesOnly}
 use Rattle.spool_areas.specs.declared.fault.OpenFault.{OpenFault}
 use Rattle.spool_core.specs.Image.{IsMidway}
@@ -17,7 +17,7 @@ pub returns-then-is_idle-clause-synced : goal.returns-then-is_idle-clause-synced
 returns-then-is_idle-clause-synced g c =
     let disk = g.D.Disk in
     let w = c.in-Ok.ensures.synced in
-    (w.0, w.1, still disk.bytes disk.image disk.moment disk.image_since c.args.disk c.in-Ok.spool.disk w.0 c.in-Ok.spool.state c.in-Ok.ensures.opened c.in-Ok.ensures.stays.0 w.2)
+    (w.0, w.1, still disk.device c.args.disk c.in-Ok.spool.disk w.0 c.in-Ok.spool.state c.in-Ok.ensures.opened c.in-Ok.ensures.same.bytes w.2)
 
 pub reopen-requires-clause-busy : goal.reopen-requires-clause-busy
 reopen-requires-clause-busy g c =
@@ -39,7 +39,7 @@ returns-in-Ok-reopen-clause-synced g c =
     let w = c.in-Ok.ensures.synced in (
       w.0,
       w.1,
-      since_sync disk.bytes disk.image disk.moment disk.image_since c.args.disk c.in-Ok.spool.disk w.0 c.in-Ok.spool.state c.in-Ok.ensures.opened c.in-Ok.ensures.stays.0 w.2
+      since_sync disk.device c.args.disk c.in-Ok.spool.disk w.0 c.in-Ok.spool.state c.in-Ok.ensures.opened c.in-Ok.ensures.same.bytes w.2
           busy c.reopen.new.self.disk c.reopen.ensures.any_moment,
     )
 
@@ -48,15 +48,15 @@ returns-in-Err-reopen-clause-back g c = λ other.
     let disk = g.D.Disk in
     let memory = wants_memory c.in-Err-reopen.fault c.in-Err-reopen.ensures.fault other in
     let same = c.into_disk-disk.ensures ∙ ap (λ (v : Standing g.row.D.Denot). v.disk) (c.in-Err-reopen.ensures.unchanged (ap (λ (f : OpenFault). Err f) memory)) in
-    (ap disk.bytes same ∙ c.in-Ok.ensures.stays.0, subst (λ d. LeavesOnly disk.moment disk.image_since c.args.disk d (disk.image c.args.disk)) (sym same) c.in-Ok.ensures.held)
+    (ap disk.device.bytes same ∙ c.in-Ok.ensures.same.bytes, subst (λ d. LeavesOnly disk.device c.args.disk d (disk.device.image c.args.disk)) (sym same) c.in-Ok.ensures.same.images)
 
 pub returns-in-Err-reopen-clause-failed : goal.returns-in-Err-reopen-clause-failed
 returns-in-Err-reopen-clause-failed g c =
     let disk = g.D.Disk in
     let busy = subst (λ (v : Standing g.row.D.Denot). ¬ (HasNoProcessing v.state)) c.spool.view_is (c.if-is_idle.ensures.busy refl) in
     let w = c.in-Ok.ensures.synced in (
-      ap disk.size c.into_disk-disk.ensures ∙ c.reopen.ensures.fixed ∙ c.in-Ok.ensures.stays.1,
-      subst (λ d. LeavesOnly disk.moment disk.image_since c.args.disk d (λ b. disk.image c.args.disk b ⊎ ((r : List ℕ) → disk.bytes c.args.disk ≡ Some r → IsMidway r b))) (sym c.into_disk-disk.ensures)
-          (since_start disk.bytes disk.image disk.moment disk.image_since c.args.disk c.in-Ok.spool.disk w.0 c.in-Ok.spool.state c.in-Ok.ensures.opened c.in-Ok.ensures.stays.0 w.2
+      ap disk.device.size c.into_disk-disk.ensures ∙ c.reopen.ensures.fixed ∙ c.in-Ok.ensures.same.size,
+      subst (λ d. LeavesOnly disk.device c.args.disk d (λ b. disk.device.image c.args.disk b ⊎ ((r : List ℕ) → disk.device.bytes c.args.disk ≡ Some r → IsMidway r b))) (sym c.into_disk-disk.ensures)
+          (since_start disk.device c.args.disk c.in-Ok.spool.disk w.0 c.in-Ok.spool.state c.in-Ok.ensures.opened c.in-Ok.ensures.same.bytes w.2
           busy c.reopen.new.self.disk c.reopen.ensures.any_moment w.1),
     )

@@ -1,11 +1,11 @@
 -- a queue is made where its URI is that of a device
-use Rattle.std.proofs.Common.{refl, sym, ap, ◌∙◌, codes, Err}
+use Rattle.std.proofs.Common.{sym, ap, ◌∙◌, codes, Err}
 use Rattle.spool_types.specs.declared.event.Event.TheVariants.{AddQueue}
 use Rattle.device_uri.specs.Devices.{is_device_uri}
 use Rattle.command_lines.specs.declared.command.Command.TheVariants.{Queue}
-use Rattle.spool_engine.specs.Answers.{plain_line}
-use Rattle.spool_engine.specs.Runs.{device, setting}
-use Rattle.spool_engine.proofs.TurnLaws.{event_told, said_told, unread_told, queue_event, no_queue_event, plain, kept_as}
+use Rattle.spool_engine.specs.Runs.{setting}
+use Rattle.spool_engine.specs.Script.{reply_line}
+use Rattle.spool_engine.proofs.TurnLaws.{event_told, said_told, unread_told, queue_event, no_queue_event, kept_as}
 use Rattle.spool_engine.proofs.server.Server.add_queue.Goals as goal
 
 pub returns-in-Ok : goal.returns-in-Ok
@@ -13,15 +13,15 @@ returns-in-Ok g c = λ m.
     let s = c.args.self.now in
     let q = c.args.queue in
     let is = queue_event m s.state q (ap is_device_uri (sym c.as_str.ensures.value) ∙ c.in-Ok.ensures.device) in
-    event_told (λ v. v.items) c.serve_event.result (setting (device g.D.Disk.bytes g.D.Disk.image g.D.Disk.moment g.D.Disk.image_since g.D.Disk.failures) m) s _ (Queue q) (AddQueue q) plain_line (plain (AddQueue q) (λ r. refl)) is c.serve_event.ensures
+    event_told (λ v. v.items) c.serve_event.result (setting g.D.Disk.device m) s _ (Queue q) (AddQueue q) reply_line is c.serve_event.ensures
 
 pub returns-in-Err-BadUri : goal.returns-in-Err-BadUri
 returns-in-Err-BadUri g c = λ m.
     let s = c.args.self.now in
     let q = c.args.queue in
     let is = no_queue_event m s.state q (ap is_device_uri (sym c.as_str.ensures.value) ∙ c.in-Err-BadUri.ensures.no_device (ap Err c.in-Err-BadUri.field-0-is)) in
-    said_told (λ v. v.items) c.print_reply.result (setting (device g.D.Disk.bytes g.D.Disk.image g.D.Disk.moment g.D.Disk.image_since g.D.Disk.failures) m) s (Queue q) (codes "error uri\n") g.met.D.Disk.only_now (kept_as (device g.D.Disk.bytes g.D.Disk.image g.D.Disk.moment g.D.Disk.image_since g.D.Disk.failures) _ _ c.self.view_is c.self.invariant) is refl c.print_reply.ensures
+    said_told (λ v. v.items) c.print_reply.result (setting g.D.Disk.device m) s (Queue q) (codes "error uri\n") g.met.D.Disk.lawful.only_now (kept_as g.D.Disk.device _ _ c.self.view_is c.self.invariant) is c.print_reply.ensures
 
 pub returns : goal.returns
 returns g c = λ m.
-    unread_told (λ v. v.items) c.print_reply-in-Err-Memory.result (setting (device g.D.Disk.bytes g.D.Disk.image g.D.Disk.moment g.D.Disk.image_since g.D.Disk.failures) m) c.args.self.now c.args.queue g.met.D.Disk.only_now (kept_as (device g.D.Disk.bytes g.D.Disk.image g.D.Disk.moment g.D.Disk.image_since g.D.Disk.failures) _ _ c.self.view_is c.self.invariant) c.print_reply-in-Err-Memory.ensures
+    unread_told (λ v. v.items) c.print_reply-in-Err-Memory.result (setting g.D.Disk.device m) c.args.self.now c.args.queue g.met.D.Disk.lawful.only_now (kept_as g.D.Disk.device _ _ c.self.view_is c.self.invariant) c.print_reply-in-Err-Memory.ensures

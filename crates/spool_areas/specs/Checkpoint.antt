@@ -1,0 +1,107 @@
+-- Changing over to the other area.
+use Rattle.std.specs.Prelude.{◌≡◌, ◌⊎◌, ℕ, ◌+◌, ◌-◌, ◌<◌, ◌≤◌, ◌^◌, List, [], ◌∷◌, ◌++◌, Bool, true, false, ◌&&◌, Some, IsSome, Result, Ok, Err, length, map, take, drop, slice_index_or, nat_le, ◌==◌, if◌then◌else◌}
+use Rattle.std.specs.declared.vec.Vec.{Vec}
+use Rattle.std.specs.declared.alloc.Global.{Global}
+use Rattle.std.specs.List.{AllByRecursion}
+use Rattle.spool_disk.specs.Disk.{DiskView, IsOldOutside, IsSynced, LeavesOnly}
+use Rattle.gate_journal.specs.Frame.{payload_of}
+use Rattle.std.specs.Int.{w64, to_be_bytes}
+use Rattle.spool_areas.specs.declared.fault.AreaFault.{AreaFault}
+use Rattle.spool_areas.specs.declared.fault.AreaFault.TheVariants.{Dead, EpochEnd, Full}
+use Rattle.spool_areas.specs.Header.{header_len, header_at, is_open, epoch_of}
+use Rattle.spool_areas.specs.Payloads.{HasPayloads, gate_after}
+use Rattle.spool_areas.specs.Current.{Current}
+
+-- the greatest epoch
+abbrev pub last_epoch : ℕ
+last_epoch = 18446744073709551615
+
+-- where the other area begins, by where the current one begins and where the second one does
+abbrev pub other_of : ℕ → ℕ → ℕ
+other_of second base = if base == 0 then second else 0
+
+abbrev pub area_len : {D : Type 0} → Current D → ℕ
+area_len a = a.end - a.base
+
+abbrev pub other_base : {D : Type 0} → Current D → ℕ
+other_base a = other_of (area_len a) a.base
+
+-- Payloads of these lengths, appended in order from a gate on, meet no Full: behind each record and its next gate six
+-- bytes more are left.
+abbrev pub has_room : ℕ → ℕ → List ℕ → Bool
+has_room end gate [] = true
+has_room end gate (n ∷ ns) = nat_le (gate + 5 + n + 7) end && has_room end (gate + 5 + n) ns
+
+-- Where the first gate of the other area lies, or why no rows of these lengths can be put there. In this order: dead,
+-- the last epoch, full.
+abbrev pub plan_of : {D : Type 0} → Current D → List ℕ → Result ℕ AreaFault
+plan_of a lengths =
+    if a.dead then Err Dead
+    else if a.epoch == last_epoch then Err EpochEnd
+    else if has_room (other_base a + area_len a) (other_base a + header_len) lengths then Ok (other_base a + header_len)
+    else Err Full
+
+-- a header behind its gate: the version 1, the epoch in eight bytes with the high byte first, and six zeros
+abbrev pub header_behind_gate : ℕ → List ℕ
+header_behind_gate epoch = 1 ∷ (to_be_bytes w64 epoch ++ (0 ∷ 0 ∷ 0 ∷ 0 ∷ 0 ∷ 0 ∷ []))
+
+-- a header of this epoch lies there, behind whatever gate
+pub record HasHeader (other epoch : ℕ) (bytes : List ℕ) : Type 0 where
+  pub behind : take 15 (drop (other + 1) bytes) ≡ header_behind_gate epoch
+
+-- the header at other is closed, or open at a lower epoch than the one at base
+abbrev pub IsClosedOrOlder : ℕ → ℕ → List ℕ → Type 0
+IsClosedOrOlder base other bytes =
+    (is_open (header_at other bytes) ≡ false) ⊎ (epoch_of (header_at other bytes) < epoch_of (header_at base bytes))
+
+-- the old payloads in the old area, or the new ones in the new area
+abbrev pub HasOldOrNew : ℕ → List (List ℕ) → ℕ → List (List ℕ) → List ℕ → Type 0
+HasOldOrNew base old other new bytes = HasPayloads base old bytes ⊎ HasPayloads other new bytes
+
+-- each row is given as a frame: four free bytes, the payload and one free byte
+abbrev pub frames_of : List (Vec ℕ Global) → List (List ℕ)
+frames_of rows = map (λ row. row.items) rows
+
+abbrev pub IsFrame : List ℕ → Type 0
+IsFrame frame = (5 ≤ length frame) × (length frame < 2 ^ 32)
+
+abbrev pub AreFrames : List (List ℕ) → Type 0
+AreFrames frames = AllByRecursion IsFrame frames
+
+abbrev pub payloads_in : List (List ℕ) → List (List ℕ)
+payloads_in frames = map payload_of frames
+
+abbrev pub lengths_in : List (List ℕ) → List ℕ
+lengths_in frames = map (λ frame. length frame - 5) frames
+
+-- A crash in the middle of closing a gate: nothing has changed, or the gate was open and is any byte.
+abbrev pub IsClosing : {D : Type 0} → DiskView D → D → ℕ → List ℕ → Type 0
+IsClosing v disk at c = v.image disk c ⊎ (IsOldOutside (v.image disk) at 1 c × ((r : List ℕ) → v.bytes disk ≡ Some r → slice_index_or r at 0 ≡ 165))
+
+-- Of the two areas of this length the one at base is the current one: nothing is unsynced, and each image has these
+-- payloads there, with this epoch.
+pub record Stands {D : Type 0} (v : DiskView D) (disk : D) (len base other epoch : ℕ) (payloads : List (List ℕ)) : Type 0 where
+  pub two : ((base ≡ 0) × (other ≡ len)) ⊎ ((base ≡ len) × (other ≡ 0))
+  pub tells : IsSome (v.bytes disk)
+  pub synced : IsSynced v disk
+  pub each : (c : List ℕ) → v.image disk c → HasPayloads base payloads c
+  pub epoch_is : (c : List ℕ) → v.image disk c → epoch_of (header_at base c) ≡ epoch
+
+-- the same once it was changed over, with the gate behind the rows
+pub record StandsNew {D : Type 0} (v : DiskView D) (disk : D) (base epoch gate : ℕ) (payloads : List (List ℕ)) : Type 0 where
+  pub tells : IsSome (v.bytes disk)
+  pub each : (c : List ℕ) → v.image disk c → HasPayloads base payloads c
+  pub epoch_is : (c : List ℕ) → v.image disk c → epoch_of (header_at base c) ≡ epoch
+  pub gate_at : gate ≡ gate_after base payloads
+
+-- There is a moment such that a crash before it leaves the old payloads, and a crash after it the old ones or the new.
+abbrev pub ChangesOver : {D : Type 0} → DiskView D → D → D → ℕ → List (List ℕ) → ℕ → List (List ℕ) → Type 0
+ChangesOver {D} v before after base old other new =
+    (filled : D) × LeavesOnly v before filled (HasPayloads base old) × LeavesOnly v filled after (HasOldOrNew base old other new)
+
+-- the other area is the current one now, with the next epoch, and its gate lies behind these rows
+pub record IsChanged {D : Type 0} (old : Current D) (rows : List (List ℕ)) (new : Current D) : Type 0 where
+  pub base : new.base ≡ other_base old
+  pub end : new.end ≡ other_base old + area_len old
+  pub epoch : new.epoch ≡ old.epoch + 1
+  pub gate : new.gate ≡ gate_after (other_base old) rows

@@ -1,0 +1,187 @@
+//! Putting rows into the other area, in three parts: its header is closed, the area is filled, and its header is opened.
+ghost use Rattle.std.specs.Prelude.{◌≡◌, ◌≢◌, ◌∷◌, ◌<◌, ◌≤◌, ◌+◌, ◌-◌, ◌^◌, ◌++◌, [], List, ℕ, false, true, Some, IsSome, OnOk, IfOk, length, slice_index_or};
+ghost use Rattle.spool_disk.specs.Disk.{IsSynced, LeavesOnly, ChangesOnly, HasCause};
+ghost use Rattle.gate_journal.specs.Entries.{KeepsEntries, records};
+ghost use Rattle.spool_areas.specs.Payloads.{gate_after};
+ghost use Rattle.gate_journal.specs.Journal.{base_of, end_of, place_of, is_dead};
+ghost use Rattle.gate_journal.specs.Frame.{payload_of};
+ghost use Rattle.spool_areas.specs.Checkpoint.{has_room, frames_of, payloads_in, lengths_in, IsFrame, AreFrames, IsClosing, HasHeader, Stands, StandsNew, ChangesOver};
+ghost use Rattle.spool_areas.specs.Header.{half, least_area, header_len};
+
+use crate::header::{HEADER_LEN, OPEN, header_behind_gate};
+use gate_journal::{Journal, JournalFault};
+use spool_disk::{DeviceFault, Disk, persist};
+
+/// Whether payloads of these lengths can be appended in order from a gate on.
+pub(crate) fn have_room(end: u64, first: u64, lengths: &[u64]) -> bool
+    requires { first ≤ end }
+    ensures { result ≡ has_room end first lengths.now }
+{
+    let mut gate = first;
+    for len in lengths {
+        if !has_room_at(end, gate, *len) {
+            return false;
+        }
+        gate += 5 + *len;
+    }
+    true
+}
+
+/// The same for the payloads of these frames.
+pub(crate) fn rows_have_room(end: u64, first: u64, rows: &[Vec<u8>]) -> bool
+    requires inside { first ≤ end }
+    requires frames { AreFrames (frames_of rows.now) }
+    ensures { result ≡ has_room end first (lengths_in (frames_of rows.now)) }
+{
+    let mut gate = first;
+    for row in rows {
+        let len = row.len() as u64 - 5;
+        if !has_room_at(end, gate, len) {
+            return false;
+        }
+        gate += 5 + len;
+    }
+    true
+}
+
+// Whether the record of a payload of this length and the 7 bytes kept behind it lie between a gate and the end.
+fn has_room_at(end: u64, gate: u64, len: u64) -> bool
+    requires { gate ≤ end }
+    ensures { result ≡ has_room end gate (len ∷ []) }
+{
+    end - gate >= 12 && end - gate - 12 >= len
+}
+
+// Closes the gate of the other area's header where it reads open, and syncs. Writing it closed where it is closed already
+// would leave any byte there in a crash, an open gate too, before what lies behind it is one header.
+fn close_header<D: Disk>(disk: &mut D, other: u64) -> Result<(), DeviceFault>
+    requires { other < D.device.size disk.old }
+    ensures any_moment { LeavesOnly D.device disk.old disk.new (IsClosing D.device disk.old other) }
+    ensures closed { OnOk result ((r : List ℕ) → D.device.bytes disk.new ≡ Some r → slice_index_or r other 0 ≢ 165) }
+    ensures durable { OnOk result (IsSynced D.device disk.new) }
+    ensures changes { ChangesOnly D.device disk.old disk.new other 1 }
+    ensures cause { HasCause D.device disk.old disk.new result }
+{
+    let mut gate = [0; 1];
+    disk.read(other, &mut gate)?;
+    if gate[0] != OPEN {
+        return disk.sync();
+    }
+    persist(disk, other, &[0])
+}
+
+// Appends a row to a journal that has room for it.
+fn append_row<D: Disk>(
+    disk: &mut D,
+    journal: &mut Journal,
+    row: &mut Vec<u8>,
+) -> Result<(), DeviceFault>
+    requires frame { IsFrame row.old.items }
+    requires within { end_of journal.old ≤ D.device.size disk.old }
+    requires alive { is_dead journal.old ≡ false }
+    requires room { place_of journal.old + length row.old.items + 7 ≤ end_of journal.old }
+    ensures journal { OnOk result ((is_dead journal.new ≡ false) × (place_of journal.new ≡ place_of journal.old + length row.old.items)) }
+    ensures same { (base_of journal.new ≡ base_of journal.old) × (end_of journal.new ≡ end_of journal.old) }
+    ensures payload { payload_of row.new.items ≡ payload_of row.old.items }
+    ensures added { OnOk result ((payloads : List (List ℕ)) →
+        KeepsEntries D.device disk.old (base_of journal.old) (place_of journal.old) payloads →
+        KeepsEntries D.device disk.new (base_of journal.new) (place_of journal.new) (payloads ++ payload_of row.old.items ∷ [])) }
+    ensures durable { OnOk result (IsSynced D.device disk.new) }
+    ensures changes { ChangesOnly D.device disk.old disk.new (place_of journal.old) (end_of journal.old - place_of journal.old) }
+    ensures cause { HasCause D.device disk.old disk.new result }
+{
+    match journal.append(disk, row) {
+        Ok(_) => Ok(()),
+        Err(JournalFault::Disk) => Err(DeviceFault),
+        Err(_) => unreachable!(),
+    }
+}
+
+// Appends the rows to a journal that has room for them.
+fn append_rows<D: Disk>(
+    disk: &mut D,
+    journal: &mut Journal,
+    rows: &mut [Vec<u8>],
+) -> Result<(), DeviceFault>
+    requires frames { AreFrames (frames_of rows.old) }
+    requires within { end_of journal.old ≤ D.device.size disk.old }
+    requires alive { is_dead journal.old ≡ false }
+    requires inside { place_of journal.old ≤ end_of journal.old }
+    requires room { has_room (end_of journal.old) (place_of journal.old) (lengths_in (frames_of rows.old)) ≡ true }
+    ensures journal { OnOk result ((is_dead journal.new ≡ false) × (base_of journal.new ≡ base_of journal.old) × (end_of journal.new ≡ end_of journal.old)) }
+    ensures place { OnOk result (place_of journal.new ≡ place_of journal.old + length (records (payloads_in (frames_of rows.old)))) }
+    ensures added { OnOk result ((payloads : List (List ℕ)) →
+        KeepsEntries D.device disk.old (base_of journal.old) (place_of journal.old) payloads →
+        KeepsEntries D.device disk.new (base_of journal.old) (place_of journal.new) (payloads ++ payloads_in (frames_of rows.old))) }
+    ensures durable { IsSynced D.device disk.old → OnOk result (IsSynced D.device disk.new) }
+    ensures changes { ChangesOnly D.device disk.old disk.new (place_of journal.old) (end_of journal.old - place_of journal.old) }
+    ensures payloads { OnOk result (payloads_in (frames_of rows.new) ≡ payloads_in (frames_of rows.old)) }
+    ensures cause { HasCause D.device disk.old disk.new result }
+{
+    for row in rows {
+        append_row(disk, journal, row)?;
+    }
+    Ok(())
+}
+
+// Fills the other area while its header's gate is closed: the rest of the header, and the records of the rows.
+fn fill_area<D: Disk>(
+    disk: &mut D,
+    other: u64,
+    len: u64,
+    epoch: u64,
+    rows: &mut [Vec<u8>],
+) -> Result<Journal, DeviceFault>
+    requires frames { AreFrames (frames_of rows.old) }
+    requires least { least_area ≤ len }
+    requires within { other + len ≤ D.device.size disk.old }
+    requires fits { other + len < 2 ^ 64 }
+    requires room { has_room (other + len) (other + header_len) (lengths_in (frames_of rows.old)) ≡ true }
+    ensures journal { IfOk result (λ j. (is_dead j ≡ false) × (base_of j ≡ other + header_len) × (end_of j ≡ other + len)) }
+    ensures place { IfOk result (λ j. place_of j ≡ gate_after other (payloads_in (frames_of rows.old))) }
+    ensures entries { IfOk result (λ j. IsSome (D.device.bytes disk.old) → KeepsEntries D.device disk.new (other + header_len) (place_of j) (payloads_in (frames_of rows.old))) }
+    ensures header { OnOk result ((r : List ℕ) → D.device.bytes disk.new ≡ Some r → HasHeader other epoch r) }
+    ensures durable { OnOk result (IsSynced D.device disk.new) }
+    ensures changes { ChangesOnly D.device disk.old disk.new (other + 1) (len - 1) }
+    ensures payloads { OnOk result (payloads_in (frames_of rows.new) ≡ payloads_in (frames_of rows.old)) }
+    ensures cause { HasCause D.device disk.old disk.new result }
+{
+    disk.write(other + 1, &header_behind_gate(epoch))?;
+    let mut journal = Journal::begin(disk, other + HEADER_LEN, len - HEADER_LEN)?;
+    append_rows(disk, &mut journal, rows)?;
+    Ok(journal)
+}
+
+/// Puts the rows into the other area and changes over to it, with this epoch. Its header is opened only once all that
+/// lies behind it is on the device, and until then the old area is the current one in every image.
+pub(crate) fn change_over<D: Disk>(
+    disk: &mut D,
+    other: u64,
+    len: u64,
+    epoch: u64,
+    rows: &mut [Vec<u8>],
+) -> Result<Journal, DeviceFault>
+    requires frames { AreFrames (frames_of rows.old) }
+    requires least { least_area ≤ len }
+    requires len { len ≡ half (D.device.size disk.old) }
+    requires within { other + len ≤ D.device.size disk.old }
+    requires fits { other + len < 2 ^ 64 }
+    requires room { has_room (other + len) (other + header_len) (lengths_in (frames_of rows.old)) ≡ true }
+    ensures journal { IfOk result (λ j. (is_dead j ≡ false) × (base_of j ≡ other + header_len) × (end_of j ≡ other + len)) }
+    ensures place { IfOk result (λ j. place_of j ≡ gate_after other (payloads_in (frames_of rows.old))) }
+
+    // Where each image has the old payloads in the old area, it has the rows in the other one afterwards. A crash leaves
+    // the old ones until the header is opened, and then these or the rows.
+    ensures changed { IfOk result (λ j. (base old_epoch : ℕ) (payloads : List (List ℕ)) → Stands D.device disk.old len base other old_epoch payloads → old_epoch < epoch →
+        StandsNew D.device disk.new other epoch (place_of j) (payloads_in (frames_of rows.old))) }
+    ensures durable { OnOk result (IsSynced D.device disk.new) }
+    ensures any_moment { (base old_epoch : ℕ) (payloads : List (List ℕ)) → Stands D.device disk.old len base other old_epoch payloads → old_epoch < epoch →
+        ChangesOver D.device disk.old disk.new base payloads other (payloads_in (frames_of rows.old)) }
+    ensures changes { ChangesOnly D.device disk.old disk.new other len }
+    ensures cause { HasCause D.device disk.old disk.new result }
+{
+    close_header(disk, other)?;
+    let journal = fill_area(disk, other, len, epoch, rows)?;
+    persist(disk, other, &[OPEN])?;
+    Ok(journal)
+}
