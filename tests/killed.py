@@ -1,10 +1,16 @@
 #!/usr/bin/env python3
-"""Kills the shell at random moments, and looks whether the spool still has what was answered: killed.py [SEED]
+"""Kills the shell at random moments, and looks whether the spool still has what was answered: killed.py [SHELL] [SEED]
 
-It runs crates/spool_shell/out/spool_shell (made by `rt run` in that folder) with `--root`, fifty times in a new folder,
-several lives in each. A life gets one command at a time, and is killed after some reply, inside the text of a command,
-or with a command under way. The next life's `jobs` has to list exactly what was answered, and beside it at most the
-command that was under way.
+It runs SHELL, or else crates/spool_shell/out/spool_shell (made by `rt run` in that folder), with `--root`, fifty times.
+A word of digits is the seed.
+
+Each run begins with ten lives that are killed while they make the spool, of 4,096 bytes to 4 MiB, within the time that
+a whole making takes. Such a life gets a folder that is fresh, or has what a killed one left unfinished. A life after it
+has to make or open the spool there, with what was answered.
+
+Several lives follow in the last of these folders. A life gets one command at a time, and is killed after some reply,
+inside the text of a command, or with a command under way. The next life's `jobs` has to list exactly what was answered,
+and beside it at most the command that was under way.
 
 What has to be listed is told by a table of this script's own. The last line is `50 of 50`, with status 0, or the first
 difference, with status 1.
@@ -18,11 +24,15 @@ import tempfile
 import time
 
 here = os.path.dirname(os.path.abspath(__file__))
-shell = os.path.join(here, "..", "crates", "spool_shell", "out", "spool_shell")
+built = os.path.join(here, "..", "crates", "spool_shell", "out", "spool_shell")
+shell = os.path.abspath(next((word for word in sys.argv[1:] if not word.isdigit()), built))
 
 RUNS = 50
+MAKINGS = 10
 LIVES = 4
+ROOM = 500_000  # a spool of so many bytes has room for these lives
 TYPE = "application/octet-stream"
+FIRST = ("queue", "lab")
 
 
 class Lost(Exception):
@@ -89,7 +99,7 @@ def text_of(name, *words):
 def next_command(table, chance):
     """A command that the table accepts."""
     if not table.queues:
-        return ("queue", "lab")
+        return FIRST
     number = chance.randrange(len(table.jobs) + 1)
     if number == 0:
         return ("create", f"Job {len(table.jobs) + 1}")
@@ -102,18 +112,25 @@ def next_command(table, chance):
 
 
 class Life:
-    """A running shell."""
+    """A running shell. A spool that it makes has so many bytes."""
 
-    def __init__(self, root):
-        words = [shell, "--root", "."]
-        self.child = subprocess.Popen(words, cwd=root, stdin=subprocess.PIPE, stdout=subprocess.PIPE, text=True)
+    def __init__(self, root, size=4_194_304):
+        words = [shell, "--root", ".", "--size", str(size)]
+        pipe = subprocess.PIPE
+        self.child = subprocess.Popen(words, cwd=root, stdin=pipe, stdout=pipe, stderr=pipe, text=True)
 
     def give(self, text):
-        self.child.stdin.write(text)
-        self.child.stdin.flush()
+        try:
+            self.child.stdin.write(text)
+            self.child.stdin.flush()
+        except BrokenPipeError:
+            raise Lost(f"it ended and wrote {self.child.stderr.read()!r}") from None
 
     def reply(self):
-        return self.child.stdout.readline().rstrip("\n")
+        line = self.child.stdout.readline()
+        if not line:
+            raise Lost(f"it ended and wrote {self.child.stderr.read()!r}")
+        return line.rstrip("\n")
 
     def jobs(self):
         self.give("jobs\n")
@@ -123,14 +140,17 @@ class Life:
         return lines
 
     def kill(self):
-        """SIGKILL, as a crash would."""
+        """SIGKILL, as a crash would. It gives what was written until then and not read: replies and complaints."""
         self.child.kill()
         self.child.wait()
+        left = self.child.stdout.read(), self.child.stderr.read()
         self.child.stdout.close()
+        self.child.stderr.close()
         try:
             self.child.stdin.close()
         except BrokenPipeError:
             pass
+        return left
 
 
 def recognised(listed, tables):
@@ -170,11 +190,66 @@ def live(root, tables, chance):
         life.kill()
 
 
-def run(seed):
-    """Lives in one folder."""
-    chance = random.Random(seed)
+def whole_making():
+    """The seconds that a life takes until its spool is made and it answers."""
     with tempfile.TemporaryDirectory() as root:
-        tables = [Table()]
+        start = time.perf_counter()
+        life = Life(root)
+        try:
+            life.jobs()
+            return time.perf_counter() - start
+        finally:
+            life.kill()
+
+
+def making(root, size, seconds):
+    """A life that makes a spool and gets one command, if it lives so long: the tables that the next life may find."""
+    life = Life(root, size)
+    try:
+        life.give(text_of(*FIRST))
+        time.sleep(seconds)
+    finally:
+        replies, complaints = life.kill()
+    if complaints or replies not in ("", "ok\n"):
+        raise Lost(f"a life that makes the spool answered {replies!r} and wrote {complaints!r}")
+    after, _ = Table().after(FIRST)
+    return [after] if replies else [Table(), after]
+
+
+def look(root, tables):
+    """A life that has to make or open the spool, with what was answered."""
+    life = Life(root)
+    try:
+        recognised(life.jobs(), tables)
+        life.give(text_of(*FIRST))
+        answered = life.reply()
+        if answered != "error 2 QueueExists" and (answered != "ok" or len(tables) == 1):
+            raise Lost(f"{FIRST} was answered {answered!r}")
+    finally:
+        life.kill()
+
+
+def makings(folder, longest, chance):
+    """Lives that are killed while they make a spool: the last one's folder, and the tables that the next may find."""
+    root = None
+    for turn in range(MAKINGS):
+        if root is None:
+            root = os.path.join(folder, str(turn))
+            os.mkdir(root)
+        last = turn == MAKINGS - 1
+        size = int(4_096 * 1_024 ** chance.random())
+        tables = making(root, max(size, ROOM) if last else size, chance.random() * longest)
+        if not last and (os.path.exists(os.path.join(root, "spool.disk")) or chance.random() < 0.5):
+            look(root, tables)
+            root = None
+    return root, tables
+
+
+def run(seed, longest):
+    """Lives in one folder, and before them lives that make a spool, none longer than these seconds."""
+    chance = random.Random(seed)
+    with tempfile.TemporaryDirectory() as folder:
+        root, tables = makings(folder, longest, chance)
         for _ in range(LIVES):
             tables = live(root, tables, chance)
         life = Life(root)
@@ -184,13 +259,16 @@ def run(seed):
 
 def main():
     if not os.path.exists(shell):
-        sys.exit("no program: run `rt run` in crates/spool_shell first")
-    first = int(sys.argv[1]) if len(sys.argv) > 1 else random.randrange(1 << 32)
-    for turn in range(RUNS):
-        try:
-            run(first + turn)
-        except Lost as difference:
-            sys.exit(f"run {turn + 1}, `killed.py {first + turn}` begins with it: {difference}")
+        sys.exit(f"no program {shell}: run `rt run` in crates/spool_shell first")
+    seeds = [int(word) for word in sys.argv[1:] if word.isdigit()]
+    first = seeds[0] if seeds else random.randrange(1 << 32)
+    turn = 0
+    try:
+        longest = min(whole_making() for _ in range(5))
+        for turn in range(RUNS):
+            run(first + turn, longest)
+    except Lost as difference:
+        sys.exit(f"run {turn + 1}, `killed.py {first + turn}` begins with it: {difference}")
     print(f"{RUNS} of {RUNS}")
 
 

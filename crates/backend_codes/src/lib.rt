@@ -15,13 +15,15 @@
 //! | status 6, 7 | aborted as `filter-failed` | tried again later, tried again first |
 //!
 //! The names of the statuses are those of backend(7), those of the policies are ErrorPolicy's of cupsd.conf(5). Two rules
-//! follow: a job that would be tried again is aborted as `retry-limit` where its queue's limit, if it isn't 0, has been
-//! reached; and a job that would wait in any way is aborted so where it was started 4,294,967,295 times.
+//! follow:
+//!
+//! 1. A job that would be tried again is aborted as `retry-limit` where its queue's limit, if it isn't 0, has been reached.
+//! 2. A job that would wait in any way is aborted so where it was started 4,294,967,295 times.
 //!
 //! # Promises
 //!
-//! *ExactChoice*, in its part: [`verdict`] is `verdict_of`, and [`lost_verdict`] its row for an attempt that was lost. Both
-//! take no memory and never fail.
+//! *ExactChoice* for verdicts: [`verdict`] is `verdict_of`, and [`lost_verdict`] its row for an attempt whose end nobody saw.
+//! Both take no allocator and can't fail.
 #![tactic(auto)]
 
 mod exits;

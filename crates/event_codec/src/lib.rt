@@ -11,7 +11,7 @@
 //! | 03 | SetAccept | queue, 0 or 1 in 1 byte |
 //! | 04 | SetStop | queue, 0 or 1 in 1 byte |
 //! | 05 | Create | queue, job in 4 bytes, user, title, copies in 2, priority in 1, options |
-//! | 06 | Send | job in 4 bytes, length in 4, so many bytes |
+//! | 06 | Send | job in 4 bytes, length in 4, that many bytes |
 //! | 07 | Close | job in 4 bytes, media type, then 0, or 1, the number of filters in 1 byte, and each filter |
 //! | 08 | Hold | job in 4 bytes, then 1 where no moment ends it, or 2 and a moment in 8 bytes |
 //! | 09 | Release | job in 4 bytes |
@@ -35,7 +35,7 @@
 //!
 //! # Faults
 //!
-//! The first byte is looked at first, and is [`CodecFault::Kind`] where it stands for no event. Then each field from left
+//! The first byte is looked at first, and is [`CodecFault::Kind`] where it is no event's. Then each field from left
 //! to right may have a fault: `Length` where it passes the end, `Utf8` where a text isn't UTF-8, `Range` where the value
 //! is outside its limits. Bytes after the last field are `Length`, and so are no bytes at all. `Memory` comes where a
 //! field's copy is refused, and then nothing is kept. [`encode`] and [`encode_onto`] reserve the whole length at once, and

@@ -310,3 +310,55 @@ fn a_stage_has_no_effects_yet(rt: HostRuntime) {
     let bytes = b"\x0d\x00\x00\x00\x01\x00\x00\x00\x01\x01\x01\x00\x00\x00\x00\x00\x01";
     assert!(rt; fault(rt.alloc(), bytes.as_slice()) == Some(CodecFault::Range));
 }
+
+// The kinds of the rows of a checkpoint, alone and with so many fields as the first of them has.
+#[test]
+fn rows_are_no_events(rt: HostRuntime) {
+    let alloc = rt.alloc();
+    for kind in [0x40, 0x41, 0x42, 0x43] {
+        assert!(rt; fault(alloc, &[kind]) == Some(CodecFault::Kind));
+        let head = [kind, 0, 0, 0, 0, 0, 0, 0, 0, 0, 0, 0, 0];
+        assert!(rt; fault(alloc, &head) == Some(CodecFault::Kind));
+    }
+}
+
+// These bytes, a text's length in two bytes, and as many letters b after a/.
+fn with_text(alloc: Global, before: &[u8], len: u16) -> Result<Vec<u8>, Fail> {
+    let mut bytes = Vec::from_slice(alloc, before)?;
+    bytes.extend_from_slice(&len.to_be_bytes())?;
+    bytes.extend_from_slice(b"a/")?;
+    for _ in 2..len {
+        bytes.push(b'b')?;
+    }
+    Ok(bytes)
+}
+
+#[test]
+fn a_media_type_of_256_bytes_is_out_of_range(rt: HostRuntime) -> Result<(), Fail> {
+    let alloc = rt.alloc();
+    for (len, want) in [
+        (255, None),
+        (256, Some(CodecFault::Range)),
+        (300, Some(CodecFault::Range)),
+    ] {
+        let mut close = with_text(alloc, &[0x07, 0, 0, 0, 1], len)?;
+        close.push(0)?;
+        assert!(rt; fault(alloc, &close) == want);
+    }
+    Ok(())
+}
+
+// The options have 556 bytes. Then one of them is missing, and then so many that 300 are there.
+#[test]
+fn a_long_text_that_is_cut_is_a_wrong_length(rt: HostRuntime) -> Result<(), Fail> {
+    let alloc = rt.alloc();
+    let before = b"\x05\x00\x01q\x00\x00\x00\x01\x00\x01u\x00\x00\x00\x01\x32";
+    let mut create = with_text(alloc, before, 556)?;
+    let event = decode(alloc, &create).ok().ok_or("no event")?;
+    is_spelled(&rt, alloc, event, &create)?;
+    for cut in [1, 255] {
+        create.truncate(create.len().saturating_sub(cut));
+        assert!(rt; fault(alloc, &create) == Some(CodecFault::Length));
+    }
+    Ok(())
+}

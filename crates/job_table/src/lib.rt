@@ -4,7 +4,7 @@
 //! jobs by number with the highest number given and the moment now, and beside it the room that is reserved
 //! (`Contents`). An event takes two calls: [`Table::prepare`] refuses it or reserves what it takes, and
 //! [`Table::commit`] changes the rows. So whoever keeps a journal writes the event down between the two, when it can
-//! neither be refused nor want memory.
+//! neither be refused nor find no memory.
 //!
 //! # What an event does
 //!
@@ -18,35 +18,35 @@
 //!
 //! # Promises
 //!
-//! - *ExactStep*: `prepare` refuses an event exactly where a cause of its refusal stands, with the refusal of the first
+//! - *ExactStep*: `prepare` refuses an event exactly where a cause of its refusal holds, with the refusal of the first
 //!   such cause (`refusal_of`), and changes no row. `commit` of the event just prepared gives the state and the reply of
 //!   the step (`step`). Each reader gives exactly what the state has.
-//! - *ExactChoice*, in its part: [`Table::next`] names the job of a queue that is to be started next (`IsNextJob`), and
+//! - *ExactChoice* for a table: [`Table::next`] names the job of a queue that is to be started next (`IsNextJob`), and
 //!   none exactly where no job of the queue is eligible. A Start of any other waiting job is refused as NotNext
 //!   (`is_next`). [`Table::is_idle`] tells whether no job is processing (`HasNoProcessing`).
 //! - *Reopening* ([`reopening`]): the event Reopen applies to each processing job the error policy of its queue, and
 //!   changes nothing else but that a queue stops where the policy says so. No job is processing after it, and where none
 //!   was before, it changes nothing.
-//! - *NoHiddenAllocation*: only `prepare` takes memory. `commit` can't fail: what it calls that wants memory finds the
-//!   room that `prepare` made (`IsPrepared`).
+//! - *NoHiddenAllocation*: only `prepare` may answer out of memory. `commit` can't fail: what it calls that takes memory
+//!   finds the room that `prepare` made (`IsPrepared`).
 //! - *EndedStaysEnded* ([`ended_jobs_stay`]), and that each state is legal ([`legal_tables_stay_legal`]).
 //!
 //! # Invariants
 //!
-//! 1. The rows of queues stand in ascending order of name, each name once; those of jobs in ascending order of number,
+//! 1. The rows of queues are in ascending order of name, each name once. Those of jobs are in ascending order of number,
 //!    each number once (`IsOrdered`). So a row is found by binary search, and a new row goes where the search ends.
-//! 2. The state that the rows mean is legal (`IsLegal`): at most 64 queues; a row's key is its own name or number; no
-//!    job has a number above the highest given; a job's queue is there, and its phase fits the rest of its row; a
-//!    document is as long as its job's size, or empty once the job has ended; a queue has one processing job at most.
+//! 2. The state that the rows mean is legal (`IsLegal`). There are at most 64 queues, and a row's key is its own name or
+//!    number. No job has a number above the highest given. A job's queue is there, and its phase fits the rest of its row.
+//!    A document is as long as its job's size, or empty once the job has ended. A queue has one processing job at most.
 //! 3. No number above 2,147,483,647 was given.
 //! 4. After `prepare` of a queue or a job there is room for one row more, and after `prepare` of a send for its bytes in
 //!    the job's document (`HasRoom`). What grows at least doubles, so a document that comes in sixteen sends is moved a
-//!    few times only. A new job stands last, as its number is above all others, so no row moves for it. No call copies a
+//!    few times only. A new job comes last, as its number is above all others, so no row moves for it. No call copies a
 //!    document.
 //!
 //! # Faults
 //!
-//! [`PrepareFault`] is all there is: a refusal, or want of memory. Either leaves the rows as they were, and the table
+//! [`PrepareFault`] is all there is: a refusal, or out of memory. Either leaves the rows as they were, and the table
 //! goes on as if the event had not come.
 #![tactic(auto)]
 

@@ -1,29 +1,29 @@
-//! The rules of words that every file and script of lines shares: what a blank is, where a word ends, and what stands in
+//! The rules of words that every file and script of lines shares: what a blank is, where a word ends, and what is in
 //! quotes.
 //!
 //! # What a word is
 //!
 //! A blank is a space or a tab. A word goes up to the first blank or to the line's end. A quoted text goes up to its
-//! closing quote, where `\"` and `\\` stand for a quote and a backslash and any other backslash for itself; every other
+//! closing quote, where `\"` and `\\` mean a quote and a backslash and any other backslash itself; every other
 //! byte is kept as it is. Whether a word may hold a quote, and what may follow a closing one, each caller says itself.
 //!
 //! # Promises
 //!
-//! - [`is_blank`], [`is_quote`] and [`is_backslash`] tell what a byte is, and [`has_quote`] whether a quote stands among
+//! - [`is_blank`], [`is_quote`] and [`is_backslash`] tell what a byte is, and [`has_quote`] whether a quote is among
 //!   bytes (`value`).
 //! - [`after_blanks`] drops the blanks at a line's front, and [`trim`] those at both ends (`value`). What
 //!   [`after_blanks`] leaves is no longer than the line (`bound`).
-//! - [`split_at_blank`] gives what stands before the first blank (`word`), and what begins with it (`rest`).
-//!   [`first_word`] gives the same behind the blanks at the front.
-//! - [`read_quoted`] gives the text behind an opening quote and what follows its closing one, or `None` exactly where
-//!   nothing closes it (`value`); where no backslash stands in the line, it takes no memory and can't fail (`lent`).
-//!   [`push_escaped`] adds what a backslash and the byte behind it stand for (`value`).
+//! - [`split_at_blank`] gives what comes before the first blank (`word`), and what begins with it (`rest`).
+//!   [`first_word`] gives the same after the blanks at the front.
+//! - [`read_quoted`] gives the text after an opening quote and what follows its closing one, or `None` exactly where
+//!   nothing closes it (`value`). Where no backslash is in the line it can't fail (`lent`). [`push_escaped`] adds what a
+//!   backslash and the byte after it mean (`value`).
 //! - [`Word::bytes`] and [`Word::into_bytes`] give the bytes of a [`Word`] (`value`).
 //!
 //! # Cost and faults
 //!
-//! Each line is read once. A quoted text without a backslash is lent, and only one with a backslash takes memory; want
-//! of it is the one fault.
+//! Each line is read once. A quoted text without a backslash is lent, and only one with a backslash takes memory. Out
+//! of memory is the one fault.
 #![tactic(auto)]
 
 mod blanks;

@@ -8,8 +8,8 @@
 //!
 //! # The rule
 //!
-//! A *walk* from one type to another is a list of at most 15 conversions, each of which takes the type reached so far:
-//! the first takes the type from which the walk goes, and the last gives the type to which it goes. A walk from a type to
+//! A *walk* from one type to another is a list of at most 15 conversions, each of which takes the type reached so far. The
+//! first takes the type from which the walk goes, and the last gives the type to which it goes. A walk from a type to
 //! itself may be empty. Its cost is the sum of its conversions' costs. One walk *beats* another by lower cost, then by
 //! fewer lines, then by the lexicographically smaller list of line numbers.
 //!
@@ -28,14 +28,14 @@
 //!
 //! # Invariants
 //!
-//! Beside each conversion stands where the sources are that take its destination (`links_in`), so a chain is found without
-//! comparing texts. The line numbers rise, and no cost is above 10,000.
+//! Beside each conversion is kept where the sources are that take its destination (`links_in`). So once the type that a
+//! chain begins with was looked up, the chain is found without comparing texts. The line numbers rise, and no cost is above 10,000.
 //!
 //! # Cost and faults
 //!
 //! The least costs of walks that end in the type wanted are found by their number of lines, in 15 rounds, each of which
 //! looks at every conversion a fixed number of times. The programs of a chain are looked up by their lines, of which there
-//! are at most 15. A reading takes a few look-ups in a map of the sources for each line. Want of memory is the one fault.
+//! are at most 15. A reading takes a few look-ups in a map of the sources for each line. Out of memory is the one fault.
 #![tactic(auto)]
 
 mod chain;

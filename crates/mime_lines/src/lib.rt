@@ -9,14 +9,14 @@
 //!
 //! # Promises
 //!
-//! - [`joined_lines`] gives the `joined_lines` of a text, in order, with their numbers.
-//! - [`read_number`] tells whether a word has the form of a number (decimal, `0x` and hexadecimal digits, `0` and octal digits), and
-//!   which it is.
+//! - [`joined_lines`] gives the lines of a text that say something (`lines_that_speak`), in order, with their numbers.
+//! - [`read_number`] says whether a word has the form of a number (decimal, `0x` and hexadecimal digits, `0` and octal
+//!   digits), and which it is, or that it is above 4,294,967,295.
 //!
 //! # Cost and faults
 //!
 //! Each text is read once. A line that no other is joined to is lent, and a joined one is copied. Only
-//! [`joined_lines`] takes memory; want of it is its one fault.
+//! [`joined_lines`] takes memory, and out of memory is its one fault.
 #![tactic(auto)]
 
 mod lines;

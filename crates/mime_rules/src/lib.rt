@@ -6,12 +6,12 @@
 //! (`mime_lines`). Each line is an alternative: a document is of the type where its list is true.
 //!
 //! - A list is of items, with blanks or commas between them, and is true where an item is. An item is of factors, with `+` or `&&`
-//!   between them, and is true where all are. A factor is `!` and a factor, a list in parentheses, or a test. Blanks beside `+` and `&&` and behind
+//!   between them, and is true where all are. A factor is `!` and a factor, a list in parentheses, or a test. Blanks beside `+` and `&&` and after
 //!   `!` mean nothing. Parentheses are nested at most 16 deep.
-//! - A bare word is a test of the name: it ends with a dot and the word, whatever the case. The other tests are `match(p)` of the name (`*`, `?` and
-//!   sets), `ascii(o,n)` and `printable(o,n)` of the n bytes from o on, `string(o,t)`, `istring(o,t)`, `char(o,v)`, `short(o,v)` and
-//!   `int(o,v)` of what stands at o, `contains(o,n,t)` of what stands somewhere in those bytes, and `locale(t)`.
-//! - `priority(n)` is no test. It is left out wherever it stands, and the last one of a line counts: 0 to 200, and 100 where there is none. An
+//! - A bare word is a test of the name: it ends with a dot and the word, whatever the case. The other test of the name is
+//!   `match(p)` (`*`, `?` and sets). Of the n bytes from o on there are `ascii(o,n)`, `printable(o,n)` and `contains(o,n,t)`; of what is
+//!   at o, `string(o,t)`, `istring(o,t)`, `char(o,v)`, `short(o,v)` and `int(o,v)`. And there is `locale(t)`.
+//! - `priority(n)` is no test. It is left out wherever it is, and the last one of a line counts: 0 to 200, and 100 where there is none. An
 //!   item of nothing is false.
 //! - A text is of bare bytes, bytes in quotes, and pairs of hexadecimal digits in `<>`. A value is a number, or a text of its width.
 //!
@@ -33,7 +33,7 @@
 //!
 //! # Cost and faults
 //!
-//! Reading a file takes time in proportion to its text, and memory for the rules; want of memory is its one fault. [`Types::type_of`] takes no memory and never
+//! Reading a file takes time in proportion to its text, and memory for the rules; out of memory is its one fault. [`Types::type_of`] takes no memory and never
 //! fails. Each rule reads its own range of the document at most once: `contains` is one search by Two-Way. A pattern takes at most
 //! the length of the name times its own, since only the last run before a mismatch is tried again.
 #![tactic(auto)]

@@ -11,7 +11,7 @@
 //!
 //! # Promises
 //!
-//! - *ExactChoice*, in its part: [`next_job`] names the next job (`IsNextJob`), and none exactly where none is eligible.
+//! - *ExactChoice* for a queue: [`next_job`] names the next job (`IsNextJob`), and none exactly where none is eligible.
 //!   [`beats`] is the order of the rule (`beats_job`).
 //! - [`order_law`]: the order is strict, and of two jobs with different numbers one beats the other. So there is one next
 //!   job at most, and a test of a single job (`next_in`) tells whether it is the one.

@@ -10,7 +10,7 @@ use Rattle.job_table.specs.Fold.{after_one, after_all}
 use Rattle.spool_disk.specs.Disk.{DiskView, IsLawful, LeavesOnly}
 use Rattle.spool_disk.proofs.Moments.{started, runs_on, weaker_run}
 use Rattle.spool_core.specs.Image.{HasTable, HasBeforeOrAfterEvent}
-use Rattle.spool_core.specs.Driving.{answer_to, replies_to, HasPrefixTable, IsInHand, IsAcknowledged}
+use Rattle.spool_core.specs.Driving.{answer_to, replies_to, HasPrefixTable, IsInHand, LeavesTable, IsChain, room_after, room_after_one}
 
 pub after_all_last : (s : State) (es : List Event) (e : Event) → after_all s (es ++ e ∷ []) ≡ after_one (after_all s es) e
 after_all_last s [] e = refl
@@ -19,6 +19,10 @@ after_all_last s (d ∷ es) e = after_all_last (after_one s d) es e
 pub replies_last : (s : State) (es : List Event) (e : Event) → replies_to s (es ++ e ∷ []) ≡ replies_to s es ++ answer_to (after_all s es) e ∷ []
 replies_last s [] e = refl
 replies_last s (d ∷ es) e = ap (λ (l : List (Result Reply Refusal)). answer_to s d ∷ l) (replies_last (after_one s d) es e)
+
+pub room_last : (s : State) (room : ℕ) (es : List Event) (e : Event) → room_after s room (es ++ e ∷ []) ≡ room_after_one (after_all s es) (room_after s room es) e
+room_last s room [] e = refl
+room_last s room (d ∷ es) e = room_last (after_one s d) (room_after_one s room d) es e
 
 -- The first n of the events were taken, and this one is next.
 pub record IsNext (events taken : List Event) (e : Event) (n : ℕ) : Type 0 where
@@ -68,13 +72,8 @@ module _ {D : Type 0} (v : DiskView D) (lawful : IsLawful v) where
       second
       (λ c has. prefix_wider s events n most least most c low (omega arith) has)
 
-  -- what was acknowledged before stays so
-  pub acknowledged_on : (s : State) (events : List Event) (m n most : ℕ) (old mid new : D) → m ≤ n → n ≤ most → IsAcknowledged v s events old mid m n
-      → LeavesOnly v mid new (HasPrefixTable s events n most) → IsAcknowledged v s events old new m most
-  acknowledged_on s events m n most old mid new low high was run = (was.0, was.1, run_more s events m n most was.0 mid new low high was.2 run)
-
-  -- the newest event is acknowledged now
-  pub acknowledged_now : (s : State) (events : List Event) (m : ℕ) (old new : D) → LeavesOnly v old new (HasPrefixTable s events 0 m) → ((c : List ℕ) → v.image new c → HasTable (after_all s (take m events)) c)
-      → IsAcknowledged v s events old new m m
-  acknowledged_now s events m old new run kept =
-      (new, run, started v new (HasPrefixTable s events m m) (λ c left. (m, omega arith, omega arith, kept c (lawful.only_now new c left))))
+  -- the chain goes on by one event
+  pub chain_more : (s : State) (taken : List Event) (e : Event) (old mid new : D) → IsChain v s taken old mid → LeavesOnly v mid new (HasBeforeOrAfterEvent (after_all s taken) e)
+      → LeavesTable v (after_one (after_all s taken) e) new → IsChain v s (taken ++ e ∷ []) old new
+  chain_more s [] e old mid new same run kept = (new, subst (λ (d : D). LeavesOnly v d new (HasBeforeOrAfterEvent s e)) (sym same) run, kept, refl)
+  chain_more s (d ∷ taken) e old mid new chain run kept = (chain.0, chain.1, chain.2, chain_more (after_one s d) taken e chain.0 mid new chain.3 run kept)

@@ -9,3 +9,4 @@ pub mod OpenRuns
 pub mod DriveLaws
 pub mod TurnLaws
 pub mod Restarts
+pub mod LifeLaws

@@ -8,14 +8,14 @@ use Rattle.std.proofs.lemmas.Bool.{cases_lt}
 use Rattle.job_table.specs.Step.{refusal_of}
 use Rattle.job_table.specs.Fold.{after_one, after_all}
 use Rattle.spool_disk.specs.Disk.{DiskView, IsLawful, LeavesOnly}
-use Rattle.spool_disk.proofs.Moments.{weaker_run}
+use Rattle.spool_disk.proofs.Moments.{started, weaker_run}
 use Rattle.spool_core.specs.Image.{HasTable, HasBeforeOrAfterEvent}
 use Rattle.spool_core.specs.Standing.{Standing}
-use Rattle.spool_core.specs.Driving.{answer_to, replies_to, HasPrefixTable, IsAcknowledged, KeepsImages, IsDriven, IsOutcome, IsEnding, reach}
+use Rattle.spool_core.specs.Driving.{answer_to, replies_to, HasPrefixTable, IsAcknowledged, IsChain, KeepsImages, room_after, room_after_one, IsDriven, IsOutcome, IsEnding, reach}
 use Rattle.spool_core.specs.Turns.{IsAnswered, IsBroken, IsTurn}
 use Rattle.spool_core.specs.declared.driving.Ending.{Ending}
 use Rattle.spool_core.specs.declared.driving.Ending.TheVariants.{End, Memory, Full, Disk, Dead}
-use Rattle.spool_core.proofs.DriveLaws.{after_all_last, replies_last, IsNext, turn_prefix, run_none, run_more, acknowledged_on, acknowledged_now}
+use Rattle.spool_core.proofs.DriveLaws.{after_all_last, replies_last, IsNext, turn_prefix, run_none, run_more, chain_more, room_last}
 
 not_dead : (b : Bool) → b ≡ false → b ≡ true → ⊥
 not_dead b p q = cc
@@ -34,11 +34,20 @@ module _ {D : Type 0} (v : DiskView D)
       → IsOutcome v old events others ending new
   same_replies replies others ending new is has = subst (λ (rs : List (Result Reply Refusal)). IsOutcome v old events rs ending new) (sym is) has
 
+  -- a dead spool stops at the first event
+  pub dead_ends : (n : ℕ) (ending : Ending) (new : Standing D) → IsEnding v old events n ending new → (0 < n → old.dead ≡ false) → IsTrue old.dead → 0 < length events → (ending ≡ Dead) × (new ≡ old)
+  dead_ends n End new is alive dead some = absurd (not_dead old.dead (alive (omega (arith, is.0, some))) dead)
+  dead_ends n Memory new is alive dead some = absurd (not_dead old.dead is.1 dead)
+  dead_ends n Full new is alive dead some = absurd (not_dead old.dead is.3 dead)
+  dead_ends n Disk new is alive dead some = absurd (not_dead old.dead is.3 dead)
+  dead_ends n Dead new is alive dead some = (refl, is.3)
+
   pub driven_none : (replies : List (Result Reply Refusal)) → replies ≡ [] → (old.dead ≡ false → IsSome (v.bytes old.disk) → KeepsImages v old) → IsDriven v old events replies old
   driven_none replies none kept = subst (λ (rs : List (Result Reply Refusal)). IsDriven v old events rs old) (sym none) (record {
     fits = omega arith;
     replies_are = refl;
     table = refl;
+    room = refl;
     alive = λ some. absurd (omega arith);
     dead = refl;
     same = λ dead. refl;
@@ -48,18 +57,24 @@ module _ {D : Type 0} (v : DiskView D)
     tells = λ t. t;
     kept = kept;
     any_moment = λ alive told. run_none v lawful old.state events old.disk (kept alive told);
-    acknowledged = λ alive told m le. (
-      old.disk,
-      subst (λ (k : ℕ). LeavesOnly v old.disk old.disk (HasPrefixTable old.state events 0 k)) (omega arith) (run_none v lawful old.state events old.disk (kept alive told)),
-      subst (λ (k : ℕ). LeavesOnly v old.disk old.disk (HasPrefixTable old.state events k 0)) (omega arith) (run_none v lawful old.state events old.disk (kept alive told)),
-    );
+    chain = λ alive told. refl;
   })
 
   module _ (replies : List (Result Reply Refusal)) (now : Standing D) (driven : IsDriven v old events replies now) where
+    -- a crash leaves the table that the answered events led to
+    rests : old.dead ≡ false → IsSome (v.bytes old.disk) → LeavesOnly v now.disk now.disk (HasPrefixTable old.state events (length replies) (length replies))
+    rests alive told =
+        started v now.disk (HasPrefixTable old.state events (length replies) (length replies))
+        (λ c left. (length replies, omega arith, omega arith, subst (λ (s : State). HasTable s c) driven.table (driven.kept alive told c (lawful.only_now now.disk c left))))
+
+    acknowledged_here : old.dead ≡ false → IsSome (v.bytes old.disk) → IsAcknowledged v old.state events (length replies) (length replies) old.disk now.disk
+    acknowledged_here alive told = (now.disk, driven.chain alive told, rests alive told)
+
     pub end_of_all : length replies ≡ length events → IsOutcome v old events replies End now
     end_of_all all = record {
       replies_are = driven.replies_are;
       table = driven.table;
+      room = driven.room;
       ending_is = (all, driven.dead);
       alive = driven.alive;
       counted = driven.counted;
@@ -68,14 +83,15 @@ module _ {D : Type 0} (v : DiskView D)
       tells = driven.tells;
       kept = λ alive told. driven.kept (sym driven.dead ∙ alive) told;
       any_moment = driven.any_moment;
-      acknowledged = driven.acknowledged;
+      acknowledged = acknowledged_here;
     }
 
-    pub end_of_memory : length replies < length events → IsOutcome v old events replies Memory now
-    end_of_memory fewer = record {
+    pub end_of_memory : length replies < length events → old.dead ≡ false → IsOutcome v old events replies Memory now
+    end_of_memory fewer lives = record {
       replies_are = driven.replies_are;
       table = driven.table;
-      ending_is = (fewer, driven.dead);
+      room = driven.room;
+      ending_is = (fewer, lives, driven.dead ∙ lives);
       alive = driven.alive;
       counted = driven.counted;
       fixed = driven.fixed;
@@ -83,7 +99,7 @@ module _ {D : Type 0} (v : DiskView D)
       tells = driven.tells;
       kept = λ alive told. driven.kept (sym driven.dead ∙ alive) told;
       any_moment = driven.any_moment;
-      acknowledged = driven.acknowledged;
+      acknowledged = acknowledged_here;
     }
 
     module _ (taken : List Event) (e : Event) (next : IsNext events taken e (length replies)) (new : Standing D) (turns : Turns v now e new) where
@@ -92,6 +108,9 @@ module _ {D : Type 0} (v : DiskView D)
 
       now_table : now.state ≡ after_all old.state taken
       now_table = driven.table ∙ ap (after_all old.state) next.before
+
+      now_room : now.room ≡ room_after old.state old.room taken
+      now_room = driven.room ∙ ap (room_after old.state old.room) next.before
 
       -- the event in hand is on the device or not
       turn_run : old.dead ≡ false → IsSome (v.bytes old.disk) → LeavesOnly v now.disk new.disk (HasPrefixTable old.state events (length replies) (length replies + 1))
@@ -104,9 +123,8 @@ module _ {D : Type 0} (v : DiskView D)
       run_with alive told =
           run_more v lawful old.state events 0 (length replies) (length replies + 1) old.disk now.disk new.disk (omega arith) (omega arith) (driven.any_moment alive told) (turn_run alive told)
 
-      acknowledged_with : old.dead ≡ false → IsSome (v.bytes old.disk) → (m : ℕ) → m ≤ length replies → IsAcknowledged v old.state events old.disk new.disk m (length replies + 1)
-      acknowledged_with alive told m le =
-          acknowledged_on v lawful old.state events m (length replies) (length replies + 1) old.disk now.disk new.disk le (omega arith) (driven.acknowledged alive told m le) (turn_run alive told)
+      acknowledged_with : old.dead ≡ false → IsSome (v.bytes old.disk) → IsAcknowledged v old.state events (length replies) (length replies + 1) old.disk new.disk
+      acknowledged_with alive told = (now.disk, driven.chain alive told, turn_run alive told)
 
       counted_with : v.failures old.disk ≤ v.failures new.disk
       counted_with = omega (arith, driven.counted, turns.counted)
@@ -116,6 +134,7 @@ module _ {D : Type 0} (v : DiskView D)
       end_of_disk broken = record {
         replies_are = driven.replies_are;
         table = broken.table ∙ driven.table;
+        room = broken.room ∙ driven.room;
         ending_is = (e, next.hand, ap (λ (s : State). refusal_of s e) broken.table ∙ broken.accepted, sym driven.dead ∙ broken.alive, broken.dead, omega (arith, driven.counted, broken.cause));
         alive = driven.alive;
         counted = counted_with;
@@ -133,6 +152,7 @@ module _ {D : Type 0} (v : DiskView D)
       end_unchanged ending is reaches same = subst (λ (s : Standing D). IsOutcome v old events replies ending s) (sym same) (record {
         replies_are = driven.replies_are;
         table = driven.table;
+        room = driven.room;
         ending_is = is;
         alive = driven.alive;
         counted = driven.counted;
@@ -141,7 +161,7 @@ module _ {D : Type 0} (v : DiskView D)
         tells = driven.tells;
         kept = λ alive told. driven.kept (sym driven.dead ∙ alive) told;
         any_moment = λ alive told. subst (λ (k : ℕ). LeavesOnly v old.disk now.disk (HasPrefixTable old.state events 0 k)) (sym reaches) (driven.any_moment alive told);
-        acknowledged = λ alive told m le. subst (λ (k : ℕ). IsAcknowledged v old.state events old.disk now.disk m k) (sym reaches) (driven.acknowledged alive told m le);
+        acknowledged = λ alive told. subst (λ (k : ℕ). IsAcknowledged v old.state events (length replies) k old.disk now.disk) (sym reaches) (acknowledged_here alive told);
       })
 
       none_answered : (n : ℕ) → (0 < n → old.dead ≡ false) → IsTrue old.dead → n ≡ 0
@@ -150,8 +170,8 @@ module _ {D : Type 0} (v : DiskView D)
 
       pub end_of_turn : (ending : Ending) → IsTurn v now e (Err ending) new → IsOutcome v old events replies ending new
       end_of_turn End is = absurd is
-      end_of_turn Memory is = end_unchanged Memory (next.fits, driven.dead) refl is.1
-      end_of_turn Full is = end_unchanged Full (e, next.hand, is.0) refl is.1
+      end_of_turn Memory is = end_unchanged Memory (next.fits, sym driven.dead ∙ is.0, is.0) refl is.1
+      end_of_turn Full is = end_unchanged Full (e, next.hand, is.0, sym driven.dead ∙ is.0.alive) refl is.1
       end_of_turn Disk is = end_of_disk is
       end_of_turn Dead is =
           let dead : IsTrue old.dead = sym driven.dead ∙ is.0 in
@@ -176,6 +196,7 @@ module _ {D : Type 0} (v : DiskView D)
                 ∙ sym (replies_last old.state taken e)
                 ∙ ap (replies_to old.state) (sym whole);
             table = table;
+            room = answered.room ∙ ap (λ (s : State). room_after_one s now.room e) now_table ∙ ap (λ (n : ℕ). room_after_one (after_all old.state taken) n e) now_room ∙ sym (room_last old.state old.room taken e) ∙ ap (room_after old.state old.room) (sym whole);
             alive = λ some. old_alive;
             dead = answered.dead ∙ sym old_alive;
             same = λ dead. absurd (not_dead old.dead old_alive dead);
@@ -185,13 +206,9 @@ module _ {D : Type 0} (v : DiskView D)
             tells = λ t. turns.tells (driven.tells t);
             kept = λ alive told. keeps told;
             any_moment = λ alive told. subst (λ (k : ℕ). LeavesOnly v old.disk new.disk (HasPrefixTable old.state events 0 k)) (sym long) (run_with alive told);
-            acknowledged = λ alive told m le. elim (cases_lt (length replies) m) [
-              | inl newest ↦
-                  let is_last : m ≡ length more = omega (arith, le, newest, long) in
-                  subst (λ (k : ℕ). IsAcknowledged v old.state events old.disk new.disk k (length more)) (sym is_last)
-                  (acknowledged_now v lawful old.state events (length more) old.disk new.disk
-                  (subst (λ (k : ℕ). LeavesOnly v old.disk new.disk (HasPrefixTable old.state events 0 k)) (sym long) (run_with alive told))
-                  (λ c left. subst (λ (s : State). HasTable s c) table (keeps told c left)))
-              | inr before ↦ subst (λ (k : ℕ). IsAcknowledged v old.state events old.disk new.disk m k) (sym long) (acknowledged_with alive told m before)
-            ];
+            chain = λ alive told. subst (λ (es : List Event). IsChain v old.state es old.disk new.disk) (sym whole)
+                (chain_more v lawful old.state taken e old.disk now.disk new.disk
+                (subst (λ (es : List Event). IsChain v old.state es old.disk now.disk) next.before (driven.chain alive told))
+                (subst (λ (s : State). LeavesOnly v now.disk new.disk (HasBeforeOrAfterEvent s e)) now_table (turns.any_moment (now_alive alive) (driven.tells told)))
+                (λ c left. subst (λ (s : State). HasTable s c) (answered.table ∙ ap (λ (s : State). after_one s e) now_table) (keeps told c left)));
           }

@@ -5,3 +5,4 @@ pub mod Seen
 pub mod Folding
 pub mod Driving
 pub mod Turns
+pub mod Lives

@@ -7,7 +7,7 @@ use Rattle.spool_types.specs.declared.refusal.Refusal.{Refusal}
 use Rattle.job_table.specs.Step.{refusal_of}
 use Rattle.job_table.specs.Fold.{after_one}
 use Rattle.spool_core.specs.Standing.{Standing, IsFull}
-use Rattle.spool_core.specs.Driving.{answer_to}
+use Rattle.spool_core.specs.Driving.{answer_to, room_after_one}
 use Rattle.spool_core.specs.declared.driving.Ending.{Ending}
 use Rattle.spool_core.specs.declared.driving.Ending.TheVariants.{End, Memory, Full, Disk, Dead}
 
@@ -16,6 +16,7 @@ pub record IsAnswered {D : Type 0} (old : Standing D) (e : Event) (answer : Resu
   pub alive : old.dead ≡ false
   pub answer_is : answer ≡ answer_to old.state e
   pub table : new.state ≡ after_one old.state e
+  pub room : new.room ≡ room_after_one old.state old.room e
   pub dead : new.dead ≡ false
 
 -- the device failed
@@ -23,6 +24,7 @@ pub record IsBroken {D : Type 0} (v : DiskView D) (old : Standing D) (e : Event)
   pub alive : old.dead ≡ false
   pub accepted : refusal_of old.state e ≡ None
   pub table : new.state ≡ old.state
+  pub room : new.room ≡ old.room
   pub dead : new.dead ≡ true
   pub cause : v.failures old.disk < v.failures new.disk
 

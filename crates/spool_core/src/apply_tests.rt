@@ -6,7 +6,7 @@ use std::alloc::Global;
 use std::test::*;
 
 // How many device calls the opening of an empty spool takes.
-fn calls_of_opening(alloc: Global) -> Result<u32, Fail> {
+pub(crate) fn calls_of_opening(alloc: Global) -> Result<u32, Fail> {
     for calls in 0..64 {
         let fuse = FuseDisk::new(made(alloc, 198)?, u64::from(calls));
         if Spool::open(alloc, fuse).is_ok() {

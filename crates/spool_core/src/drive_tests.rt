@@ -1,5 +1,6 @@
 use super::*;
-use crate::samples::{add_queue, close, create, id, made, opened};
+use crate::apply_tests::calls_of_opening;
+use crate::samples::{add_queue, close, create, id, made, numbered, opened};
 use job_table::Table;
 use spool_disk::{Disk, FuseDisk};
 use spool_types::{Event, Hold, Moment, Phase, Refusal, Reply};
@@ -111,5 +112,49 @@ fn a_fuse_stops_each_call_in_turn(rt: HostRuntime) -> Result<(), Fail> {
         let found = after.table();
         assert!(rt; is_same(found, &acknowledged) || is_same(found, &with_the_next));
     }
+    Ok(())
+}
+
+#[test]
+fn a_dead_spool_answers_no_event(rt: HostRuntime) -> Result<(), Fail> {
+    let alloc = rt.alloc();
+    let calls = calls_of_opening(alloc)?;
+    // The queue takes four calls, and none is left for the job.
+    let fuse = FuseDisk::new(made(alloc, SIZE)?, u64::from(calls) + 4);
+    let mut spool = opened(alloc, fuse)?;
+    assert_eq!(rt; spool.apply(add_queue(alloc)?), Ok(Reply::Done));
+    assert_eq!(rt; spool.apply(create(alloc)?), Err(ApplyFault::Disk));
+    let driven = drive(alloc, &mut spool, script(alloc)?);
+    assert!(rt; driven.replies.is_empty());
+    assert_eq!(rt; driven.ending, Ending::Dead);
+    let table = first(alloc, 1)?;
+    assert!(rt; is_same(spool.table(), &table));
+    let again = opened(alloc, spool.into_disk().into_disk())?;
+    assert!(rt; is_same(again.table(), &table));
+    Ok(())
+}
+
+// The queue, and 1,000 times a job, its cancel and the clock: 3,001 events.
+fn long_script(alloc: Global) -> Result<Vec<Event>, Fail> {
+    let mut events = Vec::new(alloc);
+    events.push(add_queue(alloc)?)?;
+    for number in 1..1_001 {
+        events.push(numbered(alloc, number)?)?;
+        events.push(Event::Cancel(id(number)?))?;
+        events.push(Event::Clock(Moment::ZERO.plus(u64::from(number))))?;
+    }
+    Ok(events)
+}
+
+#[test]
+fn a_long_journal_is_opened(rt: HostRuntime) -> Result<(), Fail> {
+    let alloc = rt.alloc();
+    let mut spool = opened(alloc, made(alloc, 100_000)?)?;
+    let driven = drive(alloc, &mut spool, long_script(alloc)?);
+    assert_eq!(rt; (driven.replies.len(), driven.ending), (3_001, Ending::End));
+    let again = opened(alloc, spool.into_disk())?;
+    assert!(rt; is_same(again.table(), &replay(alloc, long_script(alloc)?)?));
+    assert_eq!(rt; again.table().now().get(), 1_000);
+    assert_eq!(rt; again.table().jobs().len(), 1_000);
     Ok(())
 }

@@ -11,7 +11,7 @@ ghost use Rattle.job_table.specs.Fold.{after_all};
 ghost use Rattle.job_table.specs.Ended.{HasEndedJob, subject};
 ghost use Rattle.spool_core.specs.Image.{HasTable, HasBeforeOrAfterEvent};
 ghost use Rattle.spool_core.specs.Standing.{IsFull};
-ghost use Rattle.spool_core.specs.Driving.{replies_to, reach, HasPrefixTable, IsEnding, IsAcknowledged, KeepsImages, IsOutcome};
+ghost use Rattle.spool_core.specs.Driving.{replies_to, reach, room_after, HasPrefixTable, IsEnding, IsAcknowledged, KeepsImages, IsOutcome};
 ghost use Rattle.spool_core.specs.Turns.{IsTurn};
 
 use crate::spool::{ApplyFault, Spool};
@@ -70,12 +70,25 @@ fn look<D: Disk>(spool: &Spool<D>)
     spool.table();
 }
 
+// Whether the first of the events would be answered `Dead`.
+fn is_over<D: Disk>(spool: &Spool<D>, events: &Vec<Event>) -> bool
+    ensures over { IsTrue result → IsTrue spool.now.dead × (0 < length events.now.items) }
+    ensures on { result ≡ false → 0 < length events.now.items → spool.now.dead ≡ false }
+{
+    spool.is_dead() && !events.is_empty()
+}
+
 // Applies the events up to the end of the run. A reply's place is reserved before its event is applied.
 fn run<D: Disk>(alloc: Global, spool: &mut Spool<D>, events: Vec<Event>) -> Driven
     ensures { IsOutcome D.device spool.old events.items result.replies.items result.ending spool.new }
 {
     let mut replies = Vec::new(alloc);
     look(spool);
+    if is_over(spool, &events) {
+        // Before a reply looks for memory.
+        let ending = Ending::Dead;
+        return Driven { replies, ending };
+    }
     for event in events {
         if replies.reserve(1).is_err() {
             let ending = Ending::Memory;
@@ -97,14 +110,19 @@ pub fn drive<D: Disk>(alloc: Global, spool: &mut Spool<D>, events: Vec<Event>) -
     ensures table { spool.new.state ≡ after_all spool.old.state (take (length result.replies.items) events.items) }
     ensures ending { IsEnding D.device spool.old events.items (length result.replies.items) result.ending spool.new }
     ensures alive { 0 < length result.replies.items → spool.old.dead ≡ false }
+    ensures room { spool.new.room ≡ room_after spool.old.state spool.old.room (take (length result.replies.items) events.items) }
+
+    // A dead spool answers Dead to the first event, whether memory is there or not, and changes nothing.
+    ensures dead { IsTrue spool.old.dead → 0 < length events.items → (result.ending ≡ Ending.Dead) × (spool.new ≡ spool.old) }
 
     // A crash at any moment leaves the table after some of the events.
     ensures any_moment { spool.old.dead ≡ false → IsSome (D.device.bytes spool.old.disk) →
         LeavesOnly D.device spool.old.disk spool.new.disk (HasPrefixTable spool.old.state events.items 0 (reach result.ending (length result.replies.items))) }
 
-    // No acknowledged event is lost: once the m-th reply was given, a crash leaves a table that holds the first m events.
-    ensures acknowledged { spool.old.dead ≡ false → IsSome (D.device.bytes spool.old.disk) → (m : ℕ) → m ≤ length result.replies.items →
-        IsAcknowledged D.device spool.old.state events.items spool.old.disk spool.new.disk m (reach result.ending (length result.replies.items)) }
+    // No acknowledged event is lost: a chain of disks leads from one reply to the next, and from a reply on a crash leaves
+    // a table that holds its event.
+    ensures acknowledged { spool.old.dead ≡ false → IsSome (D.device.bytes spool.old.disk) →
+        IsAcknowledged D.device spool.old.state events.items (length result.replies.items) (reach result.ending (length result.replies.items)) spool.old.disk spool.new.disk }
     ensures kept { spool.new.dead ≡ false → IsSome (D.device.bytes spool.old.disk) → (c : List ℕ) → D.device.image spool.new.disk c → HasTable spool.new.state c }
     ensures after_fault { spool.old.dead ≡ false → IsSome (D.device.bytes spool.old.disk) → (c : List ℕ) → D.device.image spool.new.disk c →
         HasPrefixTable spool.old.state events.items (length result.replies.items) (reach result.ending (length result.replies.items)) c }

@@ -1,8 +1,22 @@
-//! What is so of every image. The functions do nothing: their clauses are the laws.
-ghost use Rattle.std.specs.Prelude.{◌≡◌, ℕ, List};
-ghost use Rattle.spool_types.specs.State.{State};
-ghost use Rattle.spool_core.specs.Image.{HasTable, HasRoom, HasFault};
+//! What is so of every image, and of spools that are opened again and again. The functions do nothing: their clauses are
+//! the laws.
+ghost use Rattle.std.specs.Prelude.{◌≡◌, ◌≤◌, ℕ, List, ◌∷◌, Some, IsSome, take};
+ghost use Rattle.spool_types.specs.State.{State, Job, nothing, job_at};
+ghost use Rattle.spool_types.specs.declared.event.Event.{Event};
+ghost use Rattle.spool_types.specs.declared.event.Event.TheVariants.{Create};
+ghost use Rattle.spool_types.specs.declared.event.NewJob.{NewJob};
+ghost use Rattle.spool_types.specs.declared.refusal.Refusal.TheVariants.{JobEnded};
+ghost use Rattle.job_table.specs.Attempts.{HasNoProcessing};
+ghost use Rattle.job_table.specs.Ended.{HasEndedJob, subject};
+ghost use Rattle.job_table.specs.Fold.{after_all};
+ghost use Rattle.job_table.specs.Legal.{IsLegal};
+ghost use Rattle.job_table.specs.Step.{refusal_of};
+ghost use Rattle.spool_core.specs.Driving.{HasPrefixTable};
+ghost use Rattle.spool_core.specs.Image.{HasTable, HasRoom, HasFault, IsReopenedFrom};
+ghost use Rattle.spool_core.specs.Lives.{Life, KeepsAcknowledged, after_lives, history_of, next_table};
 ghost use Rattle.spool_areas.specs.declared.fault.OpenFault.{OpenFault};
+
+use job_table::{ended_jobs_stay, legal_tables_stay_legal, reopening};
 
 /// An image has at most one table or one fault, and never both, and at most one room, so what an opening finds is
 /// determined by the bytes.
@@ -12,3 +26,33 @@ pub fn one_reading()
     ensures fault { (f g : OpenFault) (c : List ℕ) → HasFault f c → HasFault g c → f ≡ g }
     ensures room { (m n : ℕ) (c : List ℕ) → HasRoom m c → HasRoom n c → m ≡ n }
 {}
+
+/// *Many lives*: a spool is driven, a crash leaves an image of its disk, and the next life opens that image, any number of
+/// times. A life acknowledges some of its events, and a crash leaves these and perhaps more of them.
+pub fn lives_go_on()
+    // Whatever image a crash left of a life, with the table after at least the acknowledged events, the opening of that
+    // image begins the next life.
+    ensures opened { (s t : State) (events : List Event) (acknowledged most : ℕ) (image : List ℕ) → HasPrefixTable s events acknowledged most image → IsReopenedFrom t image →
+        (left : ℕ) × (acknowledged ≤ left) × (left ≤ most) × (t ≡ next_table s (record { events = events; acknowledged = acknowledged; left = left })) }
+
+    // The lives are as one life of the events that were left, with a Reopen at each opening. Their tables are legal.
+    ensures history { (s : State) (lives : List Life) → after_lives s lives ≡ after_all s (history_of lives) }
+    ensures legal { (lives : List Life) → IsLegal (after_lives nothing lives) }
+    ensures idle { (s : State) (l : Life) → IsLegal s → HasNoProcessing (next_table s l) }
+
+    // A job that has ended after the acknowledged events of a life stays so in all later lives. It isn't started again, and
+    // its number isn't given again.
+    ensures ended { (s : State) (l : Life) (lives : List Life) (j : ℕ) (job : Job) → KeepsAcknowledged l →
+        HasEndedJob (after_all s (take l.acknowledged l.events)) j job → job_at (after_lives s (l ∷ lives)) j ≡ Some job }
+    ensures refused { (s : State) (l : Life) (lives : List Life) (more : List Event) (j : ℕ) (job : Job) (e : Event) → KeepsAcknowledged l →
+        HasEndedJob (after_all s (take l.acknowledged l.events)) j job → subject e ≡ Some j →
+        refusal_of (after_all (after_lives s (l ∷ lives)) more) e ≡ Some JobEnded }
+    ensures number { (s : State) (l : Life) (lives : List Life) (more : List Event) (j : ℕ) (job : Job) (n : NewJob) → KeepsAcknowledged l →
+        HasEndedJob (after_all s (take l.acknowledged l.events)) j job → n.job ≡ j →
+        IsSome (refusal_of (after_all (after_lives s (l ∷ lives)) more) (Create n)) }
+{
+    ended_jobs_stay();
+    legal_tables_stay_legal();
+    reopening();
+    one_reading();
+}

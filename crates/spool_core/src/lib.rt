@@ -6,40 +6,45 @@
 //!
 //! # What table a disk has
 //!
-//! A disk has images, the bytes that a crash may leave. An image has a table where the records of its current area, up
-//! to the first closed gate, are the spellings of events that are accepted in turn, from the empty table on; its table
-//! is the one after them. Where a job is processing in it, 7 bytes of the area or more are left from that gate on
-//! (`HasTable`). Its room is the bytes from that gate to the area's end (`HasRoom`). Any other image has a fault: no area
-//! is current, or the gate of the first record that leaves the area, or isn't such a spelling, stands at a place, or the
-//! closed gate does, where those 7 bytes aren't left (`HasFault`). No image has two tables, two faults, or one of each, nor
-//! two rooms ([`one_reading`]).
+//! A disk has images, the bytes that a crash may leave.
+//!
+//! 1. An image has a *table* where the records of its current area, up to the first closed gate, are the spellings of events
+//!    that are accepted in turn, from the empty table on. Its table is the one after them. Where a job is processing in it,
+//!    7 bytes of the area or more are left from that gate on (`HasTable`).
+//! 2. Its *room* is the bytes from that gate to the area's end (`HasRoom`).
+//! 3. Any other image has a *fault* (`HasFault`). No area is current, or there is damage at a gate: that of the first record
+//!    that leaves the area or isn't such a spelling, or the closed one, where those 7 bytes aren't left.
+//! 4. No image has two tables, two faults, one of each, or two rooms ([`one_reading`]).
 //!
 //! # Promises, on every disk that meets `Disk`
 //!
-//! - *CrashSafeApply*: after [`make`] every image has the empty table (`made`). A crash at any moment of an
-//!   [`Spool::apply`] leaves the table before the event or the one after it, whatever the call answers (`any_moment`).
-//!   After Ok every image has the table after it (`kept`), nothing is unsynced (`durable`), the table shown is that
-//!   one and the reply is the event's (`answer`).
-//! - *CrashSafeOpen*: [`Spool::open`] gives the table of the bytes after the policy on every job that was processing in
-//!   it (`opened`), so none is left (`idle`), and the room that its disk then has (`room`). Where none was processing it
-//!   writes nothing (`unwritten`), and else the record of one Reopen. Until its first sync has answered a crash leaves
-//!   what it was handed, and from then on an image with the table of the bytes or the one after the policy (`synced`);
-//!   once it has returned every image has the table that is shown (`kept`). After an error the disk is handed back. But
-//!   for a failed device it reads as before and has no new image (`back`); and after a failed one each image is one that
-//!   was handed over, or has one of these two tables (`failed`).
-//! - *CrashSafeDrive*, with the headline: [`drive`] answers each event up to its end as the step does (`replies`), its
-//!   table is the fold of these events (`table`), and it says why it ended (`ending`). A crash at any moment leaves
-//!   the table after the first so many events, the one in hand among them only where the device failed (`any_moment`).
-//!   No acknowledged event is lost: for each m up to the number of replies there is a moment such that a crash before
-//!   it leaves the table of at most the first m events, and a crash after it one that holds these m (`acknowledged`).
-//!   Once it has returned every image has the table that is shown (`kept`), or after a fault that one or the one with
+//! - *CrashSafeApply*: after [`make`] every image has the empty table (`made`). While the spool isn't dead, a crash at any
+//!   moment of an [`Spool::apply`] leaves the table before the event or the one after it, whatever the call answers
+//!   (`any_moment`). After Ok every image has the table after it (`kept`), nothing is unsynced (`durable`), the table shown
+//!   is that one and the reply is the event's (`answer`).
+//! - *CrashSafeOpen*: where [`Spool::open`] answers Ok it gives the table of the bytes after the policy on every job that was
+//!   processing in it (`opened`), so none is left (`idle`), and the room that its disk then has (`room`). Where none was
+//!   processing it writes nothing (`unwritten`), and else the record of one Reopen.
+//! - *CrashSafeOpen*, meanwhile: until its first sync has answered a crash leaves what it was handed. From then on it leaves
+//!   an image with the table of the bytes or the one after the policy (`synced`). Once it has returned every image has the
+//!   table that is shown (`kept`).
+//! - *CrashSafeOpen*, after an error: the disk is handed back. But for a failed device it reads as before and has no new
+//!   image (`back`). After a failed one each image is one that was handed over, or has one of these two tables (`failed`).
+//! - *CrashSafeDrive*: [`drive`] answers each event up to its end as the step does (`replies`), its table is the fold of these
+//!   events (`table`), and it says why it ended (`ending`). On a spool that isn't dead a crash at any moment leaves the table
+//!   after a prefix of the events, the one in hand among them only where the device failed (`any_moment`).
+//! - *CrashSafeDrive*, acknowledged: no acknowledged event is lost. A chain of disks leads from one reply to the next
+//!   (`acknowledged`): between two neighbours a crash leaves the table before the event or the one after it.
+//! - *ManyLives*: a spool that is driven, crashes and is opened again, any number of times, has the tables of one list of
+//!   events, and a job whose end was acknowledged has ended in all later lives ([`lives_go_on`]).
+//! - *CrashSafeDrive*, at its end: every image has the table that is shown (`kept`), or after a fault that one or the one with
 //!   the event in hand (`after_fault`). [`replay`] is the same fold from the empty table on, with no disk.
 //! - *EndedStaysEnded*: a table changes by accepted events only (`answer`), and none changes a job that has ended
 //!   (`ended_jobs_stay` of `job_table`). [`drive`] says it of its events: such a job stays as it is (`ended`), what
 //!   would change it is refused (`refused`), and its number is not given again (`number`).
 //! - *ExactRefusals*: each answer of `apply` comes with its cause, in the order of [`ApplyFault`] (`answer`). `open`
 //!   answers `NotASpool` or `Damaged` only for bytes with that fault (`fault`), and `Disk` only where the device's
-//!   count of failures rose (`cause`). Want of memory is the one answer without a cause that a clause can see. `make`
+//!   count of failures rose (`cause`). Out of memory is the one answer without a cause that a clause can see. `make`
 //!   is `Full` exactly where the device is too short (`full`), and a document isn't read exactly where the spool is
 //!   dead (`dead`).
 //! - *UnchangedAfterRefusal*: after `Dead`, `Refused`, `Memory` and `Full` the disk and the table are as before
@@ -54,7 +59,7 @@
 //! its memory in the table and spells it into a frame. Then it appends the frame to the area, with two syncs. Only
 //! then does it commit the event to the table, which takes no memory and can't fail. A fault of the device leaves open
 //! whether the event is on it: the table stays as it was, and the spool is dead, since what it would append next might
-//! stand behind an event that it doesn't know.
+//! follow an event that it doesn't know.
 //!
 //! `open` first makes the table and writes nothing: it syncs, so that a crash leaves what it reads, and commits the event
 //! of each record to an empty table. Where a job is processing then, the end of its attempt was lost: it journals one
@@ -71,7 +76,7 @@
 //!
 //! - [`ApplyFault`]: after all but `Disk` nothing has changed. After `Disk`, which comes only where the device's count
 //!   of failures rose, each image has the table before the event or the one after it, and the spool is dead: every
-//!   call but `table` and `into_disk` answers `Dead`. A dead spool gives its disk back, and the disk is opened anew.
+//!   call that can answer a fault answers `Dead`. A dead spool gives its disk back, and the disk is opened anew.
 //! - [`OpenError`] hands the disk back with an [`OpenFault`]. But for `Disk` it reads as before. `NotASpool` and `Damaged`
 //!   are faults of the bytes, which have no table. `Memory` and `Disk` say nothing of the bytes, and the disk may be
 //!   opened again.
@@ -87,7 +92,7 @@ mod replaying;
 mod spool;
 
 pub use driving::{Driven, Ending, drive};
-pub use laws::one_reading;
+pub use laws::{lives_go_on, one_reading};
 pub use making::make;
 pub use replaying::replay;
 pub use spool::{ApplyFault, Spool};

@@ -1,7 +1,7 @@
 use super::*;
 use crate::samples::{id, made, opened};
 use spool_disk::{Disk, MemDisk};
-use spool_types::{AbortReason, Phase};
+use spool_types::{AbortReason, Event, Moment, Phase, Reply};
 use std::alloc::Global;
 use std::test::Fail;
 
@@ -66,6 +66,40 @@ fn a_payload_of_no_event_is_damage_at_its_gate(rt: HostRuntime) -> Result<(), Fa
         ],
     )?;
     assert_eq!(rt; fault_of(alloc, disk)?, OpenFault::Damaged(30));
+    Ok(())
+}
+
+// The kinds of the rows of a checkpoint, each with the fields of the first of them. No area that was made has rows.
+#[test]
+fn a_row_is_damage_at_its_gate(rt: HostRuntime) -> Result<(), Fail> {
+    let alloc = rt.alloc();
+    for kind in [0x40, 0x41, 0x42, 0x43] {
+        let head = [
+            0xA5, 0, 0, 0, 13, kind, 0, 0, 0, 0, 0, 0, 0, 0, 0, 0, 0, 0, 0,
+        ];
+        let disk = spool_with(alloc, SIZE, &head)?;
+        assert_eq!(rt; fault_of(alloc, disk)?, OpenFault::Damaged(16));
+    }
+    Ok(())
+}
+
+// The record of Clock(1000), and behind it a gate at 30. Any byte but A5 closes it, and the record of Clock(1001) is
+// written there.
+#[test]
+fn an_event_takes_the_place_of_any_closed_gate(rt: HostRuntime) -> Result<(), Fail> {
+    let alloc = rt.alloc();
+    for gate in [0, 7] {
+        let journal = [0xA5, 0, 0, 0, 9, 0x0B, 0, 0, 0, 0, 0, 0, 3, 0xE8, gate];
+        let mut spool = opened(alloc, spool_with(alloc, SIZE, &journal)?)?;
+        assert_eq!(rt; spool.table().now().get(), 1_000);
+        let clock = Event::Clock(Moment::new(1_001).ok_or("no moment")?);
+        assert_eq!(rt; spool.apply(clock), Ok(Reply::Done));
+        let disk = spool.into_disk();
+        let written = disk.bytes().get(30..45).ok_or("no record")?;
+        let record = [0xA5, 0, 0, 0, 9, 0x0B, 0, 0, 0, 0, 0, 0, 3, 0xE9, 0];
+        assert_eq!(rt; written, record.as_slice());
+        assert_eq!(rt; opened(alloc, disk)?.table().now().get(), 1_001);
+    }
     Ok(())
 }
 

@@ -3,7 +3,7 @@ use crate::samples::{add_queue, apply_all, close, create, id, made, numbered, op
 use spool_disk::{Disk, MemDisk};
 use spool_types::{
     AbortReason, AttemptNumber, Event, Exit, Hold, JobRow, Moment, Phase, Policy, QueueName,
-    Refusal, StageEnd, StageNumber,
+    Refusal, Reply, StageEnd, StageNumber,
 };
 use std::alloc::Global;
 use std::test::Fail;
@@ -16,11 +16,21 @@ fn with_a_job(alloc: Global, size: usize, queue: Event) -> Result<Spool<MemDisk>
     Ok(spool)
 }
 
-// A spool whose job 1 was started at the moment 1000, as a crash leaves it and it is opened again.
-fn after_a_crash(alloc: Global, policy: Policy, limit: u16) -> Result<Spool<MemDisk>, Fail> {
+fn clock(moment: u64) -> Result<Event, Fail> {
+    Ok(Event::Clock(Moment::new(moment).ok_or("no moment")?))
+}
+
+// A spool whose job 1 was started at the moment 1000.
+fn started(alloc: Global, policy: Policy, limit: u16) -> Result<Spool<MemDisk>, Fail> {
     let mut spool = with_a_job(alloc, 4_096, queue_with(alloc, policy, limit)?)?;
-    let clock = Event::Clock(Moment::new(1_000).ok_or("no moment")?);
-    apply_all(&mut spool, vec![in alloc; clock, Event::Start(id(1)?)]?)?;
+    let events = vec![in alloc; clock(1_000)?, Event::Start(id(1)?)]?;
+    apply_all(&mut spool, events)?;
+    Ok(spool)
+}
+
+// The same spool, as a crash leaves it and it is opened again.
+fn after_a_crash(alloc: Global, policy: Policy, limit: u16) -> Result<Spool<MemDisk>, Fail> {
+    let spool = started(alloc, policy, limit)?;
     opened(alloc, spool.into_disk())
 }
 
@@ -80,6 +90,30 @@ fn a_lost_attempt_stops_the_queue(rt: HostRuntime) -> Result<(), Fail> {
 fn a_lost_attempt_counts_against_the_limit(rt: HostRuntime) -> Result<(), Fail> {
     let spool = after_a_crash(rt.alloc(), Policy::RetryJob, 1)?;
     assert_eq!(rt; job(&spool)?.phase, Phase::Aborted(AbortReason::RetryLimit));
+    Ok(())
+}
+
+// An opening at the moment 2000 shows what the moment 1000 made of the job, so it gives up no attempt itself.
+#[test]
+fn an_abandoned_attempt_stays_so_after_an_opening(rt: HostRuntime) -> Result<(), Fail> {
+    let alloc = rt.alloc();
+    for (policy, phase) in [
+        (Policy::AbortJob, Phase::Aborted(AbortReason::AttemptLost)),
+        (Policy::RetryJob, waiting(1_030, false)?),
+        (Policy::RetryCurrentJob, waiting(0, true)?),
+        (Policy::StopPrinter, waiting(0, false)?),
+    ] {
+        let mut spool = started(alloc, policy, 5)?;
+        let answer = spool.apply(Event::Abandon(id(1)?));
+        assert_eq!(rt; answer, Ok(Reply::Phase(phase)));
+        assert_eq!(rt; job(&spool)?.phase, phase);
+        assert_eq!(rt; spool.apply(clock(2_000)?), Ok(Reply::Done));
+        let again = opened(alloc, spool.into_disk())?;
+        assert_eq!(rt; job(&again)?.phase, phase);
+        assert_eq!(rt; job(&again)?.attempts, 1);
+        let queue = again.table().queues().first().ok_or("no queue")?;
+        assert_eq!(rt; queue.stopped, policy == Policy::StopPrinter);
+    }
     Ok(())
 }
 

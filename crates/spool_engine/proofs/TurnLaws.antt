@@ -230,19 +230,18 @@ take_past (x ∷ xs) ys n =
     let e : suc (length xs) + n ≡ suc (length xs + n) = omega arith in
     ap (λ m. take m (x ∷ (xs ++ ys))) e ∙ ap (λ l. x ∷ l) (take_past xs ys n)
 
--- a front of the second text, behind the whole of the first
-some_more : (a b d : Option (List ℕ)) (xs ys : List ℕ) → Appends a b xs → WroteSome b d ys → WroteSome a d (xs ++ ys)
-some_more a b d xs ys h k = record {
-  count = length xs + k.count;
-  short = let l = length-append xs ys in let s = k.short in omega arith;
-  front = subst (Appends a d) (sym (take_past xs ys k.count)) (Appends-trans a b d xs (take k.count ys) h k.front);
-}
-
 -- what was written before, and then
 pub wrote_more : {D : Type 0} (r : Result (Unit {0}) RunFault) (a b d : Option (List ℕ)) (ts us : List (Turn D)) → Appends a b (texts_of ts) → Wrote r b d us → Wrote r a d (ts ++ us)
 wrote_more (Ok x) a b d ts us h k = subst (Appends a d) (sym (texts_of-append ts us)) (Appends-trans a b d (texts_of ts) (texts_of us) h k)
 wrote_more (Err Read) a b d ts us h k = subst (Appends a d) (sym (texts_of-append ts us)) (Appends-trans a b d (texts_of ts) (texts_of us) h k)
-wrote_more (Err Write) a b d ts us h k = subst (WroteSome a d) (sym (texts_of-append ts us)) (some_more a b d (texts_of ts) (texts_of us) h k)
+wrote_more (Err Write) a b d ts us h k = record {
+  told = ts ++ k.told;
+  cut = k.cut;
+  split = ap (λ l. ts ++ l) k.split ∙ sym (append_assoc ts k.told (k.cut ∷ []));
+  count = k.count;
+  short = k.short;
+  front = subst (Appends a d) (sym (ap (λ l. l ++ take k.count k.cut.text) (texts_of-append ts k.told) ∙ append_assoc (texts_of ts) (texts_of k.told) (take k.count k.cut.text))) (Appends-trans a b d (texts_of ts) (texts_of k.told ++ take k.count k.cut.text) h k.front);
+}
 wrote_more (Err Wanted) a b d ts us h k = record {
   told = ts ++ k.told;
   untold = k.untold;
@@ -260,7 +259,7 @@ pub wrote_one : {D : Type 0} (a b : Option (List ℕ)) (t : Turn D) → Appends 
 wrote_one a b t h = subst (Appends a b) (sym (append-nil t.text)) h
 
 pub wrote_part : {D : Type 0} (a b : Option (List ℕ)) (t : Turn D) → WroteSome a b t.text → Wrote (Err Write) a b (t ∷ [])
-wrote_part a b t h = subst (WroteSome a b) (sym (append-nil t.text)) h
+wrote_part a b t h = record { told = []; cut = t; split = refl; count = h.count; short = h.short; front = h.front }
 
 pub wrote_none : {D : Type 0} (a : Option (List ℕ)) (t : Turn D) → Wrote (Err Wanted) a a (t ∷ [])
 wrote_none a t = record { told = []; untold = t ∷ []; split = refl; at_most_one = omega arith; wrote = Appends-nil a }

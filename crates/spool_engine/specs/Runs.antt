@@ -82,7 +82,7 @@ pub record IsUnread {D : Type 0} (s : Standing D) (t : Turn D) : Type 0 where
   pub text : t.text ≡ codes "error memory\n"
   pub same : t.next ≡ s
 
--- Served, or an error's line that stands for its cause alone and has changed no row.
+-- Served, or an error's line and no row has changed. Each line but `error memory` comes only for its cause.
 abbrev pub IsOutcome : {D : Type 0} → Setting D → Standing D → Turn D → Outcome → Type 0
 IsOutcome v s t served = IsServed v.mime s t
 IsOutcome v s t no_memory = Fails v.mime s t (codes "error memory\n") (λ e. (s.dead ≡ false) × (refusal_of s.state e ≡ None) × (t.next ≡ s))
@@ -99,8 +99,8 @@ IsKept device s = s.dead ≡ false → IsSome (device.bytes s.disk) → (c : Lis
 abbrev pub HasBeforeOrAfterCommand : Mime → State → Command → List ℕ → Type 0
 HasBeforeOrAfterCommand m s command image = HasTable s image ⊎ HasTable (after_command m s command) image
 
--- A turn on the spool that it found. Whatever came of it, a crash at any moment of it leaves the table before the
--- command or the one after it, and a crash behind it leaves the table that is shown.
+-- A turn on the spool that it found. Unless the device had failed before, a crash at any moment of it leaves the table
+-- before the command or the one after it. Unless it has failed by then, a crash after it leaves the table that is shown.
 pub record IsTurn {D : Type 0} (v : Setting D) (s : Standing D) (t : Turn D) : Type 0 where
   pub outcome : IsOutcome v s t t.outcome
   pub counted : v.device.failures s.disk ≤ v.device.failures t.next.disk
@@ -132,13 +132,22 @@ AllServed (t ∷ ts) = (t.outcome ≡ served) × AllServed ts
 -- the table that some of these turns' events lead to, the first of them, in order
 abbrev pub IsAlong : {D : Type 0} → Mime → Standing D → List (Turn D) → List ℕ → Type 0
 IsAlong m s [] image = HasTable s.state image
-IsAlong m s (t ∷ ts) image = HasTable s.state image ⊎ (HasTable (after_command m s.state t.command) image ⊎ IsAlong m t.next ts image)
+IsAlong m s (t ∷ ts) image = HasTable s.state image ⊎ (((t.outcome ≡ disk) × HasTable (after_command m s.state t.command) image) ⊎ IsAlong m t.next ts image)
 
 -- a front of the bytes, and not all
 pub record WroteSome (old new : Option (List ℕ)) (text : List ℕ) : Type 0 where
   pub count : ℕ
   pub short : count < length text
   pub front : Appends old new (take count text)
+
+-- the replies but for the last, and of the last a front and not all
+pub record WroteUpTo {D : Type 0} (old new : Option (List ℕ)) (turns : List (Turn D)) : Type 0 where
+  pub told : List (Turn D)
+  pub cut : Turn D
+  pub split : turns ≡ told ++ cut ∷ []
+  pub count : ℕ
+  pub short : count < length cut.text
+  pub front : Appends old new (texts_of told ++ take count cut.text)
 
 -- the turns but for the last, whose text found no memory, or all of them
 pub record WroteBefore {D : Type 0} (old new : Option (List ℕ)) (turns : List (Turn D)) : Type 0 where
@@ -152,7 +161,7 @@ pub record WroteBefore {D : Type 0} (old new : Option (List ℕ)) (turns : List 
 abbrev pub Wrote : {D : Type 0} → Result (Unit {0}) RunFault → Option (List ℕ) → Option (List ℕ) → List (Turn D) → Type 0
 Wrote (Ok done) old new turns = Appends old new (texts_of turns)
 Wrote (Err Read) old new turns = Appends old new (texts_of turns)
-Wrote (Err Write) old new turns = WroteSome old new (texts_of turns)
+Wrote (Err Write) old new turns = WroteUpTo old new turns
 Wrote (Err Memory) old new turns = WroteBefore old new turns
 
 -- turns that lead from one spool to another

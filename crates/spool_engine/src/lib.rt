@@ -1,8 +1,9 @@
 //! The engine: it reads a text of commands, applies their events to a spool on a disk, and writes a text of replies.
 //!
 //! Each command is one *turn*: the engine reads the command, applies its event to the spool that it finds, prints the
-//! reply and writes it, and only then takes the next command. The buffering of the text does not show in it: the
-//! commands are those of the whole text, whatever the pieces in which the reader gives it.
+//! reply and writes it, and only then takes the next command. No clause says when a reply is written: that is in the code
+//! (`Server::turn`). The buffering of the text does not show: the commands are those of the whole text, whatever the
+//! pieces in which the reader gives it.
 //!
 //! A document is typed when its job is closed: by the job's file name and its bytes, in the locale `C`, with the rules
 //! of types that the engine was made with, and `application/octet-stream` where no rule is true. Its filters are those
@@ -17,13 +18,14 @@
 //!   replies of Script over these rules and conversions, and the table is the fold of Script's events. This speaks of
 //!   readers and writers that tell their bytes.
 //! - *HonestReplies* (`lead`, by `IsOutcome`): each command in turn has Script's reply on the table that it found, or
-//!   an error's line, which stands for its cause alone and has changed no row: `error memory`, `error full` where the
-//!   event's record doesn't fit, `error disk` where the device failed, and `error dead` to every event after that.
-//!   After a fault of the run this holds of the first commands of the text (`first`).
-//! - *Crashes* (`crash` and `kept` of each turn): a crash at any moment of a turn leaves the table before its command
-//!   or the one after it, and a crash behind the turn leaves the table that is shown. [`crashes_between_replies`] says
-//!   it of whole runs: nothing that was answered is lost. This speaks of disks that tell their bytes.
-//! - What was written (`wrote`): all replies; after a fault of the writer a front of them and not all; where the text
+//!   an error's line, and has changed no row. `error full` comes only where the event's record doesn't fit, `error disk`
+//!   only where the device failed, and `error dead` only to events after that. `error memory` has a cause that no clause
+//!   sees. After a fault of the run this holds of the first commands of the text (`first`).
+//! - *Crashes* (`crash` and `kept` of each turn): unless the device had failed before, a crash at any moment of a turn
+//!   leaves the table before its command or the one after it. A crash after the turn leaves the table that is shown or,
+//!   after `error disk`, that table or the one with the event in hand. [`crashes_between_replies`] says of whole runs that
+//!   no turn is lost, as long as the device hasn't failed. This speaks of disks that tell their bytes.
+//! - What was written (`wrote`): all replies; after a fault of the writer a prefix of them and not all; where the text
 //!   of a reply found no memory, all but that reply.
 //!
 //! # Invariant
@@ -33,9 +35,9 @@
 //!
 //! # Faults
 //!
-//! [`RunFault`] says which: the reader's, the writer's, or want of memory for a piece, a command or the text of a
-//! reply. Events that were applied before it stay applied. Want of memory for an event, a full area and a failed
-//! device are no faults of the run: they are answered, and the run goes on. [`Engine::met_fault`] tells whether the
+//! [`RunFault`] says which: the reader's, the writer's, or out of memory for a piece, a command or the text of a
+//! reply. Events that were applied before it stay applied. Out of memory for an event, a full area and a failed
+//! device are no faults of the run: they are answered, and the run goes on. [`Engine::met_fault`] says whether the
 //! device has failed.
 #![tactic(auto)]
 

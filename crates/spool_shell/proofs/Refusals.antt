@@ -17,7 +17,7 @@ pub refuses : (p : Type 0) (fault : WordsFault) → (p → ⊥) → RefusesOnly 
 refuses p (Refused text) never = never
 refuses p Memory never = tt
 
--- an error that is no want of memory has one of the kinds, so there is one
+-- an error that is other than out of memory has one of the kinds, so there is one
 pub refused_by_clap : (kinds : Kinds) (kind : ErrorKind) (fault : WordsFault) → RefusesOnly (kind ≡ OutOfMemory) fault
     → (kind ≡ OutOfMemory) ⊎ IsAmong kind kinds → RefusesOnly (kinds ≡ []) fault
 refused_by_clap kinds kind Memory other has = tt

@@ -3,9 +3,10 @@ use Rattle.std.specs.Prelude.{◌≡◌, ◌≤◌, ℕ, ⊤, List, [], Option, 
 use Rattle.std.specs.Prelude.{option_map, unwrap_or}
 use Rattle.std.specs.Str.Parse.{digits_value, without_leading_plus}
 use Rattle.clap.specs.Words.{App, IsUnsignedIn, Row, Rule, Text, fault_of, first_of, found_of, matches_of}
-use Rattle.clap.specs.Words.{new_app, new_rule, one_of, one_text, with_rule}
+use Rattle.clap.specs.Words.{kind_of, new_app, new_rule, one_of, one_text, with_rule}
 use Rattle.clap.specs.declared.builder.value_parser.ValueParser.{ValueParser}
 use Rattle.clap.specs.declared.builder.value_parser.ValueParser.TheVariants.{NonEmptyString, Unsigned}
+use Rattle.clap.specs.declared.error.kind.ErrorKind.TheVariants.{ValueValidation}
 use Rattle.clap.specs.declared.parser.matches.ArgMatches.{ArgMatches}
 use Rattle.spool_shell.specs.declared.words.WordsFault.{WordsFault}
 use Rattle.spool_shell.specs.declared.words.WordsFault.TheVariants.{Refused, Memory}
@@ -76,10 +77,15 @@ AreFaultless words = fault_of shell_app words ≡ []
 abbrev pub AreTaken : List Text → Type 0
 AreTaken words = AreFaultless words × IfSome (root_in words) (λ dir. length dir ≤ 64)
 
--- where the fault is no want of memory, the words are not so
+-- the words are refused only where this doesn't hold; memory may run out in any case
 abbrev pub RefusesOnly : Type 0 → WordsFault → Type 0
 RefusesOnly p (Refused text) = p → ⊥
 RefusesOnly p Memory = ⊤
+
+-- the words are refused for a value that is wrong, so with status 2, or memory ran out
+abbrev pub IsMistake : WordsFault → Type 0
+IsMistake (Refused error) = kind_of error ≡ ValueValidation
+IsMistake Memory = ⊤
 
 -- ---- between the steps of reading them
 

@@ -1,4 +1,9 @@
 //! Why the program ends with status 1.
+ghost use Rattle.std.specs.Prelude.{◌≡◌, ◌≢◌};
+ghost use Rattle.std.specs.declared.io.ErrorKind.TheVariants.{OutOfMemory};
+ghost use Rattle.std.specs.IoError.{error_kind};
+ghost use Rattle.spool_shell.specs.Faults.{of_opening, of_run};
+ghost use Rattle.spool_shell.specs.declared.fault.ShellFault.TheVariants.{Disk, Memory};
 
 use spool_core::OpenFault;
 use spool_engine::RunFault;
@@ -7,7 +12,7 @@ use std::io;
 use std::io::ErrorKind;
 use thiserror::Error;
 
-/// Why the program ends with status 1. Its text is what stands behind `spool: ` on standard error.
+/// Why the program ends with status 1. Its text is what follows `spool: ` on standard error.
 #[derive(Debug, Drop, Error)]
 pub enum ShellFault {
     /// The file of this name can't be read, or is no text.
@@ -22,7 +27,7 @@ pub enum ShellFault {
     /// There was no memory.
     #[error("memory")]
     Memory,
-    /// The disk failed, or its file can't be opened or made.
+    /// The disk failed, another program owns it, or its file can't be opened or made.
     #[error("disk")]
     Disk,
     /// The commands can't be read.
@@ -34,13 +39,18 @@ pub enum ShellFault {
 }
 
 impl From<AllocError> for ShellFault {
+    ghost from_gives = { λ _ fault. fault ≡ Memory };
+
     fn from(_error: AllocError) -> ShellFault {
         ShellFault::Memory
     }
 }
 
-/// A fault of the spool's file.
+/// A fault of the spool's folder or of its file.
 impl From<io::Error> for ShellFault {
+    ghost from_gives = { λ error fault. (error_kind error ≡ OutOfMemory → fault ≡ Memory)
+        × (error_kind error ≢ OutOfMemory → fault ≡ Disk) };
+
     fn from(error: io::Error) -> ShellFault {
         if error.kind() == ErrorKind::OutOfMemory {
             ShellFault::Memory
@@ -51,6 +61,8 @@ impl From<io::Error> for ShellFault {
 }
 
 impl From<OpenFault> for ShellFault {
+    ghost from_gives = { λ fault told. told ≡ of_opening fault };
+
     fn from(fault: OpenFault) -> ShellFault {
         match fault {
             OpenFault::NotASpool => ShellFault::NotASpool,
@@ -62,6 +74,8 @@ impl From<OpenFault> for ShellFault {
 }
 
 impl From<RunFault> for ShellFault {
+    ghost from_gives = { λ fault told. told ≡ of_run fault };
+
     fn from(fault: RunFault) -> ShellFault {
         match fault {
             RunFault::Read => ShellFault::Read,

@@ -6,9 +6,22 @@
 //!
 //! # Promises
 //!
-//! [`words::read_words`] carries what the words mean: the root, the two files and the size are what clap's definition of
-//! a simple command finds in them or the default (`root`, `types`, `convs`, `size`), each in its limits (`short_root`,
-//! `size_in_range`), and they are refused exactly where clap finds a fault or the root is too long (`taken`).
+//! - [`words::read_words`] carries what the words mean: the root, the two files and the size are what clap's definition
+//!   of a simple command finds in them or the default (`root`, `types`, `convs`, `size`), each in its limits
+//!   (`short_root`, `size_in_range`), and they are refused exactly where clap finds a fault or the root is too long
+//!   (`taken`).
+//! - [`serve`] opens the spool of a disk, with the table of the disk's bytes, and ends as the engine's run over it does
+//!   (`HasRun`): Ok says that all commands were served and that the disk hasn't failed, and a run whose disk failed ends
+//!   with `disk`, although it answered all commands. Or else the disk doesn't open, for this fault of its bytes, and
+//!   nothing is read or written (`IsUnopened`).
+//! - [`memory_device`] is a spool with an empty table, of exactly the bytes that the words say.
+//! - A file that isn't named counts as an empty one, and a fault of a file names it ([`files::read_rules`]).
+//! - Each fault below the program is told as it is (`from_gives` in [`fault`]).
+//! - The status is 0 where the run ended without a fault, and 1 after one ([`tell_end`]). For words that say nothing it
+//!   is 2, or 0 where they ask for help, or 1 where memory ran out ([`tell_words_fault`], [`no_words`]); a root that is
+//!   too long is a mistake in the words (`mistake`).
+//!
+//! That one program owns a folder, and what a real file holds, no clause can say: tests do.
 //!
 //! # Warnings
 //!
@@ -20,7 +33,24 @@
 //! It ends with status 0 at the end of input; with 1 after a fault, told on standard error as `spool: WORD`
 //! ([`fault`]); and with 2 where the words are refused, with clap's text. Faults are looked for in the words, then in
 //! the file of types, in that of conversions, in the spool, and last in the commands. `--help` ends with 0.
+//!
+//! - `file NAME`: a file of types or conversions can't be read, or isn't UTF-8.
+//! - `not-a-spool`, `damaged PLACE`: the spool's file, which stays as it is.
+//! - `disk`: the folder or the file can't be opened, locked, made or synced ([`device`]), another program owns one of
+//!   them, or the disk failed. Where it fails during the run this is told at the end of input.
+//! - `memory`: memory ran out. What was answered before it stays.
+//! - `read`, `write`: standard input or standard output failed.
 #![tactic(auto)]
+
+ghost use Rattle.std.specs.Prelude.{◌≡◌, ◌≢◌, ◌⊎◌, ◌≤◌, IfOk, IsOkUnless, OnErr, OnOk, length};
+ghost use Rattle.std.specs.Process.{exit_status};
+ghost use Rattle.std.specs.IoError.{error_kind};
+ghost use Rattle.clap.specs.Words.{kind_of};
+ghost use Rattle.spool_disk.specs.Memory.{mem_bytes};
+ghost use Rattle.spool_types.specs.State.{nothing};
+ghost use Rattle.spool_core.specs.Image.{HasTable};
+ghost use Rattle.spool_engine.specs.Runs.{setting};
+ghost use Rattle.spool_shell.specs.Ending.{HasRun, IsRefusal, IsUnopened, IsWordsStatus, ending_of};
 
 mod device;
 mod fault;
@@ -28,7 +58,7 @@ mod files;
 mod warnings;
 mod words;
 
-use device::open_device;
+use device::SpoolFolder;
 use fault::ShellFault;
 use files::read_rules;
 use log::{Level, Log, Logged};
@@ -36,7 +66,7 @@ use mime_costs::Convs;
 use mime_rules::Types;
 use spool_core::{OpenError, Spool, make};
 use spool_disk::{Disk, MemDisk};
-use spool_engine::Engine;
+use spool_engine::{Engine, RunFault};
 use std::alloc::Global;
 use std::fs::{File, Files};
 use std::io::{ErrorKind, Read, Write};
@@ -46,28 +76,46 @@ use std::{env, io};
 use warnings::WarningLines;
 use words::{ShellWords, WordsFault, read_words};
 
+// What a run's end is to the program. A run over a disk that failed answers all commands, and is a fault nevertheless.
+fn ending(ran: Result<(), RunFault>, failed: bool) -> Result<(), ShellFault>
+    ensures { result ≡ ending_of ran failed }
+{
+    match ran {
+        Ok(()) if failed => Err(ShellFault::Disk),
+        Ok(()) => Ok(()),
+        Err(fault) => Err(ShellFault::from(fault)),
+    }
+}
+
 // Serves the commands over a spool on this disk.
 fn serve<D: Disk + Drop, R: Read, W: Write>(
     alloc: Global,
     disk: D,
-    (types, convs): (Types, Convs),
+    rules: (Types, Convs),
     reader: &mut R,
     writer: &mut W,
-) -> Result<(), ShellFault> {
+) -> Result<(), ShellFault>
+    ensures { HasRun (setting D.device (record { types = rules.0; convs = rules.1 }))
+        disk (R.remaining reader.old) result (W.contents writer.old) (W.contents writer.new)
+        ⊎ IsUnopened (setting D.device (record { types = rules.0; convs = rules.1 }))
+        disk (R.remaining reader.old) (R.remaining reader.new) result (W.contents writer.old) (W.contents writer.new) }
+{
+    let (types, convs) = rules;
     let spool = match Spool::open(alloc, disk) {
         Ok(spool) => spool,
         Err(OpenError { fault, .. }) => return Err(ShellFault::from(fault)),
     };
     let mut engine = Engine::new(alloc, spool, types, convs);
-    engine.run(reader, writer)?;
-    if engine.met_fault() {
-        return Err(ShellFault::Disk);
-    }
-    Ok(())
+    let ran = engine.run(reader, writer);
+    ending(ran, engine.met_fault())
 }
 
 // A new spool in memory, of so many bytes.
-fn memory_device(alloc: Global, size: u64) -> Result<MemDisk, ShellFault> {
+fn memory_device(alloc: Global, size: u64) -> Result<MemDisk, ShellFault>
+    ensures size { IfOk result (λ disk. length (mem_bytes disk) ≡ size) }
+    ensures empty { IfOk result (λ disk. HasTable nothing (mem_bytes disk)) }
+    ensures fault { 46 ≤ size → IsOkUnless result ShellFault.Memory }
+{
     let mut disk = MemDisk::new(alloc, size as usize)?;
     match make(&mut disk) {
         Ok(()) => Ok(disk),
@@ -84,13 +132,12 @@ fn run<H: Files<File = File> + AllocGlobal + Log, R: Read, W: Write>(
 ) -> Result<(), ShellFault> {
     let rules = read_rules(rt, words.types, words.convs)?;
     match words.root {
-        Some(dir) => serve(
-            rt.alloc(),
-            open_device(rt, dir, words.size)?,
-            rules,
-            reader,
-            writer,
-        ),
+        Some(dir) => {
+            // The folder is this program's until all commands have been served.
+            let folder = SpoolFolder::own(rt, dir)?;
+            let disk = folder.device(rt, words.size)?;
+            serve(rt.alloc(), disk, rules, reader, writer)
+        }
         None => serve(
             rt.alloc(),
             memory_device(rt.alloc(), words.size)?,
@@ -108,19 +155,47 @@ fn given_words<R: Env + AllocGlobal>(rt: &R) -> io::Result<Vec<String>> {
 }
 
 // Tells a fault. Where that can't be written the status alone tells it.
-fn fail<R: Eprint>(rt: &R, fault: &ShellFault) -> ExitCode {
+fn fail<R: Eprint>(rt: &R, fault: &ShellFault) -> ExitCode
+    ensures { exit_status result ≡ 1 }
+{
     let _ = eprintln!(rt; "spool: {fault}");
     ExitCode::FAILURE
 }
 
+// Tells how a run ended.
+fn tell_end<R: Eprint>(rt: &R, ended: Result<(), ShellFault>) -> ExitCode
+    ensures ok { OnOk ended (exit_status result ≡ 0) }
+    ensures fault { OnErr ended (exit_status result ≡ 1) }
+{
+    match ended {
+        Ok(()) => ExitCode::SUCCESS,
+        Err(fault) => fail(rt, &fault),
+    }
+}
+
 // Prints why words are refused, or the help that they ask for.
-fn refuse<R: Print + Eprint>(rt: &R, error: &clap::Error) -> ExitCode {
+fn refuse<R: Print + Eprint>(rt: &R, error: &clap::Error) -> ExitCode
+    ensures { IsRefusal (kind_of error.now) (exit_status result) }
+{
     let _ = error.print(rt);
     ExitCode::from(error.exit_code() as u8)
 }
 
+// Tells why the words say nothing.
+fn tell_words_fault<R: Print + Eprint>(rt: &R, fault: &WordsFault) -> ExitCode
+    ensures { IsWordsStatus fault.now (exit_status result) }
+{
+    match fault {
+        WordsFault::Refused(error) => refuse(rt, error),
+        WordsFault::Memory => fail(rt, &ShellFault::Memory),
+    }
+}
+
 // Tells that the words couldn't be had: they are no text, or there was no memory.
-fn no_words<R: Eprint>(rt: &R, error: &io::Error) -> ExitCode {
+fn no_words<R: Eprint>(rt: &R, error: &io::Error) -> ExitCode
+    ensures no_text { error_kind error.now ≡ ErrorKind.InvalidData → exit_status result ≡ 2 }
+    ensures memory { error_kind error.now ≢ ErrorKind.InvalidData → exit_status result ≡ 1 }
+{
     if error.kind() != ErrorKind::InvalidData {
         return fail(rt, &ShellFault::Memory);
     }
@@ -135,14 +210,11 @@ fn main(rt: HostRuntime) -> ExitCode {
     };
     let words = match read_words(rt.alloc(), given.as_slice()) {
         Ok(words) => words,
-        Err(WordsFault::Refused(error)) => return refuse(&rt, &error),
-        Err(WordsFault::Memory) => return fail(&rt, &ShellFault::Memory),
+        Err(fault) => return tell_words_fault(&rt, &fault),
     };
     let logged = Logged::new(rt, Level::Warn, WarningLines(rt));
-    match run(&logged, words, &mut rt.stdin(), &mut rt.stdout()) {
-        Ok(()) => ExitCode::SUCCESS,
-        Err(fault) => fail(&rt, &fault),
-    }
+    let ended = run(&logged, words, &mut rt.stdin(), &mut rt.stdout());
+    tell_end(&rt, ended)
 }
 
 #[cfg(test)]

@@ -1,10 +1,11 @@
 use super::*;
-use spool_engine::RunFault;
+use spool_core::OpenFault;
+use spool_disk::FuseDisk;
 use std::alloc::AllocError;
 use std::cell::RefCell;
 use std::fmt::Display;
 use std::fs;
-use std::os::unix::fs::PermissionsExt;
+use std::os::unix::fs::{MetadataExt, PermissionsExt, symlink};
 use std::test::*;
 
 fn is_refused(alloc: Global, words: &[&str]) -> bool {
@@ -99,12 +100,19 @@ fn each_fault_has_its_word(rt: HostRuntime) -> Result<(), Fail> {
     let alloc = rt.alloc();
     let file = "a b.types".to_string(alloc)?;
     assert!(rt; has_word(alloc, ShellFault::File(file), "file a b.types")?);
-    assert!(rt; has_word(alloc, ShellFault::NotASpool, "not-a-spool")?);
-    assert!(rt; has_word(alloc, ShellFault::Damaged(16), "damaged 16")?);
-    assert!(rt; has_word(alloc, ShellFault::Memory, "memory")?);
-    assert!(rt; has_word(alloc, ShellFault::Disk, "disk")?);
+    assert!(rt; has_word(alloc, ShellFault::from(OpenFault::NotASpool), "not-a-spool")?);
+    assert!(rt;
+        has_word(
+            alloc,
+            ShellFault::from(OpenFault::Damaged(16)),
+            "damaged 16"
+        )?
+    );
+    assert!(rt; has_word(alloc, ShellFault::from(OpenFault::Memory), "memory")?);
+    assert!(rt; has_word(alloc, ShellFault::from(OpenFault::Disk), "disk")?);
     assert!(rt; has_word(alloc, ShellFault::from(RunFault::Read), "read")?);
     assert!(rt; has_word(alloc, ShellFault::from(RunFault::Write), "write")?);
+    assert!(rt; has_word(alloc, ShellFault::from(RunFault::Memory), "memory")?);
     Ok(())
 }
 
@@ -113,48 +121,220 @@ fn has_word(alloc: Global, fault: ShellFault, word: &str) -> Result<bool, AllocE
     Ok(text.as_str() == word)
 }
 
-// The length of the device that is opened in a folder, or `None` where none is.
-fn opened_len<R: Files<File = File> + AllocGlobal>(rt: &R, dir: &str, size: u64) -> Option<u64> {
-    match open_device(rt, dir, size) {
-        Ok(disk) => Some(disk.len()),
-        Err(_) => None,
-    }
+// How the device of a folder is opened: with this length, or with this fault.
+fn opened<R: Files<File = File> + AllocGlobal>(
+    rt: &R,
+    dir: &str,
+    size: u64,
+) -> Result<u64, ShellFault> {
+    let folder = SpoolFolder::own(rt, dir)?;
+    let disk = folder.device(rt, size)?;
+    Ok(disk.len())
+}
+
+fn is_disk<T>(opened: &Result<T, ShellFault>) -> bool {
+    matches!(opened, Err(ShellFault::Disk))
 }
 
 #[test]
-fn a_device_has_one_spooler(rt: HostRuntime) -> Result<(), Fail> {
+fn a_folder_has_one_owner(rt: HostRuntime) -> Result<(), Fail> {
     let dir = "spool_shell_tests.shared";
     fs::create_dir(&rt, dir)?;
-    let first = open_device(&rt, dir, 4_096);
+    let first = SpoolFolder::own(&rt, dir);
     assert!(rt; first.is_ok());
-    assert_eq!(rt; opened_len(&rt, dir, 4_096), None);
+    assert!(rt; is_disk(&opened(&rt, dir, 4_096)));
+    assert!(rt; !fs::exists(&rt, "spool_shell_tests.shared/spool.disk")?);
+    drop(first);
+    assert!(rt; opened(&rt, dir, 4_096).is_ok());
     fs::remove_dir_all(&rt, dir)?;
+    Ok(())
+}
+
+#[test]
+fn a_device_of_two_folders_has_one_owner(rt: HostRuntime) -> Result<(), Fail> {
+    let (one, other) = ("spool_shell_tests.one", "spool_shell_tests.other");
+    fs::create_dir(&rt, one)?;
+    fs::create_dir(&rt, other)?;
+    symlink(
+        &rt,
+        "../spool_shell_tests.one/spool.disk",
+        "spool_shell_tests.other/spool.disk",
+    )?;
+    // The link leads nowhere yet, and nothing is made behind it.
+    assert!(rt; is_disk(&opened(&rt, other, 4_096)));
+    assert!(rt; !fs::exists(&rt, "spool_shell_tests.one/spool.disk")?);
+    let folder = SpoolFolder::own(&rt, one)?;
+    let disk = folder.device(&rt, 4_096);
+    assert!(rt; disk.is_ok());
+    assert!(rt; is_disk(&opened(&rt, other, 4_096)));
+    drop(disk);
+    assert!(rt; opened(&rt, other, 4_096).is_ok());
+    fs::remove_dir_all(&rt, one)?;
+    fs::remove_dir_all(&rt, other)?;
     Ok(())
 }
 
 #[test]
 fn a_device_is_made_once(rt: HostRuntime) -> Result<(), Fail> {
     let dir = "spool_shell_tests.made";
-    fs::create_dir(&rt, dir)?;
-    fs::write(&rt, "spool_shell_tests.made/spool.disk.new", "left over")?;
-    assert_eq!(rt; opened_len(&rt, dir, 4_096), Some(4_096));
-    assert_eq!(rt; opened_len(&rt, dir, 8_192), Some(4_096));
-    let file = "spool_shell_tests.made/spool.disk";
-    assert_eq!(rt;
-        fs::metadata(&rt, file)?.permissions().mode() & 0o777,
-        0o600
+    let (file, unfinished) = (
+        "spool_shell_tests.made/spool.disk",
+        "spool_shell_tests.made/spool.disk.new",
     );
-    assert!(rt; !fs::exists(&rt, "spool_shell_tests.made/spool.disk.new")?);
+    fs::create_dir(&rt, dir)?;
+    symlink(&rt, "absent", unfinished)?;
+    let Ok(len) = opened(&rt, dir, 200_000) else {
+        return Err(Fail::from("not made"));
+    };
+    assert_eq!(rt; len, 200_000);
+    let made = fs::metadata(&rt, file)?;
+    assert_eq!(rt; made.permissions().mode() & 0o777, 0o600);
+    assert!(rt;
+        made.blocks() >= 391,
+        "{} blocks of 512 bytes",
+        made.blocks()
+    );
+    assert!(rt; fs::symlink_metadata(&rt, unfinished).is_err());
+    let Ok(len) = opened(&rt, dir, 8_192) else {
+        return Err(Fail::from("not opened"));
+    };
+    assert_eq!(rt; len, 200_000);
+    fs::remove_file(&rt, file)?;
+    fs::write(&rt, unfinished, "left over")?;
+    assert!(rt; matches!(opened(&rt, dir, 8_192), Ok(8_192)));
+    assert!(rt; fs::symlink_metadata(&rt, unfinished).is_err());
     fs::remove_dir_all(&rt, dir)?;
     Ok(())
 }
 
 #[test]
 fn a_device_needs_its_folder(rt: HostRuntime) -> Result<(), Fail> {
-    assert_eq!(rt; opened_len(&rt, "spool_shell_tests.absent", 4_096), None);
+    assert!(rt; is_disk(&opened(&rt, "spool_shell_tests.absent", 4_096)));
     fs::create_dir_all(&rt, "spool_shell_tests.taken/spool.disk")?;
-    assert_eq!(rt; opened_len(&rt, "spool_shell_tests.taken", 4_096), None);
+    assert!(rt; is_disk(&opened(&rt, "spool_shell_tests.taken", 4_096)));
     fs::remove_dir_all(&rt, "spool_shell_tests.taken")?;
+    fs::create_dir_all(&rt, "spool_shell_tests.blocked/spool.disk.new")?;
+    assert!(rt; is_disk(&opened(&rt, "spool_shell_tests.blocked", 4_096)));
+    assert!(rt; !fs::exists(&rt, "spool_shell_tests.blocked/spool.disk")?);
+    fs::remove_dir_all(&rt, "spool_shell_tests.blocked")?;
+    Ok(())
+}
+
+// What is told of a spool file with these bytes, which stay as they are.
+fn told_of(rt: HostRuntime, bytes: &[u8]) -> Result<Vec<u8>, Fail> {
+    let file = "spool_shell_tests.held/spool.disk";
+    fs::create_dir(&rt, "spool_shell_tests.held")?;
+    fs::write(&rt, file, bytes)?;
+    let told = told(rt, Some("spool_shell_tests.held"), None, None)?;
+    if fs::read(&rt, file)?.as_slice() != bytes {
+        return Err(Fail::from("the file has changed"));
+    }
+    fs::remove_dir_all(&rt, "spool_shell_tests.held")?;
+    Ok(told)
+}
+
+#[test]
+fn a_file_that_is_no_whole_spool_stays(rt: HostRuntime) -> Result<(), Fail> {
+    let no_spool = b"spool: not-a-spool\n".as_slice();
+    assert_eq!(rt; told_of(rt, b"")?.as_slice(), no_spool);
+    assert_eq!(rt; told_of(rt, &[0; 45])?.as_slice(), no_spool);
+    assert_eq!(rt; told_of(rt, &[0; 4_096])?.as_slice(), no_spool);
+    let mut disk = MemDisk::new(rt.alloc(), 4_096)?;
+    assert!(rt; make(&mut disk).is_ok());
+    assert_eq!(rt; told_of(rt, disk.bytes())?.as_slice(), b"ok 0\n".as_slice());
+    // The record of an event that there isn't, and then the next closed gate.
+    assert!(rt; disk.write(16, &[0xA5, 0, 0, 0, 1, 0x7F, 0]).is_ok());
+    assert_eq!(rt;
+        told_of(rt, disk.bytes())?.as_slice(),
+        b"spool: damaged 16\n".as_slice()
+    );
+    Ok(())
+}
+
+// How a run over a disk in memory that breaks after so many calls ends: its replies, and then a word for its end.
+fn broken_after(alloc: Global, calls: u64) -> Result<Vec<u8>, Fail> {
+    let script = concat!(
+        "queue lab file:/out text/plain abort-job\n",
+        "create lab ann \"\" 1 50 \"\"\n",
+        "cancel 1\n",
+    );
+    let mut disk = MemDisk::new(alloc, 4_096)?;
+    if make(&mut disk).is_err() {
+        return Err(Fail::from("not made"));
+    }
+    let rules = (Types::read(alloc, "")?.0, Convs::read(alloc, "")?.0);
+    let mut told = Vec::new(alloc);
+    let ended = serve(
+        alloc,
+        FuseDisk::new(disk, calls),
+        rules,
+        &mut script.as_bytes(),
+        &mut told,
+    );
+    let word = match ended {
+        Ok(()) => "served\n",
+        Err(ShellFault::Disk) => "disk\n",
+        Err(_) => "other\n",
+    };
+    told.extend_from_slice(word.as_bytes())?;
+    Ok(told)
+}
+
+#[test]
+fn a_run_whose_disk_fails_ends_with_disk(rt: HostRuntime) -> Result<(), Fail> {
+    let mut told = Vec::new(rt.alloc());
+    let mut last = Vec::new(rt.alloc());
+    for calls in 0..64 {
+        let now = broken_after(rt.alloc(), calls)?;
+        if now.as_slice() != last.as_slice() {
+            told.extend_from_slice(now.as_slice())?;
+        }
+        last = now;
+    }
+    let want = concat!(
+        "disk\n",
+        "error disk\nerror dead\nerror dead\ndisk\n",
+        "ok\nerror disk\nerror dead\ndisk\n",
+        "ok\nok job 1\nerror disk\ndisk\n",
+        "ok\nok job 1\nok\nserved\n",
+    );
+    assert_eq!(rt; told.as_slice(), want.as_bytes());
+    Ok(())
+}
+
+// A reader whose bytes are lost.
+#[derive(Drop)]
+struct Broken;
+
+impl Read for Broken {
+    fn read(&mut self, _buf: &mut [u8]) -> io::Result<usize> {
+        Err(io::Error::from(ErrorKind::Other))
+    }
+}
+
+#[test]
+fn a_reader_or_a_writer_may_fail(rt: HostRuntime) -> Result<(), Fail> {
+    let words = ShellWords {
+        root: None,
+        types: None,
+        convs: None,
+        size: 4_096,
+    };
+    let logged = Logged::new(rt, Level::Warn, WarningLines(rt));
+    let mut told = Vec::new(rt.alloc());
+    let mut reader = b"queues\nqueues".as_slice().chain(Broken);
+    let ended = run(&logged, words, &mut reader, &mut told);
+    assert!(rt; matches!(ended, Err(ShellFault::Read)));
+    assert_eq!(rt; told.as_slice(), b"ok 0\n".as_slice());
+    let mut room = [0; 7];
+    let ended = run(
+        &logged,
+        words,
+        &mut b"queues\nqueues\n".as_slice(),
+        &mut room.as_mut_slice(),
+    );
+    assert!(rt; matches!(ended, Err(ShellFault::Write)));
+    assert_eq!(rt; &room, b"ok 0\nok");
     Ok(())
 }
 

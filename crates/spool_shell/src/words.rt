@@ -1,10 +1,10 @@
 //! The words of the command line.
-ghost use Rattle.std.specs.Prelude.{◌≡◌, ◌<◌, ◌≤◌, ◌↔◌, IfOk, IfSome, IsSomeAnd, IsTrue, MatchResult, Some, false, length, map};
+ghost use Rattle.std.specs.Prelude.{◌≡◌, ◌<◌, ◌≤◌, ◌↔◌, IfErr, IfOk, IfSome, IsSomeAnd, IsTrue, MatchResult, Some, false, length, map};
 ghost use Rattle.std.specs.Option.{option_map};
 ghost use Rattle.clap.specs.Words.{app_of, found_of, kind_of, matches_of, rows_of, rule_of};
 ghost use Rattle.clap.specs.declared.builder.texts.Texts.TheVariants.{One};
 ghost use Rattle.clap.specs.declared.error.kind.ErrorKind.TheVariants.{OutOfMemory};
-ghost use Rattle.spool_shell.specs.Words.{AreFaultless, AreTaken, HasSizeInRange, RefusesOnly, convs_in, root_in, shell_app};
+ghost use Rattle.spool_shell.specs.Words.{AreFaultless, AreTaken, HasSizeInRange, IsMistake, RefusesOnly, convs_in, root_in, shell_app};
 ghost use Rattle.spool_shell.specs.Words.{size_in, size_of, text_option, types_in};
 
 use clap::builder::ValueParser;
@@ -59,6 +59,7 @@ pub fn read_words<'a, S: AsStr>(alloc: Global, words: &'a [S]) -> Result<ShellWo
     ensures size_in_range { IfOk result (λ found. (4096 ≤ found.size) × (found.size ≤ 1073741824)) }
     ensures taken { MatchResult result (λ _. AreTaken (map S.text words.entry.now))
         (RefusesOnly (AreTaken (map S.text words.entry.now))) }
+    ensures mistake { AreFaultless (map S.text words.entry.now) → IfErr result IsMistake }
 {
     let Ok(mut command) = shell_command(alloc) else {
         return Err(WordsFault::Memory);
@@ -170,7 +171,9 @@ fn is_long(root: Option<&str>) -> bool
 }
 
 // The fault of such a name, in the form of clap's own.
-fn long_root(command: &mut Command<'_>) -> WordsFault {
+fn long_root(command: &mut Command<'_>) -> WordsFault
+    ensures { IsMistake result }
+{
     match command.error(ErrorKind::ValueValidation, "DIR has more than 64 bytes") {
         Ok(error) => WordsFault::Refused(error),
         Err(_) => WordsFault::Memory,

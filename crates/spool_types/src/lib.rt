@@ -1,8 +1,8 @@
 //! The words of the spooler: texts, numbers, rows, phases, effects, events, replies, refusals and warnings.
 //!
-//! Every other crate speaks in these types, so what a value may be is said here once, by its type: a text of a kind
-//! ([`Text`]) passes its kind's test, a number ([`Ranged`], [`JobId`], [`Moment`]) lies in its range, a list
-//! ([`Items`]) has at most so many items. A clause sees a text as the list of its bytes, a number as a number, and a
+//! Every other crate speaks in these types, so what a value may be is said here once, by its type. A text of a kind
+//! ([`Text`]) passes its kind's test, a number ([`Ranged`], [`JobId`], [`Moment`]) lies in its range, and a list
+//! ([`Items`]) has no more items than its type says. A clause sees a text as the list of its bytes, a number as a number, and a
 //! list as a list, so a row or an event is in a clause the record that it is in the code.
 //!
 //! Beside the types, `specs/` has the definitions that the crates above share:
@@ -19,7 +19,7 @@
 //!
 //! - *ExactValues*: [`JobId::new`], [`Moment::new`], [`Moment::plus`], [`Ranged::new`], [`Items::new`], [`Text::read`] and
 //!   [`MediaType::read`] take exactly the values that their clauses name.
-//! - Want of memory comes only where a text is copied, and then nothing has changed.
+//! - Out of memory comes only where a text is copied, and then nothing has changed.
 #![tactic(auto)]
 
 mod effect;

@@ -58,7 +58,7 @@ pub enum AbortReason {
     BackendFailed,
     /// It was started as often as its queue allows.
     RetryLimit,
-    /// The spooler ended while the job was processing.
+    /// Nobody saw the attempt end: the spooler ended while the job was processing, or the job was abandoned.
     AttemptLost,
     /// No filters lead from its media type to the queue's.
     NoFilter,

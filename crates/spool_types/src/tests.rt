@@ -88,6 +88,24 @@ fn media_types_fold_their_capitals(rt: HostRuntime) -> Result<(), Fail> {
 }
 
 #[test]
+fn media_types_have_at_most_255_bytes(rt: HostRuntime) -> Result<(), Fail> {
+    let alloc = rt.alloc();
+    for (len, fault) in [
+        (255, None),
+        (256, Some(TextFault::Bad)),
+        (300, Some(TextFault::Bad)),
+    ] {
+        let mut text = String::from_str(alloc, "a/")?;
+        for _ in 2..len {
+            text.push('b')?;
+        }
+        assert_eq!(rt; MediaType::read(alloc, text.as_str()).err(), fault);
+        assert_eq!(rt; MediaName::read(alloc, text.as_str()).err(), fault);
+    }
+    Ok(())
+}
+
+#[test]
 fn texts_hold_no_control_characters(rt: HostRuntime) -> Result<(), Fail> {
     let alloc = rt.alloc();
     assert!(rt; Title::read(alloc, "").is_ok());

@@ -1,0 +1,42 @@
+-- Each life is a list of events after the acknowledged ones of another.
+use Rattle.std.proofs.Common.{◌≡◌, ◌∷◌, ◌++◌, sym, ap, ◌∙◌, subst, take, Some}
+use Rattle.std.specs.Prelude.{IsSome}
+use Rattle.spool_types.specs.declared.event.Event.TheVariants.{Create}
+use Rattle.spool_types.specs.State.{State, job_at, nothing}
+use Rattle.job_table.specs.Attempts.{reopened}
+use Rattle.job_table.specs.Fold.{after_all}
+use Rattle.job_table.specs.Legal.{IsLegal}
+use Rattle.job_table.specs.Step.{refusal_of}
+use Rattle.spool_core.specs.Lives.{Life, history_of, after_lives}
+use Rattle.spool_core.proofs.LifeLaws.{one_history, later_events, after_acknowledged, further}
+use Rattle.spool_core.proofs.laws.lives_go_on.Goals as goal
+
+pub returns-clause-opened : goal.returns-clause-opened
+returns-clause-opened c s t events acknowledged most image has found =
+    (has.0, has.1, has.2, found.reopened_is ∙ ap reopened (c.one_reading.ensures.table found.table (after_all s (take has.0 events)) image found.found has.3))
+
+pub returns-clause-history : goal.returns-clause-history
+returns-clause-history c s lives = one_history s lives
+
+pub returns-clause-legal : goal.returns-clause-legal
+returns-clause-legal c lives =
+    subst IsLegal (sym (one_history nothing lives)) (c.legal_tables_stay_legal.ensures.stays nothing (history_of lives) c.legal_tables_stay_legal.ensures.begins)
+
+pub returns-clause-idle : goal.returns-clause-idle
+returns-clause-idle c s l legal =
+    c.reopening.ensures.none (after_all s (take l.left l.events)) (c.legal_tables_stay_legal.ensures.stays s (take l.left l.events) legal)
+
+pub returns-clause-ended : goal.returns-clause-ended
+returns-clause-ended c s l lives j job keeps has =
+    ap (λ (t : State). job_at t j) (after_acknowledged s l lives keeps)
+    ∙ c.ended_jobs_stay.ensures.stays (after_all s (take l.acknowledged l.events)) j job (later_events l lives) has
+
+pub returns-clause-refused : goal.returns-clause-refused
+returns-clause-refused c s l lives more j job e keeps has about =
+    ap (λ (t : State). refusal_of t e) (further s l lives more keeps)
+    ∙ c.ended_jobs_stay.ensures.refused (after_all s (take l.acknowledged l.events)) j job (later_events l lives ++ more) e has about
+
+pub returns-clause-number : goal.returns-clause-number
+returns-clause-number c s l lives more j job n keeps has same =
+    subst (λ (t : State). IsSome (refusal_of t (Create n))) (sym (further s l lives more keeps))
+    (c.ended_jobs_stay.ensures.number (after_all s (take l.acknowledged l.events)) j job (later_events l lives ++ more) n has same)

@@ -1,0 +1,31 @@
+-- Many lives of a spool: each begins with the opening of what a crash left of the one before.
+use Rattle.std.specs.Prelude.{ℕ, ◌≤◌, List, [], ◌∷◌, ◌++◌, take}
+use Rattle.spool_types.specs.declared.event.Event.{Event}
+use Rattle.spool_types.specs.declared.event.Event.TheVariants.{Reopen}
+use Rattle.spool_types.specs.State.{State}
+use Rattle.job_table.specs.Attempts.{reopened}
+use Rattle.job_table.specs.Fold.{after_all}
+
+-- a life: its events, how many of the first of them were acknowledged, and how many of the first of them a crash left
+pub record Life : Type 0 where
+  pub events : List Event
+  pub acknowledged : ℕ
+  pub left : ℕ
+
+-- the crash left every acknowledged event
+abbrev pub KeepsAcknowledged : Life → Type 0
+KeepsAcknowledged l = l.acknowledged ≤ l.left
+
+-- the table with which the next life begins: that after the events that are left, with each job that was started and
+-- not ended changed as its queue's error policy says
+abbrev pub next_table : State → Life → State
+next_table s l = reopened (after_all s (take l.left l.events))
+
+abbrev pub after_lives : State → List Life → State
+after_lives s [] = s
+after_lives s (l ∷ ls) = after_lives (next_table s l) ls
+
+-- all lives as one list of events: of each those that a crash left, and then the opening
+abbrev pub history_of : List Life → List Event
+history_of [] = []
+history_of (l ∷ ls) = take l.left l.events ++ Reopen ∷ history_of ls

@@ -1,0 +1,109 @@
+//! The files of a case.
+
+use crate::fault::CaseFault;
+use std::fs::{File, Files};
+use std::io::ErrorKind;
+use std::{fs, io};
+
+// How long a disk is, in bytes, where a case doesn't say.
+const USUAL_SIZE: usize = 4_194_304;
+
+/// A script, the replies that are wanted, and what it is served on.
+#[derive(Drop)]
+pub struct Case {
+    pub script: Vec<u8>,
+    pub replies: Vec<u8>,
+    /// Rules of types, as in mime.types(5).
+    pub types: String,
+    /// Conversions, as in mime.convs(5).
+    pub convs: String,
+    /// The length of the disk in bytes.
+    pub size: usize,
+}
+
+/// The names of the cases in a folder, each once, in ascending order: what is left of each
+/// file's name without its ending.
+pub fn case_names<R: Files<File = File> + AllocGlobal + Clone + Drop>(
+    rt: &R,
+    folder: &str,
+) -> io::Result<Vec<String>> {
+    let mut names = Vec::new(rt.alloc());
+    for entry in fs::read_dir(rt, folder)? {
+        let entry = entry?;
+        names.push(stem(entry.file_name()).to_string(rt.alloc())?)?;
+    }
+    names.sort()?;
+    names.dedup();
+    Ok(names)
+}
+
+// A file's name without its ending.
+fn stem(name: &str) -> &str {
+    match name.rsplit_once('.') {
+        Some((stem, _)) => stem,
+        None => name,
+    }
+}
+
+/// Reads the files of the case of this name in a folder.
+pub fn read_case<R: Files<File = File> + AllocGlobal>(
+    rt: &R,
+    folder: &str,
+    name: &str,
+) -> Result<Case, CaseFault> {
+    let path = format!(in rt.alloc(); "{folder}/{name}")?;
+    let path = path.as_str();
+    let Some(script) = file_of(rt, path, "script")? else {
+        return Err(CaseFault::NoScript);
+    };
+    let Some(replies) = file_of(rt, path, "replies")? else {
+        return Err(CaseFault::NoReplies);
+    };
+    Ok(Case {
+        script,
+        replies,
+        types: text_of(rt, path, "types")?,
+        convs: text_of(rt, path, "convs")?,
+        size: size_of(text_of(rt, path, "size")?.as_str())?,
+    })
+}
+
+// The length of the disk that a file of a case says.
+fn size_of(text: &str) -> Result<usize, CaseFault> {
+    if text.is_empty() {
+        return Ok(USUAL_SIZE);
+    }
+    match text.trim_end().parse::<usize>() {
+        Ok(size) => Ok(size),
+        Err(_) => Err(CaseFault::NoSize),
+    }
+}
+
+// The text of a file of a case, and no text where there is none.
+fn text_of<R: Files<File = File> + AllocGlobal>(
+    rt: &R,
+    path: &str,
+    ending: &str,
+) -> Result<String, CaseFault> {
+    let Some(bytes) = file_of(rt, path, ending)? else {
+        return Ok(String::new(rt.alloc()));
+    };
+    match String::from_utf8(bytes) {
+        Ok(text) => Ok(text),
+        Err(_) => Err(CaseFault::NoText),
+    }
+}
+
+// The bytes of a file of a case, if there is one.
+fn file_of<R: Files<File = File> + AllocGlobal>(
+    rt: &R,
+    path: &str,
+    ending: &str,
+) -> Result<Option<Vec<u8>>, CaseFault> {
+    let file = format!(in rt.alloc(); "{path}.{ending}")?;
+    match fs::read(rt, file.as_str()) {
+        Ok(bytes) => Ok(Some(bytes)),
+        Err(error) if error.kind() == ErrorKind::NotFound => Ok(None),
+        Err(error) => Err(CaseFault::Unread(error)),
+    }
+}

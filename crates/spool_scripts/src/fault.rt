@@ -1,0 +1,66 @@
+//! Why a case can't be served.
+
+use spool_core::{MakeFault, OpenFault};
+use spool_engine::RunFault;
+use std::alloc::AllocError;
+use std::io;
+use thiserror::Error;
+
+/// Why a case can't be served. Its text follows the name of the case.
+#[derive(Debug, Drop, Error)]
+pub enum CaseFault {
+    #[error("has no script")]
+    NoScript,
+    #[error("has no replies")]
+    NoReplies,
+    /// The file of rules or of conversions holds bytes that aren't UTF-8.
+    #[error("has a file that is no text")]
+    NoText,
+    /// The file of the disk's length holds no number.
+    #[error("has a size that is no number")]
+    NoSize,
+    /// A file is there and can't be read.
+    #[error("can't be read: {0}")]
+    Unread(io::Error),
+    /// The disk is too short for a spool.
+    #[error("is on a disk that is too short")]
+    ShortDisk,
+    /// What was written is no spool.
+    #[error("can't be opened: {0:?}")]
+    Unopened(OpenFault),
+    /// The run ended before its script did.
+    #[error("ends too early: {0:?}")]
+    Ended(RunFault),
+    #[error("finds no memory")]
+    Memory,
+}
+
+impl From<AllocError> for CaseFault {
+    fn from(_error: AllocError) -> CaseFault {
+        CaseFault::Memory
+    }
+}
+
+impl From<io::Error> for CaseFault {
+    fn from(error: io::Error) -> CaseFault {
+        CaseFault::Unread(error)
+    }
+}
+
+impl From<MakeFault> for CaseFault {
+    fn from(_fault: MakeFault) -> CaseFault {
+        CaseFault::ShortDisk
+    }
+}
+
+impl From<OpenFault> for CaseFault {
+    fn from(fault: OpenFault) -> CaseFault {
+        CaseFault::Unopened(fault)
+    }
+}
+
+impl From<RunFault> for CaseFault {
+    fn from(fault: RunFault) -> CaseFault {
+        CaseFault::Ended(fault)
+    }
+}

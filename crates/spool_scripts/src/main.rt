@@ -1,0 +1,111 @@
+//! The stored scripts: each is served by an engine over a disk in memory, and its replies are compared with those that
+//! are wanted.
+//!
+//! # Cases
+//!
+//! A case lies in the folder that the first word names, or in that in which the program runs: `NAME.script` has the commands and `NAME.replies` the replies
+//! that are wanted. Where there is need, `NAME.types` has rules of types, `NAME.convs` conversions, and `NAME.size` the
+//! length of the disk in bytes, which is else 4,194,304. A line `# reopen` cuts a script: what follows it is served by
+//! a new engine, over the spool that is opened again on the same disk.
+//!
+//! Each case is served several times ([`ways::ways`]): the script read whole, byte by byte and in pieces, the replies
+//! written whole and few bytes at a time, with reads and writes that are interrupted. The replies have to be the same
+//! each time.
+//!
+//! # Output
+//!
+//! A line for each case in the order of the names, `NAME ok`, `NAME differs at line N: wanted .., got ..` or `NAME` and
+//! why it can't be served; then `N scripts, M differ`. The status is 1 where one differs. Each file in the folder belongs
+//! to a case, and a case without a script or without replies counts as one that differs: so none is passed over.
+//!
+//! # Promises
+//!
+//! - [`compare::find_difference`]: replies pass exactly where they are the bytes that are wanted.
+//! - [`cut::next_part`]: a part, the line that cuts and what follows it are the script, and no such line comes before.
+//! - [`paced`]: a reader gives the bytes of the script and a writer keeps what it takes, whatever their pace.
+#![tactic(auto)]
+
+mod case;
+mod compare;
+mod cut;
+mod fault;
+mod paced;
+mod served;
+mod ways;
+
+use case::{Case, case_names, read_case};
+use compare::{Difference, find_difference};
+use fault::CaseFault;
+use served::replies;
+use std::alloc::Global;
+use std::fs::{File, Files};
+use std::process::ExitCode;
+use std::rt::Env;
+use std::{env, io};
+use ways::{Way, ways};
+
+// How the replies to a case differ from those that are wanted, if they do: by the first way in which they do.
+fn first_difference(alloc: Global, case: &Case) -> Result<Option<String>, CaseFault> {
+    for way in ways() {
+        let got = replies(alloc, case, way)?;
+        if let Some(found) = find_difference(&case.replies, &got) {
+            return Ok(Some(told(alloc, &found, way)?));
+        }
+    }
+    Ok(None)
+}
+
+// What is told of a difference.
+fn told(alloc: Global, found: &Difference<'_>, way: Way) -> Result<String, CaseFault> {
+    let Difference { line, wanted, got } = found;
+    let wanted = wanted.escape_ascii();
+    let got = got.escape_ascii();
+    let name = way.name;
+    Ok(format!(in alloc; "differs at line {line}: wanted {wanted}, got {got}, {name}")?)
+}
+
+// Serves a case and prints how it went. Whether the replies were those that are wanted.
+fn passes<R: Files<File = File> + AllocGlobal + Print>(
+    rt: &R,
+    folder: &str,
+    name: &str,
+) -> io::Result<bool> {
+    let outcome = match read_case(rt, folder, name) {
+        Ok(case) => first_difference(rt.alloc(), &case),
+        Err(fault) => Err(fault),
+    };
+    match outcome {
+        Ok(None) => {
+            println!(rt; "{name} ok")?;
+            return Ok(true);
+        }
+        Ok(Some(text)) => println!(rt; "{name} {text}")?,
+        Err(fault) => println!(rt; "{name} {fault}")?,
+    }
+    Ok(false)
+}
+
+// The folder of the cases: the first word, or the folder in which the program runs.
+fn given_folder<R: Env + AllocGlobal>(rt: &R) -> io::Result<String> {
+    match env::args(rt)?.nth(1) {
+        Some(folder) => Ok(folder),
+        None => Ok(String::from_str(rt.alloc(), ".")?),
+    }
+}
+
+fn main(rt: HostRuntime) -> io::Result<ExitCode> {
+    let folder = given_folder(&rt)?;
+    let names = case_names(&rt, folder.as_str())?;
+    let mut differing = 0usize;
+    for name in &names {
+        if !passes(&rt, folder.as_str(), name.as_str())? {
+            differing = differing.saturating_add(1);
+        }
+    }
+    println!(rt; "{} scripts, {differing} differ", names.len())?;
+    if differing == 0 {
+        Ok(ExitCode::SUCCESS)
+    } else {
+        Ok(ExitCode::FAILURE)
+    }
+}

@@ -1,0 +1,56 @@
+-- How the program ends.
+use Rattle.std.specs.Prelude.{◌≡◌, ◌≢◌, ◌⊎◌, ℕ, List, Bool, true, false, Option, Some, Result, Ok, Err}
+use Rattle.clap.specs.Words.{kind_of}
+use Rattle.clap.specs.declared.error.kind.ErrorKind.{ErrorKind}
+use Rattle.clap.specs.declared.error.kind.ErrorKind.TheVariants.{DisplayHelp, DisplayVersion}
+use Rattle.spool_core.specs.Image.{IsFaultOf, IsReopenedFrom}
+use Rattle.spool_core.specs.Standing.{Standing}
+use Rattle.spool_core.specs.declared.OpenFault.{OpenFault}
+use Rattle.spool_engine.specs.Runs.{IsRun, Setting, Turn}
+use Rattle.spool_engine.specs.declared.fault.RunFault.{RunFault}
+use Rattle.spool_shell.specs.Faults.{of_opening, of_run}
+use Rattle.spool_shell.specs.declared.fault.ShellFault.{ShellFault}
+use Rattle.spool_shell.specs.declared.fault.ShellFault.TheVariants.{Disk}
+use Rattle.spool_shell.specs.declared.words.WordsFault.{WordsFault}
+use Rattle.spool_shell.specs.declared.words.WordsFault.TheVariants.{Refused, Memory}
+
+-- ---- serving a disk
+
+-- What a run's end is to the program, over a spool that has failed or hasn't. A run over a failed disk answers all
+-- commands, and is a fault nevertheless.
+abbrev pub ending_of : Result (Unit {0}) RunFault → Bool → Result (Unit {0}) ShellFault
+ending_of (Ok done) false = Ok tt
+ending_of (Ok done) true = Err Disk
+ending_of (Err fault) dead = Err (of_run fault)
+
+-- The spool has the table of the disk's bytes, and a run over it ended so.
+pub record HasRun {D : Type 0} (v : Setting D) (disk : D) (known : Option (List ℕ)) (result : Result (Unit {0}) ShellFault) (old new : Option (List ℕ)) : Type 0 where
+  pub before : Standing D
+  pub after : Standing D
+  pub text : List ℕ
+  pub turns : List (Turn D)
+  pub ran : Result (Unit {0}) RunFault
+  pub opened : (r : List ℕ) → v.device.bytes disk ≡ Some r → IsReopenedFrom before.state r
+  pub alive : before.dead ≡ false
+  pub run : IsRun v known before text turns after ran old new
+  pub ends : result ≡ ending_of ran after.dead
+
+-- The disk wasn't opened, for a fault that its bytes have, if it is one of bytes. Nothing was read or written.
+pub record IsUnopened {D : Type 0} (v : Setting D) (disk : D) (known left : Option (List ℕ)) (result : Result (Unit {0}) ShellFault) (old new : Option (List ℕ)) : Type 0 where
+  pub fault : OpenFault
+  pub cause : (r : List ℕ) → v.device.bytes disk ≡ Some r → IsFaultOf r fault
+  pub ends : result ≡ Err (of_opening fault)
+  pub unread : left ≡ known
+  pub unwritten : new ≡ old
+
+-- ---- statuses
+
+-- the status for words that clap refuses with this kind of error: 0 where they ask for help
+pub record IsRefusal (kind : ErrorKind) (status : ℕ) : Type 0 where
+  pub shown : (kind ≡ DisplayHelp) ⊎ (kind ≡ DisplayVersion) → status ≡ 0
+  pub mistake : kind ≢ DisplayHelp → kind ≢ DisplayVersion → status ≡ 2
+
+-- the status for words that say nothing
+abbrev pub IsWordsStatus : WordsFault → ℕ → Type 0
+IsWordsStatus (Refused error) status = IsRefusal (kind_of error) status
+IsWordsStatus Memory status = status ≡ 1

@@ -1,0 +1,182 @@
+#!/usr/bin/env python3
+"""Starts several shells at once on a fresh folder, and looks for what each had answered: first_start.py [SHELL]
+
+SHELL is the program, and crates/spool_shell/out/spool_shell (made by `rt run` in that folder) where none is given. A
+trial starts 2, 4 or 8 of them together in one fresh folder, a hundred trials for each number, with spools of several
+sizes. Each makes the queue, if need be, and ten jobs whose titles tell program and number. In every second trial the
+input of all stays open until each program has answered or ended, so exactly one of them has to own the folder. In the
+others it ends at once, so one may own the folder after another.
+
+Each program either answers all its commands, or ends with status 1, answers nothing, and writes `spool: disk` alone on
+standard error. One more start has to list exactly the jobs that were answered, each by its number and with its title,
+and nothing but the spool's file is in the folder.
+
+The last line is `300 of 300`, with status 0, or the first difference, with status 1. Its folder stays then, and is
+named.
+"""
+import os
+import re
+import shutil
+import signal
+import subprocess
+import sys
+import tempfile
+
+here = os.path.dirname(os.path.abspath(__file__))
+built = os.path.join(here, "..", "crates", "spool_shell", "out", "spool_shell")
+shell = os.path.abspath(sys.argv[1] if len(sys.argv) > 1 else built)
+
+COUNTS = (2, 4, 8)
+TRIALS = 100  # for each of these counts
+JOBS = 10
+SECONDS = 60  # a trial that takes longer hangs
+
+# The spool's bytes for so many programs, all of whose jobs have room; None is the default.
+SIZES = {2: (4_096, 10_000, 65_536, None), 4: (8_192, 65_537, 300_000, None), 8: (16_384, 40_001, 1_000_000, None)}
+
+# Waits for a line of its input, and then is the program.
+GATE = 'read -r open && exec "$@"'
+
+QUEUE = "queue lab spoolfile:/out application/octet-stream abort-job\n"
+LISTED = re.compile(r'job (\d+) lab 4 job-incoming "ann" 0 0 "(.*)"')
+
+
+class Difference(Exception):
+    """A program doesn't do what it has to."""
+
+
+def title(program, number):
+    return f"program {program} job {number}"
+
+
+def script(program):
+    """The commands of one program."""
+    return QUEUE + "".join(f'create lab ann "{title(program, number)}" 1 50 ""\n' for number in range(JOBS))
+
+
+class Program:
+    """A program that waits for its gate to open."""
+
+    def __init__(self, root, name, size):
+        self.name = name
+        words = ["sh", "-c", GATE, "sh", shell, "--root", "."] + (["--size", str(size)] if size else [])
+        pipe = subprocess.PIPE
+        self.child = subprocess.Popen(words, cwd=root, stdin=pipe, stdout=pipe, stderr=pipe, text=True)
+        self.replies = []
+
+    def give(self, text):
+        """Hands the text over, unless the program has ended."""
+        try:
+            self.child.stdin.write(text)
+            self.child.stdin.flush()
+        except BrokenPipeError:
+            pass
+
+    def end_input(self):
+        try:
+            self.child.stdin.close()
+        except BrokenPipeError:
+            pass
+
+    def has_answered(self):
+        """Whether it answers, else it has ended."""
+        line = self.child.stdout.readline()
+        self.replies += [line] if line else []
+        return bool(line)
+
+    def end(self):
+        """Its last replies, its complaints and its status."""
+        self.replies += self.child.stdout.readlines()
+        self.complaints = self.child.stderr.read()
+        self.status = self.child.wait()
+        self.child.stdout.close()
+        self.child.stderr.close()
+
+    def jobs(self):
+        """The numbers that it was answered, with the titles that it gave."""
+        if self.status == 1 and self.complaints == "spool: disk\n" and not self.replies:
+            return []
+        queue, *created = [line.rstrip("\n") for line in self.replies] or [""]
+        numbers = [re.fullmatch(r"ok job (\d+)", line) for line in created]
+        whole = queue in ("ok", "error 2 QueueExists") and len(numbers) == JOBS and all(numbers)
+        if self.status != 0 or self.complaints or not whole:
+            raise Difference(
+                f"program {self.name} ended with {self.status}, wrote {self.complaints!r} and answered {self.replies}"
+            )
+        return [(int(found[1]), title(self.name, number)) for number, found in enumerate(numbers)]
+
+
+def started(root, count, size, held):
+    """So many programs that were started together, once all have ended."""
+    programs = [Program(root, name, size) for name in range(count)]
+    try:
+        for program in programs:
+            program.give("open\n")
+        for program in programs:
+            program.give(script(program.name))
+            if not held:
+                program.end_input()
+        owners = [program.name for program in programs if program.has_answered()]
+        if held and len(owners) != 1:
+            raise Difference(f"the programs {owners} answered, not one")
+        for program in programs:
+            program.end_input()
+        for program in programs:
+            program.end()
+    finally:
+        for program in programs:
+            program.child.kill()
+            program.child.wait()
+    return programs
+
+
+def listing(root):
+    """The jobs that one more start lists, with their titles."""
+    words = [shell, "--root", "."]
+    done = subprocess.run(words, cwd=root, input="jobs\n", capture_output=True, text=True)
+    *rows, last = done.stdout.splitlines() or [""]
+    found = [LISTED.fullmatch(row) for row in rows]
+    if done.returncode != 0 or done.stderr or not all(found) or last != f"ok {len(rows)}":
+        raise Difference(f"the next start ended with {done.returncode}, {done.stderr!r} and answered {done.stdout!r}")
+    return [(int(row[1]), row[2]) for row in found]
+
+
+def trial(root, count, size, held):
+    """Programs in one folder, and what it has afterwards."""
+    answered = sorted(job for program in started(root, count, size, held) for job in program.jobs())
+    listed = listing(root)
+    if not answered or listed != answered:
+        raise Difference(f"listed {listed}, answered {answered}")
+    if [number for number, _ in listed] != list(range(1, len(listed) + 1)):
+        raise Difference(f"numbers are given twice or left out: {listed}")
+    if os.listdir(root) != ["spool.disk"]:
+        raise Difference(f"the folder has {os.listdir(root)}")
+
+
+def hangs(_signal, _frame):
+    raise Difference(f"no end in {SECONDS} seconds")
+
+
+def main():
+    if not os.path.exists(shell):
+        sys.exit(f"no program {shell}: run `rt run` in crates/spool_shell first")
+    signal.signal(signal.SIGALRM, hangs)
+    plan = [(count, turn) for turn in range(TRIALS) for count in COUNTS]
+    for done, (count, turn) in enumerate(plan):
+        held = turn % 2 == 0
+        size = SIZES[count][turn // 2 % 4]
+        root = tempfile.mkdtemp()
+        try:
+            signal.alarm(SECONDS)
+            trial(root, count, size, held)
+            signal.alarm(0)
+        except Difference as difference:
+            sys.exit(
+                f"trial {done + 1}, {count} programs, --size {size or 'left out'}, input {'held' if held else 'ended'},"
+                f" folder {root}: {difference}"
+            )
+        shutil.rmtree(root)
+    print(f"{len(plan)} of {len(plan)}")
+
+
+main()

@@ -1,0 +1,39 @@
+#!/usr/bin/env bash
+# Tries the wrong bodies that the gate leaves out: more_edits.sh [CRATE..]
+#
+# The gate tries some ten edits of each crate, those in crates/NAME/must-fail. The others lie in crates/NAME/more-edits, in
+# the same form. This script tries these, of the named crates or of all, in a copy of the repository: the prover has to
+# refuse each. Before it, each edit is looked at: the text that it replaces has to be in its file once.
+#
+# It prints what `rt must-fail` prints. The last line is `N edits refused`, with status 0, or names what was not, with
+# status 1. An edit takes some 15 to 30 seconds of a processor.
+set -euo pipefail
+here=$(cd "$(dirname "$0")/.." && pwd)
+room=$(mktemp -d)
+trap 'rm -rf "$room"' EXIT
+
+if [ $# -eq 0 ]; then
+  set -- $(cd "$here/crates" && for folder in */more-edits; do dirname "$folder"; done)
+fi
+
+# The repository as it is, with what its checks kept, which saves proving the crates below once more.
+cp -r "$here/crates.txt" "$here/HANDLES" "$here/crates" "$room"
+edits=0
+for crate in "$@"; do
+  folder="$room/crates/$crate"
+  if [ ! -d "$folder/more-edits" ]; then
+    echo "more_edits: $crate has no folder more-edits"
+    exit 1
+  fi
+  rm -rf "$folder/must-fail"
+  mv "$folder/more-edits" "$folder/must-fail"
+  edits=$((edits + $(ls "$folder/must-fail" | wc -l)))
+done
+
+cd "$room"
+if rt must-fail "$@"; then
+  echo "$edits edits refused"
+else
+  echo "more_edits: an edit was not refused, or can't be applied"
+  exit 1
+fi

@@ -1,0 +1,496 @@
+#!/usr/bin/env python3
+"""Looks at the calls by which the shell keeps its spool's file, and lets each of them fail: syncs.py [SHELL]
+
+No contract sees what a file's sync does. So this runs SHELL, or else crates/spool_shell/out/spool_shell (made by
+`rt run` in that folder), under strace (Debian's package `strace`), and looks at the calls themselves.
+
+Calls in order, at a first start on a fresh folder and at a second one on the same:
+
+- the folder is locked before any other name in it is touched, and stays so to the end;
+- a first start writes the file with zeros to its whole length, makes it a spool, syncs it and renames it, and opens its
+  first gate alone, after a sync of all else;
+- each start syncs the folder, after the rename, and the file, before it reads it, and writes nothing more, all before
+  the first byte of a reply;
+- an event is one write of its record with a closed gate behind it, a sync, one write of the open gate, a sync, and then
+  its reply; a refused command, a listing or a comment makes no write and no sync;
+- at the end the file holds the records that were written, and zeros.
+
+Calls that fail, one in each run: strace answers EIO or ENOSPC in its place, and the call isn't made:
+
+- of an event: it is answered `error disk`, each later one `error dead`, `jobs` still answers, and the program ends with
+  status 1 and `spool: disk`; the folder then opens, with the answered jobs, or these and the one under way;
+- of a start: `spool: disk`, status 1 and no reply; the folder has no `spool.disk` or a whole one, and no file at all
+  where there was no room for its bytes; a later start serves it.
+
+The last line is `N of N` for the runs, with status 0, or the first difference, with status 1. Without strace, or where
+it may not trace, the status is 2.
+"""
+import os
+import re
+import shutil
+import struct
+import subprocess
+import sys
+import tempfile
+
+here = os.path.dirname(os.path.abspath(__file__))
+built = os.path.join(here, "..", "crates", "spool_shell", "out", "spool_shell")
+shell = os.path.abspath(sys.argv[1] if len(sys.argv) > 1 else built)
+
+SIZE = 150_000  # more than two of the blocks in which the file is filled
+HEADER = 16  # bytes of an area's header
+OPEN = b"\xa5"  # an open gate
+FILE = "spool.disk"
+TYPE = "application/octet-stream"
+DISK = (1, "spool: disk\n")  # how a run ends whose device has failed
+SHOWN = 4096  # bytes of a write or read that strace shows
+
+KINDS = {
+    "open": "open openat creat",
+    "close": "close",
+    "lock": "flock",
+    "read": "read pread64",
+    "write": "write pwrite64",
+    "seek": "lseek",
+    "sync": "fsync fdatasync",
+    "length": "ftruncate",
+    "rename": "rename renameat renameat2",
+    "remove": "unlink unlinkat",
+    "look": "stat lstat fstat newfstatat statx access faccessat faccessat2",
+    # what could change the file unseen, or seem to sync it
+    "unknown": "writev pwritev pwritev2 mmap sendfile copy_file_range fallocate truncate link linkat sync_file_range",
+}
+KIND_OF = {call: kind for kind, calls in KINDS.items() for call in calls.split()}
+
+
+class Difference(Exception):
+    """The program doesn't do what it has to."""
+
+
+def demand(holds, text):
+    if not holds:
+        raise Difference(text)
+
+
+class Command:
+    """A command, its reply, whether it is an event, and how its job is listed from then on."""
+
+    def __init__(self, text, reply, event=False, job=None):
+        self.text = text + "\n"
+        self.reply = reply
+        self.event = event
+        self.job = job
+
+    def reply_when_dead(self):
+        """Its reply after the device has failed."""
+        keeps = self.text == "jobs\n" or self.reply in ("", "error syntax")
+        return self.reply if keeps else "error dead"
+
+
+def script(turn):
+    """The commands of one start, without the listings at its begin and its end."""
+    lab, first, second = f"lab{turn}", 2 * turn + 1, 2 * turn + 2
+
+    def event(text, reply="ok", number=first, shown=None, size=5, title="First"):
+        row = f'job {number} {lab} {shown} "ann" {size} 0 "{title}"'
+        return Command(text, reply, event=True, job=(number, row) if shown else None)
+
+    return [
+        event(f"queue {lab} spoolfile:/out {TYPE} abort-job"),
+        Command(f"queue {lab} spoolfile:/out {TYPE} abort-job", "error 2 QueueExists"),
+        Command("# no command", ""),
+        event(f'info {lab} "A printer" "Room 1"'),
+        event(f'create {lab} ann "First" 1 50 ""', f"ok job {first}", shown="4 job-incoming", size=0),
+        event(f"send {first} 5\nhello", "ok bytes 5", shown="4 job-incoming"),
+        event(f"close {first} page.txt", f"ok type {TYPE} stages 1", shown="3 none"),
+        event(f"hold {first} indefinite", shown="4 job-hold-until-specified"),
+        event(f"release {first}", shown="3 none"),
+        Command(f"release {first}", "error 15 NotHeld"),
+        Command("nonsense", "error syntax"),
+        event(f'create {lab} ann "Second" 2 60 ""', f"ok job {second}", second, "4 job-incoming", 0, "Second"),
+        event(f"cancel {second}", "ok", second, "7 canceled", 0, "Second"),
+        event(f"clock {1000 + turn}"),
+        event(f"reject {lab}"),
+        event(f"accept {lab}"),
+        event(f"disable {lab}"),
+        event(f"enable {lab}"),
+    ]
+
+
+def listed(commands):
+    """What `jobs` answers after these commands."""
+    rows = dict(command.job for command in commands if command.job)
+    return "\n".join([rows[number] for number in sorted(rows)] + [f"ok {len(rows)}"])
+
+
+def with_listings(before, commands):
+    """The commands between two listings; those before have been answered by earlier starts."""
+    return [Command("jobs", listed(before)), *commands, Command("jobs", listed(before + commands))]
+
+
+class Call:
+    """A call, as strace shows it. Names are told from the folder on, which itself is `.`"""
+
+    def __init__(self, line, root, counts):
+        found = re.fullmatch(r"(?:\d+ +)?(\w+)\((.*)\) += (-?\d+|\?)(.*)", line)
+        demand(found, f"strace shows {line!r}, which this script can't read")
+        self.call, words, result, self.rest = found.groups()
+        counts[self.call] = self.number = counts.get(self.call, 0) + 1
+        self.kind = KIND_OF[self.call]
+        self.words = words.split(", ")
+        self.result = -1 if result == "?" else int(result)
+        self.at = None
+        self.names = names_in(self.words, self.kind, root)
+        self.name = self.names[0] if self.names else None
+
+    def descriptor(self):
+        return int(self.words[0].split("<")[0])
+
+    def data(self):
+        """The bytes of a read or write, or of a long one the first."""
+        return bytes_in(self.words[1])
+
+    def __str__(self):
+        if self.kind == "reply":
+            return f"the reply {self.data()!r}"
+        place = "" if self.at is None else f", {self.result} bytes at {self.at}"
+        return f"{self.call} number {self.number}, of {self.name}{place}"
+
+
+def bytes_in(word):
+    """The bytes of a text that strace shows in hexadecimal."""
+    return bytes.fromhex("".join(re.findall(r"\\x([0-9a-f]{2})", word)))
+
+
+def names_in(words, kind, root):
+    """The names inside the folder that a call's words have."""
+    paths = []
+    base = root
+    for word in words:
+        if "<" in word:
+            base = os.fsdecode(bytes_in(word))
+            if not word.startswith("AT_FDCWD"):
+                paths.append(base)
+        elif word.startswith('"') and kind in ("open", "rename", "remove", "look"):
+            paths = [path for path in paths if path != base]
+            paths.append(os.path.normpath(os.path.join(base, os.fsdecode(bytes_in(word)))))
+    return [os.path.relpath(path, root) for path in paths if path == root or path.startswith(root + os.sep)]
+
+
+def place_calls(calls):
+    """Says of each read and write where in its file it is."""
+    places = {}
+    for call in calls:
+        if call.result < 0:
+            continue
+        if call.kind == "open":
+            places[call.result] = 0
+        elif call.kind == "seek":
+            places[call.descriptor()] = call.result
+        elif call.call in ("pread64", "pwrite64"):
+            call.at = int(call.words[3])
+        elif call.kind in ("read", "write"):
+            call.at = places.get(call.descriptor(), 0)
+            places[call.descriptor()] = call.at + call.result
+
+
+def calls_of(trace, root):
+    """The calls on the folder, and the writes of replies as calls of the kind `reply`."""
+    counts = {}
+    with open(trace, encoding="ascii") as file:
+        lines = [line.rstrip("\n") for line in file]
+    calls = [Call(line, root, counts) for line in lines if not re.match(r"(\d+ +)?(---|\+\+\+)", line)]
+    place_calls(calls)
+    for call in calls:
+        demand(call.kind != "unknown" or not call.names, f"{call} is a call that this script can't follow")
+        if call.kind == "write" and call.descriptor() == 1:
+            call.kind = "reply"
+    return [call for call in calls if call.names or call.kind == "reply"]
+
+
+class Run:
+    """A run of the program over the folder, traced, and with one call failing where one is named."""
+
+    def __init__(self, root, commands, failing=None, error=None):
+        words = [shell, "--root", ".", "--size", str(SIZE)]
+        with tempfile.TemporaryDirectory() as folder:
+            trace = os.path.join(folder, "trace")
+            names = ",".join("?" + call for call in KIND_OF)
+            strace = ["strace", "-f", "-y", "-xx", "-s", str(SHOWN), "-o", trace, "-e", f"trace={names}"]
+            if failing:
+                strace += ["-e", f"inject={failing.call}:error={error}:when={failing.number}"]
+            text = "".join(command.text for command in commands)
+            done = subprocess.run([*strace, *words], cwd=root, input=text, capture_output=True, text=True, timeout=60)
+            self.calls = calls_of(trace, root)
+        self.replies = done.stdout
+        self.ending = (done.returncode, done.stderr)
+        failed = [(call.kind, call.names) for call in self.calls if "(INJECTED)" in call.rest]
+        demand(not failing or failed == [(failing.kind, failing.names)], f"strace let {failed} fail, not {failing}")
+
+    def answers(self, replies, ending=(0, "")):
+        """Refuses other replies, and another end."""
+        wanted = "".join(reply + "\n" for reply in replies if reply)
+        demand(self.replies == wanted, f"answered {self.replies!r}, not {wanted!r}")
+        demand(self.ending == ending, f"ended with {self.ending}, not {ending}")
+
+
+def first_index(calls, kind, name=None):
+    """The place of the first such call."""
+    for index, call in enumerate(calls):
+        if call.kind == kind and name in (None, call.name):
+            return index
+    raise Difference(f"there is no {kind} of {name or 'any file'}")
+
+
+def has_sync(calls, name):
+    return any(call.kind == "sync" and call.name == name and call.result == 0 for call in calls)
+
+
+def check_lock(calls):
+    """The folder is locked before any other name in it is touched, and to the end."""
+    at = first_index(calls, "lock", ".")
+    lock = calls[at]
+    demand("LOCK_EX" in lock.words[1] and lock.result == 0, f"the folder isn't locked by {lock}")
+    for call in calls[:at]:
+        demand(call.names == ["."], f"{call} comes before the folder's lock")
+    last = max(index for index, call in enumerate(calls) if call.kind != "close")
+    for call in calls[at:last]:
+        let_go = call.kind == "close" or call.kind == "lock" and "LOCK_UN" in call.words[1]
+        demand(not let_go or call.descriptor() != lock.descriptor(), "the folder's lock is let go before the end")
+
+
+def check_fill(writes):
+    """The zeros that come first, to the file's whole length. It gives the other writes."""
+    filled = 0
+    while filled < SIZE:
+        demand(writes, f"the file is filled to {filled} bytes, not to {SIZE}")
+        write = writes.pop(0)
+        zeros = write.kind == "write" and write.at == filled and not any(write.data())
+        demand(zeros and write.result > 0, f"{write} comes before the file has its zeros to the end, from {filled} on")
+        filled += write.result
+    demand(filled == SIZE, f"the file is filled to {filled} bytes, not to {SIZE}")
+
+
+def check_making(calls):
+    """The file is written, made and synced under another name, and then renamed. It gives the calls after that."""
+    at = first_index(calls, "rename")
+    rename = calls[at]
+    demand(rename.names[-1] == FILE and rename.result == 0, f"{rename} doesn't give the file its name")
+    made = [call for call in calls[:at] if call.name == rename.name and call.kind in ("write", "sync")]
+    demand(all(call.result >= 0 for call in made), "a call failed while the spool was made")
+    check_fill(made)
+    kinds = [call.kind for call in made]
+    demand(kinds[-1:] == ["sync"], "the file isn't synced, as the last call, before its rename")
+    demand(kinds[-3:] == ["sync", "write", "sync"], "what stands behind the first header's gate isn't synced before it")
+    gate = made[-2]
+    demand(gate.at == 0 and gate.data() == OPEN, f"{gate} isn't the first header's gate")
+    return calls[at + 1 :]
+
+
+def check_opening(calls):
+    """The folder is synced before the first reply, and the file before it is read; nothing is written."""
+    demand(has_sync(calls, "."), "the folder isn't synced before the first reply")
+    for call in calls:
+        changes = call.kind in ("write", "length", "rename", "remove") and call.result >= 0
+        demand(not changes, f"{call} comes in an opening")
+    read = first_index(calls, "read", FILE)
+    demand(has_sync(calls[:read], FILE), "the file isn't synced before it is read")
+
+
+class Journal:
+    """The calls from the first reply on, taken one after another."""
+
+    def __init__(self, calls, gate):
+        self.calls = [call for call in calls if call.kind not in ("read", "look", "seek", "close")]
+        self.gate = gate
+        self.records = b""
+        self.replied = b""
+
+    def take(self, kind, what):
+        """The next call, which is of this kind."""
+        demand(self.calls, f"nothing comes in place of {what}")
+        call = self.calls.pop(0)
+        fits = call.kind == kind and call.name in (FILE, None) and call.result >= 0
+        demand(fits, f"{call} comes in place of {what}")
+        return call
+
+    def take_event(self, text):
+        """The record behind the closed gate and a sync, the gate and a sync."""
+        demand(not self.replied, f"{self.replied!r} is replied before the record of {text!r}")
+        record = self.take("write", f"the record of {text!r}")
+        data = record.data()
+        whole = record.at == self.gate + 1 and len(data) == record.result and len(data) > 5
+        demand(whole and struct.unpack(">I", data[:4])[0] == len(data) - 5, f"{record} is no record behind {self.gate}")
+        demand(data[-1:] == b"\0", f"{record} leaves the next gate open")
+        self.take("sync", f"the sync of the record of {text!r}")
+        gate = self.take("write", f"the gate of {text!r}")
+        demand(gate.at == self.gate and gate.data() == OPEN, f"{gate} doesn't open the gate at {self.gate}")
+        self.take("sync", f"the sync of the gate of {text!r}")
+        self.records += OPEN + data[:-1]
+        self.gate = record.at + len(data) - 1
+
+    def take_reply(self, reply):
+        """One reply. Of commands that are no events several may be written at once."""
+        wanted = (reply + "\n").encode()
+        while len(self.replied) < len(wanted):
+            call = self.take("reply", f"the reply {reply!r}")
+            self.replied += call.data()[: call.result]
+        demand(self.replied.startswith(wanted), f"{self.replied!r} is replied, not {reply!r}")
+        self.replied = self.replied[len(wanted) :]
+
+
+def check_commands(calls, commands, gate):
+    """Each command's calls, up to its reply. It gives the journal."""
+    journal = Journal(calls, gate)
+    for command in commands:
+        if command.event:
+            journal.take_event(command.text)
+        if command.reply:
+            journal.take_reply(command.reply)
+    for call in journal.calls:
+        raise Difference(f"{call} comes after the last reply")
+    return journal
+
+
+def check_file(root, records):
+    """The file is a spool with these records, and zeros."""
+    header = OPEN + b"\x01" + struct.pack(">Q", 1) + bytes(6)
+    with open(os.path.join(root, FILE), "rb") as file:
+        disk = file.read()
+    demand(disk == (header + records).ljust(SIZE, b"\0"), "the file holds other bytes than those that were written")
+    demand(os.listdir(root) == [FILE], f"the folder has {os.listdir(root)}")
+
+
+def check_order(root, kept):
+    """Both starts, each call in its place. It gives their runs, and keeps a copy of the spool between them."""
+    runs = []
+    before = []
+    gate, records = HEADER, b""
+    for turn in range(2):
+        commands = with_listings(before, script(turn))
+        run = Run(root, commands)
+        run.answers([command.reply for command in commands])
+        reply = first_index(run.calls, "reply")
+        opening = run.calls[:reply]
+        check_lock(run.calls)
+        check_opening(check_making(opening) if turn == 0 else opening)
+        journal = check_commands(run.calls[reply:], commands, gate)
+        gate, records = journal.gate, records + journal.records
+        check_file(root, records)
+        if turn == 0:
+            shutil.copy(os.path.join(root, FILE), kept)
+        before += script(turn)
+        runs.append(run)
+    return runs
+
+
+def fresh():
+    """A new folder, by its only name."""
+    return os.path.realpath(tempfile.mkdtemp())
+
+
+def check_served(root, before, others=()):
+    """A start on the folder lists the jobs of these commands, or of these and the others, and takes an event."""
+    words = [shell, "--root", ".", "--size", str(SIZE)]
+    text = f"jobs\nqueue later spoolfile:/out {TYPE} abort-job\n"
+    done = subprocess.run(words, cwd=root, input=text, capture_output=True, text=True, timeout=60)
+    wanted = [listed(before) + "\nok\n", listed([*before, *others]) + "\nok\n"]
+    served = done.returncode == 0 and not done.stderr and done.stdout in wanted
+    demand(served, f"afterwards it ended with {done.returncode}, {done.stderr!r} and answered {done.stdout!r}")
+
+
+def event_fails(root, place, failing, error):
+    """One run in which a call of the event at this place fails."""
+    commands = with_listings([], script(0))
+    before = commands[:place]
+    commands[-1] = Command("jobs", listed(before))
+    late = [command.reply_when_dead() for command in commands[place + 1 :]]
+    run = Run(root, commands, failing, error)
+    run.answers([command.reply for command in before] + ["error disk"] + late, DISK)
+    check_served(root, before, [commands[place]])
+
+
+def start_fails(root, before, failing, error):
+    """One run in which a call of its start fails, after a start with these commands or none."""
+    run = Run(root, with_listings(before, script(1 if before else 0)), failing, error)
+    run.answers([], DISK)
+    files = os.listdir(root)
+    demand(error != "ENOSPC" or not files, f"the folder has {files}")
+    if FILE in files:
+        demand(os.path.getsize(os.path.join(root, FILE)) == SIZE, "the spool isn't whole")
+    check_served(root, before)
+
+
+def failing_events(run):
+    """For each event its place among the commands, and the four calls that may fail."""
+    calls = [call for call in run.calls if call.kind in ("write", "sync", "reply")]
+    calls = calls[first_index(calls, "reply") :]
+    calls = [call for call in calls if call.kind != "reply"]
+    places = [place for place, command in enumerate(with_listings([], script(0))) if command.event]
+    for index, place in enumerate(places):
+        for call in calls[4 * index : 4 * index + 4]:
+            yield place, call
+
+
+def failing_starts(run):
+    """The calls of a start that may fail, each with its error."""
+    for call in run.calls[: first_index(run.calls, "reply")]:
+        if call.kind == "close" or (call.kind, call.name) == ("look", "."):
+            continue
+        yield call, "EIO"
+        if call.kind == "write":
+            yield call, "ENOSPC"
+
+
+def in_folder(made, what, check, *words):
+    """A check in a folder of its own, which is a copy of the one given. It stays where there is a difference."""
+    root = fresh()
+    try:
+        if made:
+            shutil.copytree(made, root, dirs_exist_ok=True)
+        result = check(root, *words)
+    except (Difference, subprocess.TimeoutExpired) as difference:
+        sys.exit(f"{what}, folder {root}: {difference}")
+    shutil.rmtree(root)
+    return result
+
+
+def failures(first, second, kept):
+    """All failing runs, one after another. It gives their number."""
+    count = 0
+    for place, call in failing_events(first):
+        error = ("EIO", "ENOSPC")[count // 4 % 2]
+        in_folder(None, f"{call} fails by {error}", event_fails, place, call, error)
+        count += 1
+    for call, error in failing_starts(first):
+        in_folder(None, f"at a first start {call} fails by {error}", start_fails, [], call, error)
+        count += 1
+    for call, error in failing_starts(second):
+        in_folder(kept, f"at a second start {call} fails by {error}", start_fails, script(0), call, error)
+        count += 1
+    return count
+
+
+def may_trace():
+    """Whether strace is here, and may trace a program."""
+    if not shutil.which("strace"):
+        print("no strace: apt-get install strace", file=sys.stderr)
+        return False
+    done = subprocess.run(["strace", "-o", os.devnull, "true"], capture_output=True, text=True)
+    if done.returncode != 0:
+        print(f"strace may not trace here: {done.stderr}", file=sys.stderr)
+    return done.returncode == 0
+
+
+def main():
+    if not os.path.exists(shell):
+        sys.exit(f"no program {shell}: run `rt run` in crates/spool_shell first")
+    if not may_trace():
+        sys.exit(2)
+    with tempfile.TemporaryDirectory() as kept:
+        first, second = in_folder(None, "in order", check_order, kept)
+        count = 2 + failures(first, second, kept)
+    print(f"{count} of {count}")
+
+
+main()
