@@ -1,23 +1,38 @@
 #!/usr/bin/env bash
 # Tries the wrong bodies that the gate leaves out: more_edits.sh [CRATE..]
 #
-# The gate tries some ten edits of each crate, those in crates/NAME/must-fail. The others lie in crates/NAME/more-edits, in
+# The gate tries some ten edits of each crate, those in crates/NAME/must-fail. The others are in crates/NAME/more-edits, in
 # the same form. This script tries these, of the named crates or of all, in a copy of the repository: the prover has to
-# refuse each. Before it, each edit is looked at: the text that it replaces has to be in its file once.
+# refuse each.
 #
 # It prints what `rt must-fail` prints. The last line is `N edits refused`, with status 0, or names what was not, with
-# status 1. An edit takes some 15 to 30 seconds of a processor.
+# status 1. An edit takes some 15 to 30 seconds of a processor, and a crate that wasn't checked here before as long as its
+# first check.
 set -euo pipefail
 here=$(cd "$(dirname "$0")/.." && pwd)
 room=$(mktemp -d)
 trap 'rm -rf "$room"' EXIT
 
+# A crate, and those of the repository that it uses, directly or not.
+with_lower() {
+  echo "$1"
+  for lower in $(sed -n "s/^$1:\(.*\)/\1/p" "$here/crates.txt"); do
+    if [ -d "$here/crates/$lower" ]; then with_lower "$lower"; fi
+  done
+}
+
 if [ $# -eq 0 ]; then
   set -- $(cd "$here/crates" && for folder in */more-edits; do dirname "$folder"; done)
 fi
 
-# The repository as it is, with what its checks kept, which saves proving the crates below once more.
-cp -r "$here/crates.txt" "$here/HANDLES" "$here/crates" "$room"
+# With what the checks kept in out/, which saves proving the lower crates once more.
+mkdir "$room/crates"
+cp "$here/HANDLES" "$room"
+for crate in $(for name in "$@"; do with_lower "$name"; done | sort -u); do
+  grep "^$crate:" "$here/crates.txt" >> "$room/crates.txt"
+  cp -r "$here/crates/$crate" "$room/crates"
+done
+
 edits=0
 for crate in "$@"; do
   folder="$room/crates/$crate"

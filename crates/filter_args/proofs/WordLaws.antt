@@ -1,0 +1,157 @@
+-- The words of a text of options, read from its front.
+use Rattle.std.proofs.Common.{◌≡◌, ℕ, suc, ◌+◌, ◌<◌, ◌≤◌, Bool, true, false, ◌&&◌, ◌||◌, not, cond, List, [], ◌∷◌, ◌++◌, length, get_or, take, drop, filter, refl, ap, sym, ◌∙◌, arith, eqb, ◌⊎◌, inl, inr, Ok, Err, Result}
+use Rattle.std.proofs.lemmas.List.{append_assoc, append-nil, take_more, drop_more, take_all, drop_all}
+use Rattle.std.proofs.lemmas.Bool.{and_parts, or_cases, eqb-true}
+use Rattle.std.specs.List.{list_any, position_or_len, before_first, after_first}
+use Rattle.line_words.specs.Blanks.{is_blank}
+use Rattle.filter_args.specs.declared.fault.OptionFault.{OptionFault}
+use Rattle.filter_args.specs.declared.fault.OptionFault.TheVariants.{BadName, Unclosed, Collection, Memory}
+use Rattle.filter_args.specs.Seen.{IsFault}
+use Rattle.filter_args.specs.declared.quoting.Quoting.{Quoting}
+use Rattle.filter_args.specs.declared.quoting.Quoting.TheVariants.{Bare}
+use Rattle.filter_args.specs.Pairs.{Pair, put, put_all}
+use Rattle.filter_args.specs.Quoting.{next, is_bare, is_cut}
+use Rattle.filter_args.specs.Reading.{in_front, pieces, word_here, after_word, is_some_bytes, words_of, is_equals, bare_in, named_pair, pair_in, then_pairs, pairs_in, put_read, with_word, joined}
+
+-- the pieces after the first
+later : Quoting → List ℕ → List (List ℕ)
+later place [] = []
+later place (b ∷ bs) = cond (is_cut place b) (pieces Bare bs) (later (next place b) bs)
+
+pieces_first : (place : Quoting) (text : List ℕ) → pieces place text ≡ word_here place text ∷ later place text
+unfolding later
+pieces_first place [] = refl
+pieces_first place (b ∷ bs) =
+    elim (is_cut place b) as (λ v. cond v ([] ∷ pieces Bare bs) (in_front b (pieces (next place b) bs)) ≡ cond v [] (b ∷ word_here (next place b) bs) ∷ cond v (pieces Bare bs) (later (next place b) bs)) [
+      | true ↦ refl
+      | false ↦ ap (in_front b) (pieces_first (next place b) bs)
+    ]
+
+later_words : (place : Quoting) (text : List ℕ) → filter is_some_bytes (later place text) ≡ words_of (after_word place text)
+unfolding later
+later_words place [] = refl
+later_words place (b ∷ bs) =
+    elim (is_cut place b) as (λ v. filter is_some_bytes (cond v (pieces Bare bs) (later (next place b) bs)) ≡ words_of (cond v bs (after_word (next place b) bs))) [
+      | true ↦ refl
+      | false ↦ later_words (next place b) bs
+    ]
+
+-- a text's words are its first one, if it isn't empty, and those of what follows
+pub words_split : (text : List ℕ) → words_of text ≡ cond (is_some_bytes (word_here Bare text)) (word_here Bare text ∷ words_of (after_word Bare text)) (words_of (after_word Bare text))
+words_split text =
+    ap (filter is_some_bytes) (pieces_first Bare text)
+    ∙ ap (λ l. cond (is_some_bytes (word_here Bare text)) (word_here Bare text ∷ l) l) (later_words Bare text)
+
+-- a word that is read up to byte i
+module _ (xs : List ℕ) (i : ℕ) (less : i < length xs) (place : Quoting) where
+  at_byte : {X : Type 0} (f : List ℕ → X) → f (get_or xs i 0 ∷ drop (i + 1) xs) ≡ f (drop i xs)
+  at_byte f = ap f (sym (drop_more xs i 0 less))
+
+  pub word_ends : is_cut place (get_or xs i 0) ≡ true → take i xs ++ word_here place (drop i xs) ≡ word_here Bare xs → take i xs ≡ word_here Bare xs
+  word_ends cut same =
+      sym (append-nil (take i xs)) ∙ ap (λ v. take i xs ++ cond v [] (get_or xs i 0 ∷ word_here (next place (get_or xs i 0)) (drop (i + 1) xs))) (sym cut)
+      ∙ at_byte (λ l. take i xs ++ word_here place l) ∙ same
+
+  pub word_more : is_cut place (get_or xs i 0) ≡ false → take i xs ++ word_here place (drop i xs) ≡ word_here Bare xs
+      → take (i + 1) xs ++ word_here (next place (get_or xs i 0)) (drop (i + 1) xs) ≡ word_here Bare xs
+  word_more other same =
+      ap (λ l. l ++ word_here (next place (get_or xs i 0)) (drop (i + 1) xs)) (take_more xs i 0 less)
+      ∙ append_assoc (take i xs) (get_or xs i 0 ∷ []) (word_here (next place (get_or xs i 0)) (drop (i + 1) xs))
+      ∙ ap (λ v. take i xs ++ cond v [] (get_or xs i 0 ∷ word_here (next place (get_or xs i 0)) (drop (i + 1) xs))) (sym other)
+      ∙ at_byte (λ l. take i xs ++ word_here place l) ∙ same
+
+  pub rest_begins : is_cut place (get_or xs i 0) ≡ true → after_word place (drop i xs) ≡ after_word Bare xs → drop (i + 1) xs ≡ after_word Bare xs
+  rest_begins cut same =
+      ap (λ v. cond v (drop (i + 1) xs) (after_word (next place (get_or xs i 0)) (drop (i + 1) xs))) (sym cut) ∙ at_byte (after_word place) ∙ same
+
+  pub rest_more : is_cut place (get_or xs i 0) ≡ false → after_word place (drop i xs) ≡ after_word Bare xs → after_word (next place (get_or xs i 0)) (drop (i + 1) xs) ≡ after_word Bare xs
+  rest_more other same =
+      ap (λ v. cond v (drop (i + 1) xs) (after_word (next place (get_or xs i 0)) (drop (i + 1) xs))) (sym other) ∙ at_byte (after_word place) ∙ same
+
+pub word_whole : (xs : List ℕ) (i : ℕ) (place : Quoting) → length xs ≤ i → take i xs ++ word_here place (drop i xs) ≡ word_here Bare xs → xs ≡ word_here Bare xs
+word_whole xs i place le same =
+    sym (append-nil xs) ∙ ap (λ l. l ++ []) (sym (take_all i xs le)) ∙ ap (λ l. take i xs ++ word_here place l) (sym (drop_all i xs le)) ∙ same
+
+pub rest_empty : (xs : List ℕ) (i : ℕ) (place : Quoting) → length xs ≤ i → after_word place (drop i xs) ≡ after_word Bare xs → [] ≡ after_word Bare xs
+rest_empty xs i place le same = ap (after_word place) (sym (drop_all i xs le)) ∙ same
+
+after_word_short : (place : Quoting) (text : List ℕ) → length (after_word place text) ≤ length text
+after_word_short place [] = omega arith
+after_word_short place (b ∷ bs) =
+    let rest = after_word_short (next place b) bs in
+    elim (is_cut place b) as (λ v. length (cond v bs (after_word (next place b) bs)) ≤ suc (length bs)) [ true ↦ omega arith | false ↦ omega arith ]
+
+-- what follows a word is shorter than the text
+pub after_word_shorter : (text : List ℕ) → 1 ≤ length text → length (after_word Bare text) < length text
+after_word_shorter [] some = absurd (omega arith)
+after_word_shorter (b ∷ bs) some =
+    let rest = after_word_short (next Bare b) bs in
+    elim (is_cut Bare b) as (λ v. length (cond v bs (after_word (next Bare b) bs)) < suc (length bs)) [ true ↦ omega arith | false ↦ omega arith ]
+
+-- a byte that ends a word is ASCII
+pub cut_ascii : (place : Quoting) (b : ℕ) → is_cut place b ≡ true → b < 128
+cut_ascii place b h = by (or_cases (eqb b 32) (eqb b 9) (and_parts (is_blank b) (is_bare place) h).0)
+  where
+    by : (eqb b 32 ≡ true) ⊎ (eqb b 9 ≡ true) → b < 128
+    by (inl e) = let is = eqb-true b 32 e in omega arith
+    by (inr e) = let is = eqb-true b 9 e in omega arith
+
+-- ## The pairs of the words
+
+-- one pair more
+pub joined_more : (qs : List Pair) (p : Pair) (r : Result (List Pair) OptionFault) → joined qs (then_pairs (Ok p) r) ≡ joined (put qs p) r
+joined_more qs p (Ok ps) = refl
+joined_more qs p (Err fault) = refl
+
+-- these options with a word, and then the pairs that were read
+abbrev pub then_joined : Result (List Pair) OptionFault → Result (List Pair) OptionFault → Result (List Pair) OptionFault
+then_joined (Ok qs) rest = joined qs rest
+then_joined (Err fault) rest = Err fault
+
+-- a text's pairs are those of its first word, and then those of what follows
+pub joined_word : (qs : List Pair) (text : List ℕ)
+    → joined qs (pairs_in (words_of text)) ≡ then_joined (with_word qs (word_here Bare text)) (pairs_in (words_of (after_word Bare text)))
+joined_word qs text =
+    ap (λ ws. joined qs (pairs_in ws)) (words_split text) ∙ by (is_some_bytes (word_here Bare text))
+  where
+    read : (r : Result Pair OptionFault) → joined qs (then_pairs r (pairs_in (words_of (after_word Bare text)))) ≡ then_joined (put_read qs r) (pairs_in (words_of (after_word Bare text)))
+    read (Ok p) = joined_more qs p (pairs_in (words_of (after_word Bare text)))
+    read (Err fault) = refl
+
+    by : (v : Bool)
+        → joined qs (pairs_in (cond v (word_here Bare text ∷ words_of (after_word Bare text)) (words_of (after_word Bare text))))
+        ≡ then_joined (cond v (put_read qs (pair_in (word_here Bare text))) (Ok qs)) (pairs_in (words_of (after_word Bare text)))
+    by true = read (pair_in (word_here Bare text))
+    by false = refl
+
+-- what the first word's fault, or its pair, makes of the text's reading
+pub fault_told : (qs : List Pair) (text : List ℕ) (fault : OptionFault) (all : Result (List Pair) OptionFault)
+    → IsFault fault (with_word qs (word_here Bare text)) → joined qs (pairs_in (words_of text)) ≡ all → IsFault fault all
+fault_told qs text fault all told same = by fault told
+  where
+    on : (f : OptionFault) → with_word qs (word_here Bare text) ≡ Err f → all ≡ Err f
+    on f e = sym same ∙ joined_word qs text ∙ ap (λ r. then_joined r (pairs_in (words_of (after_word Bare text)))) e
+
+    by : (f : OptionFault) → IsFault f (with_word qs (word_here Bare text)) → IsFault f all
+    by BadName e = on BadName e
+    by Unclosed e = on Unclosed e
+    by Collection e = on Collection e
+    by Memory e = tt
+
+pub pair_told : (qs rs : List Pair) (text : List ℕ) (all : Result (List Pair) OptionFault)
+    → with_word qs (word_here Bare text) ≡ Ok rs → joined qs (pairs_in (words_of text)) ≡ all → joined rs (pairs_in (words_of (after_word Bare text))) ≡ all
+pair_told qs rs text all told same =
+    ap (λ r. then_joined r (pairs_in (words_of (after_word Bare text)))) (sym told) ∙ sym (joined_word qs text) ∙ same
+
+none_equals : (bytes : List ℕ) → position_or_len is_equals bytes ≡ length bytes → list_any is_equals bytes ≡ false
+none_equals [] h = refl
+none_equals (b ∷ bs) h = by (is_equals b) h (none_equals bs)
+  where
+    by : (v : Bool) → cond (not v) (1 + position_or_len is_equals bs) 0 ≡ suc (length bs) → (position_or_len is_equals bs ≡ length bs → list_any is_equals bs ≡ false) → (v || list_any is_equals bs) ≡ false
+    by true e rest = absurd (omega arith)
+    by false e rest = rest (omega arith)
+
+-- a word without '=' is a bare name
+pub pair_in_bare : (word : List ℕ) → position_or_len is_equals word ≡ length word → bare_in word ≡ pair_in word
+pair_in_bare word h =
+    ap (λ v. cond v (named_pair (before_first is_equals word) (after_first is_equals word)) (bare_in word)) (sym (none_equals word h))

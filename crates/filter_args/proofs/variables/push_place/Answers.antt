@@ -1,0 +1,11 @@
+use Rattle.std.proofs.Common.{◌++◌, ℕ, List, codes, ap, refl, map, string_bytes, sym, ◌∙◌}
+use Rattle.filter_args.specs.Environment.{variable, document_variables, device_variables, place_variables, printer_variables, stage_variables}
+use Rattle.filter_args.specs.Seen.{texts}
+use Rattle.filter_args.proofs.ListLaws.{two, four}
+use Rattle.filter_args.proofs.variables.push_place.Goals as goal
+
+pub returns : goal.returns
+returns c =
+    two (texts c.args.variables.now) _ _ _ _ _ _ c.in_ok-push.ensures c.in_ok-push-2.ensures
+    (ap (λ (v : List ℕ). variable (codes "LANG") v) c.as_str.ensures.value)
+    (ap (λ (v : List ℕ). variable (codes "PATH") v) c.as_str-2.ensures.value)

@@ -1,0 +1,9 @@
+-- The arguments of a filter or a backend (filter(7), backend(7)).
+use Rattle.std.specs.Prelude.{ℕ, List, [], ◌∷◌, ◌++◌, Option, None, Some}
+use Rattle.std.specs.Fmt.{decimal}
+use Rattle.std.specs.Option.{option_to_list}
+use Rattle.spool_types.specs.declared.rows.JobRow.{JobRow}
+
+-- the job's number, its user, its title, how many copies, its options, and the document where it is a file
+abbrev pub arguments : JobRow → Option (List ℕ) → List (List ℕ)
+arguments job file = decimal job.id ∷ job.user ∷ job.title ∷ decimal job.copies ∷ job.options ∷ option_to_list file

@@ -1,0 +1,8 @@
+pub mod Pairs
+pub mod Quoting
+pub mod Reading
+pub mod Printing
+pub mod Seen
+pub mod Files
+pub mod Arguments
+pub mod Environment

@@ -1,0 +1,93 @@
+//! The options of a job.
+ghost use Rattle.std.specs.Prelude.{◌≡◌, Ok, IfOk};
+ghost use Rattle.std.specs.Option.{option_map};
+ghost use Rattle.std.specs.String.{string_bytes};
+ghost use Rattle.filter_args.specs.Pairs.{value_of};
+ghost use Rattle.filter_args.specs.Reading.{reading, with_word};
+ghost use Rattle.filter_args.specs.Printing.{printed};
+ghost use Rattle.filter_args.specs.Seen.{Gives, pairs_of};
+
+use crate::fault::OptionFault;
+use crate::printing::push_pair;
+use crate::reading::{read_pair, split_word};
+use indexmap::IndexMap;
+use std::alloc::{AllocError, Global};
+use std::borrow::CowStr;
+use std::marker::Model;
+
+/// Options in the order of their first appearance, each name once.
+#[derive(Drop)]
+pub struct Options<'a> {
+    pairs: IndexMap<&'a str, CowStr<'a, Global>>,
+}
+
+impl<'a> Model for Options<'a> {
+    ghost use Rattle.std.specs.Prelude.{◌≡◌, true, List, ℕ};
+    ghost use Rattle.filter_args.specs.Pairs.{are_options};
+    ghost use Rattle.filter_args.specs.Seen.{pairs_of};
+
+    ghost Value = { List (List ℕ × List ℕ) };
+
+    ghost view = { λ a. pairs_of a.pairs.entries };
+
+    ghost invariant = { λ a. are_options (pairs_of a.pairs.entries) ≡ true };
+}
+
+impl<'a> Options<'a> {
+    /// Reads a text of options, one after the other from the left.
+    pub fn parse(alloc: Global, text: &'a str) -> Result<Options<'a>, OptionFault>
+        ensures { Gives result (λ options. options) (reading text.now) }
+    {
+        let mut pairs = IndexMap::new(alloc);
+        let mut rest = text;
+        while !rest.is_empty() {
+            let (word, behind) = split_word(rest);
+            add_word(alloc, &mut pairs, word)?;
+            rest = behind;
+        }
+        Ok(Options { pairs })
+    }
+
+    /// The options as one text, with one blank between them and a backslash before each blank, quote and backslash of a
+    /// value, and before a `{` at its start.
+    pub fn print(&self) -> Result<String, AllocError>
+        ensures value { IfOk result (λ text. string_bytes text ≡ printed self.now) }
+        ensures read_back { reading (printed self.now) ≡ Ok self.now }
+    {
+        let mut text = String::new(*self.pairs.allocator());
+        let mut pairs = self.pairs.iter();
+        let Some((name, value)) = pairs.next() else {
+            return Ok(text);
+        };
+        push_pair(&mut text, name, value.as_str())?;
+        for (name, value) in pairs {
+            text.push(' ')?;
+            push_pair(&mut text, name, value.as_str())?;
+        }
+        Ok(text)
+    }
+
+    /// The value of a name, which is there at most once.
+    pub fn get(&self, name: &str) -> Option<&str>
+        ensures { option_map (λ value. value.now) result ≡ value_of name.now self.now }
+    {
+        let value = self.pairs.get(name)?;
+        Some(value.as_str())
+    }
+}
+
+// Puts the pair of a word, unless the word is empty.
+fn add_word<'a>(
+    alloc: Global,
+    pairs: &mut IndexMap<&'a str, CowStr<'a, Global>>,
+    word: &'a str,
+) -> Result<(), OptionFault>
+    ensures value { Gives result (λ _. pairs_of pairs.new.entries) (with_word (pairs_of pairs.old.entries) word.now) }
+{
+    if word.is_empty() {
+        return Ok(());
+    }
+    let (name, value) = read_pair(alloc, word)?;
+    pairs.insert(name, value)?;
+    Ok(())
+}

@@ -1,0 +1,10 @@
+pub mod CutLaws
+pub mod PieceLaws
+pub mod TextLaws
+pub mod ReasonLaws
+pub mod NumberLaws
+pub mod PageLaws
+pub mod QuotingLaws
+pub mod TallyLaws
+pub mod LineLaws
+pub mod ReportLaws

@@ -1,0 +1,13 @@
+-- the reasons so far are counted
+use Rattle.std.proofs.Common.{◌≡◌, ◌+◌, length}
+use Rattle.std.specs.Option.{option_copied}
+use Rattle.stderr_lines.specs.EffectSizes.{texts_size}
+use Rattle.stderr_lines.specs.Reasons.{reasons_of}
+use Rattle.stderr_lines.specs.Rests.{reasons_from, rest_weight}
+use Rattle.stderr_lines.proofs.reasons.reasons_size.Given as goal
+
+abbrev pub invariant-loop-rest : goal.invariant-loop-rest
+invariant-loop-rest l = l.size + texts_size (reasons_from (option_copied l.rest)) ≡ texts_size (reasons_of l.text)
+
+abbrev pub decreases-loop-rest : goal.decreases-loop-rest
+decreases-loop-rest l = rest_weight (option_copied l.rest)

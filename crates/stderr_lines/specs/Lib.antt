@@ -1,0 +1,13 @@
+pub mod EffectSizes
+pub mod Cuts
+pub mod Pages
+pub mod Reasons
+pub mod Quoting
+pub mod Attributes
+pub mod LineEffects
+pub mod Reports
+pub mod Pending
+pub mod Tallies
+pub mod Drafts
+pub mod Rests
+pub mod Held

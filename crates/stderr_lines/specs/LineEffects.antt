@@ -1,0 +1,80 @@
+-- The effects of each line of a text, by its prefix (filter(7)).
+use Rattle.std.specs.Prelude.{ℕ, Bool, cond, nat_eq, ◌==◌, List, [], ◌∷◌, take, map, codes, Option, None, Some}
+use Rattle.std.specs.List.{slice_split, flat_map}
+use Rattle.std.specs.Option.{option_to_list}
+use Rattle.std.specs.Cmp.Lexicographic.{pointwise}
+use Rattle.line_words.specs.Blanks.{after_blanks}
+use Rattle.spool_types.specs.Values.{is_printable}
+use Rattle.spool_types.specs.declared.effect.Level.TheVariants.{Emergency, Alert, Critical, Error, Warning, Notice, Info}
+use Rattle.spool_types.specs.declared.effect.Effect.{Effect}
+use Rattle.spool_types.specs.declared.effect.Effect.TheVariants as effects
+use Rattle.stderr_lines.specs.declared.prefix.Prefix.{Prefix}
+use Rattle.stderr_lines.specs.declared.prefix.Prefix.TheVariants.{Silent, Page, State, Attr, Level}
+use Rattle.stderr_lines.specs.Cuts.{cut_at}
+use Rattle.stderr_lines.specs.Pages.{page_effect}
+use Rattle.stderr_lines.specs.Reasons.{state_effect}
+use Rattle.stderr_lines.specs.Attributes.{attribute_effects}
+
+abbrev pub is_lf : ℕ → Bool
+is_lf b = b == 10
+
+-- a line goes up to its line feed, and a last line needs none; behind a last line feed stands an empty line, which says
+-- nothing
+abbrev pub lines_of : List ℕ → List (List ℕ)
+lines_of text = slice_split is_lf text
+
+-- without a carriage return at the end
+abbrev pub without_cr : List ℕ → List ℕ
+without_cr [] = []
+without_cr (b ∷ []) = cond (b == 13) [] (b ∷ [])
+without_cr (b ∷ c ∷ bs) = b ∷ without_cr (c ∷ bs)
+
+-- how much of a line is read
+abbrev pub kept_line : List ℕ → List ℕ
+kept_line line = without_cr (take 1023 line)
+
+abbrev pub is_name : List ℕ → List ℕ → Bool
+is_name word name = pointwise nat_eq word name
+
+-- the prefix whose name stands before the first colon; DEBUG, DEBUG2 and PPD say nothing, nor does any other word
+abbrev pub prefix_of : List ℕ → Prefix
+prefix_of name =
+    cond (is_name name (codes "PAGE")) Page
+    (cond (is_name name (codes "STATE")) State
+    (cond (is_name name (codes "ATTR")) Attr
+    (cond (is_name name (codes "EMERG")) (Level Emergency)
+    (cond (is_name name (codes "ALERT")) (Level Alert)
+    (cond (is_name name (codes "CRIT")) (Level Critical)
+    (cond (is_name name (codes "ERROR")) (Level Error)
+    (cond (is_name name (codes "WARNING")) (Level Warning)
+    (cond (is_name name (codes "NOTICE")) (Level Notice)
+    (cond (is_name name (codes "INFO")) (Level Info)
+    Silent)))))))))
+
+-- a question mark in the place of each byte that is not printable ASCII, a tab too
+abbrev pub shown_byte : ℕ → ℕ
+shown_byte b = cond (is_printable b) b 63
+
+-- the text of a line: what follows the prefix and its blanks
+abbrev pub shown_text : List ℕ → List ℕ
+shown_text rest = map shown_byte (after_blanks rest)
+
+-- what a text says behind a prefix
+abbrev pub effects_by : Prefix → List ℕ → List Effect
+effects_by Silent text = []
+effects_by Page text = option_to_list (page_effect text)
+effects_by State text = option_to_list (state_effect text)
+effects_by Attr text = attribute_effects text
+effects_by (Level level) text = effects.Message level text ∷ []
+
+abbrev pub effects_behind : Option (List ℕ × List ℕ) → List Effect
+effects_behind None = []
+effects_behind (Some (name, rest)) = effects_by (prefix_of name) (shown_text rest)
+
+-- what a line says, of which nothing is cut any more
+abbrev pub line_effects : List ℕ → List Effect
+line_effects line = effects_behind (cut_at 58 line)
+
+-- what the lines of a text say, in their order
+abbrev pub effects_of : List ℕ → List Effect
+effects_of text = flat_map (λ line. line_effects (kept_line line)) (lines_of text)

@@ -1,0 +1,36 @@
+-- What is reported of a text: its effects up to the first that has no room, and how many others there are.
+use Rattle.std.specs.Prelude.{ℕ, ◌-◌, cond, nat_le, min, List, [], ◌∷◌, length}
+use Rattle.spool_types.specs.declared.effect.Effect.{Effect}
+use Rattle.stderr_lines.specs.declared.lines.Report.{Report}
+use Rattle.stderr_lines.specs.EffectSizes.{effect_size}
+use Rattle.stderr_lines.specs.LineEffects.{effects_of}
+
+-- how many bytes of code the effects of a text may have
+abbrev pub most_bytes : ℕ
+most_bytes = 16384
+
+-- what is told of a child's standard error
+pub record Told : Type 0 where
+  pub effects : List Effect
+  pub dropped : ℕ
+
+-- a report without where its effects lie in memory
+abbrev pub told_by : Report → Told
+told_by r = record { effects = r.effects.items; dropped = r.dropped }
+
+-- the effects before the first whose code has no room
+abbrev pub fitting : ℕ → List Effect → List Effect
+fitting room [] = []
+fitting room (e ∷ es) = cond (nat_le (effect_size e) room) (e ∷ fitting (room - effect_size e) es) []
+
+-- how many effects are left out
+abbrev pub left_out : ℕ → List Effect → ℕ
+left_out room es = length es - length (fitting room es)
+
+-- they are counted up to 4,294,967,295
+abbrev pub counted : ℕ → ℕ
+counted n = min n 4294967295
+
+-- what a text says is reported
+abbrev pub report_of : List ℕ → Told
+report_of text = record { effects = fitting most_bytes (effects_of text); dropped = counted (left_out most_bytes (effects_of text)) }

@@ -1,0 +1,24 @@
+-- How effects are tallied one by one. No caller needs this.
+use Rattle.std.specs.Prelude.{ℕ, ◌+◌, ◌-◌, cond, nat_le, List, [], ◌∷◌, ◌++◌}
+use Rattle.spool_types.specs.declared.effect.Effect.{Effect}
+use Rattle.stderr_lines.specs.EffectSizes.{effect_size}
+use Rattle.stderr_lines.specs.Reports.{counted}
+use Rattle.stderr_lines.specs.Pending.{Tally}
+
+abbrev pub keep : Tally → Effect → Tally
+keep t e =
+    cond (nat_le (effect_size e) t.room)
+    (record { effects = t.effects ++ e ∷ []; room = t.room - effect_size e; dropped = t.dropped })
+    (record { effects = t.effects; room = 0; dropped = counted (t.dropped + 1) })
+
+abbrev pub keep_all : Tally → List Effect → Tally
+keep_all t [] = t
+keep_all t (e ∷ es) = keep_all (keep t e) es
+
+-- the same room, and no effects yet
+abbrev pub begun : Tally → Tally
+begun t = record t { effects = [] }
+
+-- effects that were tallied since
+abbrev pub joined : Tally → Tally → Tally
+joined t u = record u { effects = t.effects ++ u.effects }

@@ -1,0 +1,15 @@
+//! What holds of each report.
+ghost use Rattle.std.specs.Prelude.{◌≡◌, ◌≤◌, ℕ, List, []};
+ghost use Rattle.stderr_lines.specs.EffectSizes.{effects_size};
+ghost use Rattle.stderr_lines.specs.Reports.{report_of};
+ghost use Rattle.stderr_lines.specs.Pending.{Pending, TakesAll, joined_pieces, to_come};
+
+/// A reader that began before any text and took these pieces will report what their whole text says, wherever it was cut.
+pub fn any_pieces()
+    ensures { (begun read : Pending) (pieces : List (List ℕ)) → ((text : List ℕ) → to_come begun text ≡ report_of text) → TakesAll begun pieces read → to_come read [] ≡ report_of (joined_pieces pieces) }
+{}
+
+/// The effects that are reported of a text have at most 16,384 bytes of code.
+pub fn effects_fit()
+    ensures { (text : List ℕ) → effects_size (report_of text).effects ≤ 16384 }
+{}

@@ -1,0 +1,178 @@
+//! A reader of standard error.
+ghost use Rattle.std.specs.Prelude.{◌≡◌, ◌≤◌, ◌-◌, ◌∷◌, ◌++◌, false, [], ℕ, List, length, take, OnOk, OnErr, IfOk, IfErr};
+ghost use Rattle.std.specs.List.{list_any};
+ghost use Rattle.stderr_lines.specs.LineEffects.{is_lf, without_cr as cr_dropped, kept_line, line_effects};
+ghost use Rattle.stderr_lines.specs.Reports.{told_by, report_of};
+ghost use Rattle.stderr_lines.specs.Pending.{Pending, Takes, to_come};
+ghost use Rattle.stderr_lines.specs.Tallies.{begun, joined, keep_all};
+ghost use Rattle.stderr_lines.specs.Held.{IsHeld};
+
+use crate::line::add_line;
+use crate::tally::Tally;
+use spool_types::Effect;
+use std::alloc::{AllocError, AllocFailed, Global};
+use std::marker::Model;
+
+const LONGEST_LINE: usize = 1_023;
+
+const LINE_FEED: u8 = b'\n';
+
+const CARRIAGE_RETURN: u8 = b'\r';
+
+/// What a child said on standard error.
+#[derive(Debug, PartialEq, Eq, Drop)]
+pub struct Report {
+    /// The effects in the order of their lines, whose codes have at most 16,384 bytes.
+    pub effects: Vec<Effect>,
+    /// How many effects were left out after them, up to 4,294,967,295.
+    pub dropped: u32,
+}
+
+/// A reader of a child's standard error, which comes in pieces.
+#[derive(Debug, Drop)]
+pub struct Lines {
+    // The line in hand, as far as it is read.
+    line: Vec<u8>,
+    // The effects of the lines before it.
+    tally: Tally,
+}
+
+impl Model for Lines {
+    ghost use Rattle.stderr_lines.specs.Pending.{Pending};
+    ghost use Rattle.stderr_lines.specs.Held.{IsHeld};
+
+    ghost Value = { Pending };
+
+    ghost view = { λ a. record { held = a.line.items; tally = a.tally } };
+
+    ghost invariant = { λ a. IsHeld a.line.items };
+}
+
+impl Lines {
+    /// A reader before any text. It takes no memory yet.
+    pub fn new(alloc: Global) -> Lines
+        ensures whole { (text : List ℕ) → to_come result text ≡ report_of text }
+    {
+        Lines {
+            line: Vec::new(alloc),
+            tally: Tally::new(alloc),
+        }
+    }
+
+    /// Takes the next piece of the text, of any length. An `Err` has taken nothing.
+    pub fn feed(&mut self, piece: &[u8]) -> Result<(), AllocError>
+        ensures ok { OnOk result (Takes self.old piece.now self.new) }
+        ensures err { OnErr result (self.new ≡ self.old) }
+    {
+        if !has_line_feed(piece) {
+            return self.hold(piece);
+        }
+        let mut line = Vec::from_slice(*self.line.allocator(), &self.line)?;
+        let mut tally = self.tally.begun();
+        take_piece(&mut tally, &mut line, piece)?;
+        self.tally.join(tally)?;
+        self.line = line;
+        Ok(())
+    }
+
+    // Takes a piece of the line in hand.
+    fn hold(&mut self, piece: &[u8]) -> Result<(), AllocError>
+        requires { list_any is_lf piece.now ≡ false }
+        ensures ok { OnOk result (Takes self.old piece.now self.new) }
+        ensures err { OnErr result (self.new ≡ self.old) }
+    {
+        hold_piece(&mut self.line, piece)?;
+        Ok(())
+    }
+
+    /// What is reported where the text ends here: a last line without a line feed counts. An `Err` has the reader as it
+    /// was, and the call may be made again.
+    pub fn finish(mut self) -> Result<Report, AllocFailed<Lines>>
+        ensures ok { IfOk result (λ report. told_by report ≡ to_come self []) }
+        ensures err { IfErr result (λ failed. failed.value ≡ self) }
+    {
+        match self.end() {
+            Ok(()) => {
+                let Lines { line: _, tally } = self;
+                Ok(tally.into_report())
+            }
+            Err(AllocError) => Err(AllocFailed { value: self }),
+        }
+    }
+
+    // Takes the last line.
+    fn end(&mut self) -> Result<(), AllocError>
+        ensures ok { OnOk result (self.new ≡ record { held = []; tally = joined self.old.tally (keep_all (begun self.old.tally) (line_effects (kept_line self.old.held))) }) }
+        ensures err { OnErr result (self.new ≡ self.old) }
+        ensures whole { list_any is_lf self.old.held ≡ false }
+    {
+        let mut line = Vec::from_slice(*self.line.allocator(), &self.line)?;
+        let mut tally = self.tally.begun();
+        end_line(&mut tally, &mut line)?;
+        self.tally.join(tally)?;
+        self.line = line;
+        Ok(())
+    }
+}
+
+// Adds the bytes of a piece, as far as a line is read.
+fn hold_piece(line: &mut Vec<u8>, piece: &[u8]) -> Result<(), AllocError>
+    requires { length line.old.items ≤ 1023 }
+    ensures ok { OnOk result (line.new.items ≡ line.old.items ++ take (1023 - length line.old.items) piece.now) }
+    ensures err { OnErr result (line.new.items ≡ line.old.items) }
+{
+    let room = LONGEST_LINE - line.len();
+    let end = room.min(piece.len());
+    line.extend_from_slice(&piece[..end])
+}
+
+// Takes a piece byte by byte.
+fn take_piece(tally: &mut Tally, line: &mut Vec<u8>, piece: &[u8]) -> Result<(), AllocError>
+    requires { IsHeld line.old.items }
+    ensures held { OnOk result (IsHeld line.new.items) }
+    ensures takes { OnOk result (Takes (record { held = line.old.items; tally = tally.old }) piece.now (record { held = line.new.items; tally = tally.new })) }
+{
+    for b in piece {
+        take_byte(tally, line, *b)?;
+    }
+    Ok(())
+}
+
+fn take_byte(tally: &mut Tally, line: &mut Vec<u8>, b: u8) -> Result<(), AllocError>
+    requires { IsHeld line.old.items }
+    ensures held { OnOk result (IsHeld line.new.items) }
+    ensures takes { OnOk result (Takes (record { held = line.old.items; tally = tally.old }) (b ∷ []) (record { held = line.new.items; tally = tally.new })) }
+{
+    if b == LINE_FEED {
+        end_line(tally, line)
+    } else {
+        hold_piece(line, &[b])
+    }
+}
+
+// Takes the line in hand as a whole one.
+fn end_line(tally: &mut Tally, line: &mut Vec<u8>) -> Result<(), AllocError>
+    requires { IsHeld line.old.items }
+    ensures { OnOk result ((line.new.items ≡ []) × (tally.new ≡ keep_all tally.old (line_effects (kept_line line.old.items)))) }
+{
+    let end = without_cr(line).len();
+    add_line(tally, &mut line[..end])?;
+    line.clear();
+    Ok(())
+}
+
+// A line without a carriage return at its end.
+fn without_cr(line: &[u8]) -> &[u8]
+    ensures { result.now ≡ cr_dropped line.now }
+{
+    match line.split_last() {
+        Some((b, before)) if *b == CARRIAGE_RETURN => before,
+        _ => line,
+    }
+}
+
+fn has_line_feed(piece: &[u8]) -> bool
+    ensures { result ≡ list_any is_lf piece.now }
+{
+    piece.iter().any(|b| *b == LINE_FEED)
+}

@@ -1,0 +1,57 @@
+//! The pages that a line tells.
+ghost use Rattle.std.specs.Prelude.{◌≡◌, IfSome};
+ghost use Rattle.std.specs.Option.{option_map};
+ghost use Rattle.stderr_lines.specs.Pages.{is_digit as digit, number_of as number_in, page_effect, two_words as in_two_words};
+ghost use Rattle.stderr_lines.specs.Drafts.{effect_of, IsSound};
+
+use crate::draft::Draft;
+use line_words::{after_blanks, first_word};
+
+/// `PAGE: page copies` or `PAGE: total pages`, where the text is one.
+pub fn page_draft(text: &[u8]) -> Option<Draft<'_>>
+    ensures effect { option_map effect_of result ≡ page_effect text.now }
+    ensures sound { IfSome result (λ draft. IsSound draft) }
+{
+    let (first, rest) = first_word(text);
+    let (second, rest) = first_word(rest);
+    if !after_blanks(rest).is_empty() {
+        return None;
+    }
+    two_words(first, second)
+}
+
+fn two_words<'a>(first: &[u8], second: &[u8]) -> Option<Draft<'a>>
+    ensures effect { option_map effect_of result ≡ in_two_words first.now second.now }
+    ensures sound { IfSome result (λ draft. IsSound draft) }
+{
+    if first == b"total".as_slice() {
+        return Some(Draft::TotalPages(number_of(second)?));
+    }
+    Some(Draft::Pages {
+        page: number_of(first)?,
+        copies: number_of(second)?,
+    })
+}
+
+// The number that a word is, of any number of digits, where it has at most 32 bits.
+fn number_of(word: &[u8]) -> Option<u32>
+    ensures { result ≡ number_in word.now }
+{
+    if word.is_empty() {
+        return None;
+    }
+    let mut value: u32 = 0;
+    for b in word {
+        if !is_digit(*b) {
+            return None;
+        }
+        value = value.checked_mul(10)?.checked_add(u32::from(*b - b'0'))?;
+    }
+    Some(value)
+}
+
+fn is_digit(b: u8) -> bool
+    ensures { result ≡ digit b }
+{
+    b'0' <= b && b <= b'9'
+}
