@@ -27,8 +27,10 @@
 #![tactic(auto)]
 
 mod exits;
+mod verdicts;
 
 pub use exits::{lost_verdict, verdict};
+pub use verdicts::Verdict;
 
 #[cfg(test)]
 mod tests;

@@ -1,5 +1,5 @@
 use super::*;
-use spool_types::{AbortReason, Exit, HoldReason, Policy, Verdict};
+use spool_types::{AbortReason, Exit, HoldReason, Policy};
 
 const POLICIES: [Policy; 4] = [
     Policy::AbortJob,

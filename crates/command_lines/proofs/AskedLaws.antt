@@ -5,14 +5,14 @@ use Rattle.std.specs.Option.{option_map}
 use Rattle.std.specs.Prelude.{codes}
 use Rattle.std.proofs.lemmas.List.Elements.{All-nil, All-cons}
 use Rattle.spool_types.specs.Limits.{longest_send}
-use Rattle.spool_types.specs.Values.{is_queue_name, is_uri, is_user_name, is_title, is_options, is_note, is_file_name}
+use Rattle.spool_types.specs.Values.{is_queue_name, is_uri, is_user_name, is_title, is_options, is_note, is_file_name, text_in, media_in}
 use Rattle.spool_types.specs.declared.phase.Policy.{Policy}
 use Rattle.spool_types.specs.declared.event.Event.{Event}
 use Rattle.spool_types.specs.declared.event.Event.TheVariants.{SetAccept, SetStop, Release, Abandon, Cancel, Clock}
 use Rattle.command_lines.specs.Asked.{is_line_event, AsksForLineEvent}
 use Rattle.command_lines.specs.Lines.{first_line, after_line}
 use Rattle.command_lines.specs.Words.{words_of}
-use Rattle.command_lines.specs.Grammar.{is_word, text_in, media_in, policy_in, interval_in, limit_in, copies_in, priority_in, count_in, until_in, job_in, moment_in, queue_in, one_word, one_word_line, queue_of, queue_line, info_of, info_line, creation_of, create_line, send_of, send_line, close_of, close_line, hold_of, hold_line, jobs_line, queues_line, line_of, or_malformed, kind_of_words, is_remark, kind_of}
+use Rattle.command_lines.specs.Grammar.{is_word, policy_in, interval_in, limit_in, copies_in, priority_in, count_in, until_in, job_in, moment_in, queue_in, one_word, one_word_line, queue_of, queue_line, info_of, info_line, creation_of, create_line, send_of, send_line, close_of, close_line, hold_of, hold_line, jobs_line, queues_line, line_of, or_malformed, kind_of_words, is_remark, kind_of}
 use Rattle.command_lines.specs.Text.{is_lf_at, sent, after_bytes, after_kind, commands_within, commands_of}
 use Rattle.command_lines.specs.declared.command.Command.{Command}
 use Rattle.command_lines.specs.declared.command.Command.TheVariants.{Apply, Malformed}

@@ -67,10 +67,6 @@ kind_of_long (b ∷ bs) more h k =
     ap (λ v. cond v Remark (cond (ltb 4096 (length (b ∷ (bs ++ more)))) (Says Malformed) (kind_of_words (words_of (b ∷ (bs ++ more)))))) h
     ∙ ap (λ v. cond v (Says Malformed) (kind_of_words (words_of (b ∷ (bs ++ more))))) l
 
-pub kind_of_nil : kind_of [] ≡ Remark
-unfolding kind_of
-kind_of_nil = refl
-
 -- a line that is whole
 pub whole_line : (held : List ℕ) (at : ℕ) → IsAt held at → (kind : Kind) → kind ≡ kind_of (take at held) → (more : List ℕ) → commands_of (held ++ more) ≡ after_kind commands_of kind (drop (at + 1) held ++ more)
 whole_line held at is kind e more =

@@ -1,17 +1,11 @@
 -- Numbers of 1 to 13 digits.
 use Rattle.std.specs.Prelude.{ℕ, ◌+◌, ◌*◌, ◌-◌, Bool, ◌&&◌, cond, nat_le, List, [], ◌∷◌, length, Option, None, Some}
 use Rattle.std.specs.List.{list_all}
-
-abbrev pub is_digit : ℕ → Bool
-is_digit b = nat_le 48 b && nat_le b 57
-
--- the number, where n stands before the digits
-abbrev pub read_on : ℕ → List ℕ → ℕ
-read_on n [] = n
-read_on n (b ∷ bs) = read_on (10 * n + (b - 48)) bs
+use Rattle.std.specs.Char.{is_ascii_digit}
+use Rattle.line_words.specs.Numbers.{read_on}
 
 abbrev pub is_number : List ℕ → Bool
-is_number word = nat_le 1 (length word) && nat_le (length word) 13 && list_all is_digit word
+is_number word = nat_le 1 (length word) && nat_le (length word) 13 && list_all is_ascii_digit word
 
 abbrev pub number_of : List ℕ → Option ℕ
 number_of word = cond (is_number word) (Some (read_on 0 word)) None

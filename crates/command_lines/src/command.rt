@@ -22,7 +22,7 @@ pub enum Command {
     Apply(Event),
     /// Makes a queue, if its URI is that of a device.
     Queue(NewQueue),
-    /// Makes a job, which gets the next number.
+    /// Makes a job, if its options are read. It gets the next number.
     Create(Creation),
     /// Ends a job's document, which has this name and is typed by it and by its bytes.
     Close { job: JobId, name: FileName },

@@ -4,9 +4,9 @@ ghost use Rattle.std.specs.Option.{option_map};
 ghost use Rattle.spool_types.specs.declared.event.Event.{Event};
 ghost use Rattle.command_lines.specs.declared.command.Command.{Command};
 ghost use Rattle.command_lines.specs.declared.command.Kind.{Kind};
-ghost use Rattle.spool_types.specs.Values.{is_queue_name, is_uri, is_user_name, is_title, is_options, is_note};
+ghost use Rattle.spool_types.specs.Values.{is_queue_name, is_uri, is_user_name, is_title, is_options, is_note, text_in, media_in};
 ghost use Rattle.line_words.specs.Seen.{bytes_of};
-ghost use Rattle.command_lines.specs.Grammar.{kind_of as line_kind, is_remark as remark, kind_in, line_of, one_word, one_word_line as asks, queue_line as queues, queue_of, info_line as informs, info_of, create_line as creates, creation_of, send_line as sends, send_of, close_line as closes, close_of, hold_line as holds, jobs_line as lists, queues_line as lists_queues, text_in, media_in, queue_in, copies_in, priority_in, policy_in as policy_word};
+ghost use Rattle.command_lines.specs.Grammar.{kind_of as line_kind, is_remark as remark, kind_in, line_of, one_word, one_word_line as asks, queue_line as queues, queue_of, info_line as informs, info_of, create_line as creates, creation_of, send_line as sends, send_of, close_line as closes, close_of, hold_line as holds, jobs_line as lists, queues_line as lists_queues, queue_in, copies_in, priority_in, policy_in as policy_word};
 
 use crate::command::{Command, Creation, Kind};
 use crate::numbers::{job_number, moment_number, ranged_number, short_number, small_number};
@@ -14,7 +14,7 @@ use crate::words::words_of;
 use line_words::Word;
 use spool_types::{
     Copies, Event, FileName, Interval, MediaType, NewQueue, Note, OptionText, Policy, Priority,
-    QueueName, QueueNotes, Text, TextFault, TextKind, Title, Uri, UserName,
+    QueueName, QueueNotes, Title, Uri, UserName,
 };
 use std::alloc::{AllocError, Global};
 
@@ -158,14 +158,14 @@ fn event_of_word(alloc: Global, name: &[u8], word: &[u8]) -> Result<Option<Event
 fn set_accept(alloc: Global, word: &[u8], accepting: bool) -> Result<Option<Event>, AllocError>
     ensures { IfOk result (λ event. event ≡ option_map (λ queue. Event.SetAccept queue accepting) (queue_in word.now)) }
 {
-    let queue: Option<QueueName> = text_of(alloc, word)?;
+    let queue = QueueName::from_word(alloc, word)?;
     Ok(queue.map(|queue| Event::SetAccept { queue, accepting }))
 }
 
 fn set_stop(alloc: Global, word: &[u8], stopped: bool) -> Result<Option<Event>, AllocError>
     ensures { IfOk result (λ event. event ≡ option_map (λ queue. Event.SetStop queue stopped) (queue_in word.now)) }
 {
-    let queue: Option<QueueName> = text_of(alloc, word)?;
+    let queue = QueueName::from_word(alloc, word)?;
     Ok(queue.map(|queue| Event::SetStop { queue, stopped }))
 }
 
@@ -217,9 +217,9 @@ fn new_queue(
 ) -> Result<Option<Kind>, AllocError>
     ensures { IfOk result (λ kind. kind ≡ queue_of (text_in is_queue_name name.now) (text_in is_uri uri.now) (media_in target.now) (policy_word policy.now) interval limit) }
 {
-    let name: Option<QueueName> = text_of(alloc, name)?;
-    let uri: Option<Uri> = text_of(alloc, uri)?;
-    let target = media_of(alloc, target)?;
+    let name = QueueName::from_word(alloc, name)?;
+    let uri = Uri::from_word(alloc, uri)?;
+    let target = MediaType::from_word(alloc, target)?;
     match (name, uri, target, policy_of(policy), interval, limit) {
         (Some(name), Some(uri), Some(target), Some(policy), Some(interval), Some(limit)) => {
             Ok(Some(Kind::Says(Command::Queue(NewQueue {
@@ -254,9 +254,9 @@ fn notes(
 ) -> Result<Option<Kind>, AllocError>
     ensures { IfOk result (λ kind. kind ≡ info_of (text_in is_queue_name queue.now) (text_in is_note info.now) (text_in is_note location.now)) }
 {
-    let queue: Option<QueueName> = text_of(alloc, queue)?;
-    let info: Option<Note> = text_of(alloc, info)?;
-    let location: Option<Note> = text_of(alloc, location)?;
+    let queue = QueueName::from_word(alloc, queue)?;
+    let info = Note::from_word(alloc, info)?;
+    let location = Note::from_word(alloc, location)?;
     match (queue, info, location) {
         (Some(queue), Some(info), Some(location)) => {
             Ok(Some(applies(Event::Info(QueueNotes {
@@ -299,12 +299,12 @@ fn creation(
 ) -> Result<Option<Kind>, AllocError>
     ensures { IfOk result (λ kind. kind ≡ creation_of (text_in is_queue_name queue.now) (text_in is_user_name user.now) (text_in is_title title.now) (copies_in copies.now) (priority_in priority.now) (text_in is_options options.now)) }
 {
-    let queue: Option<QueueName> = text_of(alloc, queue)?;
-    let user: Option<UserName> = text_of(alloc, user)?;
-    let title: Option<Title> = text_of(alloc, title)?;
+    let queue = QueueName::from_word(alloc, queue)?;
+    let user = UserName::from_word(alloc, user)?;
+    let title = Title::from_word(alloc, title)?;
     let copies: Option<Copies> = ranged_number(copies);
     let priority: Option<Priority> = ranged_number(priority);
-    let options: Option<OptionText> = text_of(alloc, options)?;
+    let options = OptionText::from_word(alloc, options)?;
     match (queue, user, title, copies, priority, options) {
         (Some(queue), Some(user), Some(title), Some(copies), Some(priority), Some(options)) => {
             Ok(Some(Kind::Says(Command::Create(Creation {
@@ -340,7 +340,7 @@ fn close_line(alloc: Global, words: &[Word<'_>]) -> Result<Option<Kind>, AllocEr
     let [job, name] = words else {
         return Ok(None);
     };
-    let name: Option<FileName> = text_of(alloc, name.bytes())?;
+    let name = FileName::from_word(alloc, name.bytes())?;
     match (job_number(job.bytes()), name) {
         (Some(job), Some(name)) => Ok(Some(Kind::Says(Command::Close { job, name }))),
         _ => Ok(None),
@@ -380,34 +380,6 @@ fn queues_line(words: &[Word<'_>]) -> Option<Kind>
     match words {
         [] => Some(Kind::Says(Command::Queues)),
         _ => None,
-    }
-}
-
-// A text of a kind, if the word is one.
-fn text_of<K: TextKind>(alloc: Global, word: &[u8]) -> Result<Option<Text<K>>, AllocError>
-    ensures { IfOk result (λ text. text ≡ text_in K.allowed word.now) }
-{
-    let Ok(text) = str::from_utf8(word) else {
-        return Ok(None);
-    };
-    match Text::read(alloc, text) {
-        Ok(text) => Ok(Some(text)),
-        Err(TextFault::Bad) => Ok(None),
-        Err(TextFault::Memory) => Err(AllocError),
-    }
-}
-
-// A media type, if the word is one.
-fn media_of(alloc: Global, word: &[u8]) -> Result<Option<MediaType>, AllocError>
-    ensures { IfOk result (λ media. media ≡ media_in word.now) }
-{
-    let Ok(text) = str::from_utf8(word) else {
-        return Ok(None);
-    };
-    match MediaType::read(alloc, text) {
-        Ok(media) => Ok(Some(media)),
-        Err(TextFault::Bad) => Ok(None),
-        Err(TextFault::Memory) => Err(AllocError),
     }
 }
 

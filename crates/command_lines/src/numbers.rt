@@ -2,7 +2,9 @@
 ghost use Rattle.std.specs.Prelude.{◌≡◌, ◌<◌, ◌^◌, true};
 ghost use Rattle.std.specs.List.{list_all};
 ghost use Rattle.spool_types.specs.Limits.{greatest_number, greatest_moment};
-ghost use Rattle.command_lines.specs.Numbers.{number_of as number_in, is_number as is_digits, is_digit as digit, read_on, ranged};
+ghost use Rattle.command_lines.specs.Numbers.{number_of as number_in, is_number as is_digits, ranged};
+ghost use Rattle.std.specs.Char.{is_ascii_digit};
+ghost use Rattle.line_words.specs.Numbers.{read_on};
 
 use spool_types::{JobId, Moment, Ranged};
 
@@ -59,15 +61,9 @@ fn is_number(word: &[u8]) -> bool
 }
 
 fn has_only_digits(word: &[u8]) -> bool
-    ensures { result ≡ list_all digit word.now }
+    ensures { result ≡ list_all is_ascii_digit word.now }
 {
-    word.iter().all(|b| is_digit(*b))
-}
-
-fn is_digit(b: u8) -> bool
-    ensures { result ≡ digit b }
-{
-    b'0' <= b && b <= b'9'
+    word.iter().all(|b| b.is_ascii_digit())
 }
 
 // The number that the digits spell.

@@ -36,6 +36,8 @@ pub enum Answer<'a> {
     Malformed,
     /// The URI of a queue isn't that of a device.
     BadUri,
+    /// The options of a job aren't read, or are too long as they would be kept.
+    BadOptions,
     /// The spool has failed, and has to be opened again.
     Dead,
     NoMemory,
@@ -59,6 +61,7 @@ pub fn print_reply(alloc: Global, answer: &Answer<'_>) -> Result<Vec<u8>, AllocE
         Answer::Refused(refusal) => refused(alloc, *refusal),
         Answer::Malformed => Vec::from_slice(alloc, b"error syntax\n"),
         Answer::BadUri => Vec::from_slice(alloc, b"error uri\n"),
+        Answer::BadOptions => Vec::from_slice(alloc, b"error options\n"),
         Answer::Dead => Vec::from_slice(alloc, b"error dead\n"),
         Answer::NoMemory => Vec::from_slice(alloc, b"error memory\n"),
         Answer::Full => Vec::from_slice(alloc, b"error full\n"),

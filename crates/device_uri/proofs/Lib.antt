@@ -1,4 +1,3 @@
 mod OptionLaws
 mod FieldForm
 mod LineLaws
-pub mod UriLaws

@@ -1,17 +1,17 @@
 -- A policy and filters that are read are those that were written, and what was written is read again.
-use Rattle.std.proofs.Common.{◌≡◌, ℕ, zero, suc, ◌^◌, ◌<◌, Bool, true, false, cond, eqb, List, [], ◌∷◌, ◌++◌, length, Option, Some, None, Result, Ok, Err, refl, sym, ap, subst, ◌∙◌, arith, ◌⊎◌, inl, inr}
-use Rattle.std.specs.List.{flat_map, AllByRecursion}
+use Rattle.std.proofs.Common.{◌≡◌, ℕ, ◌^◌, ◌<◌, Bool, true, false, cond, eqb, List, ◌++◌, length, Option, Some, None, Result, Ok, Err, refl, sym, ap, subst, ◌∙◌, arith, ◌⊎◌, inl, inr}
+use Rattle.std.specs.List.{flat_map}
 use Rattle.std.specs.Int.{w8, to_be_bytes}
 use Rattle.std.proofs.lemmas.Bool.{eqb-true}
-use Rattle.std.proofs.lemmas.List.Concat.{flat_map-cons}
 use Rattle.spool_types.specs.declared.phase.Policy.{Policy}
 use Rattle.spool_types.specs.declared.phase.Policy.TheVariants.{AbortJob, RetryJob, RetryCurrentJob, StopPrinter}
 use Rattle.spool_types.specs.Values.{is_filter_name}
 use Rattle.event_codec.specs.declared.fault.CodecFault.{CodecFault}
 use Rattle.event_codec.specs.declared.fault.CodecFault.TheVariants.{Range}
 use Rattle.event_codec.specs.Spelling.{text_code, policy_number, filters_code, IsIn, IsText, AreFilters}
-use Rattle.event_codec.specs.Reading.{◌>>=◌, number_at, ranged_at, policy_of, policy_at, text_at, filters_at, counted_filters_at, flagged_filters_at, maybe_filters_at}
+use Rattle.event_codec.specs.Reading.{◌>>=◌, number_at, ranged_at, policy_of, policy_at, text_at, list_at, counted_filters_at, flagged_filters_at, maybe_filters_at}
 use Rattle.event_codec.proofs.FieldLaws.{IsBytes, bind_ok, ok_is, Takes, Takes-then, Reads, got, again-then, again-last, wide8, reads_number, reads_ranged}
+use Rattle.event_codec.proofs.ListLaws.{list_takes, list_again}
 use Rattle.event_codec.proofs.TextLaws.{reads_filter_name}
 
 -- which way a test went
@@ -84,33 +84,6 @@ reads_policy = record { takes = policy_takes; again = policy_again }
 
 -- ---- filters
 
-abbrev Names : List (List ℕ) → Type 0
-Names fs = AllByRecursion (IsText is_filter_name) fs
-
-pub record Filters (n : ℕ) (bytes : List ℕ) (fs : List (List ℕ)) (rest : List ℕ) : Type 0 where
-  pub taken : Takes bytes (flat_map text_code fs) rest
-  pub count : length fs ≡ n
-  pub names : AllByRecursion (IsText is_filter_name) fs
-
-filters_take : (n : ℕ) (bytes : List ℕ) (fs : List (List ℕ)) (rest : List ℕ) → IsBytes bytes → filters_at n bytes ≡ Ok (fs, rest) → Filters n bytes fs rest
-unfolding filters_at
-filters_take zero bytes fs rest fits e =
-    subst (λ (y : List (List ℕ) × List ℕ). Filters zero bytes y.0 y.1) (ok_is ([], bytes) (fs, rest) e) (record { taken = record { parts = refl; rest_fits = fits }; count = refl; names = tt })
-filters_take (suc n) bytes fs rest fits e =
-    let a = got (text_at is_filter_name) text_code (IsText is_filter_name) reads_filter_name bytes (λ first. filters_at n first.1 >>= λ others. Ok (first.0 ∷ others.0, others.1)) (fs, rest) fits e in
-    let b = bind_ok (filters_at n a.rest) (λ others. Ok (a.value ∷ others.0, others.1)) (fs, rest) a.then in
-    let others = filters_take n a.rest b.value.0 b.value.1 a.taken.rest_fits b.was in
-    let both = Takes-then bytes (text_code a.value) a.rest (flat_map text_code b.value.0) b.value.1 a.taken others.taken in
-    subst (λ (y : List (List ℕ) × List ℕ). Filters (suc n) bytes y.0 y.1) (ok_is (a.value ∷ b.value.0, b.value.1) (fs, rest) b.then) (record { taken = rw flat_map-cons both; count = ap suc others.count; names = (a.legal, others.names) })
-
-filters_again : (fs : List (List ℕ)) (rest : List ℕ) → Names fs → filters_at (length fs) (flat_map text_code fs ++ rest) ≡ Ok (fs, rest)
-unfolding filters_at
-filters_again [] rest h = refl
-filters_again (f ∷ fs) rest h =
-    ap (λ (t : List ℕ). filters_at (suc (length fs)) (t ++ rest)) (flat_map-cons text_code f fs)
-    ∙ again-then (text_at is_filter_name) text_code (IsText is_filter_name) reads_filter_name f (flat_map text_code fs) rest (λ first. filters_at (length fs) first.1 >>= λ others. Ok (first.0 ∷ others.0, others.1)) h.0
-    ∙ rw (filters_again fs rest h.1) refl
-
 abbrev counted_code : List (List ℕ) → List ℕ
 counted_code fs = to_be_bytes w8 (length fs) ++ flat_map text_code fs
 
@@ -126,9 +99,9 @@ record Counted (bytes : List ℕ) (o : Option (List (List ℕ))) (rest : List �
 counted_take : (bytes : List ℕ) (o : Option (List (List ℕ))) (rest : List ℕ) → IsBytes bytes → counted_filters_at bytes ≡ Ok (o, rest) → Counted bytes o rest
 unfolding counted_filters_at
 counted_take bytes o rest fits e =
-    let a = got (ranged_at 0 15 w8) (to_be_bytes w8) (IsIn 0 15) reads_count bytes (λ count. filters_at count.0 count.1 >>= λ filters. Ok (Some filters.0, filters.1)) (o, rest) fits e in
-    let b = bind_ok (filters_at a.value a.rest) (λ filters. Ok (Some filters.0, filters.1)) (o, rest) a.then in
-    let f = filters_take a.value a.rest b.value.0 b.value.1 a.taken.rest_fits b.was in
+    let a = got (ranged_at 0 15 w8) (to_be_bytes w8) (IsIn 0 15) reads_count bytes (λ count. list_at (text_at is_filter_name) count.0 count.1 >>= λ filters. Ok (Some filters.0, filters.1)) (o, rest) fits e in
+    let b = bind_ok (list_at (text_at is_filter_name) a.value a.rest) (λ filters. Ok (Some filters.0, filters.1)) (o, rest) a.then in
+    let f = list_takes (text_at is_filter_name) text_code (IsText is_filter_name) reads_filter_name a.value a.rest b.value.0 b.value.1 a.taken.rest_fits b.was in
     let both = Takes-then bytes (to_be_bytes w8 a.value) a.rest (flat_map text_code b.value.0) b.value.1 a.taken f.taken in
     let whole : Takes bytes (counted_code b.value.0) b.value.1 = subst (λ (k : ℕ). Takes bytes (to_be_bytes w8 k ++ flat_map text_code b.value.0) b.value.1) (sym f.count) both in
     let same = ok_is (Some b.value.0, b.value.1) (o, rest) b.then in
@@ -136,14 +109,14 @@ counted_take bytes o rest fits e =
       filters = b.value.0;
       is = ap (λ (x : Option (List (List ℕ)) × List ℕ). x.0) same;
       taken = subst (λ (x : Option (List (List ℕ)) × List ℕ). Takes bytes (counted_code b.value.0) x.1) same whole;
-      legal = (omega (arith, f.count, a.legal.at_most), f.names);
+      legal = (omega (arith, f.count, a.legal.at_most), f.legal);
     }
 
 counted_again : (fs : List (List ℕ)) (rest : List ℕ) → AreFilters (Some fs) → counted_filters_at (counted_code fs ++ rest) ≡ Ok (Some fs, rest)
 unfolding counted_filters_at
 counted_again fs rest h =
-    again-then (ranged_at 0 15 w8) (to_be_bytes w8) (IsIn 0 15) reads_count (length fs) (flat_map text_code fs) rest (λ count. filters_at count.0 count.1 >>= λ filters. Ok (Some filters.0, filters.1)) (record { at_least = omega arith; at_most = h.0 })
-    ∙ rw (filters_again fs rest h.1) refl
+    again-then (ranged_at 0 15 w8) (to_be_bytes w8) (IsIn 0 15) reads_count (length fs) (flat_map text_code fs) rest (λ count. list_at (text_at is_filter_name) count.0 count.1 >>= λ filters. Ok (Some filters.0, filters.1)) (record { at_least = omega arith; at_most = h.0 })
+    ∙ rw (list_again (text_at is_filter_name) text_code (IsText is_filter_name) reads_filter_name fs rest h.1) refl
 
 record Maybe (bytes : List ℕ) (o : Option (List (List ℕ))) (rest : List ℕ) : Type 0 where
   taken : Takes bytes (filters_code o) rest

@@ -1,8 +1,12 @@
 pub mod Utf8
+pub mod Added
 pub mod Loop
 pub mod FieldLaws
 pub mod TextLaws
+pub mod ListLaws
 pub mod FilterLaws
 pub mod HoldLaws
 pub mod ExitLaws
+pub mod Sizes
+pub mod EffectLaws
 pub mod EventLaws

@@ -2,7 +2,7 @@
 use Rattle.std.proofs.Common.{◌≡◌, ℕ, ◌<◌, ◌^◌, Bool, true, false, length, refl, arith}
 use Rattle.std.specs.Prelude.{nat_le, ◌&&◌}
 use Rattle.std.proofs.lemmas.Bool.Decides.{nat_tests}
-use Rattle.spool_types.specs.Values.{is_text_of, is_queue_name, is_uri, is_media_type, is_user_name, is_title, is_options, is_note, is_filter_name}
+use Rattle.spool_types.specs.Values.{is_text_of, is_queue_name, is_uri, is_media_type, is_user_name, is_title, is_options, is_note, is_filter_name, is_reason, is_attribute_name, is_message}
 use Rattle.event_codec.specs.Spelling.{text_code, IsText}
 use Rattle.event_codec.specs.Reading.{text_at}
 use Rattle.event_codec.proofs.FieldLaws.{IsShort, Reads, reads_text}
@@ -35,6 +35,15 @@ short_note = short_of _ 0 127 (omega arith)
 pub short_filter_name : IsShort is_filter_name
 short_filter_name = short_of _ 1 127 (omega arith)
 
+pub short_reason : IsShort is_reason
+short_reason text e = short_of _ 1 127 (omega arith) text (left_true _ _ e)
+
+pub short_attribute_name : IsShort is_attribute_name
+short_attribute_name = short_of _ 1 127 (omega arith)
+
+pub short_message : IsShort is_message
+short_message = short_of _ 0 1023 (omega arith)
+
 small_enough : (n : ℕ) (b c d : Bool) → (nat_le n 255 && b && c && d) ≡ true → n < 2 ^ 16
 small_enough n b c d e = grind (arith, nat_tests)
 
@@ -64,3 +73,12 @@ reads_note = reads_text is_note short_note
 
 pub reads_filter_name : Reads (text_at is_filter_name) text_code (IsText is_filter_name)
 reads_filter_name = reads_text is_filter_name short_filter_name
+
+pub reads_reason : Reads (text_at is_reason) text_code (IsText is_reason)
+reads_reason = reads_text is_reason short_reason
+
+pub reads_attribute_name : Reads (text_at is_attribute_name) text_code (IsText is_attribute_name)
+reads_attribute_name = reads_text is_attribute_name short_attribute_name
+
+pub reads_message : Reads (text_at is_message) text_code (IsText is_message)
+reads_message = reads_text is_message short_message

@@ -7,6 +7,11 @@ use Rattle.spool_types.specs.declared.phase.Policy.{Policy}
 use Rattle.spool_types.specs.declared.phase.Policy.TheVariants.{AbortJob, RetryJob, RetryCurrentJob, StopPrinter}
 use Rattle.spool_types.specs.declared.effect.Exit.{Exit}
 use Rattle.spool_types.specs.declared.effect.Exit.TheVariants.{Code, Signal, NoStart, Lost}
+use Rattle.spool_types.specs.declared.effect.Level.{Level}
+use Rattle.spool_types.specs.declared.effect.Level.TheVariants as levels
+use Rattle.spool_types.specs.declared.effect.Attribute.{Attribute}
+use Rattle.spool_types.specs.declared.effect.Effect.{Effect}
+use Rattle.spool_types.specs.declared.effect.Effect.TheVariants as effect_kinds
 use Rattle.spool_types.specs.declared.event.NewQueue.{NewQueue}
 use Rattle.spool_types.specs.declared.event.QueueNotes.{QueueNotes}
 use Rattle.spool_types.specs.declared.event.NewJob.{NewJob}
@@ -15,7 +20,8 @@ use Rattle.spool_types.specs.declared.event.StageEnd.{StageEnd}
 use Rattle.spool_types.specs.declared.event.Event.{Event}
 use Rattle.spool_types.specs.declared.event.Event.TheVariants.{AddQueue, Info, SetAccept, SetStop, Create, Send, Close, Hold, Release, Cancel, Clock, Start, Stage, Abandon, Reopen}
 use Rattle.spool_types.specs.Limits.{greatest_number, greatest_moment, greatest_attempts, longest_send}
-use Rattle.spool_types.specs.Values.{is_queue_name, is_uri, is_media_type, is_user_name, is_title, is_options, is_note, is_filter_name}
+use Rattle.spool_types.specs.Values.{is_queue_name, is_uri, is_media_type, is_user_name, is_title, is_options, is_note, is_filter_name, is_reason, is_attribute_name, is_message}
+use Rattle.spool_types.specs.Effects.{AreEffects}
 
 -- ---- fields. Numbers are big-endian
 
@@ -89,9 +95,45 @@ exit_code Signal = to_be_bytes w8 1
 exit_code NoStart = to_be_bytes w8 2
 exit_code Lost = to_be_bytes w8 3
 
--- how many effects a stage has: none yet
-abbrev pub no_effects : List ℕ
-no_effects = to_be_bytes w16 0
+-- ---- what a stage's child said (filter(7))
+
+-- a page's number, and how many copies of it were printed
+abbrev pub pages_code : ℕ → ℕ → List ℕ
+pages_code page copies = to_be_bytes w32 page ++ to_be_bytes w32 copies
+
+-- how many words there are in two bytes, and each of them
+abbrev pub words_code : List (List ℕ) → List ℕ
+words_code words = to_be_bytes w16 (length words) ++ flat_map text_code words
+
+abbrev pub attribute_code : Attribute → List ℕ
+attribute_code a = text_code a.name ++ text_code a.value
+
+-- the most urgent first
+abbrev pub level_number : Level → ℕ
+level_number levels.Emergency = 0
+level_number levels.Alert = 1
+level_number levels.Critical = 2
+level_number levels.Error = 3
+level_number levels.Warning = 4
+level_number levels.Notice = 5
+level_number levels.Info = 6
+
+abbrev pub message_code : Level → List ℕ → List ℕ
+message_code level text = to_be_bytes w8 (level_number level) ++ text_code text
+
+-- the effect's kind in one byte, and its fields
+abbrev pub effect_code : Effect → List ℕ
+effect_code (effect_kinds.Pages page copies) = to_be_bytes w8 1 ++ pages_code page copies
+effect_code (effect_kinds.TotalPages pages) = to_be_bytes w8 2 ++ to_be_bytes w32 pages
+effect_code (effect_kinds.SetReasons words) = to_be_bytes w8 3 ++ words_code words
+effect_code (effect_kinds.AddReasons words) = to_be_bytes w8 4 ++ words_code words
+effect_code (effect_kinds.DropReasons words) = to_be_bytes w8 5 ++ words_code words
+effect_code (effect_kinds.Attribute a) = to_be_bytes w8 6 ++ attribute_code a
+effect_code (effect_kinds.Message level text) = to_be_bytes w8 7 ++ message_code level text
+
+-- how many effects there are in two bytes, and each of them
+abbrev pub effects_code : List Effect → List ℕ
+effects_code es = to_be_bytes w16 (length es) ++ flat_map effect_code es
 
 abbrev pub stage_code : StageEnd → List ℕ
 stage_code e =
@@ -100,7 +142,7 @@ stage_code e =
     ++ to_be_bytes w8 e.stage
     ++ exit_code e.exit
     ++ to_be_bytes w32 e.dropped
-    ++ no_effects
+    ++ effects_code e.effects
 
 -- the event's kind in one byte, its fields in order, and nothing else
 abbrev pub spelling : Event → List ℕ
@@ -182,12 +224,35 @@ IsExit Signal = Unit {0}
 IsExit NoStart = Unit {0}
 IsExit Lost = Unit {0}
 
+pub record IsPages (p c : ℕ) : Type 0 where
+  pub page : IsIn 0 4294967295 p
+  pub copies : IsIn 0 4294967295 c
+
+pub record AreWords (words : List (List ℕ)) : Type 0 where
+  pub count : length words ≤ 65535
+  pub each : AllByRecursion (IsText is_reason) words
+
+pub record IsAttribute (a : Attribute) : Type 0 where
+  pub name : IsText is_attribute_name a.name
+  pub value : IsText is_message a.value
+
+abbrev pub IsEffect : Effect → Type 0
+IsEffect (effect_kinds.Pages page copies) = IsPages page copies
+IsEffect (effect_kinds.TotalPages pages) = IsIn 0 4294967295 pages
+IsEffect (effect_kinds.SetReasons words) = AreWords words
+IsEffect (effect_kinds.AddReasons words) = AreWords words
+IsEffect (effect_kinds.DropReasons words) = AreWords words
+IsEffect (effect_kinds.Attribute a) = IsAttribute a
+IsEffect (effect_kinds.Message level text) = IsText is_message text
+
 pub record IsStageEnd (e : StageEnd) : Type 0 where
   pub job : IsJobNumber e.job
   pub attempt : IsIn 1 greatest_attempts e.attempt
   pub stage : IsIn 1 16 e.stage
   pub exit : IsExit e.exit
   pub dropped : IsIn 0 4294967295 e.dropped
+  pub effects : AreEffects e.effects
+  pub each : AllByRecursion IsEffect e.effects
 
 abbrev pub IsSpellable : Event → Type 0
 IsSpellable (AddQueue q) = IsQueue q

@@ -17,7 +17,7 @@ pub enum CodecFault {
     Range,
     /// A text isn't UTF-8.
     Utf8,
-    /// No memory was found for the copy of a field.
+    /// No memory was found for the copy of a field, or for a list.
     Memory,
 }
 

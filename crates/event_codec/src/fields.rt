@@ -1,8 +1,8 @@
 //! Fields at the front of bytes, each with the bytes after it.
-ghost use Rattle.std.specs.Prelude.{◌≡◌, length, IfOk};
+ghost use Rattle.std.specs.Prelude.{◌≡◌, length, is_ok, false, IfOk, IfErr};
 ghost use Rattle.std.specs.Int.{w8, w16, w32, w64};
 ghost use Rattle.spool_types.specs.Limits.{greatest_number, greatest_moment};
-ghost use Rattle.event_codec.specs.Reading.{Gives, part_at as part, number_at, ranged as in_range, text_at as text, utf8_of};
+ghost use Rattle.event_codec.specs.Reading.{Gives, MemoryOnly, part_at as part, number_at, ranged as in_range, list_at, text_at as text, utf8_of};
 
 use crate::fault::CodecFault;
 use spool_types::{JobId, Moment, Ranged, Text, TextKind};
@@ -11,8 +11,9 @@ use std::alloc::Global;
 /// The first `count` bytes.
 #[tactic(auto, unfolding(crate::specs::Reading::part_at))]
 pub(crate) fn part_at(count: usize, bytes: &[u8]) -> Result<(&[u8], &[u8]), CodecFault>
-    ensures part { Gives (λ x. (x.0.now, x.1.now)) result (part count bytes.now) }
+    ensures read { Gives (λ x. (x.0.now, x.1.now)) result (part count bytes.now) }
     ensures length { IfOk result (λ x. length x.0.now ≡ count) }
+    ensures memory { IfErr result (MemoryOnly false) }
 {
     if bytes.len() < count {
         return Err(CodecFault::Length);
@@ -22,7 +23,8 @@ pub(crate) fn part_at(count: usize, bytes: &[u8]) -> Result<(&[u8], &[u8]), Code
 
 #[tactic(auto, unfolding(crate::specs::Reading::number_at))]
 pub(crate) fn u8_at(bytes: &[u8]) -> Result<(u8, &[u8]), CodecFault>
-    ensures { Gives (λ x. (x.0, x.1.now)) result (number_at w8 bytes.now) }
+    ensures read { Gives (λ x. (x.0, x.1.now)) result (number_at w8 bytes.now) }
+    ensures memory { IfErr result (MemoryOnly false) }
 {
     let (part, rest) = part_at(1, bytes)?;
     Ok((part[0], rest))
@@ -30,7 +32,8 @@ pub(crate) fn u8_at(bytes: &[u8]) -> Result<(u8, &[u8]), CodecFault>
 
 #[tactic(auto, unfolding(crate::specs::Reading::number_at))]
 pub(crate) fn u16_at(bytes: &[u8]) -> Result<(u16, &[u8]), CodecFault>
-    ensures { Gives (λ x. (x.0, x.1.now)) result (number_at w16 bytes.now) }
+    ensures read { Gives (λ x. (x.0, x.1.now)) result (number_at w16 bytes.now) }
+    ensures memory { IfErr result (MemoryOnly false) }
 {
     let (part, rest) = part_at(2, bytes)?;
     Ok((u16::from_be_bytes([part[0], part[1]]), rest))
@@ -38,7 +41,8 @@ pub(crate) fn u16_at(bytes: &[u8]) -> Result<(u16, &[u8]), CodecFault>
 
 #[tactic(auto, unfolding(crate::specs::Reading::number_at))]
 pub(crate) fn u32_at(bytes: &[u8]) -> Result<(u32, &[u8]), CodecFault>
-    ensures { Gives (λ x. (x.0, x.1.now)) result (number_at w32 bytes.now) }
+    ensures read { Gives (λ x. (x.0, x.1.now)) result (number_at w32 bytes.now) }
+    ensures memory { IfErr result (MemoryOnly false) }
 {
     let (part, rest) = part_at(4, bytes)?;
     let number = u32::from_be_bytes([part[0], part[1], part[2], part[3]]);
@@ -47,7 +51,8 @@ pub(crate) fn u32_at(bytes: &[u8]) -> Result<(u32, &[u8]), CodecFault>
 
 #[tactic(auto, unfolding(crate::specs::Reading::number_at))]
 pub(crate) fn u64_at(bytes: &[u8]) -> Result<(u64, &[u8]), CodecFault>
-    ensures { Gives (λ x. (x.0, x.1.now)) result (number_at w64 bytes.now) }
+    ensures read { Gives (λ x. (x.0, x.1.now)) result (number_at w64 bytes.now) }
+    ensures memory { IfErr result (MemoryOnly false) }
 {
     let (part, rest) = part_at(8, bytes)?;
     let number = u64::from_be_bytes([
@@ -61,7 +66,8 @@ pub(crate) fn u64_at(bytes: &[u8]) -> Result<(u64, &[u8]), CodecFault>
 pub(crate) fn ranged<const LEAST: u32, const MOST: u32>(
     number: u32,
 ) -> Result<Ranged<LEAST, MOST>, CodecFault>
-    ensures { Gives (λ n. n) result (in_range LEAST MOST number) }
+    ensures read { Gives (λ n. n) result (in_range LEAST MOST number) }
+    ensures memory { IfErr result (MemoryOnly false) }
 {
     match Ranged::new(number) {
         Some(ranged) => Ok(ranged),
@@ -71,7 +77,8 @@ pub(crate) fn ranged<const LEAST: u32, const MOST: u32>(
 
 #[tactic(auto, unfolding(crate::specs::Reading::ranged, crate::specs::Reading::checked))]
 pub(crate) fn job_id(number: u32) -> Result<JobId, CodecFault>
-    ensures { Gives (λ n. n) result (in_range 1 greatest_number number) }
+    ensures read { Gives (λ n. n) result (in_range 1 greatest_number number) }
+    ensures memory { IfErr result (MemoryOnly false) }
 {
     match JobId::new(number) {
         Some(job) => Ok(job),
@@ -81,7 +88,8 @@ pub(crate) fn job_id(number: u32) -> Result<JobId, CodecFault>
 
 #[tactic(auto, unfolding(crate::specs::Reading::ranged, crate::specs::Reading::checked))]
 pub(crate) fn moment(seconds: u64) -> Result<Moment, CodecFault>
-    ensures { Gives (λ n. n) result (in_range 0 greatest_moment seconds) }
+    ensures read { Gives (λ n. n) result (in_range 0 greatest_moment seconds) }
+    ensures memory { IfErr result (MemoryOnly false) }
 {
     match Moment::new(seconds) {
         Some(moment) => Ok(moment),
@@ -90,7 +98,8 @@ pub(crate) fn moment(seconds: u64) -> Result<Moment, CodecFault>
 }
 
 fn utf8_in(bytes: &[u8]) -> Result<&str, CodecFault>
-    ensures { Gives (λ s. s.now) result (utf8_of bytes.now) }
+    ensures read { Gives (λ s. s.now) result (utf8_of bytes.now) }
+    ensures memory { IfErr result (MemoryOnly false) }
 {
     match str::from_utf8(bytes) {
         Ok(text) => Ok(text),
@@ -104,10 +113,30 @@ pub(crate) fn text_at<K: TextKind>(
     alloc: Global,
     bytes: &[u8],
 ) -> Result<(Text<K>, &[u8]), CodecFault>
-    ensures { Gives (λ x. (x.0, x.1.now)) result (text K.allowed bytes.now) }
+    ensures read { Gives (λ x. (x.0, x.1.now)) result (text K.allowed bytes.now) }
+    ensures memory { IfErr result (MemoryOnly (is_ok (text K.allowed bytes.now))) }
 {
     let (length, rest) = u16_at(bytes)?;
     let (part, rest) = part_at(length as usize, rest)?;
     let copy = Text::read(alloc, utf8_in(part)?)?;
     Ok((copy, rest))
+}
+
+/// So many texts of the kind `K`. Each has two bytes at least, so the bytes bound what is reserved for them.
+pub(crate) fn texts_at<K: TextKind>(
+    alloc: Global,
+    count: u16,
+    bytes: &[u8],
+) -> Result<(Vec<Text<K>>, &[u8]), CodecFault>
+    ensures read { Gives (λ x. (x.0.items, x.1.now)) result (list_at (text K.allowed) count bytes.now) }
+    ensures length { IfOk result (λ x. length x.0.items ≡ count) }
+{
+    let mut texts = Vec::with_capacity(alloc, (count as usize).min(bytes.len() / 2))?;
+    let mut rest = bytes;
+    for _ in 0..count {
+        let (text, after) = text_at(alloc, rest)?;
+        texts.push(text)?;
+        rest = after;
+    }
+    Ok((texts, rest))
 }

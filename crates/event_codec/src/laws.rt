@@ -1,7 +1,9 @@
 //! Laws of the spelling.
-ghost use Rattle.std.specs.Prelude.{◌≡◌, List, ℕ, [], ◌++◌};
+ghost use Rattle.std.specs.Prelude.{◌≡◌, ◌+◌, List, ℕ, [], ◌++◌, length};
 ghost use Rattle.spool_types.specs.declared.event.Event.{Event};
-ghost use Rattle.event_codec.specs.Spelling.{IsSpellable, spelling};
+ghost use Rattle.spool_types.specs.declared.effect.Effect.{Effect as Change};
+ghost use Rattle.spool_types.specs.Effects.{effects_size};
+ghost use Rattle.event_codec.specs.Spelling.{effects_code, IsSpellable, spelling};
 
 /// No event's spelling begins another's, so that what stands behind a spelling is never a part of it.
 pub fn no_proper_prefix()
@@ -11,4 +13,9 @@ pub fn no_proper_prefix()
 /// Bytes spell one event at most.
 pub fn one_event()
     ensures { (d e : Event) → IsSpellable d → IsSpellable e → spelling d ≡ spelling e → d ≡ e }
+{}
+
+/// The code of effects has two bytes for their number, and as many more as their size says.
+pub fn effects_have_their_size()
+    ensures { (effects : List Change) → length (effects_code effects) ≡ 2 + effects_size effects }
 {}

@@ -18,12 +18,24 @@
 //! | 0A | Cancel | job in 4 bytes |
 //! | 0B | Clock | moment in 8 bytes |
 //! | 0C | Start | job in 4 bytes |
-//! | 0D | Stage | job in 4 bytes, attempt in 4, stage in 1, exit, dropped lines in 4, the number of effects in 2 |
+//! | 0D | Stage | job in 4 bytes, attempt in 4, stage in 1, exit, dropped effects in 4, the number of effects in 2, and each effect |
 //! | 0E | Abandon | job in 4 bytes |
 //! | 0F | Reopen | none |
 //!
 //! An exit is 0 and a status in 1 byte; or 1 after a signal, 2 where nothing was started, 3 where the end or the output
-//! isn't known. The number of effects is 0, as no effect can be spelled yet.
+//! isn't known. An effect (filter(7)) is its kind in one byte and its fields in order:
+//!
+//! | Byte | Effect | Fields |
+//! |---|---|---|
+//! | 01 | Pages | page in 4 bytes, copies in 4 |
+//! | 02 | TotalPages | pages in 4 bytes |
+//! | 03 | SetReasons | the number of words in 2 bytes, and each word |
+//! | 04 | AddReasons | the same, of one word at least |
+//! | 05 | DropReasons | the same, of one word at least |
+//! | 06 | Attribute | name, value |
+//! | 07 | Message | level in 1 byte, from 0 (emergency) to 6 (info), text |
+//!
+//! The effects of one stage have at most 16,384 bytes in all, which their number isn't counted in.
 //!
 //! # Promises
 //!
@@ -32,24 +44,34 @@
 //!   bytes are its spelling (`sound`), gives each event from its spelling (`complete`), and answers the first fault from
 //!   the left (`exact`, by `reading`).
 //! - [`no_proper_prefix`]: no spelling is a proper prefix of another. [`one_event`]: bytes spell one event at most.
+//! - No spelling has 131,072 bytes (`short`), and [`effects_have_their_size`]: the effects of a stage have as many as
+//!   `effects_size` says.
 //!
 //! # Faults
 //!
 //! The first byte is looked at first, and is [`CodecFault::Kind`] where it is no event's. Then each field from left
 //! to right may have a fault: `Length` where it passes the end, `Utf8` where a text isn't UTF-8, `Range` where the value
-//! is outside its limits. Bytes after the last field are `Length`, and so are no bytes at all. `Memory` comes where a
-//! field's copy is refused, and then nothing is kept. [`encode`] and [`encode_onto`] reserve the whole length at once, and
-//! fail only there.
+//! is outside its limits. An effect of no kind and a level of none are `Range`, and so is the effect that passes 16,384
+//! bytes, whose own faults come first. Bytes after the last field are `Length`, and so are no bytes at all.
+//!
+//! `Memory` comes only where a value is kept in memory of its own (`memory`, by `reaches_copy`): a text, the bytes of a send,
+//! an effect. So it never comes for an event without one, and never before the first of them. Nothing is kept then.
+//!
+//! [`encode`] and [`encode_onto`] reserve the whole length at once, and fail only there. [`encode_onto`] doesn't fail where
+//! the room is there already (`fits`), and leaves the bytes as they were where it fails (`kept`).
 #![tactic(auto)]
 
+mod effect_reading;
+mod effect_writing;
 mod fault;
+mod field_writing;
 mod fields;
 mod laws;
 mod reading;
 mod writing;
 
 pub use fault::CodecFault;
-pub use laws::{no_proper_prefix, one_event};
+pub use laws::{effects_have_their_size, no_proper_prefix, one_event};
 pub use reading::decode;
 pub use writing::{encode, encode_onto};
 

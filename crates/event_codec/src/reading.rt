@@ -1,22 +1,26 @@
 //! Reading events.
-ghost use Rattle.std.specs.Prelude.{◌≡◌, ◌↔◌, ◌⊎◌, ℕ, length, IfOk, IfErr, IsOk, Ok, IsErrOf};
+ghost use Rattle.std.specs.Prelude.{◌≡◌, ◌↔◌, ◌⊎◌, ℕ, length, is_ok, false, IfOk, IfErr, IsOk, Ok};
 ghost use Rattle.std.specs.Int.{w8, w16, w32};
 ghost use Rattle.spool_types.specs.declared.event.Event.{Event as Change};
-ghost use Rattle.spool_types.specs.Values.{is_media_type};
+ghost use Rattle.spool_types.specs.Values.{is_media_type, is_queue_name};
 ghost use Rattle.event_codec.specs.Spelling.{IsSpellable, spelling};
-ghost use Rattle.event_codec.specs.Reading.{Gives, ranged_at as ranged_number_at, text_at as text, flag_at as flagged, until_at as until, exit_at as exit, policy_at as policy, filters_at as filters, counted_filters_at as counted_filters, maybe_filters_at as maybe_filters, piece_at as piece, queue_at, notes_at, accept_at, stop_at, job_at, send_at, closing_at, hold_at, numbered_at, clock_at, stage_at, whole, reading};
+ghost use Rattle.event_codec.specs.Reading.{Gives, MemoryOnly, text_at as text, flag_at as flagged, until_at as until, exit_at as exit, policy_at as policy, counted_filters_at as counted_filters, maybe_filters_at as maybe_filters, piece_at as piece, queue_at, notes_at, accept_at, stop_at, job_at, send_at, closing_at, hold_at, numbered_at, clock_at, stage_at, closing_copies, stage_copies, reaches_copy, whole, reading};
 
+use crate::effect_reading::effects_at;
 use crate::fault::CodecFault;
-use crate::fields::{job_id, moment, part_at, ranged, text_at, u8_at, u16_at, u32_at, u64_at};
+use crate::fields::{
+    job_id, moment, part_at, ranged, text_at, texts_at, u8_at, u16_at, u32_at, u64_at,
+};
 use spool_types::{
-    Closing, Event, Exit, FilterName, Filters, JobId, MediaType, MediaTypeKind, Moment, NewJob,
-    NewQueue, Piece, Policy, QueueNotes, StageEnd,
+    Closing, Event, Exit, Filters, JobId, MediaType, MediaTypeKind, Moment, NewJob, NewQueue,
+    Piece, Policy, QueueNotes, StageEnd,
 };
 use std::alloc::Global;
 
 #[tactic(auto, unfolding(crate::specs::Reading::flag_at, crate::specs::Reading::flag_of))]
 fn flag_at(bytes: &[u8]) -> Result<(bool, &[u8]), CodecFault>
-    ensures { Gives (λ x. (x.0, x.1.now)) result (flagged bytes.now) }
+    ensures read { Gives (λ x. (x.0, x.1.now)) result (flagged bytes.now) }
+    ensures memory { IfErr result (MemoryOnly false) }
 {
     let (number, rest) = u8_at(bytes)?;
     match number {
@@ -29,7 +33,8 @@ fn flag_at(bytes: &[u8]) -> Result<(bool, &[u8]), CodecFault>
 /// Until when a job is held: a moment, or none where it is held until it is released.
 #[tactic(auto, unfolding(crate::specs::Reading::until_at, crate::specs::Reading::flagged_until_at, crate::specs::Reading::moment_at, crate::specs::Reading::ranged_at))]
 fn until_at(bytes: &[u8]) -> Result<(Option<Moment>, &[u8]), CodecFault>
-    ensures { Gives (λ x. (x.0, x.1.now)) result (until bytes.now) }
+    ensures read { Gives (λ x. (x.0, x.1.now)) result (until bytes.now) }
+    ensures memory { IfErr result (MemoryOnly false) }
 {
     let (flag, rest) = u8_at(bytes)?;
     match flag {
@@ -45,7 +50,8 @@ fn until_at(bytes: &[u8]) -> Result<(Option<Moment>, &[u8]), CodecFault>
 
 #[tactic(auto, unfolding(crate::specs::Reading::exit_at, crate::specs::Reading::kind_of_exit, crate::specs::Reading::status_at))]
 fn exit_at(bytes: &[u8]) -> Result<(Exit, &[u8]), CodecFault>
-    ensures { Gives (λ x. (x.0, x.1.now)) result (exit bytes.now) }
+    ensures read { Gives (λ x. (x.0, x.1.now)) result (exit bytes.now) }
+    ensures memory { IfErr result (MemoryOnly false) }
 {
     let (kind, rest) = u8_at(bytes)?;
     match kind {
@@ -62,7 +68,8 @@ fn exit_at(bytes: &[u8]) -> Result<(Exit, &[u8]), CodecFault>
 
 #[tactic(auto, unfolding(crate::specs::Reading::policy_at, crate::specs::Reading::policy_of))]
 fn policy_at(bytes: &[u8]) -> Result<(Policy, &[u8]), CodecFault>
-    ensures { Gives (λ x. (x.0, x.1.now)) result (policy bytes.now) }
+    ensures read { Gives (λ x. (x.0, x.1.now)) result (policy bytes.now) }
+    ensures memory { IfErr result (MemoryOnly false) }
 {
     let (number, rest) = u8_at(bytes)?;
     let policy = match number {
@@ -76,40 +83,22 @@ fn policy_at(bytes: &[u8]) -> Result<(Policy, &[u8]), CodecFault>
 }
 
 fn media_at(alloc: Global, bytes: &[u8]) -> Result<(MediaType, &[u8]), CodecFault>
-    ensures { Gives (λ x. (x.0, x.1.now)) result (text is_media_type bytes.now) }
+    ensures read { Gives (λ x. (x.0, x.1.now)) result (text is_media_type bytes.now) }
+    ensures memory { IfErr result (MemoryOnly (is_ok (text is_media_type bytes.now))) }
 {
     let (name, rest) = text_at::<MediaTypeKind>(alloc, bytes)?;
     Ok((MediaType::from_name(name), rest))
 }
 
-/// So many names of filters.
-fn filters_at(
-    alloc: Global,
-    count: u8,
-    bytes: &[u8],
-) -> Result<(Vec<FilterName>, &[u8]), CodecFault>
-    ensures filters { Gives (λ x. (x.0.items, x.1.now)) result (filters count bytes.now) }
-    ensures length { IfOk result (λ x. length x.0.items ≡ count) }
-{
-    let mut filters = Vec::with_capacity(alloc, count as usize)?;
-    let mut rest = bytes;
-    for _ in 0..count {
-        let (filter, after) = text_at(alloc, rest)?;
-        filters.push(filter)?;
-        rest = after;
-    }
-    Ok((filters, rest))
-}
-
 #[tactic(auto, unfolding(crate::specs::Reading::counted_filters_at, crate::specs::Reading::ranged_at, crate::specs::Reading::ranged, crate::specs::Reading::checked))]
 fn counted_filters_at(alloc: Global, bytes: &[u8]) -> Result<(Option<Filters>, &[u8]), CodecFault>
-    ensures { Gives (λ x. (x.0, x.1.now)) result (counted_filters bytes.now) }
+    ensures read { Gives (λ x. (x.0, x.1.now)) result (counted_filters bytes.now) }
 {
     let (count, rest) = u8_at(bytes)?;
     if 15 < count {
         return Err(CodecFault::Range);
     }
-    let (filters, rest) = filters_at(alloc, count, rest)?;
+    let (filters, rest) = texts_at(alloc, count as u16, rest)?;
     match Filters::new(filters) {
         Ok(filters) => Ok((Some(filters), rest)),
         Err(_) => Err(CodecFault::Range),
@@ -118,7 +107,7 @@ fn counted_filters_at(alloc: Global, bytes: &[u8]) -> Result<(Option<Filters>, &
 
 #[tactic(auto, unfolding(crate::specs::Reading::maybe_filters_at, crate::specs::Reading::flagged_filters_at))]
 fn maybe_filters_at(alloc: Global, bytes: &[u8]) -> Result<(Option<Filters>, &[u8]), CodecFault>
-    ensures { Gives (λ x. (x.0, x.1.now)) result (maybe_filters bytes.now) }
+    ensures read { Gives (λ x. (x.0, x.1.now)) result (maybe_filters bytes.now) }
 {
     let (flag, rest) = u8_at(bytes)?;
     match flag {
@@ -130,7 +119,8 @@ fn maybe_filters_at(alloc: Global, bytes: &[u8]) -> Result<(Option<Filters>, &[u
 
 #[tactic(auto, unfolding(crate::specs::Reading::piece_at, crate::specs::Reading::ranged_at, crate::specs::Reading::ranged, crate::specs::Reading::checked))]
 fn piece_at(alloc: Global, bytes: &[u8]) -> Result<(Piece, &[u8]), CodecFault>
-    ensures { Gives (λ x. (x.0, x.1.now)) result (piece bytes.now) }
+    ensures read { Gives (λ x. (x.0, x.1.now)) result (piece bytes.now) }
+    ensures memory { IfErr result (MemoryOnly (is_ok (piece bytes.now))) }
 {
     let (count, rest) = u32_at(bytes)?;
     if 65_536 < count {
@@ -157,7 +147,8 @@ fn ended(rest: &[u8]) -> Result<(), CodecFault>
 
 #[tactic(auto, unfolding(crate::specs::Reading::queue_at, crate::specs::Reading::ranged_at, crate::specs::Reading::whole))]
 fn queue_of(alloc: Global, fields: &[u8]) -> Result<Event, CodecFault>
-    ensures { Gives (λ e. e) result (whole (queue_at fields.now)) }
+    ensures read { Gives (λ e. e) result (whole (queue_at fields.now)) }
+    ensures memory { IfErr result (MemoryOnly (is_ok (text is_queue_name fields.now))) }
 {
     let (name, rest) = text_at(alloc, fields)?;
     let (uri, rest) = text_at(alloc, rest)?;
@@ -179,7 +170,8 @@ fn queue_of(alloc: Global, fields: &[u8]) -> Result<Event, CodecFault>
 
 #[tactic(auto, unfolding(crate::specs::Reading::notes_at, crate::specs::Reading::whole))]
 fn notes_of(alloc: Global, fields: &[u8]) -> Result<Event, CodecFault>
-    ensures { Gives (λ e. e) result (whole (notes_at fields.now)) }
+    ensures read { Gives (λ e. e) result (whole (notes_at fields.now)) }
+    ensures memory { IfErr result (MemoryOnly (is_ok (text is_queue_name fields.now))) }
 {
     let (queue, rest) = text_at(alloc, fields)?;
     let (info, rest) = text_at(alloc, rest)?;
@@ -194,7 +186,8 @@ fn notes_of(alloc: Global, fields: &[u8]) -> Result<Event, CodecFault>
 
 #[tactic(auto, unfolding(crate::specs::Reading::accept_at, crate::specs::Reading::whole))]
 fn accept_of(alloc: Global, fields: &[u8]) -> Result<Event, CodecFault>
-    ensures { Gives (λ e. e) result (whole (accept_at fields.now)) }
+    ensures read { Gives (λ e. e) result (whole (accept_at fields.now)) }
+    ensures memory { IfErr result (MemoryOnly (is_ok (text is_queue_name fields.now))) }
 {
     let (queue, rest) = text_at(alloc, fields)?;
     let (accepting, rest) = flag_at(rest)?;
@@ -204,7 +197,8 @@ fn accept_of(alloc: Global, fields: &[u8]) -> Result<Event, CodecFault>
 
 #[tactic(auto, unfolding(crate::specs::Reading::stop_at, crate::specs::Reading::whole))]
 fn stop_of(alloc: Global, fields: &[u8]) -> Result<Event, CodecFault>
-    ensures { Gives (λ e. e) result (whole (stop_at fields.now)) }
+    ensures read { Gives (λ e. e) result (whole (stop_at fields.now)) }
+    ensures memory { IfErr result (MemoryOnly (is_ok (text is_queue_name fields.now))) }
 {
     let (queue, rest) = text_at(alloc, fields)?;
     let (stopped, rest) = flag_at(rest)?;
@@ -214,7 +208,8 @@ fn stop_of(alloc: Global, fields: &[u8]) -> Result<Event, CodecFault>
 
 #[tactic(auto, unfolding(crate::specs::Reading::job_at, crate::specs::Reading::ranged_at, crate::specs::Reading::whole))]
 fn job_of(alloc: Global, fields: &[u8]) -> Result<Event, CodecFault>
-    ensures { Gives (λ e. e) result (whole (job_at fields.now)) }
+    ensures read { Gives (λ e. e) result (whole (job_at fields.now)) }
+    ensures memory { IfErr result (MemoryOnly (is_ok (text is_queue_name fields.now))) }
 {
     let (queue, rest) = text_at(alloc, fields)?;
     let (number, rest) = u32_at(rest)?;
@@ -240,7 +235,8 @@ fn job_of(alloc: Global, fields: &[u8]) -> Result<Event, CodecFault>
 
 #[tactic(auto, unfolding(crate::specs::Reading::send_at, crate::specs::Reading::ranged_at, crate::specs::Reading::whole))]
 fn send_of(alloc: Global, fields: &[u8]) -> Result<Event, CodecFault>
-    ensures { Gives (λ e. e) result (whole (send_at fields.now)) }
+    ensures read { Gives (λ e. e) result (whole (send_at fields.now)) }
+    ensures memory { IfErr result (MemoryOnly (is_ok (send_at fields.now))) }
 {
     let (number, rest) = u32_at(fields)?;
     let job = job_id(number)?;
@@ -249,9 +245,10 @@ fn send_of(alloc: Global, fields: &[u8]) -> Result<Event, CodecFault>
     Ok(Event::Send { job, bytes })
 }
 
-#[tactic(auto, unfolding(crate::specs::Reading::closing_at, crate::specs::Reading::ranged_at, crate::specs::Reading::whole))]
+#[tactic(auto, unfolding(crate::specs::Reading::closing_at, crate::specs::Reading::closing_copies, crate::specs::Reading::ranged_at, crate::specs::Reading::whole))]
 fn closing_of(alloc: Global, fields: &[u8]) -> Result<Event, CodecFault>
-    ensures { Gives (λ e. e) result (whole (closing_at fields.now)) }
+    ensures read { Gives (λ e. e) result (whole (closing_at fields.now)) }
+    ensures memory { IfErr result (MemoryOnly (closing_copies fields.now)) }
 {
     let (number, rest) = u32_at(fields)?;
     let job = job_id(number)?;
@@ -267,7 +264,8 @@ fn closing_of(alloc: Global, fields: &[u8]) -> Result<Event, CodecFault>
 
 #[tactic(auto, unfolding(crate::specs::Reading::hold_at, crate::specs::Reading::ranged_at, crate::specs::Reading::whole))]
 fn hold_of(fields: &[u8]) -> Result<Event, CodecFault>
-    ensures { Gives (λ e. e) result (whole (hold_at fields.now)) }
+    ensures read { Gives (λ e. e) result (whole (hold_at fields.now)) }
+    ensures memory { IfErr result (MemoryOnly false) }
 {
     let (number, rest) = u32_at(fields)?;
     let job = job_id(number)?;
@@ -284,7 +282,8 @@ fn hold_of(fields: &[u8]) -> Result<Event, CodecFault>
 // A job's number, and nothing after it.
 #[tactic(auto, unfolding(crate::specs::Reading::numbered_at, crate::specs::Reading::ranged_at, crate::specs::Reading::whole))]
 fn only_job(fields: &[u8]) -> Result<JobId, CodecFault>
-    ensures { (event : ℕ → Change) → Gives event result (whole (numbered_at event fields.now)) }
+    ensures read { (event : ℕ → Change) → Gives event result (whole (numbered_at event fields.now)) }
+    ensures memory { IfErr result (MemoryOnly false) }
 {
     let (number, rest) = u32_at(fields)?;
     let job = job_id(number)?;
@@ -294,7 +293,8 @@ fn only_job(fields: &[u8]) -> Result<JobId, CodecFault>
 
 #[tactic(auto, unfolding(crate::specs::Reading::clock_at, crate::specs::Reading::ranged_at, crate::specs::Reading::whole))]
 fn clock_of(fields: &[u8]) -> Result<Event, CodecFault>
-    ensures { Gives (λ e. e) result (whole (clock_at fields.now)) }
+    ensures read { Gives (λ e. e) result (whole (clock_at fields.now)) }
+    ensures memory { IfErr result (MemoryOnly false) }
 {
     let (seconds, rest) = u64_at(fields)?;
     let moment = moment(seconds)?;
@@ -302,21 +302,10 @@ fn clock_of(fields: &[u8]) -> Result<Event, CodecFault>
     Ok(Event::Clock(moment))
 }
 
-/// No effect can be spelled yet.
-#[tactic(auto, unfolding(crate::specs::Reading::ranged_at, crate::specs::Reading::ranged, crate::specs::Reading::checked))]
-fn no_effects_at(bytes: &[u8]) -> Result<&[u8], CodecFault>
-    ensures { Gives (λ rest. (0, rest.now)) result (ranged_number_at 0 0 w16 bytes.now) }
-{
-    let (count, rest) = u16_at(bytes)?;
-    if count != 0 {
-        return Err(CodecFault::Range);
-    }
-    Ok(rest)
-}
-
-#[tactic(auto, unfolding(crate::specs::Reading::stage_at, crate::specs::Reading::ranged_at, crate::specs::Reading::whole))]
-fn stage_of(fields: &[u8]) -> Result<Event, CodecFault>
-    ensures { Gives (λ e. e) result (whole (stage_at fields.now)) }
+#[tactic(auto, unfolding(crate::specs::Reading::stage_at, crate::specs::Reading::stage_copies, crate::specs::Reading::effects_copy, crate::specs::Reading::ranged_at, crate::specs::Reading::whole))]
+fn stage_of(alloc: Global, fields: &[u8]) -> Result<Event, CodecFault>
+    ensures read { Gives (λ e. e) result (whole (stage_at fields.now)) }
+    ensures memory { IfErr result (MemoryOnly (stage_copies fields.now)) }
 {
     let (number, rest) = u32_at(fields)?;
     let job = job_id(number)?;
@@ -326,7 +315,7 @@ fn stage_of(fields: &[u8]) -> Result<Event, CodecFault>
     let stage = ranged(stage as u32)?;
     let (exit, rest) = exit_at(rest)?;
     let (dropped, rest) = u32_at(rest)?;
-    let rest = no_effects_at(rest)?;
+    let (effects, rest) = effects_at(alloc, rest)?;
     ended(rest)?;
     Ok(Event::Stage(StageEnd {
         job,
@@ -334,20 +323,23 @@ fn stage_of(fields: &[u8]) -> Result<Event, CodecFault>
         stage,
         exit,
         dropped,
+        effects,
     }))
 }
 
 #[tactic(auto, unfolding(crate::specs::Reading::whole))]
 fn reopen_of(fields: &[u8]) -> Result<Event, CodecFault>
-    ensures { Gives (λ e. e) result (whole (Ok (Event.Reopen, fields.now))) }
+    ensures read { Gives (λ e. e) result (whole (Ok (Event.Reopen, fields.now))) }
+    ensures memory { IfErr result (MemoryOnly false) }
 {
     ended(fields)?;
     Ok(Event::Reopen)
 }
 
-#[tactic(auto, unfolding(crate::specs::Reading::event_at, crate::specs::Reading::fields_at, crate::specs::Reading::whole))]
+#[tactic(auto, unfolding(crate::specs::Reading::event_at, crate::specs::Reading::fields_at, crate::specs::Reading::whole, crate::specs::Reading::reaches_copy, crate::specs::Reading::fields_copy))]
 fn event_of(alloc: Global, payload: &[u8]) -> Result<Event, CodecFault>
-    ensures { Gives (λ e. e) result (reading payload.now) }
+    ensures read { Gives (λ e. e) result (reading payload.now) }
+    ensures memory { IfErr result (MemoryOnly (reaches_copy payload.now)) }
 {
     match payload {
         [] => Err(CodecFault::Length),
@@ -363,7 +355,7 @@ fn event_of(alloc: Global, payload: &[u8]) -> Result<Event, CodecFault>
         [0x0A, fields @ ..] => Ok(Event::Cancel(only_job(fields)?)),
         [0x0B, fields @ ..] => clock_of(fields),
         [0x0C, fields @ ..] => Ok(Event::Start(only_job(fields)?)),
-        [0x0D, fields @ ..] => stage_of(fields),
+        [0x0D, fields @ ..] => stage_of(alloc, fields),
         [0x0E, fields @ ..] => Ok(Event::Abandon(only_job(fields)?)),
         [0x0F, fields @ ..] => reopen_of(fields),
         [_, ..] => Err(CodecFault::Kind),
@@ -378,6 +370,8 @@ pub fn decode(alloc: Global, payload: &[u8]) -> Result<Event, CodecFault>
     ensures complete { (event : Change) → IsSpellable event → payload.now ≡ spelling event → Gives (λ e. e) result (Ok event) }
     // Which fault it is.
     ensures exact { Gives (λ e. e) result (reading payload.now) }
+    // Memory is wanted only where a value is copied.
+    ensures memory { IfErr result (MemoryOnly (reaches_copy payload.now)) }
 {
     event_of(alloc, payload)
 }

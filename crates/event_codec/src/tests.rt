@@ -1,325 +1,236 @@
+//! Rows in hexadecimal, each beside what it is read as.
 use super::*;
-use spool_types::{
-    AttemptNumber, Closing, Copies, Event, Exit, Filters, Interval, JobId, MediaType, Moment,
-    NewJob, NewQueue, Note, OptionText, Piece, Policy, Priority, QueueName, QueueNotes, StageEnd,
-    StageNumber, Title, Uri, UserName,
-};
+use spool_types::{Event, JobId};
 use std::alloc::Global;
 use std::process::Abort;
 use std::test::Fail;
 
-/// An event is spelled so, and is read there.
-fn is_spelled(rt: &impl Abort, alloc: Global, event: Event, want: &[u8]) -> Result<(), Fail> {
-    let bytes = encode(alloc, &event)?;
-    assert_eq!(rt; bytes.as_slice(), want);
-    assert!(rt; decode(alloc, want) == Ok(event));
+// Spellings, each before what is spelled so.
+const SPELLED: &str = "\
+0A 00 00 00 01 = Cancel(JobId { number: 1 })\n\
+01 00 01 71 00 03 73 3A 2F 00 03 61 2F 62 00 00 00 00 1E 00 05 = AddQueue(NewQueue { name: \"q\", uri: \"s:/\", target: MediaType { name: \"a/b\" }, policy: AbortJob, interval: Ranged { number: 30 }, limit: 5 })\n\
+05 00 01 71 00 00 00 01 00 01 75 00 00 00 01 32 00 00 = Create(NewJob { queue: \"q\", job: JobId { number: 1 }, user: \"u\", title: \"\", copies: Ranged { number: 1 }, priority: Ranged { number: 50 }, options: \"\" })\n\
+07 00 00 00 01 00 03 61 2F 62 01 00 = Close(Closing { job: JobId { number: 1 }, media: MediaType { name: \"a/b\" }, filters: Some(Items { items: [] }) })\n\
+06 00 00 00 01 00 00 00 02 61 62 = Send { job: JobId { number: 1 }, bytes: Items { items: [97, 98] } }\n\
+0B 00 00 00 00 00 00 03 E8 = Clock(Moment { seconds: 1000 })\n\
+09 00 00 00 01 = Release(JobId { number: 1 })\n\
+08 00 00 00 01 01 = Hold { job: JobId { number: 1 }, until: None }\n\
+08 00 00 00 01 02 00 00 00 00 00 00 00 64 = Hold { job: JobId { number: 1 }, until: Some(Moment { seconds: 100 }) }\n\
+03 00 01 71 01 = SetAccept { queue: \"q\", accepting: true }\n\
+04 00 01 71 00 = SetStop { queue: \"q\", stopped: false }\n\
+02 00 01 71 00 00 00 01 61 = Info(QueueNotes { queue: \"q\", info: \"\", location: \"a\" })\n\
+0C 00 00 00 01 = Start(JobId { number: 1 })\n\
+0E 00 00 00 01 = Abandon(JobId { number: 1 })\n\
+0F = Reopen\n\
+0D 00 00 00 01 00 00 00 01 01 00 00 00 00 00 00 00 00 = Stage(StageEnd { job: JobId { number: 1 }, attempt: Ranged { number: 1 }, stage: Ranged { number: 1 }, exit: Code(0), dropped: 0, effects: Effects { effects: Items { items: [] } } })\n\
+0D 00 00 00 01 00 00 00 01 01 01 00 00 00 00 00 00 = Stage(StageEnd { job: JobId { number: 1 }, attempt: Ranged { number: 1 }, stage: Ranged { number: 1 }, exit: Signal, dropped: 0, effects: Effects { effects: Items { items: [] } } })\n\
+0D 00 00 00 01 00 00 00 01 01 00 00 00 00 00 00 00 01 02 00 00 00 09 = Stage(StageEnd { job: JobId { number: 1 }, attempt: Ranged { number: 1 }, stage: Ranged { number: 1 }, exit: Code(0), dropped: 0, effects: Effects { effects: Items { items: [TotalPages(9)] } } })";
+
+// What stands behind the number of effects, 1, in a stage that began well, each before that effect.
+const EFFECTS: &str = "\
+01 00 00 00 03 00 00 00 02 = Pages { page: 3, copies: 2 }\n\
+02 00 00 00 09 = TotalPages(9)\n\
+03 00 00 = SetReasons(Items { items: [] })\n\
+03 00 02 00 03 61 2E 62 00 01 63 = SetReasons(Items { items: [\"a.b\", \"c\"] })\n\
+04 00 01 00 01 61 = AddReasons(Items { items: [\"a\"] })\n\
+05 00 01 00 01 61 = DropReasons(Items { items: [\"a\"] })\n\
+06 00 03 61 2D 31 00 03 78 20 79 = Attribute(Attribute { name: \"a-1\", value: \"x y\" })\n\
+06 00 01 61 00 00 = Attribute(Attribute { name: \"a\", value: \"\" })\n\
+07 00 00 00 = Message { level: Emergency, text: \"\" }\n\
+07 01 00 01 61 = Message { level: Alert, text: \"a\" }\n\
+07 02 00 01 61 = Message { level: Critical, text: \"a\" }\n\
+07 03 00 01 61 = Message { level: Error, text: \"a\" }\n\
+07 04 00 01 61 = Message { level: Warning, text: \"a\" }\n\
+07 05 00 01 61 = Message { level: Notice, text: \"a\" }\n\
+07 06 00 02 61 7E = Message { level: Info, text: \"a~\" }";
+
+// Bytes that spell nothing, each before its fault. The kinds 40 to 43 are those of the rows of a checkpoint.
+const FAULTS: &str = "\
+0A 00 00 00 01 00 = Length\n\
+0A 00 00 00 00 = Range\n\
+7F = Kind\n\
+= Length\n\
+07 00 00 00 01 00 03 61 2F 42 00 = Range\n\
+07 00 00 00 01 00 03 61 2F FF 00 = Utf8\n\
+03 00 01 71 02 = Range\n\
+04 00 01 71 02 = Range\n\
+08 00 00 00 01 00 = Range\n\
+08 00 00 00 01 03 = Range\n\
+08 00 00 00 01 02 = Length\n\
+08 00 00 00 01 02 00 00 03 A3 52 94 40 01 = Range\n\
+09 00 00 00 01 00 = Length\n\
+08 00 00 00 01 01 00 = Length\n\
+03 00 01 71 01 00 = Length\n\
+10 = Kind\n\
+11 = Kind\n\
+0F 00 = Length\n\
+0D 00 00 00 01 00 00 00 00 01 01 00 00 00 00 00 00 = Range\n\
+0D 00 00 00 01 00 00 00 01 00 01 00 00 00 00 00 00 = Range\n\
+0D 00 00 00 01 00 00 00 01 11 01 00 00 00 00 00 00 = Range\n\
+0D 00 00 00 01 00 00 00 01 01 04 00 00 00 00 00 00 = Range\n\
+0D 00 00 00 01 00 00 00 01 01 01 00 00 00 00 00 01 = Length\n\
+40 = Kind\n\
+40 00 00 00 00 00 00 00 00 00 00 00 00 = Kind\n\
+41 = Kind\n\
+41 00 00 00 00 00 00 00 00 00 00 00 00 = Kind\n\
+42 = Kind\n\
+42 00 00 00 00 00 00 00 00 00 00 00 00 = Kind\n\
+43 = Kind\n\
+43 00 00 00 00 00 00 00 00 00 00 00 00 = Kind";
+
+// What stands behind the dropped lines of a stage, with its fault.
+const EFFECT_FAULTS: &str = "\
+00 = Length\n\
+00 00 00 = Length\n\
+00 01 00 = Range\n\
+00 01 08 = Range\n\
+00 02 08 = Range\n\
+00 01 01 00 00 00 01 00 00 00 = Length\n\
+00 01 02 00 00 00 = Length\n\
+00 01 02 00 00 00 09 00 = Length\n\
+00 02 02 00 00 00 09 = Length\n\
+00 01 03 00 = Length\n\
+00 01 03 00 01 = Length\n\
+00 01 03 00 02 00 01 61 = Length\n\
+00 01 03 00 01 00 04 6E 6F 6E 65 = Range\n\
+00 01 03 00 01 00 00 = Range\n\
+00 01 03 00 01 00 03 61 20 62 = Range\n\
+00 01 03 00 01 00 01 FF = Utf8\n\
+00 01 04 00 00 = Range\n\
+00 01 05 00 00 = Range\n\
+00 01 04 00 01 = Length\n\
+00 01 05 00 01 00 01 = Length\n\
+00 01 03 FF FF = Length\n\
+00 01 06 00 03 61 5F 62 00 00 = Range\n\
+00 01 06 00 00 00 00 = Range\n\
+00 01 06 00 01 FF = Utf8\n\
+00 01 06 00 01 61 00 = Length\n\
+00 01 06 00 01 61 00 01 7F = Range\n\
+00 01 06 00 01 61 00 01 80 = Utf8\n\
+00 01 07 = Length\n\
+00 01 07 07 = Range\n\
+00 01 07 06 00 02 61 = Length\n\
+00 01 07 06 00 01 1F = Range\n\
+00 01 07 06 00 01 C3 = Utf8";
+
+// The bytes that a text in hexadecimal stands for, behind others.
+fn bytes_of(alloc: Global, before: &[u8], text: &str) -> Result<Vec<u8>, Fail> {
+    let mut bytes = Vec::from_slice(alloc, before)?;
+    for word in text.split_whitespace() {
+        bytes.push(u8::from_str_radix(word, 16).ok().ok_or("not hexadecimal")?)?;
+    }
+    Ok(bytes)
+}
+
+// Rows, and what stands in each before its bytes, before its text and behind it.
+#[derive(Clone, Copy)]
+struct Table<'a> {
+    before: &'a [u8],
+    opening: &'a str,
+    closing: &'a str,
+    rows: &'a str,
+}
+
+// What bytes are read as, in words. An event is spelled by these bytes again.
+fn shown(rt: &impl Abort, alloc: Global, bytes: &[u8]) -> Result<String, Fail> {
+    match decode(alloc, bytes) {
+        Ok(event) => {
+            let text = format!(in alloc; "{event:?}");
+            let again = encode(alloc, &event);
+            // By name: let go at the end of its scope, it would split the proof into a case for each kind of event.
+            drop(event);
+            assert_eq!(rt; again?.as_slice(), bytes);
+            Ok(text?)
+        }
+        Err(fault) => Ok(format!(in alloc; "{fault:?}")?),
+    }
+}
+
+fn rows_are_read(rt: &impl Abort, alloc: Global, table: Table) -> Result<(), Fail> {
+    for row in table.rows.lines() {
+        let (code, text) = row.split_once("= ").ok_or("no row")?;
+        let bytes = bytes_of(alloc, table.before, code)?;
+        let want = format!(in alloc; "{}{text}{}", table.opening, table.closing)?;
+        assert_eq!(rt; shown(rt, alloc, &bytes)?.as_str(), want.as_str(), "{row}");
+    }
     Ok(())
 }
 
-fn first_job() -> Result<JobId, Fail> {
-    Ok(JobId::new(1).ok_or("no")?)
+// What a stage begins with, up to its exit.
+const STAGE_SHOWN: &str =
+    "Stage(StageEnd { job: JobId { number: 1 }, attempt: Ranged { number: 1 }, stage: Ranged { number: 1 }, exit: Code(0), dropped: 0, effects: Effects { effects: Items { items: [";
+
+const TABLES: [Table; 4] = [
+    Table {
+        before: &[],
+        opening: "",
+        closing: "",
+        rows: SPELLED,
+    },
+    Table {
+        before: &[0x0D, 0, 0, 0, 1, 0, 0, 0, 1, 1, 0, 0, 0, 0, 0, 0, 0, 1],
+        opening: STAGE_SHOWN,
+        closing: "] } } })",
+        rows: EFFECTS,
+    },
+    Table {
+        before: &[],
+        opening: "",
+        closing: "",
+        rows: FAULTS,
+    },
+    Table {
+        before: &[0x0D, 0, 0, 0, 1, 0, 0, 0, 1, 1, 1, 0, 0, 0, 0],
+        opening: "",
+        closing: "",
+        rows: EFFECT_FAULTS,
+    },
+];
+
+#[test]
+fn bytes_are_read_so_and_spelled_so(rt: HostRuntime) -> Result<(), Fail> {
+    for table in TABLES {
+        rows_are_read(&rt, rt.alloc(), table)?;
+    }
+    Ok(())
+}
+
+// A stage with 1,820 effects of nine bytes each, 16,380 in all, and one more behind them.
+fn full_stage(alloc: Global, last: &str) -> Result<Vec<u8>, Fail> {
+    let before = [0x0D, 0, 0, 0, 1, 0, 0, 0, 1, 1, 1, 0, 0, 0, 0, 7, 29];
+    let mut bytes = Vec::from_slice(alloc, &before)?;
+    for _ in 0..1_820 {
+        bytes.extend_from_slice(&[1, 0, 0, 0, 1, 0, 0, 0, 1])?;
+    }
+    bytes_of(alloc, &bytes, last)
 }
 
 #[test]
-fn a_cancel_is_spelled_in_five_bytes(rt: HostRuntime) -> Result<(), Fail> {
+fn the_effects_of_a_stage_have_16384_bytes_at_most(rt: HostRuntime) -> Result<(), Fail> {
     let alloc = rt.alloc();
-    let cancel = Event::Cancel(first_job()?);
-    is_spelled(&rt, alloc, cancel, &[0x0A, 0, 0, 0, 1])
+    for (last, want) in [
+        ("07 06 00 00", "Stage"),
+        ("02 00 00 00 01", "Range"),
+        ("07 06 00 01 61", "Range"),
+        ("07 06 00 02 61", "Length"),
+        ("07 06 00 01 80", "Utf8"),
+        ("02 00 00 00", "Length"),
+    ] {
+        let bytes = full_stage(alloc, last)?;
+        let text = shown(&rt, alloc, &bytes)?;
+        assert!(rt; text.as_str().starts_with(want), "{last}");
+    }
+    Ok(())
 }
 
 #[test]
 fn a_spelling_is_added_to_what_is_there(rt: HostRuntime) -> Result<(), Fail> {
     let alloc = rt.alloc();
-    let cancel = Event::Cancel(first_job()?);
     let mut bytes = Vec::from_slice(alloc, &[7, 8])?;
+    let cancel = Event::Cancel(JobId::new(1).ok_or("no")?);
     encode_onto(&cancel, &mut bytes)?;
     assert_eq!(rt; bytes.as_slice(), [7, 8, 0x0A, 0, 0, 0, 1].as_slice());
     Ok(())
-}
-
-#[test]
-fn wrong_cancels_have_their_faults(rt: HostRuntime) {
-    let alloc = rt.alloc();
-    assert!(rt; decode(alloc, &[0x0A, 0, 0, 0, 1, 0]) == Err(CodecFault::Length));
-    assert!(rt; decode(alloc, &[0x0A, 0, 0, 0, 0]) == Err(CodecFault::Range));
-    assert!(rt; decode(alloc, &[0x7F]) == Err(CodecFault::Kind));
-    assert!(rt; decode(alloc, &[]) == Err(CodecFault::Length));
-}
-
-fn new_queue(alloc: Global) -> Result<Event, Fail> {
-    Ok(Event::AddQueue(NewQueue {
-        name: QueueName::read(alloc, "q")?,
-        uri: Uri::read(alloc, "s:/")?,
-        target: MediaType::read(alloc, "a/b")?,
-        policy: Policy::AbortJob,
-        interval: Interval::new(30).ok_or("no")?,
-        limit: 5,
-    }))
-}
-
-#[test]
-fn a_new_queue_is_spelled_in_21_bytes(rt: HostRuntime) -> Result<(), Fail> {
-    let alloc = rt.alloc();
-    let event = new_queue(alloc)?;
-    let want = b"\x01\x00\x01q\x00\x03s:/\x00\x03a/b\x00\x00\x00\x00\x1e\x00\x05";
-    assert_eq!(rt; want.len(), 21);
-    is_spelled(&rt, alloc, event, want.as_slice())
-}
-
-#[test]
-fn a_media_type_with_a_capital_is_out_of_range(rt: HostRuntime) {
-    let alloc = rt.alloc();
-    let bytes = b"\x07\x00\x00\x00\x01\x00\x03a/B\x00";
-    assert!(rt; decode(alloc, bytes.as_slice()) == Err(CodecFault::Range));
-    let bytes = b"\x07\x00\x00\x00\x01\x00\x03a/\xff\x00";
-    assert!(rt; decode(alloc, bytes.as_slice()) == Err(CodecFault::Utf8));
-}
-
-fn new_job(alloc: Global) -> Result<Event, Fail> {
-    Ok(Event::Create(NewJob {
-        queue: QueueName::read(alloc, "q")?,
-        job: first_job()?,
-        user: UserName::read(alloc, "u")?,
-        title: Title::read(alloc, "")?,
-        copies: Copies::new(1).ok_or("no")?,
-        priority: Priority::new(50).ok_or("no")?,
-        options: OptionText::read(alloc, "")?,
-    }))
-}
-
-#[test]
-fn a_new_job_is_spelled_in_18_bytes(rt: HostRuntime) -> Result<(), Fail> {
-    let alloc = rt.alloc();
-    let event = new_job(alloc)?;
-    let want = b"\x05\x00\x01q\x00\x00\x00\x01\x00\x01u\x00\x00\x00\x01\x32\x00\x00";
-    assert_eq!(rt; want.len(), 18);
-    is_spelled(&rt, alloc, event, want.as_slice())
-}
-
-#[test]
-fn a_closing_is_spelled_in_12_bytes(rt: HostRuntime) -> Result<(), Fail> {
-    let alloc = rt.alloc();
-    let event = Event::Close(Closing {
-        job: first_job()?,
-        media: MediaType::read(alloc, "a/b")?,
-        filters: Some(Filters::empty(alloc)),
-    });
-    let want = b"\x07\x00\x00\x00\x01\x00\x03a/b\x01\x00";
-    assert_eq!(rt; want.len(), 12);
-    is_spelled(&rt, alloc, event, want.as_slice())
-}
-
-#[test]
-fn a_send_is_spelled_in_11_bytes(rt: HostRuntime) -> Result<(), Fail> {
-    let alloc = rt.alloc();
-    let bytes = Piece::new(Vec::from_slice(alloc, b"ab".as_slice())?);
-    let send = Event::Send {
-        job: first_job()?,
-        bytes: bytes.ok().ok_or("no")?,
-    };
-    let want = b"\x06\x00\x00\x00\x01\x00\x00\x00\x02ab";
-    is_spelled(&rt, alloc, send, want.as_slice())
-}
-
-#[test]
-fn a_clock_is_spelled_in_nine_bytes(rt: HostRuntime) -> Result<(), Fail> {
-    let alloc = rt.alloc();
-    let clock = Event::Clock(Moment::new(1_000).ok_or("no")?);
-    is_spelled(&rt, alloc, clock, &[0x0B, 0, 0, 0, 0, 0, 0, 3, 0xE8])
-}
-
-#[test]
-fn a_release_is_spelled_in_five_bytes(rt: HostRuntime) -> Result<(), Fail> {
-    let alloc = rt.alloc();
-    let release = Event::Release(first_job()?);
-    is_spelled(&rt, alloc, release, &[0x09, 0, 0, 0, 1])
-}
-
-fn held(until: Option<Moment>) -> Result<Event, Fail> {
-    Ok(Event::Hold {
-        job: first_job()?,
-        until,
-    })
-}
-
-#[test]
-fn a_hold_without_an_end_is_spelled_in_six_bytes(rt: HostRuntime) -> Result<(), Fail> {
-    let alloc = rt.alloc();
-    is_spelled(&rt, alloc, held(None)?, &[0x08, 0, 0, 0, 1, 1])
-}
-
-#[test]
-fn a_hold_until_a_moment_is_spelled_in_14_bytes(rt: HostRuntime) -> Result<(), Fail> {
-    let alloc = rt.alloc();
-    let hold = held(Moment::new(100))?;
-    let want = [0x08, 0, 0, 0, 1, 2, 0, 0, 0, 0, 0, 0, 0, 100];
-    is_spelled(&rt, alloc, hold, &want)
-}
-
-#[test]
-fn a_queue_that_is_opened_is_spelled_with_a_1(rt: HostRuntime) -> Result<(), Fail> {
-    let alloc = rt.alloc();
-    let accept = Event::SetAccept {
-        queue: QueueName::read(alloc, "q")?,
-        accepting: true,
-    };
-    is_spelled(&rt, alloc, accept, b"\x03\x00\x01q\x01".as_slice())
-}
-
-#[test]
-fn a_queue_that_goes_on_is_spelled_with_a_0(rt: HostRuntime) -> Result<(), Fail> {
-    let alloc = rt.alloc();
-    let go_on = Event::SetStop {
-        queue: QueueName::read(alloc, "q")?,
-        stopped: false,
-    };
-    is_spelled(&rt, alloc, go_on, b"\x04\x00\x01q\x00".as_slice())
-}
-
-#[test]
-fn the_info_is_spelled_before_the_location(rt: HostRuntime) -> Result<(), Fail> {
-    let alloc = rt.alloc();
-    let info = Event::Info(QueueNotes {
-        queue: QueueName::read(alloc, "q")?,
-        info: Note::read(alloc, "")?,
-        location: Note::read(alloc, "a")?,
-    });
-    let want = b"\x02\x00\x01q\x00\x00\x00\x01a";
-    is_spelled(&rt, alloc, info, want.as_slice())
-}
-
-fn fault(alloc: Global, payload: &[u8]) -> Option<CodecFault> {
-    decode(alloc, payload).err()
-}
-
-#[test]
-fn a_flag_is_0_or_1(rt: HostRuntime) {
-    let alloc = rt.alloc();
-    let accept = b"\x03\x00\x01q\x02";
-    assert!(rt; fault(alloc, accept.as_slice()) == Some(CodecFault::Range));
-    let stop = b"\x04\x00\x01q\x02";
-    assert!(rt; fault(alloc, stop.as_slice()) == Some(CodecFault::Range));
-}
-
-#[test]
-fn a_hold_has_its_end_behind_1_or_2(rt: HostRuntime) {
-    let alloc = rt.alloc();
-    assert!(rt; fault(alloc, &[0x08, 0, 0, 0, 1, 0]) == Some(CodecFault::Range));
-    assert!(rt; fault(alloc, &[0x08, 0, 0, 0, 1, 3]) == Some(CodecFault::Range));
-    assert!(rt; fault(alloc, &[0x08, 0, 0, 0, 1, 2]) == Some(CodecFault::Length));
-}
-
-#[test]
-fn a_hold_until_more_than_the_greatest_moment_is_out_of_range(rt: HostRuntime) {
-    let alloc = rt.alloc();
-    let hold = b"\x08\x00\x00\x00\x01\x02\x00\x00\x03\xa3\x52\x94\x40\x01";
-    assert!(rt; fault(alloc, hold.as_slice()) == Some(CodecFault::Range));
-}
-
-#[test]
-fn a_byte_that_is_left_over_is_a_wrong_length(rt: HostRuntime) {
-    let alloc = rt.alloc();
-    assert!(rt; fault(alloc, &[0x09, 0, 0, 0, 1, 0]) == Some(CodecFault::Length));
-    assert!(rt; fault(alloc, &[0x08, 0, 0, 0, 1, 1, 0]) == Some(CodecFault::Length));
-    assert!(rt; fault(alloc, b"\x03\x00\x01q\x01\x00".as_slice()) == Some(CodecFault::Length));
-}
-
-#[test]
-fn no_event_is_of_kind_16_or_17(rt: HostRuntime) {
-    let alloc = rt.alloc();
-    assert!(rt; fault(alloc, &[0x10]) == Some(CodecFault::Kind));
-    assert!(rt; fault(alloc, &[0x11]) == Some(CodecFault::Kind));
-}
-
-#[test]
-fn a_start_is_spelled_in_five_bytes(rt: HostRuntime) -> Result<(), Fail> {
-    let alloc = rt.alloc();
-    let start = Event::Start(first_job()?);
-    is_spelled(&rt, alloc, start, &[0x0C, 0, 0, 0, 1])
-}
-
-#[test]
-fn an_abandon_is_spelled_in_five_bytes(rt: HostRuntime) -> Result<(), Fail> {
-    let alloc = rt.alloc();
-    let abandon = Event::Abandon(first_job()?);
-    is_spelled(&rt, alloc, abandon, &[0x0E, 0, 0, 0, 1])
-}
-
-#[test]
-fn a_reopen_is_spelled_in_one_byte(rt: HostRuntime) -> Result<(), Fail> {
-    let alloc = rt.alloc();
-    is_spelled(&rt, alloc, Event::Reopen, &[0x0F])?;
-    assert!(rt; fault(alloc, &[0x0F, 0]) == Some(CodecFault::Length));
-    Ok(())
-}
-
-fn first_stage(exit: Exit) -> Result<Event, Fail> {
-    Ok(Event::Stage(StageEnd {
-        job: first_job()?,
-        attempt: AttemptNumber::new(1).ok_or("no")?,
-        stage: StageNumber::new(1).ok_or("no")?,
-        exit,
-        dropped: 0,
-    }))
-}
-
-#[test]
-fn a_stage_with_a_status_is_spelled_in_18_bytes(rt: HostRuntime) -> Result<(), Fail> {
-    let alloc = rt.alloc();
-    let event = first_stage(Exit::Code(0))?;
-    let want = b"\x0d\x00\x00\x00\x01\x00\x00\x00\x01\x01\x00\x00\x00\x00\x00\x00\x00\x00";
-    assert_eq!(rt; want.len(), 18);
-    is_spelled(&rt, alloc, event, want.as_slice())
-}
-
-#[test]
-fn a_stage_with_a_signal_is_spelled_in_17_bytes(rt: HostRuntime) -> Result<(), Fail> {
-    let alloc = rt.alloc();
-    let event = first_stage(Exit::Signal)?;
-    let want = b"\x0d\x00\x00\x00\x01\x00\x00\x00\x01\x01\x01\x00\x00\x00\x00\x00\x00";
-    assert_eq!(rt; want.len(), 17);
-    is_spelled(&rt, alloc, event, want.as_slice())
-}
-
-#[test]
-fn an_attempt_is_at_least_1(rt: HostRuntime) {
-    let bytes = b"\x0d\x00\x00\x00\x01\x00\x00\x00\x00\x01\x01\x00\x00\x00\x00\x00\x00";
-    assert!(rt; fault(rt.alloc(), bytes.as_slice()) == Some(CodecFault::Range));
-}
-
-#[test]
-fn a_stage_is_at_least_1(rt: HostRuntime) {
-    let bytes = b"\x0d\x00\x00\x00\x01\x00\x00\x00\x01\x00\x01\x00\x00\x00\x00\x00\x00";
-    assert!(rt; fault(rt.alloc(), bytes.as_slice()) == Some(CodecFault::Range));
-}
-
-#[test]
-fn a_stage_is_at_most_16(rt: HostRuntime) {
-    let bytes = b"\x0d\x00\x00\x00\x01\x00\x00\x00\x01\x11\x01\x00\x00\x00\x00\x00\x00";
-    assert!(rt; fault(rt.alloc(), bytes.as_slice()) == Some(CodecFault::Range));
-}
-
-#[test]
-fn a_stage_has_no_end_of_kind_4(rt: HostRuntime) {
-    let bytes = b"\x0d\x00\x00\x00\x01\x00\x00\x00\x01\x01\x04\x00\x00\x00\x00\x00\x00";
-    assert!(rt; fault(rt.alloc(), bytes.as_slice()) == Some(CodecFault::Range));
-}
-
-#[test]
-fn a_stage_has_no_effects_yet(rt: HostRuntime) {
-    let bytes = b"\x0d\x00\x00\x00\x01\x00\x00\x00\x01\x01\x01\x00\x00\x00\x00\x00\x01";
-    assert!(rt; fault(rt.alloc(), bytes.as_slice()) == Some(CodecFault::Range));
-}
-
-// The kinds of the rows of a checkpoint, alone and with so many fields as the first of them has.
-#[test]
-fn rows_are_no_events(rt: HostRuntime) {
-    let alloc = rt.alloc();
-    for kind in [0x40, 0x41, 0x42, 0x43] {
-        assert!(rt; fault(alloc, &[kind]) == Some(CodecFault::Kind));
-        let head = [kind, 0, 0, 0, 0, 0, 0, 0, 0, 0, 0, 0, 0];
-        assert!(rt; fault(alloc, &head) == Some(CodecFault::Kind));
-    }
 }
 
 // These bytes, a text's length in two bytes, and as many letters b after a/.
@@ -336,14 +247,11 @@ fn with_text(alloc: Global, before: &[u8], len: u16) -> Result<Vec<u8>, Fail> {
 #[test]
 fn a_media_type_of_256_bytes_is_out_of_range(rt: HostRuntime) -> Result<(), Fail> {
     let alloc = rt.alloc();
-    for (len, want) in [
-        (255, None),
-        (256, Some(CodecFault::Range)),
-        (300, Some(CodecFault::Range)),
-    ] {
+    for (len, want) in [(255, "Close"), (256, "Range"), (300, "Range")] {
         let mut close = with_text(alloc, &[0x07, 0, 0, 0, 1], len)?;
         close.push(0)?;
-        assert!(rt; fault(alloc, &close) == want);
+        let text = shown(&rt, alloc, &close)?;
+        assert!(rt; text.as_str().starts_with(want), "{len}");
     }
     Ok(())
 }
@@ -354,11 +262,10 @@ fn a_long_text_that_is_cut_is_a_wrong_length(rt: HostRuntime) -> Result<(), Fail
     let alloc = rt.alloc();
     let before = b"\x05\x00\x01q\x00\x00\x00\x01\x00\x01u\x00\x00\x00\x01\x32";
     let mut create = with_text(alloc, before, 556)?;
-    let event = decode(alloc, &create).ok().ok_or("no event")?;
-    is_spelled(&rt, alloc, event, &create)?;
-    for cut in [1, 255] {
+    for (cut, want) in [(0, "Create"), (1, "Length"), (255, "Length")] {
         create.truncate(create.len().saturating_sub(cut));
-        assert!(rt; fault(alloc, &create) == Some(CodecFault::Length));
+        let text = shown(&rt, alloc, &create)?;
+        assert!(rt; text.as_str().starts_with(want), "{cut}");
     }
     Ok(())
 }

@@ -1,48 +1,20 @@
 //! Writing events.
-ghost use Rattle.std.specs.Prelude.{◌≡◌, ◌+◌, ◌<◌, ◌≤◌, ◌^◌, ◌∷◌, ◌++◌, List, ℕ, [], true, length, take, IfOk, OnOk};
+ghost use Rattle.std.specs.Prelude.{◌≡◌, ◌+◌, ◌<◌, ◌≤◌, ◌^◌, ◌∷◌, ◌++◌, List, ℕ, [], length, take, IsOk, IfOk, OnOk, OnErr, vec_len, vec_capacity};
 ghost use Rattle.std.specs.Int.{w8, w32, w64, to_be_bytes};
 ghost use Rattle.std.specs.List.{flat_map, AllByRecursion};
 ghost use Rattle.spool_types.specs.Limits.{greatest_moment};
 ghost use Rattle.spool_types.specs.Values.{is_media_type, is_filter_name, is_queue_name};
 ghost use Rattle.event_codec.specs.Spelling.{text_code, flag_code, until_code, filters_code, queue_code, notes_code, accept_code, stop_code, job_code, send_code, closing_code, hold_code, exit_code, stage_code, policy_number, spelling, IsText, IsQueue, AreNotes, IsIn, IsJobNumber, IsJob, IsSend, IsClosing, IsHold, IsExit, IsStageEnd, AreFilters, IsSpellable};
 
+use crate::effect_writing::put_effects;
+use crate::field_writing::{
+    media_len, put, put_flag, put_media, put_text, put_texts, text_len, texts_len,
+};
 use spool_types::{
-    Closing, Event, Exit, FilterName, Filters, JobId, MediaType, Moment, NewJob, NewQueue, Piece,
-    Policy, QueueName, QueueNotes, StageEnd, Text, TextKind,
+    Closing, Event, Exit, Filters, JobId, MediaType, Moment, NewJob, NewQueue, Piece, Policy,
+    QueueName, QueueNotes, StageEnd,
 };
 use std::alloc::{AllocError, Global};
-
-// How many effects a stage has: none can be spelled yet.
-const NO_EFFECTS: u16 = 0;
-
-fn put_str(out: &mut Vec<u8>, text: &str) -> Result<(), AllocError>
-    requires { length text.now < 2 ^ 16 }
-    ensures written { OnOk result (out.new.items ≡ out.old.items ++ text_code text.now) }
-{
-    out.extend_from_slice(&(text.len() as u16).to_be_bytes())?;
-    out.extend_from_slice(text.as_bytes())
-}
-
-fn put_text<K: TextKind>(out: &mut Vec<u8>, text: &Text<K>) -> Result<(), AllocError>
-    requires short { (t : List ℕ) → K.allowed t ≡ true → length t < 2 ^ 16 }
-    ensures written { OnOk result (out.new.items ≡ out.old.items ++ text_code text.now) }
-    ensures is_text { IsText K.allowed text.now }
-{
-    put_str(out, text.as_str())
-}
-
-fn put_media(out: &mut Vec<u8>, media: &MediaType) -> Result<(), AllocError>
-    ensures written { OnOk result (out.new.items ≡ out.old.items ++ text_code media.now) }
-    ensures is_text { IsText is_media_type media.now }
-{
-    put_str(out, media.as_str())
-}
-
-fn put_flag(out: &mut Vec<u8>, flag: bool) -> Result<(), AllocError>
-    ensures written { OnOk result (out.new.items ≡ out.old.items ++ flag_code flag) }
-{
-    out.extend_from_slice(&u8::from(flag).to_be_bytes())
-}
 
 fn policy_byte(policy: Policy) -> u8
     ensures { result ≡ policy_number policy }
@@ -55,159 +27,191 @@ fn policy_byte(policy: Policy) -> u8
     }
 }
 
-fn put_queue(out: &mut Vec<u8>, queue: &NewQueue) -> Result<(), AllocError>
-    ensures written { OnOk result (out.new.items ≡ out.old.items ++ queue_code queue.now) }
-    ensures legal { OnOk result (IsQueue queue.now) }
+fn put_queue(out: &mut Vec<u8>, queue: &NewQueue)
+    requires room { vec_len out.old + length (queue_code queue.now) ≤ vec_capacity out.old }
+    ensures written { out.new.items ≡ out.old.items ++ queue_code queue.now }
+    ensures len { vec_len out.new ≡ vec_len out.old + length (queue_code queue.now) }
+    ensures grown { vec_capacity out.old ≤ vec_capacity out.new }
+    ensures legal { IsQueue queue.now }
 {
-    put_text(out, &queue.name)?;
-    put_text(out, &queue.uri)?;
-    put_media(out, &queue.target)?;
-    out.extend_from_slice(&policy_byte(queue.policy).to_be_bytes())?;
-    out.extend_from_slice(&queue.interval.get().to_be_bytes())?;
-    out.extend_from_slice(&queue.limit.to_be_bytes())
+    put_text(out, &queue.name);
+    put_text(out, &queue.uri);
+    put_media(out, &queue.target);
+    put(out, &policy_byte(queue.policy).to_be_bytes());
+    put(out, &queue.interval.get().to_be_bytes());
+    put(out, &queue.limit.to_be_bytes());
 }
 
-fn put_notes(out: &mut Vec<u8>, notes: &QueueNotes) -> Result<(), AllocError>
-    ensures written { OnOk result (out.new.items ≡ out.old.items ++ notes_code notes.now) }
-    ensures legal { OnOk result (AreNotes notes.now) }
+fn put_notes(out: &mut Vec<u8>, notes: &QueueNotes)
+    requires room { vec_len out.old + length (notes_code notes.now) ≤ vec_capacity out.old }
+    ensures written { out.new.items ≡ out.old.items ++ notes_code notes.now }
+    ensures len { vec_len out.new ≡ vec_len out.old + length (notes_code notes.now) }
+    ensures grown { vec_capacity out.old ≤ vec_capacity out.new }
+    ensures legal { AreNotes notes.now }
 {
-    put_text(out, &notes.queue)?;
-    put_text(out, &notes.info)?;
-    put_text(out, &notes.location)
+    put_text(out, &notes.queue);
+    put_text(out, &notes.info);
+    put_text(out, &notes.location);
 }
 
-fn put_accept(out: &mut Vec<u8>, queue: &QueueName, accepting: bool) -> Result<(), AllocError>
-    ensures written { OnOk result (out.new.items ≡ out.old.items ++ accept_code queue.now accepting) }
-    ensures legal { OnOk result (IsText is_queue_name queue.now) }
+fn put_accept(out: &mut Vec<u8>, queue: &QueueName, accepting: bool)
+    requires room { vec_len out.old + length (accept_code queue.now accepting) ≤ vec_capacity out.old }
+    ensures written { out.new.items ≡ out.old.items ++ accept_code queue.now accepting }
+    ensures len { vec_len out.new ≡ vec_len out.old + length (accept_code queue.now accepting) }
+    ensures grown { vec_capacity out.old ≤ vec_capacity out.new }
+    ensures legal { IsText is_queue_name queue.now }
 {
-    put_text(out, queue)?;
-    put_flag(out, accepting)
+    put_text(out, queue);
+    put_flag(out, accepting);
 }
 
-fn put_stop(out: &mut Vec<u8>, queue: &QueueName, stopped: bool) -> Result<(), AllocError>
-    ensures written { OnOk result (out.new.items ≡ out.old.items ++ stop_code queue.now stopped) }
-    ensures legal { OnOk result (IsText is_queue_name queue.now) }
+fn put_stop(out: &mut Vec<u8>, queue: &QueueName, stopped: bool)
+    requires room { vec_len out.old + length (stop_code queue.now stopped) ≤ vec_capacity out.old }
+    ensures written { out.new.items ≡ out.old.items ++ stop_code queue.now stopped }
+    ensures len { vec_len out.new ≡ vec_len out.old + length (stop_code queue.now stopped) }
+    ensures grown { vec_capacity out.old ≤ vec_capacity out.new }
+    ensures legal { IsText is_queue_name queue.now }
 {
-    put_text(out, queue)?;
-    put_flag(out, stopped)
+    put_text(out, queue);
+    put_flag(out, stopped);
 }
 
-fn put_job(out: &mut Vec<u8>, job: &NewJob) -> Result<(), AllocError>
-    ensures written { OnOk result (out.new.items ≡ out.old.items ++ job_code job.now) }
-    ensures legal { OnOk result (IsJob job.now) }
+fn put_job(out: &mut Vec<u8>, job: &NewJob)
+    requires room { vec_len out.old + length (job_code job.now) ≤ vec_capacity out.old }
+    ensures written { out.new.items ≡ out.old.items ++ job_code job.now }
+    ensures len { vec_len out.new ≡ vec_len out.old + length (job_code job.now) }
+    ensures grown { vec_capacity out.old ≤ vec_capacity out.new }
+    ensures legal { IsJob job.now }
 {
-    put_text(out, &job.queue)?;
-    out.extend_from_slice(&job.job.get().to_be_bytes())?;
-    put_text(out, &job.user)?;
-    put_text(out, &job.title)?;
-    out.extend_from_slice(&(job.copies.get() as u16).to_be_bytes())?;
-    out.extend_from_slice(&(job.priority.get() as u8).to_be_bytes())?;
-    put_text(out, &job.options)
+    put_text(out, &job.queue);
+    put(out, &job.job.get().to_be_bytes());
+    put_text(out, &job.user);
+    put_text(out, &job.title);
+    put(out, &(job.copies.get() as u16).to_be_bytes());
+    put(out, &(job.priority.get() as u8).to_be_bytes());
+    put_text(out, &job.options);
 }
 
-fn put_send(out: &mut Vec<u8>, job: JobId, bytes: &Piece) -> Result<(), AllocError>
-    ensures written { OnOk result (out.new.items ≡ out.old.items ++ send_code job bytes.now) }
-    ensures legal { OnOk result (IsSend job bytes.now) }
+fn put_send(out: &mut Vec<u8>, job: JobId, bytes: &Piece)
+    requires room { vec_len out.old + length (send_code job bytes.now) ≤ vec_capacity out.old }
+    ensures written { out.new.items ≡ out.old.items ++ send_code job bytes.now }
+    ensures len { vec_len out.new ≡ vec_len out.old + length (send_code job bytes.now) }
+    ensures grown { vec_capacity out.old ≤ vec_capacity out.new }
+    ensures legal { IsSend job bytes.now }
 {
     let bytes = bytes.as_slice();
-    out.extend_from_slice(&job.get().to_be_bytes())?;
-    out.extend_from_slice(&(bytes.len() as u32).to_be_bytes())?;
-    out.extend_from_slice(bytes)
+    put(out, &job.get().to_be_bytes());
+    put(out, &(bytes.len() as u32).to_be_bytes());
+    put(out, bytes);
 }
 
-fn put_names(out: &mut Vec<u8>, filters: &[FilterName]) -> Result<(), AllocError>
-    ensures written { OnOk result (out.new.items ≡ out.old.items ++ flat_map text_code filters.now) }
-    ensures legal { OnOk result (AllByRecursion (IsText is_filter_name) filters.now) }
-{
-    for filter in filters {
-        put_text(out, filter)?;
-    }
-    Ok(())
-}
-
-fn put_filters(out: &mut Vec<u8>, filters: &Option<Filters>) -> Result<(), AllocError>
-    ensures written { OnOk result (out.new.items ≡ out.old.items ++ filters_code filters.now) }
-    ensures legal { OnOk result (AreFilters filters.now) }
+fn put_filters(out: &mut Vec<u8>, filters: &Option<Filters>)
+    requires room { vec_len out.old + length (filters_code filters.now) ≤ vec_capacity out.old }
+    ensures written { out.new.items ≡ out.old.items ++ filters_code filters.now }
+    ensures len { vec_len out.new ≡ vec_len out.old + length (filters_code filters.now) }
+    ensures grown { vec_capacity out.old ≤ vec_capacity out.new }
+    ensures legal { AreFilters filters.now }
 {
     match filters {
-        None => out.extend_from_slice(&0u8.to_be_bytes()),
+        None => put(out, &0u8.to_be_bytes()),
         Some(filters) => {
             let filters = filters.as_slice();
-            out.extend_from_slice(&1u8.to_be_bytes())?;
-            out.extend_from_slice(&(filters.len() as u8).to_be_bytes())?;
-            put_names(out, filters)
+            put(out, &1u8.to_be_bytes());
+            put(out, &(filters.len() as u8).to_be_bytes());
+            put_texts(out, filters);
         }
     }
 }
 
-fn put_closing(out: &mut Vec<u8>, closing: &Closing) -> Result<(), AllocError>
-    ensures written { OnOk result (out.new.items ≡ out.old.items ++ closing_code closing.now) }
-    ensures legal { OnOk result (IsClosing closing.now) }
+fn put_closing(out: &mut Vec<u8>, closing: &Closing)
+    requires room { vec_len out.old + length (closing_code closing.now) ≤ vec_capacity out.old }
+    ensures written { out.new.items ≡ out.old.items ++ closing_code closing.now }
+    ensures len { vec_len out.new ≡ vec_len out.old + length (closing_code closing.now) }
+    ensures grown { vec_capacity out.old ≤ vec_capacity out.new }
+    ensures legal { IsClosing closing.now }
 {
-    out.extend_from_slice(&closing.job.get().to_be_bytes())?;
-    put_media(out, &closing.media)?;
-    put_filters(out, &closing.filters)
+    put(out, &closing.job.get().to_be_bytes());
+    put_media(out, &closing.media);
+    put_filters(out, &closing.filters);
 }
 
-fn put_until(out: &mut Vec<u8>, until: Option<Moment>) -> Result<(), AllocError>
-    ensures written { OnOk result (out.new.items ≡ out.old.items ++ until_code until) }
+fn put_until(out: &mut Vec<u8>, until: Option<Moment>)
+    requires room { vec_len out.old + length (until_code until) ≤ vec_capacity out.old }
+    ensures written { out.new.items ≡ out.old.items ++ until_code until }
+    ensures len { vec_len out.new ≡ vec_len out.old + length (until_code until) }
+    ensures grown { vec_capacity out.old ≤ vec_capacity out.new }
 {
     match until {
-        None => out.extend_from_slice(&1u8.to_be_bytes()),
+        None => put(out, &1u8.to_be_bytes()),
         Some(moment) => {
-            out.extend_from_slice(&2u8.to_be_bytes())?;
-            out.extend_from_slice(&moment.get().to_be_bytes())
+            put(out, &2u8.to_be_bytes());
+            put(out, &moment.get().to_be_bytes())
         }
     }
 }
 
-fn put_hold(out: &mut Vec<u8>, job: JobId, until: Option<Moment>) -> Result<(), AllocError>
-    ensures written { OnOk result (out.new.items ≡ out.old.items ++ hold_code job until) }
-    ensures legal { OnOk result (IsHold job until) }
+fn put_hold(out: &mut Vec<u8>, job: JobId, until: Option<Moment>)
+    requires room { vec_len out.old + length (hold_code job until) ≤ vec_capacity out.old }
+    ensures written { out.new.items ≡ out.old.items ++ hold_code job until }
+    ensures len { vec_len out.new ≡ vec_len out.old + length (hold_code job until) }
+    ensures grown { vec_capacity out.old ≤ vec_capacity out.new }
+    ensures legal { IsHold job until }
 {
-    out.extend_from_slice(&job.get().to_be_bytes())?;
-    put_until(out, until)
+    put(out, &job.get().to_be_bytes());
+    put_until(out, until);
 }
 
-fn put_exit(out: &mut Vec<u8>, exit: Exit) -> Result<(), AllocError>
-    ensures written { OnOk result (out.new.items ≡ out.old.items ++ exit_code exit) }
-    ensures legal { OnOk result (IsExit exit) }
+fn put_exit(out: &mut Vec<u8>, exit: Exit)
+    requires room { vec_len out.old + length (exit_code exit) ≤ vec_capacity out.old }
+    ensures written { out.new.items ≡ out.old.items ++ exit_code exit }
+    ensures len { vec_len out.new ≡ vec_len out.old + length (exit_code exit) }
+    ensures grown { vec_capacity out.old ≤ vec_capacity out.new }
+    ensures legal { IsExit exit }
 {
     match exit {
         Exit::Code(status) => {
-            out.extend_from_slice(&0u8.to_be_bytes())?;
-            out.extend_from_slice(&status.to_be_bytes())
+            put(out, &0u8.to_be_bytes());
+            put(out, &status.to_be_bytes())
         }
-        Exit::Signal => out.extend_from_slice(&1u8.to_be_bytes()),
-        Exit::NoStart => out.extend_from_slice(&2u8.to_be_bytes()),
-        Exit::Lost => out.extend_from_slice(&3u8.to_be_bytes()),
+        Exit::Signal => put(out, &1u8.to_be_bytes()),
+        Exit::NoStart => put(out, &2u8.to_be_bytes()),
+        Exit::Lost => put(out, &3u8.to_be_bytes()),
     }
 }
 
-fn put_stage(out: &mut Vec<u8>, end: StageEnd) -> Result<(), AllocError>
-    ensures written { OnOk result (out.new.items ≡ out.old.items ++ stage_code end) }
-    ensures legal { OnOk result (IsStageEnd end) }
+fn put_stage(out: &mut Vec<u8>, end: &StageEnd)
+    requires room { vec_len out.old + length (stage_code end.now) ≤ vec_capacity out.old }
+    ensures written { out.new.items ≡ out.old.items ++ stage_code end.now }
+    ensures len { vec_len out.new ≡ vec_len out.old + length (stage_code end.now) }
+    ensures grown { vec_capacity out.old ≤ vec_capacity out.new }
+    ensures legal { IsStageEnd end.now }
 {
-    out.extend_from_slice(&end.job.get().to_be_bytes())?;
-    out.extend_from_slice(&end.attempt.get().to_be_bytes())?;
-    out.extend_from_slice(&(end.stage.get() as u8).to_be_bytes())?;
-    put_exit(out, end.exit)?;
-    out.extend_from_slice(&end.dropped.to_be_bytes())?;
-    out.extend_from_slice(&NO_EFFECTS.to_be_bytes())
+    put(out, &end.job.get().to_be_bytes());
+    put(out, &end.attempt.get().to_be_bytes());
+    put(out, &(end.stage.get() as u8).to_be_bytes());
+    put_exit(out, end.exit);
+    put(out, &end.dropped.to_be_bytes());
+    put_effects(out, &end.effects);
 }
 
-fn put_number(out: &mut Vec<u8>, job: JobId) -> Result<(), AllocError>
-    ensures written { OnOk result (out.new.items ≡ out.old.items ++ to_be_bytes w32 job) }
-    ensures legal { OnOk result (IsJobNumber job) }
+fn put_number(out: &mut Vec<u8>, job: JobId)
+    requires room { vec_len out.old + length (to_be_bytes w32 job) ≤ vec_capacity out.old }
+    ensures written { out.new.items ≡ out.old.items ++ to_be_bytes w32 job }
+    ensures len { vec_len out.new ≡ vec_len out.old + length (to_be_bytes w32 job) }
+    ensures grown { vec_capacity out.old ≤ vec_capacity out.new }
+    ensures legal { IsJobNumber job }
 {
-    out.extend_from_slice(&job.get().to_be_bytes())
+    put(out, &job.get().to_be_bytes());
 }
 
-fn put_moment(out: &mut Vec<u8>, moment: Moment) -> Result<(), AllocError>
-    ensures written { OnOk result (out.new.items ≡ out.old.items ++ to_be_bytes w64 moment) }
-    ensures legal { OnOk result (IsIn 0 greatest_moment moment) }
+fn put_moment(out: &mut Vec<u8>, moment: Moment)
+    requires room { vec_len out.old + length (to_be_bytes w64 moment) ≤ vec_capacity out.old }
+    ensures written { out.new.items ≡ out.old.items ++ to_be_bytes w64 moment }
+    ensures len { vec_len out.new ≡ vec_len out.old + length (to_be_bytes w64 moment) }
+    ensures grown { vec_capacity out.old ≤ vec_capacity out.new }
+    ensures legal { IsIn 0 greatest_moment moment }
 {
-    out.extend_from_slice(&moment.get().to_be_bytes())
+    put(out, &moment.get().to_be_bytes());
 }
 
 // The byte that an event's spelling begins with.
@@ -233,11 +237,14 @@ fn kind_byte(event: &Event) -> u8
     }
 }
 
-fn put_event(out: &mut Vec<u8>, event: &Event) -> Result<(), AllocError>
-    ensures written { OnOk result (out.new.items ≡ out.old.items ++ spelling event.now) }
-    ensures legal { OnOk result (IsSpellable event.now) }
+fn put_event(out: &mut Vec<u8>, event: &Event)
+    requires room { vec_len out.old + length (spelling event.now) ≤ vec_capacity out.old }
+    ensures written { out.new.items ≡ out.old.items ++ spelling event.now }
+    ensures len { vec_len out.new ≡ vec_len out.old + length (spelling event.now) }
+    ensures grown { vec_capacity out.old ≤ vec_capacity out.new }
+    ensures legal { IsSpellable event.now }
 {
-    out.push(kind_byte(event))?;
+    put(out, &kind_byte(event).to_be_bytes());
     match event {
         Event::AddQueue(queue) => put_queue(out, queue),
         Event::Info(notes) => put_notes(out, notes),
@@ -251,44 +258,29 @@ fn put_event(out: &mut Vec<u8>, event: &Event) -> Result<(), AllocError>
         Event::Cancel(job) => put_number(out, *job),
         Event::Clock(moment) => put_moment(out, *moment),
         Event::Start(job) => put_number(out, *job),
-        Event::Stage(end) => put_stage(out, *end),
+        Event::Stage(end) => put_stage(out, end),
         Event::Abandon(job) => put_number(out, *job),
-        Event::Reopen => Ok(()),
+        Event::Reopen => {}
     }
-}
-
-fn text_len<K: TextKind>(text: &Text<K>) -> usize
-    requires short { (t : List ℕ) → K.allowed t ≡ true → length t < 2 ^ 16 }
-    ensures value { result ≡ length (text_code text.now) }
-    ensures small { result < 2 ^ 17 }
-{
-    2 + text.as_str().len()
-}
-
-fn media_len(media: &MediaType) -> usize
-    ensures value { result ≡ length (text_code media.now) }
-    ensures small { result < 2 ^ 17 }
-{
-    2 + media.as_str().len()
 }
 
 fn queue_len(queue: &NewQueue) -> usize
     ensures value { result ≡ length (queue_code queue.now) }
-    ensures small { result < 2 ^ 24 }
+    ensures small { result < 2 ^ 16 }
 {
     text_len(&queue.name) + text_len(&queue.uri) + media_len(&queue.target) + 7
 }
 
 fn notes_len(notes: &QueueNotes) -> usize
     ensures value { result ≡ length (notes_code notes.now) }
-    ensures small { result < 2 ^ 24 }
+    ensures small { result < 2 ^ 16 }
 {
     text_len(&notes.queue) + text_len(&notes.info) + text_len(&notes.location)
 }
 
 fn job_len(job: &NewJob) -> usize
     ensures value { result ≡ length (job_code job.now) }
-    ensures small { result < 2 ^ 24 }
+    ensures small { result < 2 ^ 16 }
 {
     text_len(&job.queue)
         + 4
@@ -298,31 +290,19 @@ fn job_len(job: &NewJob) -> usize
         + text_len(&job.options)
 }
 
-fn names_len(filters: &[FilterName]) -> usize
-    requires { length filters.now ≤ 15 }
-    ensures value { result ≡ length (flat_map text_code filters.now) }
-    ensures small { result < 2 ^ 24 }
-{
-    let mut len = 0;
-    for filter in filters {
-        len += text_len(filter);
-    }
-    len
-}
-
 fn filters_len(filters: &Option<Filters>) -> usize
     ensures value { result ≡ length (filters_code filters.now) }
-    ensures small { result < 2 ^ 25 }
+    ensures small { result < 2 ^ 16 }
 {
     match filters {
         None => 1,
-        Some(filters) => 2 + names_len(filters.as_slice()),
+        Some(filters) => 2 + texts_len(filters.as_slice()),
     }
 }
 
 fn until_len(until: Option<Moment>) -> usize
     ensures value { result ≡ length (until_code until) }
-    ensures small { result < 2 ^ 24 }
+    ensures small { result < 2 ^ 16 }
 {
     match until {
         None => 1,
@@ -332,7 +312,7 @@ fn until_len(until: Option<Moment>) -> usize
 
 fn exit_len(exit: Exit) -> usize
     ensures value { result ≡ length (exit_code exit) }
-    ensures small { result < 2 ^ 24 }
+    ensures small { result < 2 ^ 16 }
 {
     match exit {
         Exit::Code(_) => 2,
@@ -340,10 +320,17 @@ fn exit_len(exit: Exit) -> usize
     }
 }
 
+fn stage_len(end: &StageEnd) -> usize
+    ensures value { result ≡ length (stage_code end.now) }
+    ensures small { result < 2 ^ 16 }
+{
+    15 + exit_len(end.exit) + end.effects.code_len()
+}
+
 /// How many bytes the spelling of an event has.
 fn spelled_len(event: &Event) -> usize
     ensures value { result ≡ length (spelling event.now) }
-    ensures small { result < 2 ^ 26 }
+    ensures small { result < 2 ^ 17 }
 {
     match event {
         Event::AddQueue(queue) => 1 + queue_len(queue),
@@ -355,7 +342,7 @@ fn spelled_len(event: &Event) -> usize
         Event::Hold { until, .. } => 5 + until_len(*until),
         Event::Release(_) | Event::Cancel(_) | Event::Start(_) | Event::Abandon(_) => 5,
         Event::Clock(_) => 9,
-        Event::Stage(end) => 16 + exit_len(end.exit),
+        Event::Stage(end) => 1 + stage_len(end),
         Event::Reopen => 1,
     }
 }
@@ -364,19 +351,25 @@ fn spelled_len(event: &Event) -> usize
 pub fn encode(alloc: Global, event: &Event) -> Result<Vec<u8>, AllocError>
     ensures spelled { IfOk result (λ bytes. bytes.items ≡ spelling event.now) }
     ensures spellable { OnOk result (IsSpellable event.now) }
+    ensures short { length (spelling event.now) < 2 ^ 17 }
 {
     let mut out = Vec::with_capacity(alloc, spelled_len(event))?;
-    put_event(&mut out, event)?;
+    put_event(&mut out, event);
     Ok(out)
 }
 
 /// Adds the one spelling of an event to bytes that are there already, whose memory is made ready for all of it first.
-/// After an error what stands behind those bytes has no meaning.
 pub fn encode_onto(event: &Event, out: &mut Vec<u8>) -> Result<(), AllocError>
     ensures spelled { OnOk result (out.new.items ≡ out.old.items ++ spelling event.now) }
     ensures spellable { OnOk result (IsSpellable event.now) }
-    ensures short { OnOk result (length (spelling event.now) < 2 ^ 26) }
+    ensures short { length (spelling event.now) < 2 ^ 17 }
+
+    // It fails only where the room was missing, and then the bytes are those that were there.
+    ensures fits { vec_len out.old + length (spelling event.now) ≤ vec_capacity out.old → IsOk result }
+    ensures kept { OnErr result (out.new.items ≡ out.old.items) }
+    ensures grown { vec_capacity out.old ≤ vec_capacity out.new }
 {
     out.reserve(spelled_len(event))?;
-    put_event(out, event)
+    put_event(out, event);
+    Ok(())
 }

@@ -1,15 +1,13 @@
 -- A character of a text of options: one byte, or several that are all above 127.
-use Rattle.std.proofs.Common.{◌≡◌, ℕ, suc, ◌+◌, ◌<◌, ◌≤◌, ◌⊎◌, inl, inr, Bool, true, false, ◌||◌, not, cond, eqb, List, [], ◌∷◌, ◌++◌, length, get_or, refl, ap, sym, ◌∙◌, subst, arith, encode_utf8, Ok, Err}
+use Rattle.std.proofs.Common.{◌≡◌, ℕ, suc, ◌<◌, ◌≤◌, ◌⊎◌, inl, inr, Bool, true, false, ◌||◌, not, cond, eqb, List, [], ◌∷◌, ◌++◌, length, get_or, refl, ap, sym, ◌∙◌, arith, encode_utf8}
 use Rattle.std.proofs.lemmas.List.{append-nil}
 use Rattle.std.proofs.lemmas.Bool.{ne_eqb, cases_lt, or_from, or_parts}
 use Rattle.std.proofs.lemmas.Str.{encode_ascii, inside_one, length-encode, len_utf8_bounds}
 use Rattle.std.specs.List.{list_any}
 use Rattle.line_words.specs.Blanks.{is_blank}
-use Rattle.filter_args.specs.declared.quoting.Quoting.{Quoting}
-use Rattle.filter_args.specs.declared.quoting.Quoting.TheVariants.{Bare, Single, Double, BareEscaped, SingleEscaped, DoubleEscaped}
-use Rattle.filter_args.specs.Quoting.{is_quoting, next, keeps, is_bare, said, place_after}
-use Rattle.filter_args.specs.declared.fault.OptionFault.TheVariants.{Unclosed, Collection}
-use Rattle.filter_args.specs.Reading.{is_collection, value_in, value_without_quotes}
+use Rattle.line_words.specs.declared.quoting.Quoting.{Quoting}
+use Rattle.line_words.specs.declared.quoting.Quoting.TheVariants.{Bare, Single, Double, BareEscaped, SingleEscaped, DoubleEscaped}
+use Rattle.line_words.specs.Quoting.{is_quoting, next, keeps, said, place_after}
 use Rattle.filter_args.specs.Printing.{is_special, escaped}
 
 -- each byte is above 127
@@ -167,9 +165,3 @@ said_plain (b ∷ bs) h =
       ap (λ v. cond (not v) (b ∷ said (next Bare b) bs) (said (next Bare b) bs)) parts.0 ∙ ap (λ q. b ∷ said q bs) (next_plain b parts.0) ∙ ap (λ l. b ∷ l) rest.0,
       ap (λ q. place_after q bs) (next_plain b parts.0) ∙ rest.1,
     )
-
-pub value_in_plain : (raw : List ℕ) → is_collection raw ≡ false → list_any is_quoting raw ≡ false → value_in raw ≡ Ok raw
-value_in_plain raw no_bracket plain =
-    ap (λ v. cond v (Err Collection) (value_without_quotes raw)) no_bracket
-    ∙ ap (λ q. cond (is_bare q) (Ok (said Bare raw)) (Err Unclosed)) (said_plain raw plain).1
-    ∙ ap (λ l. Ok l) (said_plain raw plain).0

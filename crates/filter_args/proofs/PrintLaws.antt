@@ -1,18 +1,17 @@
 -- What printed options are read as.
-use Rattle.std.proofs.Common.{◌≡◌, ℕ, suc, ◌+◌, ◌≤◌, Bool, true, false, ◌&&◌, ◌||◌, not, cond, eqb, List, [], ◌∷◌, ◌++◌, length, take, drop, map, filter, flat_map, refl, ap, sym, ◌∙◌, subst, arith, Result, Ok, Err}
+use Rattle.std.proofs.Common.{◌≡◌, ℕ, suc, ◌+◌, Bool, true, false, ◌&&◌, ◌||◌, not, cond, eqb, List, [], ◌∷◌, ◌++◌, length, take, drop, map, filter, refl, ap, sym, ◌∙◌, subst, arith, Ok, Err}
 use Rattle.std.proofs.lemmas.Bool.{and_parts, or_parts, or_from, or_right, and_right, ne_eqb, eqb-true, le-leb, true≢false}
-use Rattle.std.proofs.lemmas.List.{append_assoc}
 use Rattle.std.specs.List.{list_any, list_all, before_first, after_first, position_or_len}
 use Rattle.spool_types.specs.Values.{is_word_byte}
 use Rattle.line_words.specs.Blanks.{is_blank}
-use Rattle.filter_args.specs.declared.fault.OptionFault.{OptionFault}
 use Rattle.filter_args.specs.declared.fault.OptionFault.TheVariants.{BadName, Unclosed, Collection}
-use Rattle.filter_args.specs.declared.quoting.Quoting.{Quoting}
-use Rattle.filter_args.specs.declared.quoting.Quoting.TheVariants.{Bare, BareEscaped}
+use Rattle.line_words.specs.declared.quoting.Quoting.{Quoting}
+use Rattle.line_words.specs.declared.quoting.Quoting.TheVariants.{Bare}
 use Rattle.filter_args.specs.Pairs.{Pair, is_option_name, is_among, are_options}
-use Rattle.filter_args.specs.Quoting.{is_quoting, next, is_bare, is_cut, said, place_after}
-use Rattle.filter_args.specs.Reading.{in_front, pieces, is_some_bytes, words_of, is_equals, is_collection, bare_pair, value_without_quotes, value_in, named, named_pair, pair_in, then_pairs, pairs_in, joined, reading}
-use Rattle.filter_args.specs.Printing.{is_special, escaped, printed_value, printed_pair, after_blank, printed}
+use Rattle.std.specs.List.{onto_first}
+use Rattle.line_words.specs.Quoting.{pieces, is_quoting, next, is_bare, is_cut, said, place_after}
+use Rattle.filter_args.specs.Reading.{is_some_bytes, words_of, is_equals, is_collection, bare_pair, value_without_quotes, value_in, named, named_pair, pair_in, then_pairs, pairs_in, joined, reading}
+use Rattle.filter_args.specs.Printing.{is_special, escaped, printed_value, printed_pair, printed}
 use Rattle.filter_args.proofs.CharLaws.{next_plain}
 use Rattle.filter_args.proofs.PairLaws.{put_all-options}
 
@@ -24,18 +23,18 @@ IsUncut q (b ∷ bs) = (is_cut q b ≡ false) × IsUncut (next q b) bs
 
 onto : List ℕ → List (List ℕ) → List (List ℕ)
 onto [] ws = ws
-onto (b ∷ bs) ws = in_front b (onto bs ws)
+onto (b ∷ bs) ws = onto_first b (onto bs ws)
 
 pieces-uncut : (q : Quoting) (w t : List ℕ) → IsUncut q w → pieces q (w ++ t) ≡ onto w (pieces (place_after q w) t)
 unfolding onto
 pieces-uncut q [] t h = refl
 pieces-uncut q (b ∷ bs) t h =
-    ap (λ v. cond v ([] ∷ pieces Bare (bs ++ t)) (in_front b (pieces (next q b) (bs ++ t)))) h.0 ∙ ap (in_front b) (pieces-uncut (next q b) bs t h.1)
+    ap (λ v. cond v ([] ∷ pieces Bare (bs ++ t)) (onto_first b (pieces (next q b) (bs ++ t)))) h.0 ∙ ap (onto_first b) (pieces-uncut (next q b) bs t h.1)
 
 onto-first : (w : List ℕ) (ws : List (List ℕ)) → onto w ([] ∷ ws) ≡ w ∷ ws
 unfolding onto
 onto-first [] ws = refl
-onto-first (b ∷ bs) ws = ap (in_front b) (onto-first bs ws)
+onto-first (b ∷ bs) ws = ap (onto_first b) (onto-first bs ws)
 
 -- what is printed of a value: it stays whole, ends outside quotes, and says the value
 record IsFor (value text : List ℕ) : Type 0 where

@@ -1,17 +1,20 @@
 -- The words of a text of options, read from its front.
-use Rattle.std.proofs.Common.{◌≡◌, ℕ, suc, ◌+◌, ◌<◌, ◌≤◌, Bool, true, false, ◌&&◌, ◌||◌, not, cond, List, [], ◌∷◌, ◌++◌, length, get_or, take, drop, filter, refl, ap, sym, ◌∙◌, arith, eqb, ◌⊎◌, inl, inr, Ok, Err, Result}
+use Rattle.std.proofs.Common.{◌≡◌, ℕ, suc, ◌+◌, ◌<◌, ◌≤◌, Bool, true, false, ◌||◌, not, cond, List, [], ◌∷◌, ◌++◌, length, get_or, take, drop, filter, refl, ap, sym, ◌∙◌, arith, eqb, ◌⊎◌, inl, inr, Ok, Err, Result, Some, None}
 use Rattle.std.proofs.lemmas.List.{append_assoc, append-nil, take_more, drop_more, take_all, drop_all}
 use Rattle.std.proofs.lemmas.Bool.{and_parts, or_cases, eqb-true}
+use Rattle.std.specs.Option.{option_or}
+use Rattle.std.specs.Result.{IsOk, result_err}
 use Rattle.std.specs.List.{list_any, position_or_len, before_first, after_first}
 use Rattle.line_words.specs.Blanks.{is_blank}
 use Rattle.filter_args.specs.declared.fault.OptionFault.{OptionFault}
 use Rattle.filter_args.specs.declared.fault.OptionFault.TheVariants.{BadName, Unclosed, Collection, Memory}
 use Rattle.filter_args.specs.Seen.{IsFault}
-use Rattle.filter_args.specs.declared.quoting.Quoting.{Quoting}
-use Rattle.filter_args.specs.declared.quoting.Quoting.TheVariants.{Bare}
-use Rattle.filter_args.specs.Pairs.{Pair, put, put_all}
-use Rattle.filter_args.specs.Quoting.{next, is_bare, is_cut}
-use Rattle.filter_args.specs.Reading.{in_front, pieces, word_here, after_word, is_some_bytes, words_of, is_equals, bare_in, named_pair, pair_in, then_pairs, pairs_in, put_read, with_word, joined}
+use Rattle.line_words.specs.declared.quoting.Quoting.{Quoting}
+use Rattle.line_words.specs.declared.quoting.Quoting.TheVariants.{Bare}
+use Rattle.filter_args.specs.Pairs.{Pair, is_option_name, put}
+use Rattle.std.specs.List.{onto_first}
+use Rattle.line_words.specs.Quoting.{pieces, next, is_bare, is_cut, said, place_after}
+use Rattle.filter_args.specs.Reading.{word_here, after_word, is_some_bytes, words_of, is_equals, is_collection, bare_pair, value_in, named, bare_in, named_pair, pair_in, then_pairs, pairs_in, put_read, with_word, joined, reading}
 
 -- the pieces after the first
 later : Quoting → List ℕ → List (List ℕ)
@@ -22,9 +25,9 @@ pieces_first : (place : Quoting) (text : List ℕ) → pieces place text ≡ wor
 unfolding later
 pieces_first place [] = refl
 pieces_first place (b ∷ bs) =
-    elim (is_cut place b) as (λ v. cond v ([] ∷ pieces Bare bs) (in_front b (pieces (next place b) bs)) ≡ cond v [] (b ∷ word_here (next place b) bs) ∷ cond v (pieces Bare bs) (later (next place b) bs)) [
+    elim (is_cut place b) as (λ v. cond v ([] ∷ pieces Bare bs) (onto_first b (pieces (next place b) bs)) ≡ cond v [] (b ∷ word_here (next place b) bs) ∷ cond v (pieces Bare bs) (later (next place b) bs)) [
       | true ↦ refl
-      | false ↦ ap (in_front b) (pieces_first (next place b) bs)
+      | false ↦ ap (onto_first b) (pieces_first (next place b) bs)
     ]
 
 later_words : (place : Quoting) (text : List ℕ) → filter is_some_bytes (later place text) ≡ words_of (after_word place text)
@@ -124,19 +127,81 @@ joined_word qs text =
     by true = read (pair_in (word_here Bare text))
     by false = refl
 
+-- ## Faults
+
+pub fault_is : {A : Type 0} (r : Result A OptionFault) (fault : OptionFault) → result_err r ≡ Some fault → IsFault fault r
+fault_is (Ok x) fault e = absurd (cc)
+fault_is {A} (Err f) fault e = by fault (let same : f ≡ fault = cc in same)
+  where
+    by : (g : OptionFault) → f ≡ g → IsFault {A = A} g (Err f)
+    by BadName same = ap (λ x. Err x) same
+    by Unclosed same = ap (λ x. Err x) same
+    by Collection same = ap (λ x. Err x) same
+    by Memory same = tt
+
+pub ok_from : {A : Type 0} (r : Result A OptionFault) → result_err r ≡ None → IsOk r
+ok_from (Ok x) e = refl
+ok_from (Err f) e = absurd (cc)
+
+pub ok_value : {A : Type 0} (r : Result A OptionFault) → result_err r ≡ None → (x : A) × (r ≡ Ok x)
+ok_value (Ok x) e = (x, refl)
+ok_value (Err f) e = absurd (cc)
+
+-- no text says that memory is wanting
+pair_said : (word : List ℕ) → ¬ (result_err (pair_in word) ≡ Some Memory)
+pair_said word = by (list_any is_equals word)
+  where
+    named_said : (name raw : List ℕ) (a b c : Bool) → ¬ (result_err (cond a (named name (cond b (Err Collection) (cond c (Ok (said Bare raw)) (Err Unclosed)))) (Err BadName)) ≡ Some Memory)
+    named_said name raw true true c = λ e. absurd (cc)
+    named_said name raw true false true = λ e. absurd (cc)
+    named_said name raw true false false = λ e. absurd (cc)
+    named_said name raw false b c = λ e. absurd (cc)
+
+    bare_said : (v : Bool) → ¬ (result_err (cond v (Ok (bare_pair word)) (Err BadName)) ≡ Some Memory)
+    bare_said true = λ e. absurd (cc)
+    bare_said false = λ e. absurd (cc)
+
+    by : (v : Bool) → ¬ (result_err (cond v (named_pair (before_first is_equals word) (after_first is_equals word)) (bare_in word)) ≡ Some Memory)
+    by true =
+        named_said (before_first is_equals word) (after_first is_equals word) (is_option_name (before_first is_equals word)) (is_collection (after_first is_equals word))
+        (is_bare (place_after Bare (after_first is_equals word)))
+    by false = bare_said (is_option_name word)
+
+pairs_said : (ws : List (List ℕ)) → ¬ (result_err (pairs_in ws) ≡ Some Memory)
+pairs_said [] = λ e. absurd (cc)
+pairs_said (w ∷ ws) = by (pair_in w) (pairs_in ws) (pair_said w) (pairs_said ws)
+  where
+    by : (p : Result Pair OptionFault) (ps : Result (List Pair) OptionFault) → ¬ (result_err p ≡ Some Memory) → ¬ (result_err ps ≡ Some Memory) → ¬ (result_err (then_pairs p ps) ≡ Some Memory)
+    by (Err f) ps h k = h
+    by (Ok p) (Err f) h k = k
+    by (Ok p) (Ok ps) h k = λ e. absurd (cc)
+
+pub reading_said : (text : List ℕ) → ¬ (result_err (reading text) ≡ Some Memory)
+reading_said text = by (pairs_in (words_of text)) (pairs_said (words_of text))
+  where
+    by : (ps : Result (List Pair) OptionFault) → ¬ (result_err ps ≡ Some Memory) → ¬ (result_err (joined [] ps) ≡ Some Memory)
+    by (Ok ps) h = λ e. absurd (cc)
+    by (Err f) h = h
+
 -- what the first word's fault, or its pair, makes of the text's reading
 pub fault_told : (qs : List Pair) (text : List ℕ) (fault : OptionFault) (all : Result (List Pair) OptionFault)
-    → IsFault fault (with_word qs (word_here Bare text)) → joined qs (pairs_in (words_of text)) ≡ all → IsFault fault all
-fault_told qs text fault all told same = by fault told
+    → result_err (with_word qs (word_here Bare text)) ≡ Some fault → joined qs (pairs_in (words_of text)) ≡ all → result_err all ≡ Some fault
+fault_told qs text fault all told same =
+    ap result_err (sym same ∙ joined_word qs text) ∙ by (with_word qs (word_here Bare text)) (pairs_in (words_of (after_word Bare text))) told
   where
-    on : (f : OptionFault) → with_word qs (word_here Bare text) ≡ Err f → all ≡ Err f
-    on f e = sym same ∙ joined_word qs text ∙ ap (λ r. then_joined r (pairs_in (words_of (after_word Bare text)))) e
+    by : (r rest : Result (List Pair) OptionFault) → result_err r ≡ Some fault → result_err (then_joined r rest) ≡ Some fault
+    by (Ok rs) rest e = absurd (cc)
+    by (Err f) rest e = e
 
-    by : (f : OptionFault) → IsFault f (with_word qs (word_here Bare text)) → IsFault f all
-    by BadName e = on BadName e
-    by Unclosed e = on Unclosed e
-    by Collection e = on Collection e
-    by Memory e = tt
+-- where the text has no fault, its first word has none
+pub no_fault_yet : (qs : List Pair) (text : List ℕ) (all : Result (List Pair) OptionFault)
+    → result_err all ≡ None → joined qs (pairs_in (words_of text)) ≡ all → result_err (with_word qs (word_here Bare text)) ≡ None
+no_fault_yet qs text all none same =
+    by (with_word qs (word_here Bare text)) (pairs_in (words_of (after_word Bare text))) (ap result_err (sym (joined_word qs text) ∙ same) ∙ none)
+  where
+    by : (r rest : Result (List Pair) OptionFault) → result_err (then_joined r rest) ≡ None → result_err r ≡ None
+    by (Ok rs) rest e = refl
+    by (Err f) rest e = e
 
 pub pair_told : (qs rs : List Pair) (text : List ℕ) (all : Result (List Pair) OptionFault)
     → with_word qs (word_here Bare text) ≡ Ok rs → joined qs (pairs_in (words_of text)) ≡ all → joined rs (pairs_in (words_of (after_word Bare text))) ≡ all
@@ -151,7 +216,57 @@ none_equals (b ∷ bs) h = by (is_equals b) h (none_equals bs)
     by true e rest = absurd (omega arith)
     by false e rest = rest (omega arith)
 
+some_equals : (bytes : List ℕ) → position_or_len is_equals bytes < length bytes → list_any is_equals bytes ≡ true
+some_equals [] h = absurd (omega arith)
+some_equals (b ∷ bs) h = by (is_equals b) h (some_equals bs)
+  where
+    by : (v : Bool) → cond (not v) (1 + position_or_len is_equals bs) 0 < suc (length bs) → (position_or_len is_equals bs < length bs → list_any is_equals bs ≡ true) → (v || list_any is_equals bs) ≡ true
+    by true e rest = refl
+    by false e rest = rest (omega arith)
+
+-- a word with '=' is a name and a value
+pub pair_in_named : (word name raw : List ℕ) → position_or_len is_equals word < length word → name ≡ before_first is_equals word → raw ≡ after_first is_equals word → named_pair name raw ≡ pair_in word
+pair_in_named word name raw h p q =
+    ap (λ l. named_pair l raw) p ∙ ap (named_pair (before_first is_equals word)) q
+    ∙ ap (λ v. cond v (named_pair (before_first is_equals word) (after_first is_equals word)) (bare_in word)) (sym (some_equals word h))
+
 -- a word without '=' is a bare name
 pub pair_in_bare : (word : List ℕ) → position_or_len is_equals word ≡ length word → bare_in word ≡ pair_in word
 pair_in_bare word h =
     ap (λ v. cond v (named_pair (before_first is_equals word) (after_first is_equals word)) (bare_in word)) (sym (none_equals word h))
+
+-- the pair of a word without a fault
+pub bare_read : (name : List ℕ) → result_err (bare_in name) ≡ None → bare_in name ≡ Ok (bare_pair name)
+bare_read name = by (is_option_name name)
+  where
+    by : (v : Bool) → result_err (cond v (Ok (bare_pair name)) (Err BadName)) ≡ None → cond v (Ok (bare_pair name)) (Err BadName) ≡ Ok (bare_pair name)
+    by true e = refl
+    by false e = absurd (cc)
+
+pub named_read : (name raw : List ℕ) → result_err (named_pair name raw) ≡ None → named_pair name raw ≡ Ok (name, said Bare raw)
+named_read name raw = by (is_option_name name) (is_collection raw) (is_bare (place_after Bare raw))
+  where
+    by : (a b c : Bool)
+        → result_err (cond a (named name (cond b (Err Collection) (cond c (Ok (said Bare raw)) (Err Unclosed)))) (Err BadName)) ≡ None
+        → cond a (named name (cond b (Err Collection) (cond c (Ok (said Bare raw)) (Err Unclosed)))) (Err BadName) ≡ Ok (name, said Bare raw)
+    by true true c e = absurd (cc)
+    by true false true e = refl
+    by true false false e = absurd (cc)
+    by false b c e = absurd (cc)
+
+-- the fault of a name, or that of the value behind it
+pub named_fault : (name raw : List ℕ) → option_or (cond (is_option_name name) None (Some BadName)) (result_err (value_in raw)) ≡ result_err (named_pair name raw)
+named_fault name raw = by (is_option_name name) (value_in raw)
+  where
+    by : (v : Bool) (value : Result (List ℕ) OptionFault) → option_or (cond v None (Some BadName)) (result_err value) ≡ result_err (cond v (named name value) (Err BadName))
+    by true (Ok value) = refl
+    by true (Err fault) = refl
+    by false value = refl
+
+-- a word's fault is that of its pair
+pub word_fault_told : (qs : List Pair) (word : List ℕ) → is_some_bytes word ≡ true → result_err (pair_in word) ≡ result_err (with_word qs word)
+word_fault_told qs word some = by (pair_in word) ∙ ap (λ v. result_err (cond v (put_read qs (pair_in word)) (Ok qs))) (sym some)
+  where
+    by : (r : Result Pair OptionFault) → result_err r ≡ result_err (put_read qs r)
+    by (Ok p) = refl
+    by (Err fault) = refl

@@ -1,5 +1,5 @@
 -- The arguments of a filter or a backend (filter(7), backend(7)).
-use Rattle.std.specs.Prelude.{ℕ, List, [], ◌∷◌, ◌++◌, Option, None, Some}
+use Rattle.std.specs.Prelude.{ℕ, List, ◌∷◌, Option}
 use Rattle.std.specs.Fmt.{decimal}
 use Rattle.std.specs.Option.{option_to_list}
 use Rattle.spool_types.specs.declared.rows.JobRow.{JobRow}

@@ -1,5 +1,4 @@
 pub mod Pairs
-pub mod Quoting
 pub mod Reading
 pub mod Printing
 pub mod Seen

@@ -1,9 +1,9 @@
 -- The text of options.
-use Rattle.std.specs.Prelude.{ℕ, Bool, ◌||◌, cond, ◌==◌, List, [], ◌∷◌, ◌++◌}
+use Rattle.std.specs.Prelude.{ℕ, Bool, ◌||◌, cond, List, [], ◌∷◌, ◌++◌}
 use Rattle.std.specs.List.{flat_map}
 use Rattle.line_words.specs.Blanks.{is_blank}
 use Rattle.filter_args.specs.Pairs.{Pair}
-use Rattle.filter_args.specs.Quoting.{is_quoting}
+use Rattle.line_words.specs.Quoting.{is_quoting}
 use Rattle.filter_args.specs.Reading.{is_collection}
 
 -- a blank, a quote or a backslash

@@ -1,25 +1,16 @@
 -- What a text of options says.
-use Rattle.std.specs.Prelude.{ℕ, Bool, true, false, ◌&&◌, not, cond, ◌==◌, List, [], ◌∷◌, filter, drop, length, nat_le, nat_lt, nat_eq, slice_index, codes, Result, Ok, Err}
+use Rattle.std.specs.Prelude.{ℕ, Bool, ◌&&◌, cond, ◌==◌, List, [], ◌∷◌, filter, drop, length, nat_le, nat_lt, nat_eq, slice_index, codes, Result, Ok, Err}
 use Rattle.std.specs.List.{list_any, before_first, after_first, starts_with}
 use Rattle.filter_args.specs.declared.fault.OptionFault.{OptionFault}
 use Rattle.filter_args.specs.declared.fault.OptionFault.TheVariants.{BadName, Unclosed, Collection}
-use Rattle.filter_args.specs.declared.quoting.Quoting.{Quoting}
-use Rattle.filter_args.specs.declared.quoting.Quoting.TheVariants.{Bare}
+use Rattle.line_words.specs.declared.quoting.Quoting.{Quoting}
+use Rattle.line_words.specs.declared.quoting.Quoting.TheVariants.{Bare}
 use Rattle.filter_args.specs.Pairs.{Pair, is_option_name, put, put_all}
-use Rattle.filter_args.specs.Quoting.{next, is_bare, is_cut, said, place_after}
+use Rattle.line_words.specs.Quoting.{next, is_bare, is_cut, said, place_after, pieces}
 
 -- ## Words
 
-abbrev pub in_front : ℕ → List (List ℕ) → List (List ℕ)
-in_front b [] = (b ∷ []) ∷ []
-in_front b (w ∷ ws) = (b ∷ w) ∷ ws
-
--- what is between those blanks
-abbrev pub pieces : Quoting → List ℕ → List (List ℕ)
-pieces place [] = [] ∷ []
-pieces place (b ∷ bs) = cond (is_cut place b) ([] ∷ pieces Bare bs) (in_front b (pieces (next place b) bs))
-
--- the first of these pieces
+-- the first of the pieces
 abbrev pub word_here : Quoting → List ℕ → List ℕ
 word_here place [] = []
 word_here place (b ∷ bs) = cond (is_cut place b) [] (b ∷ word_here (next place b) bs)

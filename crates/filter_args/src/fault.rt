@@ -1,5 +1,5 @@
 //! Why options were not read.
-use std::alloc::{AllocError, AllocFailed};
+use std::alloc::AllocError;
 
 /// Why a text of options was not read: its first fault from the left.
 #[derive(Clone, Copy, Debug, PartialEq, Eq)]
@@ -21,17 +21,6 @@ impl From<AllocError> for OptionFault {
     ghost from_gives = { λ _ e. e ≡ Memory };
 
     fn from(_error: AllocError) -> OptionFault {
-        OptionFault::Memory
-    }
-}
-
-impl<T: Drop> From<AllocFailed<T>> for OptionFault {
-    ghost use Rattle.std.specs.Prelude.{◌≡◌};
-    ghost use Rattle.filter_args.specs.declared.fault.OptionFault.TheVariants.{Memory};
-
-    ghost from_gives = { λ _ e. e ≡ Memory };
-
-    fn from(_error: AllocFailed<T>) -> OptionFault {
         OptionFault::Memory
     }
 }

@@ -12,14 +12,16 @@
 //! # Promises
 //!
 //! - *ExactWords*: [`Options::parse`] gives exactly the options of the text, or its first fault from the left
-//!   (`reading`, in `specs/Reading.antt`). [`Options::print`] gives exactly their text (`value`), which is read as these
+//!   (`reading`, in `specs/Reading.antt`). Only of a text without a fault it says that memory is wanting (`memory`).
+//!   [`Options::print`] gives exactly their text (`value`), which is read as these
 //!   options again (`read_back`). [`Options::get`] gives the value of a name.
 //! - [`words`] gives the arguments of a job, and [`environment`] its variables, each list as `specs/Arguments.antt` and
 //!   `specs/Environment.antt` have it; [`ChildFile::path`] the path of a child's file.
 //!
 //! # Cost and faults
 //!
-//! A text is read in a time that grows with its length. Names, and values without quotes and backslashes, are lent from
+//! A text is read in a time that grows with its length: first for its faults, without memory, and then for its pairs.
+//! Names, and values without quotes and backslashes, are lent from
 //! it; the other values and the map of the names take memory. [`Options::get`] takes none and can't fail. `Memory` is
 //! answered only where an allocation was refused.
 #![tactic(auto)]
@@ -30,7 +32,6 @@ mod files;
 mod options;
 mod place;
 mod printing;
-mod quoting;
 mod reading;
 mod variables;
 

@@ -1,15 +1,16 @@
 //! The options of a job.
-ghost use Rattle.std.specs.Prelude.{◌≡◌, Ok, IfOk};
+ghost use Rattle.std.specs.Prelude.{◌≡◌, List, None, Ok, IfOk, OnOk, IsErrOf};
 ghost use Rattle.std.specs.Option.{option_map};
+ghost use Rattle.std.specs.Result.{IsOk, result_err};
 ghost use Rattle.std.specs.String.{string_bytes};
-ghost use Rattle.filter_args.specs.Pairs.{value_of};
+ghost use Rattle.filter_args.specs.Pairs.{Pair, value_of};
 ghost use Rattle.filter_args.specs.Reading.{reading, with_word};
 ghost use Rattle.filter_args.specs.Printing.{printed};
 ghost use Rattle.filter_args.specs.Seen.{Gives, pairs_of};
 
 use crate::fault::OptionFault;
 use crate::printing::push_pair;
-use crate::reading::{read_pair, split_word};
+use crate::reading::{pair_fault, read_pair, split_word};
 use indexmap::IndexMap;
 use std::alloc::{AllocError, Global};
 use std::borrow::CowStr;
@@ -34,10 +35,14 @@ impl<'a> Model for Options<'a> {
 }
 
 impl<'a> Options<'a> {
-    /// Reads a text of options, one after the other from the left.
+    /// Reads a text of options, one after the other from the left. A fault is told also where there is no memory.
     pub fn parse(alloc: Global, text: &'a str) -> Result<Options<'a>, OptionFault>
-        ensures { Gives result (λ options. options) (reading text.now) }
+        ensures value { Gives result (λ options. options) (reading text.now) }
+        ensures memory { IsErrOf result OptionFault.Memory → IsOk (reading text.now) }
     {
+        if let Some(fault) = first_fault(text) {
+            return Err(fault);
+        }
         let mut pairs = IndexMap::new(alloc);
         let mut rest = text;
         while !rest.is_empty() {
@@ -76,13 +81,39 @@ impl<'a> Options<'a> {
     }
 }
 
+// The first fault of a text of options from the left, if it has one.
+fn first_fault(text: &str) -> Option<OptionFault>
+    ensures { result ≡ result_err (reading text.now) }
+{
+    let mut rest = text;
+    while !rest.is_empty() {
+        let (word, behind) = split_word(rest);
+        if let Some(fault) = word_fault(word) {
+            return Some(fault);
+        }
+        rest = behind;
+    }
+    None
+}
+
+// The fault of a word, if it has one. An empty word has none.
+fn word_fault(word: &str) -> Option<OptionFault>
+    ensures { (options : List Pair) → result ≡ result_err (with_word options word.now) }
+{
+    if word.is_empty() {
+        return None;
+    }
+    pair_fault(word)
+}
+
 // Puts the pair of a word, unless the word is empty.
 fn add_word<'a>(
     alloc: Global,
     pairs: &mut IndexMap<&'a str, CowStr<'a, Global>>,
     word: &'a str,
-) -> Result<(), OptionFault>
-    ensures value { Gives result (λ _. pairs_of pairs.new.entries) (with_word (pairs_of pairs.old.entries) word.now) }
+) -> Result<(), AllocError>
+    requires { result_err (with_word (pairs_of pairs.old.entries) word.now) ≡ None }
+    ensures value { OnOk result (with_word (pairs_of pairs.old.entries) word.now ≡ Ok (pairs_of pairs.new.entries)) }
 {
     if word.is_empty() {
         return Ok(());

@@ -1,16 +1,17 @@
 //! How a text of options is read.
-ghost use Rattle.std.specs.Prelude.{◌≡◌, ◌++◌, [], if◌then◌else◌, encode_utf8, OnOk};
+ghost use Rattle.std.specs.Prelude.{◌≡◌, ◌++◌, [], cond, if◌then◌else◌, encode_utf8, None, Some, Ok, IfOk, OnOk};
 ghost use Rattle.std.specs.List.{list_all, list_any};
 ghost use Rattle.std.specs.String.{string_bytes};
 ghost use Rattle.std.specs.Cow.{cow_str_bytes};
+ghost use Rattle.std.specs.Result.{result_err};
 ghost use Rattle.spool_types.specs.Values.{is_word_byte};
 ghost use Rattle.filter_args.specs.Pairs.{is_option_name};
-ghost use Rattle.filter_args.specs.Quoting.{keeps, is_quoting};
-ghost use Rattle.filter_args.specs.Reading.{is_collection, pair_in, bare_in, named_pair, value_in, value_without_quotes, bare_pair as pair_of_name, word_here, after_word};
-ghost use Rattle.filter_args.specs.Seen.{Gives, pair_of};
+ghost use Rattle.line_words.specs.Quoting.{keeps, is_quoting, is_bare, said, place_after};
+ghost use Rattle.filter_args.specs.Reading.{is_collection, pair_in, value_in, bare_pair as pair_of_name, word_here, after_word};
+ghost use Rattle.filter_args.specs.Seen.{pair_of};
 
 use crate::fault::OptionFault;
-use crate::quoting::Quoting;
+use line_words::Quoting;
 use std::alloc::{AllocError, Global};
 use std::borrow::CowStr;
 
@@ -30,43 +31,69 @@ pub(crate) fn split_word(text: &str) -> (&str, &str)
     (text, "")
 }
 
+/// The fault of the pair that a word says, if it has one.
+pub(crate) fn pair_fault(word: &str) -> Option<OptionFault>
+    ensures { result ≡ result_err (pair_in word.now) }
+{
+    match word.split_once('=') {
+        None => name_fault(word),
+        Some((name, raw)) => name_fault(name).or(value_fault(raw)),
+    }
+}
+
+fn name_fault(name: &str) -> Option<OptionFault>
+    ensures { result ≡ cond (is_option_name name.now) None (Some OptionFault.BadName) }
+{
+    if is_name(name) {
+        None
+    } else {
+        Some(OptionFault::BadName)
+    }
+}
+
+// The fault of the value after `=`, if it has one.
+fn value_fault(raw: &str) -> Option<OptionFault>
+    ensures { result ≡ result_err (value_in raw.now) }
+{
+    if opens_collection(raw) {
+        return Some(OptionFault::Collection);
+    }
+    if is_closed(raw) {
+        None
+    } else {
+        Some(OptionFault::Unclosed)
+    }
+}
+
+// Whether each quote of a value is closed, and no backslash is at its end.
+fn is_closed(raw: &str) -> bool
+    ensures { result ≡ is_bare (place_after Quoting.Bare raw.now) }
+{
+    let mut place = Quoting::Bare;
+    for c in raw.chars() {
+        place = place.next(c);
+    }
+    place.is_bare()
+}
+
 /// The pair that a word says: a name alone, or a name, `=` and a value.
 pub(crate) fn read_pair<'a>(
     alloc: Global,
     word: &'a str,
-) -> Result<(&'a str, CowStr<'a, Global>), OptionFault>
-    ensures { Gives result pair_of (pair_in word.now) }
+) -> Result<(&'a str, CowStr<'a, Global>), AllocError>
+    requires { result_err (pair_in word.now) ≡ None }
+    ensures { IfOk result (λ pair. pair_in word.now ≡ Ok (pair_of pair)) }
 {
     match word.split_once('=') {
-        None => read_bare(word),
-        Some((name, raw)) => read_named(alloc, name, raw),
+        None => {
+            let (name, value) = bare_pair(word);
+            Ok((name, CowStr::Borrowed(value)))
+        }
+        Some((name, raw)) => {
+            let value = read_value(alloc, raw)?;
+            Ok((name, value))
+        }
     }
-}
-
-// The pair of a bare name.
-fn read_bare<'a>(name: &'a str) -> Result<(&'a str, CowStr<'a, Global>), OptionFault>
-    ensures { Gives result pair_of (bare_in name.now) }
-{
-    if !is_name(name) {
-        return Err(OptionFault::BadName);
-    }
-    let (name, value) = bare_pair(name);
-    Ok((name, CowStr::Borrowed(value)))
-}
-
-// The pair of a name and the value after its `=`.
-fn read_named<'a>(
-    alloc: Global,
-    name: &'a str,
-    raw: &'a str,
-) -> Result<(&'a str, CowStr<'a, Global>), OptionFault>
-    ensures { Gives result pair_of (named_pair name.now raw.now) }
-{
-    if !is_name(name) {
-        return Err(OptionFault::BadName);
-    }
-    let value = read_value(alloc, raw)?;
-    Ok((name, value))
 }
 
 fn is_name(text: &str) -> bool
@@ -99,12 +126,9 @@ fn bare_pair(name: &str) -> (&str, &'static str)
 }
 
 // The value after `=`. One without quotes and backslashes is lent.
-fn read_value<'a>(alloc: Global, raw: &'a str) -> Result<CowStr<'a, Global>, OptionFault>
-    ensures { Gives result cow_str_bytes (value_in raw.now) }
+fn read_value<'a>(alloc: Global, raw: &'a str) -> Result<CowStr<'a, Global>, AllocError>
+    ensures { IfOk result (λ value. cow_str_bytes value ≡ said Quoting.Bare raw.now) }
 {
-    if opens_collection(raw) {
-        return Err(OptionFault::Collection);
-    }
     if has_marks(raw) {
         let value = unquoted(alloc, raw)?;
         return Ok(CowStr::Owned(value));
@@ -133,8 +157,8 @@ fn is_mark(b: u8) -> bool
 }
 
 // The value without its quotes and backslashes.
-fn unquoted(alloc: Global, raw: &str) -> Result<String, OptionFault>
-    ensures { Gives result string_bytes (value_without_quotes raw.now) }
+fn unquoted(alloc: Global, raw: &str) -> Result<String, AllocError>
+    ensures { IfOk result (λ value. string_bytes value ≡ said Quoting.Bare raw.now) }
 {
     let mut value = String::with_capacity(alloc, raw.len())?;
     let mut place = Quoting::Bare;
@@ -142,11 +166,7 @@ fn unquoted(alloc: Global, raw: &str) -> Result<String, OptionFault>
         push_kept(&mut value, place, c)?;
         place = place.next(c);
     }
-    if place.is_bare() {
-        Ok(value)
-    } else {
-        Err(OptionFault::Unclosed)
-    }
+    Ok(value)
 }
 
 // Adds a character that belongs to the value.

@@ -1,6 +1,6 @@
 -- What an append answers, and what it leaves.
-use Rattle.std.specs.Prelude.{◌≡◌, ◌⊎◌, ◌↔◌, ◌<◌, ◌≤◌, ℕ, ◌+◌, ◌-◌, ◌^◌, List, [], ◌∷◌, ◌++◌, Bool, false, length, Result, IfOk, OnOk, OnErr, IsErrOf, IsTrue}
-use Rattle.spool_disk.specs.Disk.{DiskView, IsSynced, IsWritten, LeavesOnly, ChangesOnly}
+use Rattle.std.specs.Prelude.{◌≡◌, ◌⊎◌, ◌↔◌, ◌<◌, ℕ, ◌+◌, ◌-◌, ◌^◌, List, [], ◌∷◌, ◌++◌, Bool, false, length, Result, IfOk, OnOk, OnErr, IsErrOf, IsTrue}
+use Rattle.spool_disk.specs.Disk.{DiskView, Blames, IsSynced, IsWritten, LeavesOnly, ChangesOnly}
 use Rattle.gate_journal.specs.Entries.{record_of, IsBeforeOrAfter, KeepsEntries}
 use Rattle.gate_journal.specs.Frame.{payload_of, framed}
 use Rattle.gate_journal.specs.declared.journal.JournalFault.{JournalFault}
@@ -14,16 +14,18 @@ pub record JournalState : Type 0 where
   pub place : ℕ
   pub dead : Bool
 
+-- what an append keeps free from a record's next gate on: room for one record of one byte, and the gate behind it
+abbrev pub kept_room : ℕ
+kept_room = 7
+
 -- The payload of a frame is added to a journal, where so many bytes have to be free from its next gate on: from old to
 -- new the journal, from before to after the disk, from frame to filled the frame.
 pub record Appends {D : Type 0} (v : DiskView D) (room : ℕ) (old new : JournalState) (before after : D) (frame filled : List ℕ) (result : Result ℕ JournalFault) : Type 0 where
   -- the answer, each fault with its cause
   pub dead : IsErrOf result Dead ↔ IsTrue old.dead
   pub full : IsErrOf result Full ↔ ((old.dead ≡ false) × (old.end < old.place + length frame + room))
-  pub failed : IsErrOf result Disk → v.failures before < v.failures after
+  pub blames : Blames (v.failures before) (v.failures after) (IsErrOf result Disk)
   pub fits : IsErrOf result Disk → v.failures after < 2 ^ 64
-  pub counted : OnOk result (v.failures after ≡ v.failures before)
-  pub later : v.failures before ≤ v.failures after
   pub answer : IfOk result (λ at. at ≡ old.place + 5)
   -- the journal and the frame
   pub untouched : (IsErrOf result Dead ⊎ IsErrOf result Full) → (new ≡ old) × (after ≡ before) × (filled ≡ frame)

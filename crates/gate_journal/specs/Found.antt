@@ -1,7 +1,7 @@
 -- What stands at a place of a journal.
 use Rattle.std.specs.Prelude.{◌≡◌, ◌<◌, ◌^◌, ℕ, ◌+◌, List, [], ◌∷◌, ◌++◌, take, drop, ⊤, if◌then◌else◌, ◌==◌, nat_lt, slice_index, slice_range}
 use Rattle.std.specs.Int.{w32, to_be_bytes, from_be_bytes}
-use Rattle.gate_journal.specs.Entries.{HasFirst, HasEntries}
+use Rattle.gate_journal.specs.Entries.{open_gate, HasFirst, HasEntries}
 use Rattle.gate_journal.specs.declared.entry.Found.{Found}
 use Rattle.gate_journal.specs.declared.entry.Found.TheVariants.{Entry, End, Damaged}
 
@@ -12,7 +12,7 @@ length_at bytes place = from_be_bytes w32 (take 4 (drop (place + 1) bytes))
 -- Behind an open gate a record, where it and the next gate lie before end, else damage; at a closed gate the end.
 abbrev pub entry_at : List ℕ → ℕ → ℕ → Found
 entry_at bytes end place =
-    if slice_index bytes place == 165
+    if slice_index bytes place == open_gate
     then (if nat_lt (place + 5 + length_at bytes place) end then Entry (place + 5) (length_at bytes place) else Damaged)
     else End
 

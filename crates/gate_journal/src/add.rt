@@ -5,10 +5,8 @@ ghost use Rattle.gate_journal.specs.Entries.{record_of, IsBeforeOrAfter, KeepsEn
 ghost use Rattle.gate_journal.specs.Frame.{framed, payload_of};
 
 use crate::frame::fill;
+use crate::layout::OPEN_GATE;
 use spool_disk::{DeviceFault, Disk, persist};
-
-/// An open gate. Every other byte is a closed one.
-pub(crate) const OPEN: u8 = 0xA5;
 
 // Puts the record of a frame at the closed gate at a place. The gate is opened by a write of its own, and only once all
 // that lies behind it is on the device: else a crash could leave it open before anything.
@@ -29,5 +27,5 @@ pub(crate) fn add<D: Disk>(disk: &mut D, place: u64, frame: &mut [u8]) -> Result
 {
     fill(frame);
     persist(disk, place + 1, frame)?;
-    persist(disk, place, &[OPEN])
+    persist(disk, place, &[OPEN_GATE])
 }

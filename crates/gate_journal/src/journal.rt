@@ -2,8 +2,10 @@
 ghost use Rattle.std.specs.Prelude.{◌≡◌, ◌<◌, ◌≤◌, ◌+◌, ◌^◌, [], ◌∷◌, false, length, OnOk, IfOk, IsSome};
 ghost use Rattle.spool_disk.specs.Disk.{IsSynced, IsWritten, ChangesOnly, HasCause};
 ghost use Rattle.gate_journal.specs.Entries.{KeepsEntries};
+ghost use Rattle.gate_journal.specs.Appends.{kept_room};
 
 use crate::add::add;
+use crate::layout::{HEAD_LEN, KEPT_ROOM};
 use spool_disk::{DeviceFault, Disk, persist};
 
 /// Why nothing was added for certain.
@@ -34,7 +36,7 @@ impl Journal {
     /// Begins a journal without entries in the `len` bytes from `base` on: it writes the first closed gate and syncs.
     /// The bytes behind that gate stay. An area of at least 7 bytes has room for one record of one byte.
     pub fn begin<D: Disk>(disk: &mut D, base: u64, len: u64) -> Result<Journal, DeviceFault>
-        requires len { 7 ≤ len }
+        requires len { kept_room ≤ len }
         requires within { base + len ≤ D.device.size disk.old }
         requires fits { base + len < 2 ^ 64 }
         ensures journal { IfOk result (λ j. (base_of j ≡ base) × (end_of j ≡ base + len) × (place_of j ≡ base) × (is_dead j ≡ false)) }
@@ -81,9 +83,9 @@ impl Journal {
         requires whole { 5 ≤ length frame.old }
         requires short { length frame.old < 2 ^ 32 }
         requires within { end_of self.old ≤ D.device.size disk.old }
-        ensures { Appends D.device 7 (state_of self.old) (state_of self.new) disk.old disk.new frame.old frame.new result }
+        ensures { Appends D.device kept_room (state_of self.old) (state_of self.new) disk.old disk.new frame.old frame.new result }
     {
-        self.append_with(disk, frame, 7)
+        self.append_with(disk, frame, KEPT_ROOM)
     }
 
     /// The same into the room that `append` keeps: it is `Full` exactly where the record and its next gate would leave
@@ -126,7 +128,7 @@ impl Journal {
         match add(disk, place, frame) {
             Ok(()) => {
                 self.place = place + size;
-                Ok(place + 5)
+                Ok(place + HEAD_LEN)
             }
             Err(_) => {
                 self.dead = true;

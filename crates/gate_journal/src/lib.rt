@@ -49,10 +49,12 @@ mod entry;
 mod frame;
 mod journal;
 mod law;
+mod layout;
 
 pub use entry::{Found, next_entry};
 pub use journal::{Journal, JournalFault};
 pub use law::entries_law;
+pub use layout::{HEAD_LEN, KEPT_ROOM, OPEN_GATE};
 
 #[cfg(test)]
 mod tests;

@@ -1,5 +1,5 @@
 -- The lemmas on rows, for queues by their names and for jobs by their numbers.
-use Rattle.std.proofs.Common.{◌≡◌, ℕ, IsTrue, List, [], ◌∷◌, length, get_or, set, map, Option, Some, None, IsSome, refl, ap, ◌∙◌}
+use Rattle.std.proofs.Common.{◌≡◌, ℕ, IsTrue, List, [], ◌∷◌, length, get_or, set, map, Option, Some, None, IsSome, refl, sym, ap, ◌∙◌}
 use Rattle.std.specs.List.{insert}
 use Rattle.std.specs.Ordering.{nat_cmp}
 use Rattle.std.specs.Cmp.{nat_cmp_total}
@@ -79,6 +79,10 @@ module _ (ys : List JobRow) (h : IsTrue (finite.is_sorted nat_cmp (map job_entry
 
   pub sorted_set_job : (y : JobRow) (k i : ℕ) (d : JobRow) → IsJobPlace ys k i → (get_or ys i d).id ≡ y.id → IsTrue (finite.is_sorted nat_cmp (map job_entry (set ys i y)))
   sorted_set_job = rows.sorted_set nat_cmp nat_cmp_total (λ r. r.id) job_of ys h
+
+  -- what is found among the rows is what the map has
+  pub find_job : (k : ℕ) → finite.find nat_cmp k (map job_entry ys) ≡ finite.get (jobs_of ys) k
+  find_job k = sym (finite.get-from_sorted nat_cmp (map job_entry ys) k (rows.t_from _ h))
 
   pub values_jobs : finite.values (jobs_of ys) ≡ map job_of ys
   values_jobs = rows.values_map nat_cmp nat_cmp_total (λ r. r.id) job_of ys h

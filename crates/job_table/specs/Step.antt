@@ -6,7 +6,7 @@ use Rattle.spool_types.specs.declared.phase.Phase.TheVariants.{Canceled}
 use Rattle.spool_types.specs.declared.phase.Hold.TheVariants.{Free}
 use Rattle.spool_types.specs.declared.rows.QueueRow.{QueueRow}
 use Rattle.spool_types.specs.declared.event.Event.{Event}
-use Rattle.spool_types.specs.declared.event.Event.TheVariants.{AddQueue, Info, SetAccept, SetStop, Create, Send, Close, Hold as HoldJob, Release, Cancel, Clock, Start, Stage, Abandon, Reopen}
+use Rattle.spool_types.specs.declared.event.Event.TheVariants.{AddQueue, Info, SetAccept, SetStop, Create, Send, Close, Hold, Release, Cancel, Clock, Start, Stage, Abandon, Reopen}
 use Rattle.spool_types.specs.declared.event.Reply.{Reply}
 use Rattle.spool_types.specs.declared.event.Reply.TheVariants.{Done, Number, Size, Phase as PhaseNow}
 use Rattle.spool_types.specs.declared.refusal.Refusal.{Refusal}
@@ -14,8 +14,8 @@ use Rattle.spool_types.specs.declared.refusal.Refusal.TheVariants.{NoQueue, Queu
 use Rattle.spool_types.specs.Limits.{most_queues, longest_document, greatest_number}
 use Rattle.spool_types.specs.Phases.{has_ended, is_incoming, is_processing, is_waiting, hold_of, is_in_force, hold_until}
 use Rattle.spool_types.specs.State.{State, Job, queue_at, job_at}
-use Rattle.job_table.specs.Attempts.{is_next, is_in_stage, started, stage_verdict, lost_by, rule_at, reopened}
-pub use Rattle.job_table.specs.Changes.{new_queue, with_notes, with_accepting, with_stopped, new_job, with_bytes, ended, closed, held}
+use Rattle.job_table.specs.Attempts.{is_next, is_in_stage, started, with_effects, stage_verdict, lost_by, rule_at, reopened}
+use Rattle.job_table.specs.Changes.{new_queue, with_notes, with_accepting, with_stopped, new_job, with_bytes, ended, closed, held, change_queue, change_job}
 
 -- whether there is a value, and it passes
 abbrev pub passes : {X : Type 0} → (X → Bool) → Option X → Bool
@@ -45,22 +45,6 @@ about_job s j more =
     (is_none (job_at s j), NoJob)
     ∷ where_it (job_at s j) (λ r. has_ended r.phase) JobEnded
     ∷ more
-
--- the queue that the event speaks of is changed, if there is one
-abbrev pub change_found_queue : State → List ℕ → (QueueRow → QueueRow) → Option QueueRow → State
-change_found_queue s name f None = s
-change_found_queue s name f (Some q) = record s { queues = map.insert s.queues name (f q) }
-
-abbrev pub change_queue : State → List ℕ → (QueueRow → QueueRow) → State
-change_queue s name f = change_found_queue s name f (queue_at s name)
-
--- the job that the event speaks of is changed, if there is one
-abbrev pub change_found : State → ℕ → (Job → Job) → Option Job → State
-change_found s j f None = s
-change_found s j f (Some r) = record s { jobs = map.insert s.jobs j (f r) }
-
-abbrev pub change_job : State → ℕ → (Job → Job) → State
-change_job s j f = change_found s j f (job_at s j)
 
 abbrev pub size_found : Option Job → ℕ
 size_found None = 0
@@ -130,7 +114,7 @@ row s (Close c) = record {
   table = change_job s c.job (closed c);
   reply = Done;
 }
-row s (HoldJob j until) = record {
+row s (Hold j until) = record {
   refused = about_job s j (
       where_it (job_at s j) (λ r. is_processing r.phase) NotWaiting
       ∷ []);
@@ -166,7 +150,7 @@ row s (Stage e) = tells_phase e.job
     where_it (job_at s e.job) (λ r. not (is_processing r.phase)) NotProcessing
     ∷ where_it (job_at s e.job) (λ r. not (is_in_stage e.attempt e.stage r.phase)) WrongStage
     ∷ []))
-    (rule_at s e.job (stage_verdict e))
+    (rule_at (with_effects s e.job e.effects) e.job (stage_verdict e.exit))
 row s (Abandon j) = tells_phase j
     (about_job s j (
     where_it (job_at s j) (λ r. not (is_processing r.phase)) NotProcessing

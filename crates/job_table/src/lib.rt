@@ -13,8 +13,9 @@
 //! - `Step`: one row an event, with the causes of its refusals in order, the table after it and its reply; `Changes`:
 //!   what events change in a row; `Fold`: many events in turn.
 //! - `Legal`: what is so of each table that events lead to.
-//! - `Attempts`: how an attempt at a job starts, and what its end, or its loss, makes of the job and its queue; `Losses`:
-//!   what a reopening makes of a job that was processing.
+//! - `Attempts`: how an attempt at a job starts, and what its end, or its loss, makes of the job and its queue. The effects
+//!   of a stage come before the verdict on its exit (`with_effects`); `row_effects` says what they make of the job's pages
+//!   and of the queue. `Losses`: what a reopening makes of a job that was processing.
 //!
 //! # Promises
 //!
@@ -27,8 +28,9 @@
 //! - *Reopening* ([`reopening`]): the event Reopen applies to each processing job the error policy of its queue, and
 //!   changes nothing else but that a queue stops where the policy says so. No job is processing after it, and where none
 //!   was before, it changes nothing.
-//! - *NoHiddenAllocation*: only `prepare` may answer out of memory. `commit` can't fail: what it calls that takes memory
-//!   finds the room that `prepare` made (`IsPrepared`).
+//! - *NoHiddenAllocation*: only `prepare` may answer out of memory, and it asks for memory only where room is missing.
+//!   `commit` can't fail: what it calls that takes memory finds the room that `prepare` made (`IsPrepared`), and it leaves
+//!   no more room than it found (`HasNoMore`). A new table has no room.
 //! - *EndedStaysEnded* ([`ended_jobs_stay`]), and that each state is legal ([`legal_tables_stay_legal`]).
 //!
 //! # Invariants
@@ -38,11 +40,14 @@
 //! 2. The state that the rows mean is legal (`IsLegal`). There are at most 64 queues, and a row's key is its own name or
 //!    number. No job has a number above the highest given. A job's queue is there, and its phase fits the rest of its row.
 //!    A document is as long as its job's size, or empty once the job has ended. A queue has one processing job at most.
+//!    Its reasons and its attributes are in ascending order, each once, and at most 64 of each.
 //! 3. No number above 2,147,483,647 was given.
-//! 4. After `prepare` of a queue or a job there is room for one row more, and after `prepare` of a send for its bytes in
-//!    the job's document (`HasRoom`). What grows at least doubles, so a document that comes in sixteen sends is moved a
-//!    few times only. A new job comes last, as its number is above all others, so no row moves for it. No call copies a
-//!    document.
+//! 4. After `prepare` of a queue or a job there is room for one row more, after `prepare` of a send for its bytes in the
+//!    job's document, and after `prepare` of a stage for the reasons and the attributes that its effects may add
+//!    (`HasRoom`). What grows at least doubles, so a document that comes in sixteen sends is moved a few times only. A new
+//!    job comes last, as its number is above all others, so no row moves for it. No call copies a document or a text of an
+//!    event.
+//! 5. A job that has ended holds no memory for its document (`IsFreedWhenEnded`).
 //!
 //! # Faults
 //!
@@ -57,8 +62,8 @@ pub use laws::{ended_jobs_stay, legal_tables_stay_legal, reopening};
 pub use table::{PrepareFault, Table};
 
 #[cfg(test)]
-mod attempt_tests;
+mod test_answers;
 #[cfg(test)]
-mod next_tests;
+mod test_words;
 #[cfg(test)]
 mod tests;

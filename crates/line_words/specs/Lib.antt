@@ -1,3 +1,5 @@
 pub mod Blanks
 pub mod Quotes
 pub mod Seen
+pub mod Quoting
+pub mod Numbers

@@ -18,6 +18,8 @@
 //! - [`read_quoted`] gives the text after an opening quote and what follows its closing one, or `None` exactly where
 //!   nothing closes it (`value`). Where no backslash is in the line it can't fail (`lent`). [`push_escaped`] adds what a
 //!   backslash and the byte after it mean (`value`).
+//! - [`Quoting`] goes through a text whose words quotes and backslashes hold together: [`Quoting::next`] is where the next
+//!   character is, [`Quoting::keeps`] whether one belongs to what the text says, [`Quoting::is_cut`] whether it ends a word.
 //! - [`Word::bytes`] and [`Word::into_bytes`] give the bytes of a [`Word`] (`value`).
 //!
 //! # Cost and faults
@@ -28,10 +30,12 @@
 
 mod blanks;
 mod quotes;
+mod quoting;
 mod words;
 
 pub use blanks::{after_blanks, first_word, is_blank, split_at_blank, trim};
 pub use quotes::{has_quote, is_backslash, is_quote, push_escaped, read_quoted};
+pub use quoting::Quoting;
 pub use words::Word;
 
 #[cfg(test)]

@@ -1,43 +1,15 @@
 -- The lines of a file, as they are read.
 use Rattle.std.proofs.Common.{◌≡◌, ℕ, suc, ◌<◌, ◌≤◌, Bool, true, false, ◌&&◌, cond, List, [], ◌∷◌, ◌++◌, refl, ap, sym, ◌∙◌, arith, subst, Option, None, Some, Result, Ok, Err, leb, is_none}
-use Rattle.std.specs.Prelude.{IsTrue}
-use Rattle.std.specs.Str.{IsUtf8, is_utf8, str_to_ascii_lowercase}
 use Rattle.std.proofs.lemmas.Bool.{leb-true, cond_both}
-use Rattle.std.proofs.lemmas.Str.{IsUtf8-from_is_utf8, is_utf8-from_IsUtf8}
 use Rattle.mime_lines.specs.Numbers.{number_of}
 use Rattle.mime_lines.specs.JoinedLines.{Line, with_line, left_open, joined_from, is_silent, is_continued, lines_of, joined_lines}
-use Rattle.spool_types.specs.Values.{is_media_type, is_filter_name}
+use Rattle.spool_types.specs.Values.{is_media_type, is_filter_name, text_in, folded_in}
 use Rattle.spool_types.specs.declared.warning.WarningKind.{WarningKind}
 use Rattle.spool_types.specs.declared.warning.WarningKind.TheVariants.{BadType, BadNumber}
 use Rattle.mime_costs.specs.Conversions.{is_source}
 use Rattle.mime_costs.specs.Index.{Ascends, AreCheap}
-use Rattle.mime_costs.specs.Reading.{text_in, folded_in, cheap, cost_in, Words, four_words, with_filter, with_cost, with_destination, with_source, of_words, conversion_of, taken, conversions_in, conversions_of}
+use Rattle.mime_costs.specs.Reading.{cheap, cost_in, Words, four_words, with_filter, with_cost, with_destination, with_source, of_words, conversion_of, taken, conversions_in, conversions_of}
 use Rattle.mime_costs.specs.declared.conversion.Conversion.{Conversion}
-
--- ## Words
-
-utf8_false : (xs : List ℕ) → (IsUtf8 xs → ⊥) → is_utf8 xs ≡ false
-utf8_false xs not =
-    (elim (is_utf8 xs) as (λ v. is_utf8 xs ≡ v → v ≡ false) [ true ↦ λ h. absurd (not (IsUtf8-from_is_utf8 xs h)) | false ↦ λ h. refl ]) refl
-
-module _ (allowed : List ℕ → Bool) (xs : List ℕ) where
-  pub no_text : (IsUtf8 xs → ⊥) → None ≡ text_in allowed xs
-  no_text not = sym (ap (λ v. cond (v && allowed xs) (Some xs) None) (utf8_false xs not))
-
-  pub some_text : (text copy : List ℕ) → (text ≡ xs) × IsUtf8 xs → IsTrue (allowed text) → copy ≡ text → Some copy ≡ text_in allowed xs
-  some_text text copy (read, utf8) is same =
-      let ok : allowed xs ≡ true = ap allowed (sym read) ∙ is in
-      ap Some (same ∙ read)
-      ∙ sym (ap (λ v. cond (v && allowed xs) (Some xs) None) (is_utf8-from_IsUtf8 xs utf8) ∙ ap (λ v. cond v (Some xs) None) ok)
-
-  pub no_folded : (IsUtf8 xs → ⊥) → None ≡ folded_in allowed xs
-  no_folded not = sym (ap (λ v. cond (v && allowed (str_to_ascii_lowercase xs)) (Some (str_to_ascii_lowercase xs)) None) (utf8_false xs not))
-
-  pub some_folded : (text copy : List ℕ) → (text ≡ xs) × IsUtf8 xs → IsTrue (allowed (str_to_ascii_lowercase text)) → copy ≡ str_to_ascii_lowercase text → Some copy ≡ folded_in allowed xs
-  some_folded text copy (read, utf8) is same =
-      let ok : allowed (str_to_ascii_lowercase xs) ≡ true = ap (λ l. allowed (str_to_ascii_lowercase l)) (sym read) ∙ is in
-      ap Some (same ∙ ap str_to_ascii_lowercase read)
-      ∙ sym (ap (λ v. cond (v && allowed (str_to_ascii_lowercase xs)) (Some (str_to_ascii_lowercase xs)) None) (is_utf8-from_IsUtf8 xs utf8) ∙ ap (λ v. cond v (Some (str_to_ascii_lowercase xs)) None) ok)
 
 -- ## The parts of a line
 

@@ -125,9 +125,6 @@ some_step p (x ∷ file) (r ∷ row) m h = pick (λ e. some_step p file row m e)
 pub link_at : (file : List Conversion) (links : List Link) (i : ℕ) (d : Conversion) (e : Link) → links ≡ links_in file → i < length file → get_or links i e ≡ link_of (sources_of file) (get_or file i d)
 link_at file links i d e is less = ap (λ l. get_or l i e) is ∙ get_or-map (link_of (sources_of file)) file i d e less
 
-pub links_long : (file : List Conversion) (links : List Link) → links ≡ links_in file → length links ≡ length file
-links_long file links is = ap length is ∙ length-map file (link_of (sources_of file))
-
 -- ## The loops over the conversions
 
 module _ (file : List Conversion) (links : List Link) (row : List (Option ℕ)) (i : ℕ) (x : Conversion) (e : Link) (linked : links ≡ links_in file) (long : length row ≡ length file) (less : i < length file) (here : x ≡ get_or file i x) where

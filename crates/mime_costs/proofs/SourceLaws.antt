@@ -14,9 +14,6 @@ use Rattle.mime_costs.specs.declared.conversion.Conversion.{Conversion}
 abbrev pub Known : {S : Type 0} → HashMap (Bor (List ℕ)) ℕ S → ℕ → ℕ → List Conversion → Type 0
 Known places n at tail = (source : List ℕ) → unwrap_or (get_by (λ k. bytes_eq source k.now) places) n ≡ at + place_in (sources_of tail) source
 
-pub none_known : {S : Type 0} (places : HashMap (Bor (List ℕ)) ℕ S) (n : ℕ) → places.entries ≡ [] → Known places n n []
-none_known places n is = λ source. ap (λ es. unwrap_or (lookup (λ k. bytes_eq source k.now) es) n) is ∙ (omega arith)
-
 -- one more conversion in front
 pub one_known : {S : Type 0} (places more : HashMap (Bor (List ℕ)) ℕ S) (n at : ℕ) (c : Conversion) (tail : List Conversion) → Known places n (suc at) tail
     → hash.UpdatesBy (λ x y. bytes_eq x.now y.now) (λ k. bytes_eq c.source k.now) places more (Some at) → Known more n at (c ∷ tail)

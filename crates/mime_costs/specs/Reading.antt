@@ -1,11 +1,10 @@
 -- The conversions that a file of mime.convs(5) names, and its faults.
 use Rattle.std.specs.Prelude.{ℕ, Bool, ◌&&◌, not, cond, nat_le, ◌==◌, List, [], ◌∷◌, length, Option, None, Some, Result, Ok, Err}
 use Rattle.std.specs.List.{flat_map}
-use Rattle.std.specs.Str.{is_utf8, str_to_ascii_lowercase}
 use Rattle.line_words.specs.Blanks.{first_word, after_word}
 use Rattle.mime_lines.specs.JoinedLines.{Line, joined_lines}
 use Rattle.mime_lines.specs.Numbers.{number_of}
-use Rattle.spool_types.specs.Values.{is_media_type, is_filter_name}
+use Rattle.spool_types.specs.Values.{is_media_type, is_filter_name, text_in, folded_in}
 use Rattle.spool_types.specs.declared.warning.Warning.{Warning}
 use Rattle.spool_types.specs.declared.warning.WarningKind.{WarningKind}
 use Rattle.spool_types.specs.declared.warning.WarningKind.TheVariants.{BadType, BadNumber, BadLine}
@@ -15,14 +14,6 @@ use Rattle.mime_costs.specs.declared.conversion.Conversion.{Conversion}
 -- the greatest cost of a conversion
 abbrev pub greatest_cost : ℕ
 greatest_cost = 10000
-
--- a text that is allowed
-abbrev pub text_in : (List ℕ → Bool) → List ℕ → Option (List ℕ)
-text_in allowed word = cond (is_utf8 word && allowed word) (Some word) None
-
--- the same, where capitals stand for their small letters
-abbrev pub folded_in : (List ℕ → Bool) → List ℕ → Option (List ℕ)
-folded_in allowed word = cond (is_utf8 word && allowed (str_to_ascii_lowercase word)) (Some (str_to_ascii_lowercase word)) None
 
 -- a number that is no greater than a cost may be
 abbrev pub cheap : Option ℕ → Option ℕ

@@ -1,15 +1,13 @@
 //! The lines of a file of mime.convs(5).
 ghost use Rattle.std.specs.Prelude.{◌≡◌, IfOk};
-ghost use Rattle.spool_types.specs.Values.{is_media_type, is_filter_name};
-ghost use Rattle.mime_costs.specs.Conversions.{is_source};
 ghost use Rattle.std.specs.Option.{option_map};
-ghost use Rattle.mime_costs.specs.Reading.{text_in, folded_in, cost_in, four_words as words_of_line, of_words, conversions_of, warnings_of};
+ghost use Rattle.mime_costs.specs.Reading.{cost_in, four_words as words_of_line, of_words, conversions_of, warnings_of};
 ghost use Rattle.mime_costs.specs.Seen.{words_in};
 
 use crate::conversion::{Conversion, Cost, Source};
 use line_words::first_word;
 use mime_lines::{Number, joined_lines, read_number};
-use spool_types::{FilterName, MediaType, Text, TextFault, TextKind, Warning, WarningKind};
+use spool_types::{FilterName, MediaType, Warning, WarningKind};
 use std::alloc::{AllocError, Global};
 
 // The words of a line.
@@ -51,16 +49,16 @@ fn read_line(
     let Some(words) = four_words(line) else {
         return Ok(Err(WarningKind::BadLine));
     };
-    let Some(source) = source_of(alloc, words.source)? else {
+    let Some(source) = Source::from_folded_word(alloc, words.source)? else {
         return Ok(Err(WarningKind::BadType));
     };
-    let Some(destination) = media_of(alloc, words.destination)? else {
+    let Some(destination) = MediaType::from_word(alloc, words.destination)? else {
         return Ok(Err(WarningKind::BadType));
     };
     let Some(cost) = cost_of(words.cost) else {
         return Ok(Err(WarningKind::BadNumber));
     };
-    let Some(filter) = filter_of(alloc, words.filter)? else {
+    let Some(filter) = FilterName::from_word(alloc, words.filter)? else {
         return Ok(Err(WarningKind::BadLine));
     };
     Ok(Ok(Conversion {
@@ -93,51 +91,11 @@ fn four_words(line: &[u8]) -> Option<Words<'_>>
     }
 }
 
-fn source_of(alloc: Global, word: &[u8]) -> Result<Option<Source>, AllocError>
-    ensures { IfOk result (λ source. source ≡ folded_in is_source word.now) }
-{
-    let Ok(text) = str::from_utf8(word) else {
-        return Ok(None);
-    };
-    let folded = text.to_ascii_lowercase(alloc)?;
-    match Source::read(alloc, folded.as_str()) {
-        Ok(source) => Ok(Some(source)),
-        Err(TextFault::Bad) => Ok(None),
-        Err(TextFault::Memory) => Err(AllocError),
-    }
-}
-
-fn media_of(alloc: Global, word: &[u8]) -> Result<Option<MediaType>, AllocError>
-    ensures { IfOk result (λ media. media ≡ folded_in is_media_type word.now) }
-{
-    let Ok(text) = str::from_utf8(word) else {
-        return Ok(None);
-    };
-    match MediaType::read(alloc, text) {
-        Ok(media) => Ok(Some(media)),
-        Err(TextFault::Bad) => Ok(None),
-        Err(TextFault::Memory) => Err(AllocError),
-    }
-}
-
 fn cost_of(word: &[u8]) -> Option<Cost>
     ensures { result ≡ cost_in word.now }
 {
     match read_number(word)? {
         Number::Fits(number) => Cost::new(number),
         Number::TooGreat => None,
-    }
-}
-
-fn filter_of(alloc: Global, word: &[u8]) -> Result<Option<FilterName>, AllocError>
-    ensures { IfOk result (λ filter. filter ≡ text_in is_filter_name word.now) }
-{
-    let Ok(text) = str::from_utf8(word) else {
-        return Ok(None);
-    };
-    match FilterName::read(alloc, text) {
-        Ok(filter) => Ok(Some(filter)),
-        Err(TextFault::Bad) => Ok(None),
-        Err(TextFault::Memory) => Err(AllocError),
     }
 }

@@ -128,13 +128,6 @@ wrong_says groups opening ts h (suc n) le = cc
 wrong_says groups (test m) ts h (suc n) le = cc
 wrong_says groups (priority p) ts h (suc n) le = cc
 
--- a group
-pub deep_says : (ts : List Token) → GroupSays 0 ts (wrong BadRule)
-deep_says ts n le = refl
-
-pub inner_says : (groups : ℕ) (ts : List Token) (r : Read Token (Subject → Bool)) → ListSays groups ts r → GroupSays (suc groups) ts (on group_end r)
-inner_says groups ts r says n le = ap (on group_end) (says n le)
-
 -- an item: a factor, and what follows it
 both_none : (m : Option (Subject → Bool)) → both_of m None ≡ m
 both_none None = refl
@@ -326,11 +319,6 @@ factor_stops groups (Fault kind) false ts entry h turns = turns groups (wrong ki
 pub factor_turned : (groups : ℕ) (odd : Bool) (ts rest entry : List Token) (m k : Option (Subject → Bool)) → FactorSays groups ts (read m rest) → k ≡ turned_meaning odd m → ((q : ℕ) (r : Read Token (Option (Subject → Bool))) → FactorSays q ts r → FactorSays q entry (turned odd r)) → FactorSays groups entry (read k rest)
 factor_turned groups true ts rest entry m k h is turns n le = turns groups (read m rest) h n le ∙ ap (λ v. read v rest) (sym is)
 factor_turned groups false ts rest entry m k h is turns n le = turns groups (read m rest) h n le ∙ ap (λ v. read v rest) (sym is)
-
--- a group that stops inside
-pub group_stops : (groups : ℕ) (stop : Stop) (ts : List Token) → Stopped stop (ListSays groups ts) → Stopped stop (GroupSays (suc groups) ts)
-group_stops groups Memory ts h = tt
-group_stops groups (Fault kind) ts h = inner_says groups ts (wrong kind) h
 
 -- a line that stops inside its list, or behind it
 pub line_stops : (stop : Stop) (ts : List Token) → Stopped stop (ListSays most_depth ts) → Stopped stop (λ r. list_of ts ≡ r)

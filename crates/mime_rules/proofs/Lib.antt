@@ -4,6 +4,5 @@ pub mod TokenLaws
 pub mod BestLaws
 pub mod OrderLaws
 pub mod GrammarLaws
-pub mod MediaLaws
 pub mod FindLaws
 pub mod LineLaws

@@ -9,11 +9,3 @@ alternatives_more line rest = filter_map-append (λ l. alternative_in (outcome_o
 
 pub warnings_more : (line : Line) (rest : List Line) → warnings_in (line ∷ rest) ≡ warnings_in (line ∷ []) ++ warnings_in rest
 warnings_more line rest = filter_map-append (λ l. warning_in l.number (outcome_of l.text)) (line ∷ []) rest
-
-pub no_alternatives : {A : Type 0} (f : A → Line) (rest : List A) → length rest ≡ 0 → alternatives_in (map f rest) ≡ []
-no_alternatives f [] h = refl
-no_alternatives f (x ∷ xs) h = absurd (omega arith)
-
-pub no_warnings : {A : Type 0} (f : A → Line) (rest : List A) → length rest ≡ 0 → warnings_in (map f rest) ≡ []
-no_warnings f [] h = refl
-no_warnings f (x ∷ xs) h = absurd (omega arith)

@@ -87,10 +87,6 @@ beats-connected a b other = by_tests (beats a b) (beats b a) refl refl
 
 -- ## The best of a list
 
--- no true alternative of the list beats a
-abbrev Unbeaten : Subject → List Alternative → Alternative → Type 0
-Unbeaten s all a = All (λ b. b.rule s ≡ true → beats b a ≡ false) all
-
 -- what an answer says of a list
 abbrev Says : Subject → List Alternative → Option Alternative → Type 0
 Says s all None = NoneHolds s all

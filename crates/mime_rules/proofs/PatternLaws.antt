@@ -49,39 +49,19 @@ pub step_value : (p : Piece) (ps : List Piece) (b : ℕ) (bs : List ℕ) → is_
 step_value run ps b bs h pass = cc
 step_value (one test) ps b bs h pass = ap (λ v. v && matching ps bs) pass
 
-pub step_stops : (p : Piece) (ps : List Piece) (b : ℕ) (bs : List ℕ) → is_run p ≡ false → passes_piece p b ≡ false → matching (p ∷ ps) (b ∷ bs) ≡ false
-step_stops run ps b bs h pass = cc
-step_stops (one test) ps b bs h pass = ap (λ v. v && matching ps bs) pass
-
 pub step_leads : (p : Piece) (ps : List Piece) (b : ℕ) (bs : List ℕ) → is_run p ≡ false → some_end (matching (p ∷ ps)) (b ∷ bs) ≡ true → some_end (matching ps) bs ≡ true
 step_leads run ps b bs h e = cc
 step_leads (one test) ps b bs h e =
     or_elim (test b && matching ps bs) (some_end (matching (one test ∷ ps)) bs)
     (λ m. end_here (matching ps) bs (and_right (test b) (matching ps bs) m)) (λ m. end_behind test ps bs m) e
 
-pub step_short : (p : Piece) (ps : List Piece) → is_run p ≡ false → matching (p ∷ ps) [] ≡ false
-step_short run ps h = cc
-step_short (one test) ps h = refl
-
-pub run_value : (p : Piece) (ps : List Piece) (bs : List ℕ) → is_run p ≡ true → matching (p ∷ ps) bs ≡ rest_matches (p ∷ ps) bs
-run_value run ps bs h = refl
-run_value (one test) ps bs h = cc
-
 pub run_leads : (p : Piece) (ps : List Piece) (bs : List ℕ) → is_run p ≡ true → some_end (matching (p ∷ ps)) bs ≡ true → rest_matches (p ∷ ps) bs ≡ true
 run_leads run ps bs h e = end_twice (matching ps) bs e
 run_leads (one test) ps bs h e = cc
 
--- nothing is left of the pattern, and something of the name
-pub left_over : (bs : List ℕ) → 0 < length bs → matching [] bs ≡ false
-left_over [] h = absurd (omega arith)
-left_over (b ∷ bs) h = refl
-
 -- the first end that fits decides
 pub first_value : (test : List ℕ → Bool) (bs : List ℕ) (r : Bool) → test bs ≡ r → (some_end test bs ≡ true → r ≡ true) → some_end test bs ≡ r
 first_value test bs r e leads = agree (some_end test bs) r (λ h. end_here test bs (e ∙ h)) leads
-
-pub later_value : (test : List ℕ → Bool) (b : ℕ) (bs : List ℕ) → test (b ∷ bs) ≡ false → some_end test (b ∷ bs) ≡ some_end test bs
-later_value test b bs h = ap (λ v. v || some_end test bs) h
 
 or_false : (a : Bool) → a ≡ (a || false)
 or_false true = refl

@@ -56,9 +56,6 @@ pub quote_empty : (q : ℕ) (bs : List ℕ) → length bs ≡ 0 → text_from (q
 quote_empty q [] h = refl
 quote_empty q (b ∷ bs) h = absurd (omega arith)
 
-pub quote_ends : (q b : ℕ) (bs : List ℕ) → (b == q) ≡ true → text_from (quoted q) (b ∷ bs) ≡ text_from bare bs
-quote_ends q b bs h = ap (λ v. cond v (text_from bare bs) (with_byte b (text_from (quoted q) bs))) h
-
 pub quote_more : (q b : ℕ) (bs : List ℕ) → (b ≡ q → ⊥) → text_from (quoted q) (b ∷ bs) ≡ with_byte b (text_from (quoted q) bs)
 quote_more q b bs h = ap (λ v. cond v (text_from bare bs) (with_byte b (text_from (quoted q) bs))) (test_false b q h)
 

@@ -48,11 +48,6 @@ pub if_ok : {V E : Type 0} (r : Result V E) (P Q : V → Type 0) → ((v : V) �
 if_ok (Ok v) P Q f h = f v h
 if_ok (Err e) P Q f h = h
 
--- a pattern in a test
-pub pattern_stops : (stop : Stop) (t rest : List ℕ) (all : Read ℕ Token) → all ≡ match_token (pattern_of t) rest → Stopped stop (PatternSays t) → Stopped stop (λ r. all ≡ r)
-pattern_stops Memory t rest all is h = tt
-pattern_stops (Fault kind) t rest all is h = is ∙ ap (λ o. match_token o rest) h.0 ∙ ap wrong (sym h.1)
-
 pub not_empty : (xs : List ℕ) (r : Bool) → r ≡ (length xs == 0) → r ≡ false → 0 < length xs
 not_empty [] r e f = cc
 not_empty (x ∷ xs) r e f = omega arith

@@ -1,8 +1,7 @@
 -- The lines of a file of mime.types(5).
-use Rattle.std.specs.Prelude.{ℕ, Bool, ◌&&◌, cond, List, Option, None, Some}
+use Rattle.std.specs.Prelude.{ℕ, Bool, List, Option, None, Some}
 use Rattle.std.specs.List.{filter_map}
-use Rattle.std.specs.Str.{is_utf8, str_to_ascii_lowercase}
-use Rattle.spool_types.specs.Values.{is_media_type}
+use Rattle.spool_types.specs.Values.{media_in}
 use Rattle.spool_types.specs.declared.warning.Warning.{Warning}
 use Rattle.spool_types.specs.declared.warning.WarningKind.{WarningKind}
 use Rattle.spool_types.specs.declared.warning.WarningKind.TheVariants.{BadType}
@@ -23,10 +22,6 @@ pub record Alternative : Type 0 where
 pub data Outcome : Type 0 where
   good : Alternative → Outcome
   bad : WarningKind → Outcome
-
--- a media type in lower case, if these bytes are one
-abbrev pub media_in : List ℕ → Option (List ℕ)
-media_in bytes = cond (is_utf8 bytes && is_media_type (str_to_ascii_lowercase bytes)) (Some (str_to_ascii_lowercase bytes)) None
 
 -- the alternative of this list
 abbrev pub with_list : List ℕ → ℕ → Read Token (Subject → Bool) → Outcome

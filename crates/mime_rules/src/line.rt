@@ -1,6 +1,7 @@
 //! The lines of a file of mime.types(5).
 ghost use Rattle.std.specs.Prelude.{◌≡◌};
-ghost use Rattle.mime_rules.specs.Lines.{outcome_of, media_in};
+ghost use Rattle.spool_types.specs.Values.{media_in};
+ghost use Rattle.mime_rules.specs.Lines.{outcome_of};
 ghost use Rattle.mime_rules.specs.Seen.{LineTold, MediaTold};
 
 use crate::grammar::{list_of, priority_of};
@@ -8,9 +9,8 @@ use crate::rule::Rule;
 use crate::stop::Stop;
 use crate::tokens::tokens_of;
 use line_words::first_word;
-use spool_types::{MediaType, TextFault, WarningKind};
+use spool_types::{MediaType, WarningKind};
 use std::alloc::Global;
-use std::str;
 
 /// One way to tell that a document is of a type.
 #[derive(Drop)]
@@ -39,12 +39,8 @@ pub(crate) fn read_line(alloc: Global, line: &[u8]) -> Result<Alternative, Stop>
 fn media_type(alloc: Global, word: &[u8]) -> Result<MediaType, Stop>
     ensures { MediaTold result (media_in word.now) }
 {
-    match str::from_utf8(word) {
-        Err(_) => Err(Stop::Fault(WarningKind::BadType)),
-        Ok(text) => match MediaType::read(alloc, text) {
-            Ok(media_type) => Ok(media_type),
-            Err(TextFault::Bad) => Err(Stop::Fault(WarningKind::BadType)),
-            Err(TextFault::Memory) => Err(Stop::Memory),
-        },
+    match MediaType::from_word(alloc, word)? {
+        Some(media_type) => Ok(media_type),
+        None => Err(Stop::Fault(WarningKind::BadType)),
     }
 }

@@ -170,10 +170,8 @@ refused v lawful room old frame dead = record {
   appends = record {
     dead = search rules;
     full = search rules;
-    failed = search rules;
+    blames = record { later = omega arith; failed = search rules; counted = λ other. refl };
     fits = search rules;
-    counted = tt;
-    later = omega arith;
     answer = tt;
     untouched = λ why. (refl, refl, refl);
     dies = search rules;

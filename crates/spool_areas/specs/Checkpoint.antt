@@ -4,11 +4,12 @@ use Rattle.std.specs.declared.vec.Vec.{Vec}
 use Rattle.std.specs.declared.alloc.Global.{Global}
 use Rattle.std.specs.List.{AllByRecursion}
 use Rattle.spool_disk.specs.Disk.{DiskView, IsOldOutside, IsSynced, LeavesOnly}
+use Rattle.gate_journal.specs.Appends.{kept_room}
+use Rattle.gate_journal.specs.Entries.{open_gate}
 use Rattle.gate_journal.specs.Frame.{payload_of}
-use Rattle.std.specs.Int.{w64, to_be_bytes}
 use Rattle.spool_areas.specs.declared.fault.AreaFault.{AreaFault}
 use Rattle.spool_areas.specs.declared.fault.AreaFault.TheVariants.{Dead, EpochEnd, Full}
-use Rattle.spool_areas.specs.Header.{header_len, header_at, is_open, epoch_of}
+use Rattle.spool_areas.specs.Header.{header_len, header_at, header_behind_gate, is_open, epoch_of}
 use Rattle.spool_areas.specs.Payloads.{HasPayloads, gate_after}
 use Rattle.spool_areas.specs.Current.{Current}
 
@@ -30,7 +31,7 @@ other_base a = other_of (area_len a) a.base
 -- bytes more are left.
 abbrev pub has_room : ℕ → ℕ → List ℕ → Bool
 has_room end gate [] = true
-has_room end gate (n ∷ ns) = nat_le (gate + 5 + n + 7) end && has_room end (gate + 5 + n) ns
+has_room end gate (n ∷ ns) = nat_le (gate + 5 + n + kept_room) end && has_room end (gate + 5 + n) ns
 
 -- Where the first gate of the other area lies, or why no rows of these lengths can be put there. In this order: dead,
 -- the last epoch, full.
@@ -40,10 +41,6 @@ plan_of a lengths =
     else if a.epoch == last_epoch then Err EpochEnd
     else if has_room (other_base a + area_len a) (other_base a + header_len) lengths then Ok (other_base a + header_len)
     else Err Full
-
--- a header behind its gate: the version 1, the epoch in eight bytes with the high byte first, and six zeros
-abbrev pub header_behind_gate : ℕ → List ℕ
-header_behind_gate epoch = 1 ∷ (to_be_bytes w64 epoch ++ (0 ∷ 0 ∷ 0 ∷ 0 ∷ 0 ∷ 0 ∷ []))
 
 -- a header of this epoch lies there, behind whatever gate
 pub record HasHeader (other epoch : ℕ) (bytes : List ℕ) : Type 0 where
@@ -76,7 +73,7 @@ lengths_in frames = map (λ frame. length frame - 5) frames
 
 -- A crash in the middle of closing a gate: nothing has changed, or the gate was open and is any byte.
 abbrev pub IsClosing : {D : Type 0} → DiskView D → D → ℕ → List ℕ → Type 0
-IsClosing v disk at c = v.image disk c ⊎ (IsOldOutside (v.image disk) at 1 c × ((r : List ℕ) → v.bytes disk ≡ Some r → slice_index_or r at 0 ≡ 165))
+IsClosing v disk at c = v.image disk c ⊎ (IsOldOutside (v.image disk) at 1 c × ((r : List ℕ) → v.bytes disk ≡ Some r → slice_index_or r at 0 ≡ open_gate))
 
 -- Of the two areas of this length the one at base is the current one: nothing is unsynced, and each image has these
 -- payloads there, with this epoch.

@@ -1,6 +1,7 @@
 //! The areas of an opened spool.
 ghost use Rattle.std.specs.Prelude.{◌≡◌, ◌≢◌, ◌<◌, ◌≤◌, ◌+◌, ◌^◌, ◌↔◌, ◌⊎◌, [], List, ℕ, false, length, Err, OnOk, OnErr, IsErrOf, IsTrue};
-ghost use Rattle.spool_disk.specs.Disk.{Reads, IsSynced, ChangesNothing, ChangesOnly};
+ghost use Rattle.spool_disk.specs.Disk.{Blames, Reads, IsSynced, ChangesNothing, ChangesOnly};
+ghost use Rattle.gate_journal.specs.Appends.{kept_room};
 ghost use Rattle.spool_areas.specs.Header.{header_len};
 ghost use Rattle.spool_areas.specs.Seen.{IsArea};
 ghost use Rattle.spool_areas.specs.AreaAppends.{AreaAppends};
@@ -65,7 +66,7 @@ impl<D: Disk> Areas<D> {
     pub fn append(&mut self, frame: &mut [u8]) -> Result<u64, JournalFault>
         requires whole { 5 ≤ length frame.old }
         requires short { length frame.old < 2 ^ 32 }
-        ensures { AreaAppends D.device 7 self.old self.new frame.old frame.new result }
+        ensures { AreaAppends D.device kept_room self.old self.new frame.old frame.new result }
     {
         if self.dead {
             return Err(JournalFault::Dead);
@@ -130,9 +131,7 @@ impl<D: Disk> Areas<D> {
         ensures refused { (fault : AreaFault) → fault ≢ AreaFault.Disk →
             (IsErrOf result fault ↔ (plan_of self.old (lengths_in (frames_of rows.old)) ≡ Err fault)) }
         ensures untouched { (fault : AreaFault) → fault ≢ AreaFault.Disk → IsErrOf result fault → self.new ≡ self.old }
-        ensures disk { IsErrOf result AreaFault.Disk → D.device.failures self.old.disk < D.device.failures self.new.disk }
-        ensures later { D.device.failures self.old.disk ≤ D.device.failures self.new.disk }
-        ensures counted { OnOk result (D.device.failures self.new.disk ≡ D.device.failures self.old.disk) }
+        ensures blames { Blames (D.device.failures self.old.disk) (D.device.failures self.new.disk) (IsErrOf result AreaFault.Disk) }
         ensures dies { IsTrue self.new.dead ↔ (IsTrue self.old.dead ⊎ IsErrOf result AreaFault.Disk) }
         ensures changed { OnOk result (IsChanged self.old (payloads_in (frames_of rows.old)) self.new) }
         ensures held { OnErr result ((self.new.base ≡ self.old.base) × (self.new.end ≡ self.old.end) × (self.new.epoch ≡ self.old.epoch) × (self.new.gate ≡ self.old.gate)) }
@@ -177,15 +176,14 @@ impl<D: Disk> Areas<D> {
         }
     }
 
-    /// Reads bytes of the current area.
+    /// Reads bytes of the current area, behind its header.
     pub fn read_extent(&mut self, place: u64, into: &mut [u8]) -> Result<(), ReadFault>
+        requires behind { self.old.base + header_len ≤ place }
         requires inside { place + length into.old ≤ self.old.end }
 
         ensures dead { IsErrOf result ReadFault.Dead ↔ IsTrue self.old.dead }
         ensures data { OnOk result (Reads (D.device.bytes self.old.disk) place into.new) }
-        ensures disk { IsErrOf result ReadFault.Disk → D.device.failures self.old.disk < D.device.failures self.new.disk }
-        ensures later { D.device.failures self.old.disk ≤ D.device.failures self.new.disk }
-        ensures counted { OnOk result (D.device.failures self.new.disk ≡ D.device.failures self.old.disk) }
+        ensures blames { Blames (D.device.failures self.old.disk) (D.device.failures self.new.disk) (IsErrOf result ReadFault.Disk) }
         ensures dies { IsTrue self.new.dead ↔ (IsTrue self.old.dead ⊎ IsErrOf result ReadFault.Disk) }
         ensures untouched { IsErrOf result ReadFault.Dead → self.new ≡ self.old }
         ensures same { (self.new.base ≡ self.old.base) × (self.new.end ≡ self.old.end) × (self.new.epoch ≡ self.old.epoch) × (self.new.gate ≡ self.old.gate) }

@@ -1,4 +1,4 @@
-ghost use Rattle.std.specs.Prelude.{◌≤◌, IfOk};
+ghost use Rattle.std.specs.Prelude.{◌≡◌, ◌<◌, ◌≤◌, IfOk};
 
 use super::*;
 use spool_disk::{FuseDisk, MemDisk};
@@ -15,16 +15,22 @@ fn least_spool(alloc: Global) -> Result<MemDisk, Fail> {
     Ok(disk)
 }
 
-// One of areas of 99 bytes, whose device fails at the first call after it was opened.
-fn failing_areas(alloc: Global) -> Result<Areas<FuseDisk<MemDisk>>, Fail>
-    ensures { IfOk result (λ areas. 99 ≤ areas.end) }
+// An empty spool of areas of 99 bytes, whose device fails after so many calls from its opening on. The closed gate and
+// the bytes from there on tell that the first area is the current one.
+fn failing_areas(alloc: Global, calls: u64) -> Result<Areas<FuseDisk<MemDisk>>, Fail>
+    requires { calls < 1000 }
+    ensures { IfOk result (λ areas. (areas.base ≡ 0) × (99 ≤ areas.end)) }
 {
     let mut disk = MemDisk::new(alloc, 198)?;
     make(&mut disk).ok().ok_or("make")?;
-    let opened = Areas::open(alloc, FuseDisk::new(disk, CALLS_OF_OPEN))
+    let opened = Areas::open(alloc, FuseDisk::new(disk, CALLS_OF_OPEN + calls))
         .ok()
         .ok_or("open")?;
-    Ok(opened.areas)
+    if opened.gate == 16 && opened.room == 83 {
+        Ok(opened.areas)
+    } else {
+        Err(Fail::from("another area"))
+    }
 }
 
 #[test]
@@ -45,9 +51,7 @@ fn kept_room_holds_one_record_of_one_byte(rt: HostRuntime) -> Result<(), Fail> {
 
 #[test]
 fn reads_what_was_appended(rt: HostRuntime) -> Result<(), Fail> {
-    let mut disk = MemDisk::new(rt.alloc(), 198)?;
-    assert_eq!(rt; make(&mut disk), Ok(()));
-    let mut areas = Areas::open(rt.alloc(), disk).ok().ok_or("open")?.areas;
+    let mut areas = failing_areas(rt.alloc(), 5)?;
     assert_eq!(rt; areas.append(&mut [0, 0, 0, 0, 7, 8, 0]), Ok(21));
     let mut got = [0; 2];
     assert_eq!(rt; areas.read_extent(21, &mut got), Ok(()));
@@ -57,7 +61,7 @@ fn reads_what_was_appended(rt: HostRuntime) -> Result<(), Fail> {
 
 #[test]
 fn failed_append_ends_it(rt: HostRuntime) -> Result<(), Fail> {
-    let mut areas = failing_areas(rt.alloc())?;
+    let mut areas = failing_areas(rt.alloc(), 0)?;
     let mut frame = [0; 6];
     assert_eq!(rt; areas.append(&mut frame), Err(JournalFault::Disk));
     assert_eq!(rt; areas.append(&mut frame), Err(JournalFault::Dead));
@@ -69,7 +73,7 @@ fn failed_append_ends_it(rt: HostRuntime) -> Result<(), Fail> {
 
 #[test]
 fn failed_read_ends_it(rt: HostRuntime) -> Result<(), Fail> {
-    let mut areas = failing_areas(rt.alloc())?;
+    let mut areas = failing_areas(rt.alloc(), 0)?;
     let mut frame = [0; 6];
     assert_eq!(rt; areas.read_extent(21, &mut frame), Err(ReadFault::Disk));
     assert_eq!(rt; areas.append(&mut frame), Err(JournalFault::Dead));

@@ -1,15 +1,16 @@
 //! Putting rows into the other area, in three parts: its header is closed, the area is filled, and its header is opened.
 ghost use Rattle.std.specs.Prelude.{◌≡◌, ◌≢◌, ◌∷◌, ◌<◌, ◌≤◌, ◌+◌, ◌-◌, ◌^◌, ◌++◌, [], List, ℕ, false, true, Some, IsSome, OnOk, IfOk, length, slice_index_or};
 ghost use Rattle.spool_disk.specs.Disk.{IsSynced, LeavesOnly, ChangesOnly, HasCause};
-ghost use Rattle.gate_journal.specs.Entries.{KeepsEntries, records};
+ghost use Rattle.gate_journal.specs.Appends.{kept_room};
+ghost use Rattle.gate_journal.specs.Entries.{open_gate, KeepsEntries, records};
 ghost use Rattle.spool_areas.specs.Payloads.{gate_after};
 ghost use Rattle.gate_journal.specs.Journal.{base_of, end_of, place_of, is_dead};
 ghost use Rattle.gate_journal.specs.Frame.{payload_of};
 ghost use Rattle.spool_areas.specs.Checkpoint.{has_room, frames_of, payloads_in, lengths_in, IsFrame, AreFrames, IsClosing, HasHeader, Stands, StandsNew, ChangesOver};
 ghost use Rattle.spool_areas.specs.Header.{half, least_area, header_len};
 
-use crate::header::{HEADER_LEN, OPEN, header_behind_gate};
-use gate_journal::{Journal, JournalFault};
+use crate::header::{HEADER_LEN, header_behind_gate};
+use gate_journal::{HEAD_LEN, Journal, JournalFault, KEPT_ROOM, OPEN_GATE};
 use spool_disk::{DeviceFault, Disk, persist};
 
 /// Whether payloads of these lengths can be appended in order from a gate on.
@@ -49,7 +50,8 @@ fn has_room_at(end: u64, gate: u64, len: u64) -> bool
     requires { gate ≤ end }
     ensures { result ≡ has_room end gate (len ∷ []) }
 {
-    end - gate >= 12 && end - gate - 12 >= len
+    let taken = HEAD_LEN + KEPT_ROOM;
+    end - gate >= taken && end - gate - taken >= len
 }
 
 // Closes the gate of the other area's header where it reads open, and syncs. Writing it closed where it is closed already
@@ -57,14 +59,14 @@ fn has_room_at(end: u64, gate: u64, len: u64) -> bool
 fn close_header<D: Disk>(disk: &mut D, other: u64) -> Result<(), DeviceFault>
     requires { other < D.device.size disk.old }
     ensures any_moment { LeavesOnly D.device disk.old disk.new (IsClosing D.device disk.old other) }
-    ensures closed { OnOk result ((r : List ℕ) → D.device.bytes disk.new ≡ Some r → slice_index_or r other 0 ≢ 165) }
+    ensures closed { OnOk result ((r : List ℕ) → D.device.bytes disk.new ≡ Some r → slice_index_or r other 0 ≢ open_gate) }
     ensures durable { OnOk result (IsSynced D.device disk.new) }
     ensures changes { ChangesOnly D.device disk.old disk.new other 1 }
     ensures cause { HasCause D.device disk.old disk.new result }
 {
     let mut gate = [0; 1];
     disk.read(other, &mut gate)?;
-    if gate[0] != OPEN {
+    if gate[0] != OPEN_GATE {
         return disk.sync();
     }
     persist(disk, other, &[0])
@@ -79,7 +81,7 @@ fn append_row<D: Disk>(
     requires frame { IsFrame row.old.items }
     requires within { end_of journal.old ≤ D.device.size disk.old }
     requires alive { is_dead journal.old ≡ false }
-    requires room { place_of journal.old + length row.old.items + 7 ≤ end_of journal.old }
+    requires room { place_of journal.old + length row.old.items + kept_room ≤ end_of journal.old }
     ensures journal { OnOk result ((is_dead journal.new ≡ false) × (place_of journal.new ≡ place_of journal.old + length row.old.items)) }
     ensures same { (base_of journal.new ≡ base_of journal.old) × (end_of journal.new ≡ end_of journal.old) }
     ensures payload { payload_of row.new.items ≡ payload_of row.old.items }
@@ -182,6 +184,6 @@ pub(crate) fn change_over<D: Disk>(
 {
     close_header(disk, other)?;
     let journal = fill_area(disk, other, len, epoch, rows)?;
-    persist(disk, other, &[OPEN])?;
+    persist(disk, other, &[OPEN_GATE])?;
     Ok(journal)
 }

@@ -11,7 +11,9 @@
 //!
 //! # What it promises to the layer above, on every disk that meets `Disk`
 //!
-//! 1. `make` leaves an empty spool: every image has no payloads (`made`), and nothing is unsynced (`durable`).
+//! 1. `make` leaves an empty spool: it writes the beginning of area 0 and one gate (`bytes`), every image has no payloads
+//!    (`made`), and nothing is unsynced (`durable`). A crash meanwhile leaves what the device held until both gates are
+//!    closed, and from then on no spool or an empty one (`any_moment`).
 //! 2. `Areas::append` and `Areas::append_kept`, where every image at their start has the old payloads and no others
 //!    (`KeepsPayloads`): after Ok every image has the old payloads and this one (`added`), and nothing is unsynced
 //!    (`durable`); a crash at any moment of the call leaves the old payloads, or these and this one (`any_moment`,
@@ -20,7 +22,8 @@
 //!    and no others, at the next epoch (`added`, `changed`), and nothing is unsynced (`durable`). A crash meanwhile leaves
 //!    the old payloads until the new header is opened, and from then on these or the rows, whatever the call answers
 //!    (`any_moment`). Bytes of the old area stay (`changes`). `Areas::plan` tells where the rows will lie.
-//! 4. `Areas::read_extent` reads what the disk tells (`data`) and changes nothing (`keeps`).
+//! 4. `Areas::read_extent` reads what the disk tells (`data`), behind the header of the current area, and changes nothing
+//!    (`keeps`).
 //! 5. `Areas::open` finds the current area and where its payloads lie (`found`), and hands the disk back with the fault of
 //!    its headers where there is no such area (`fault`, `back`). It writes nothing: until its sync has answered a crash
 //!    leaves what it was handed, and from then on what a read gives (`synced`). From then on every image has these
@@ -38,7 +41,8 @@
 //! - `AreaFault::EpochEnd` exactly at the greatest epoch, and `AreaFault::Full` exactly where a row, appended in order, would
 //!   meet `Full` (`plan_of`). Nothing has changed.
 //! - `JournalFault::Full` exactly where the record and the room kept behind it don't fit. Nothing has changed.
-//! - `Disk` only where the device's count of faults rose during the call. The areas are dead from then on.
+//! - `Disk` only where the device's count of faults rose during the call. The areas are dead from then on. After every other
+//!   answer the count is as it was (`blames`).
 #![tactic(auto)]
 
 mod areas;

@@ -24,10 +24,16 @@ follow_le [] g end is = omega arith
 follow_le (x ∷ xs) g end is = let rest = follow_le xs (x.place + x.len) end is.1 in omega (arith, is.0)
 
 -- each extent that follows lies before the end, and has room for a gate and a length before it
-pub follow_at : (xs : List Extent) (g end i : ℕ) (d : Extent) → i < length xs → Follow g xs end → (5 ≤ (get_or xs i d).place) × ((get_or xs i d).place + (get_or xs i d).len ≤ end)
+pub follow_at : (xs : List Extent) (g end i : ℕ) (d : Extent) → i < length xs → Follow g xs end → (g + 5 ≤ (get_or xs i d).place) × ((get_or xs i d).place + (get_or xs i d).len ≤ end)
 follow_at [] g end i d lt is = absurd (omega arith)
 follow_at (x ∷ xs) g end zero d lt is = (omega (arith, is.0), follow_le xs (x.place + x.len) end is.1)
-follow_at (x ∷ xs) g end (suc i) d lt is = follow_at xs (x.place + x.len) end i d (omega arith) is.1
+follow_at (x ∷ xs) g end (suc i) d lt is = let rest = follow_at xs (x.place + x.len) end i d (omega arith) is.1 in (omega (arith, is.0, rest.0), rest.1)
+
+pub follow_head : (xs : List Extent) (g end i : ℕ) (d : Extent) → i < length xs → Follow g xs end → 5 ≤ (get_or xs i d).place
+follow_head xs g end i d lt is = let behind = (follow_at xs g end i d lt is).0 in omega (arith, behind)
+
+pub follow_behind : (xs : List Extent) (base end i : ℕ) (d : Extent) (now : ℕ) → i < length xs → Follow (base + header_len) xs end → now ≡ base → now + header_len + 5 ≤ (get_or xs i d).place
+follow_behind xs base end i d now lt is same = let behind = (follow_at xs (base + header_len) end i d lt is).0 in omega (arith, behind, same)
 
 pub follow_within : (xs : List Extent) (g end i : ℕ) (d : Extent) (top now : ℕ) → i < length xs → Follow g xs end → end ≤ top → now ≡ top → (get_or xs i d).place + (get_or xs i d).len ≤ now
 follow_within xs g end i d top now lt is inside same = let before = (follow_at xs g end i d lt is).1 in omega (arith, before, inside, same)
@@ -108,7 +114,7 @@ folded_all base end xs i bytes s all folded =
 -- reading on
 module _ {D : Type 0} (v : DiskView D) (lawful : IsLawful v) where
   pub read_not : (areas : Current D) → IsRead v areas areas
-  read_not areas = record { base = refl; end = refl; epoch = refl; gate = refl; disk = no_change v areas.disk lawful; counted = omega arith }
+  read_not areas = record { base = refl; end = refl; epoch = refl; gate = refl; disk = no_change v areas.disk lawful }
 
   pub read_on : (old mid new : Current D) → IsRead v old mid → IsRead v mid new → IsRead v old new
   read_on old mid new first second = record {
@@ -117,5 +123,4 @@ module _ {D : Type 0} (v : DiskView D) (lawful : IsLawful v) where
     epoch = second.epoch ∙ first.epoch;
     gate = second.gate ∙ first.gate;
     disk = twice_still v old.disk mid.disk new.disk lawful first.disk second.disk;
-    counted = omega (arith, first.counted, second.counted);
   }

@@ -21,7 +21,8 @@ use Rattle.spool_areas.specs.Payloads.{HasPayloads, HasBeforeOrAfter, gate_after
 use Rattle.spool_areas.specs.Current.{Current, KeepsPayloads}
 use Rattle.spool_core.specs.History.{IsHistory}
 use Rattle.job_table.specs.Attempts.{HasNoProcessing}
-use Rattle.spool_core.specs.Image.{HasTable, HasBeforeOrAfterEvent, area_end, kept_room}
+use Rattle.gate_journal.specs.Appends.{kept_room}
+use Rattle.spool_core.specs.Image.{HasTable, HasBeforeOrAfterEvent, area_end}
 use Rattle.spool_core.specs.Seen.{KeepsTable}
 use Rattle.spool_core.specs.Standing.{IsFrameOf, record_len}
 use Rattle.spool_core.proofs.HistoryLaws.{after_accepted, history_more}

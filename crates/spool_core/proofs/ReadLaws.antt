@@ -64,8 +64,4 @@ never_disk x Range is = damage_is_not _ is
 never_disk x Utf8 is = damage_is_not _ is
 never_disk x Memory is = memory_is_not is
 
-pub read_cause : (P : Type 0) (fault : ReadFault) → (fault ≡ read_fault.Dead → ⊥) → (fault ≡ read_fault.Disk → P) → P
-read_cause P read_fault.Dead dead cause = absurd (dead refl)
-read_cause P read_fault.Disk dead cause = cause refl
-
 -- a run of reads after a run of reads

@@ -7,7 +7,7 @@ use Rattle.spool_types.specs.State.{State}
 use Rattle.std.proofs.lemmas.Bool.{cases_lt}
 use Rattle.job_table.specs.Step.{refusal_of}
 use Rattle.job_table.specs.Fold.{after_one, after_all}
-use Rattle.spool_disk.specs.Disk.{DiskView, IsLawful, LeavesOnly}
+use Rattle.spool_disk.specs.Disk.{DiskView, IsLawful, Blames, LeavesOnly}
 use Rattle.spool_disk.proofs.Moments.{started, weaker_run}
 use Rattle.spool_core.specs.Image.{HasTable, HasBeforeOrAfterEvent}
 use Rattle.spool_core.specs.Standing.{Standing}
@@ -22,7 +22,6 @@ not_dead b p q = cc
 
 -- what a turn does to the disk, whatever it answers
 pub record Turns {D : Type 0} (v : DiskView D) (old : Standing D) (e : Event) (new : Standing D) : Type 0 where
-  pub counted : v.failures old.disk ≤ v.failures new.disk
   pub fixed : v.size new.disk ≡ v.size old.disk
   pub told : IsSome (v.bytes new.disk) → IsSome (v.bytes old.disk)
   pub tells : IsSome (v.bytes old.disk) → IsSome (v.bytes new.disk)
@@ -51,7 +50,7 @@ module _ {D : Type 0} (v : DiskView D)
     alive = λ some. absurd (omega arith);
     dead = refl;
     same = λ dead. refl;
-    counted = omega arith;
+    counted = refl;
     fixed = refl;
     told = λ t. t;
     tells = λ t. t;
@@ -61,6 +60,10 @@ module _ {D : Type 0} (v : DiskView D)
   })
 
   module _ (replies : List (Result Reply Refusal)) (now : Standing D) (driven : IsDriven v old events replies now) where
+    -- the device isn't blamed
+    not_blamed : (ending : Ending) → ¬ (ending ≡ Disk) → Blames (v.failures old.disk) (v.failures now.disk) (ending ≡ Disk)
+    not_blamed ending other = record { later = omega (arith, driven.counted); failed = λ is. absurd (other is); counted = λ not. driven.counted }
+
     -- a crash leaves the table that the answered events led to
     rests : old.dead ≡ false → IsSome (v.bytes old.disk) → LeavesOnly v now.disk now.disk (HasPrefixTable old.state events (length replies) (length replies))
     rests alive told =
@@ -77,7 +80,7 @@ module _ {D : Type 0} (v : DiskView D)
       room = driven.room;
       ending_is = (all, driven.dead);
       alive = driven.alive;
-      counted = driven.counted;
+      blames = not_blamed End (λ same. cc same);
       fixed = driven.fixed;
       told = driven.told;
       tells = driven.tells;
@@ -93,7 +96,7 @@ module _ {D : Type 0} (v : DiskView D)
       room = driven.room;
       ending_is = (fewer, lives, driven.dead ∙ lives);
       alive = driven.alive;
-      counted = driven.counted;
+      blames = not_blamed Memory (λ same. cc same);
       fixed = driven.fixed;
       told = driven.told;
       tells = driven.tells;
@@ -126,9 +129,6 @@ module _ {D : Type 0} (v : DiskView D)
       acknowledged_with : old.dead ≡ false → IsSome (v.bytes old.disk) → IsAcknowledged v old.state events (length replies) (length replies + 1) old.disk new.disk
       acknowledged_with alive told = (now.disk, driven.chain alive told, turn_run alive told)
 
-      counted_with : v.failures old.disk ≤ v.failures new.disk
-      counted_with = omega (arith, driven.counted, turns.counted)
-
       -- the device failed
       end_of_disk : IsBroken v now e new → IsOutcome v old events replies Disk new
       end_of_disk broken = record {
@@ -137,7 +137,7 @@ module _ {D : Type 0} (v : DiskView D)
         room = broken.room ∙ driven.room;
         ending_is = (e, next.hand, ap (λ (s : State). refusal_of s e) broken.table ∙ broken.accepted, sym driven.dead ∙ broken.alive, broken.dead, omega (arith, driven.counted, broken.cause));
         alive = driven.alive;
-        counted = counted_with;
+        blames = record { later = omega (arith, driven.counted, broken.cause); failed = λ is. omega (arith, driven.counted, broken.cause); counted = λ other. absurd (other refl) };
         fixed = turns.fixed ∙ driven.fixed;
         told = λ t. driven.told (turns.told t);
         tells = λ t. turns.tells (driven.tells t);
@@ -147,15 +147,15 @@ module _ {D : Type 0} (v : DiskView D)
       }
 
       -- nothing has changed
-      end_unchanged : (ending : Ending) → IsEnding v old events (length replies) ending now → reach ending (length replies) ≡ length replies → new ≡ now
+      end_unchanged : (ending : Ending) → ¬ (ending ≡ Disk) → IsEnding v old events (length replies) ending now → reach ending (length replies) ≡ length replies → new ≡ now
           → IsOutcome v old events replies ending new
-      end_unchanged ending is reaches same = subst (λ (s : Standing D). IsOutcome v old events replies ending s) (sym same) (record {
+      end_unchanged ending other is reaches same = subst (λ (s : Standing D). IsOutcome v old events replies ending s) (sym same) (record {
         replies_are = driven.replies_are;
         table = driven.table;
         room = driven.room;
         ending_is = is;
         alive = driven.alive;
-        counted = driven.counted;
+        blames = not_blamed ending other;
         fixed = driven.fixed;
         told = driven.told;
         tells = driven.tells;
@@ -170,18 +170,18 @@ module _ {D : Type 0} (v : DiskView D)
 
       pub end_of_turn : (ending : Ending) → IsTurn v now e (Err ending) new → IsOutcome v old events replies ending new
       end_of_turn End is = absurd is
-      end_of_turn Memory is = end_unchanged Memory (next.fits, sym driven.dead ∙ is.0, is.0) refl is.1
-      end_of_turn Full is = end_unchanged Full (e, next.hand, is.0, sym driven.dead ∙ is.0.alive) refl is.1
+      end_of_turn Memory is = end_unchanged Memory (λ same. cc same) (next.fits, sym driven.dead ∙ is.0, is.0) refl is.1
+      end_of_turn Full is = end_unchanged Full (λ same. cc same) (e, next.hand, is.0, sym driven.dead ∙ is.0.alive) refl is.1
       end_of_turn Disk is = end_of_disk is
       end_of_turn Dead is =
           let dead : IsTrue old.dead = sym driven.dead ∙ is.0 in
           let first : length replies ≡ 0 = none_answered (length replies) driven.alive dead in
-          end_unchanged Dead (dead, first, omega (arith, next.fits), driven.same dead) refl is.1
+          end_unchanged Dead (λ same. cc same) (dead, first, omega (arith, next.fits), driven.same dead) refl is.1
 
       -- one more answer
       pub driven_more : (answer : Result Reply Refusal) (more : List (Result Reply Refusal)) → more ≡ replies ++ answer ∷ [] → IsAnswered now e answer new → (IsSome (v.bytes now.disk) → KeepsImages v now → KeepsImages v new)
-          → IsDriven v old events more new
-      driven_more answer more is answered kept =
+          → v.failures new.disk ≡ v.failures now.disk → IsDriven v old events more new
+      driven_more answer more is answered kept counted =
           let long : length more ≡ length replies + 1 = omega (arith, ap length is, length-append replies (answer ∷ [])) in
           let whole : take (length more) events ≡ taken ++ e ∷ [] = ap (λ (n : ℕ). take n events) long ∙ next.after in
           let old_alive : old.dead ≡ false = sym driven.dead ∙ answered.alive in
@@ -200,7 +200,7 @@ module _ {D : Type 0} (v : DiskView D)
             alive = λ some. old_alive;
             dead = answered.dead ∙ sym old_alive;
             same = λ dead. absurd (not_dead old.dead old_alive dead);
-            counted = counted_with;
+            counted = counted ∙ driven.counted;
             fixed = turns.fixed ∙ driven.fixed;
             told = λ t. driven.told (turns.told t);
             tells = λ t. turns.tells (driven.tells t);

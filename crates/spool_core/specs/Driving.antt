@@ -6,7 +6,7 @@ use Rattle.spool_types.specs.declared.refusal.Refusal.{Refusal}
 use Rattle.spool_types.specs.State.{State}
 use Rattle.job_table.specs.Step.{refusal_of, reply_to}
 use Rattle.job_table.specs.Fold.{after_one, after_all}
-use Rattle.spool_disk.specs.Disk.{DiskView, LeavesOnly}
+use Rattle.spool_disk.specs.Disk.{DiskView, Blames, LeavesOnly}
 use Rattle.spool_core.specs.Image.{HasTable, HasBeforeOrAfterEvent}
 use Rattle.spool_core.specs.Standing.{Standing, IsFull, record_len}
 use Rattle.spool_core.specs.declared.driving.Ending.{Ending}
@@ -92,7 +92,7 @@ pub record IsDriven {D : Type 0} (v : DiskView D) (old : Standing D) (events : L
   pub alive : 0 < length replies → old.dead ≡ false
   pub dead : new.dead ≡ old.dead
   pub same : IsTrue old.dead → new ≡ old
-  pub counted : v.failures old.disk ≤ v.failures new.disk
+  pub counted : v.failures new.disk ≡ v.failures old.disk
   pub fixed : v.size new.disk ≡ v.size old.disk
   pub told : IsSome (v.bytes new.disk) → IsSome (v.bytes old.disk)
   pub tells : IsSome (v.bytes old.disk) → IsSome (v.bytes new.disk)
@@ -107,7 +107,7 @@ pub record IsOutcome {D : Type 0} (v : DiskView D) (old : Standing D) (events : 
   pub room : new.room ≡ room_after old.state old.room (take (length replies) events)
   pub ending_is : IsEnding v old events (length replies) ending new
   pub alive : 0 < length replies → old.dead ≡ false
-  pub counted : v.failures old.disk ≤ v.failures new.disk
+  pub blames : Blames (v.failures old.disk) (v.failures new.disk) (ending ≡ Disk)
   pub fixed : v.size new.disk ≡ v.size old.disk
   pub told : IsSome (v.bytes new.disk) → IsSome (v.bytes old.disk)
   pub tells : IsSome (v.bytes old.disk) → IsSome (v.bytes new.disk)

@@ -80,4 +80,3 @@ pub record IsRead {D : Type 0} (v : DiskView D) (old new : Current D) : Type 0 w
   pub epoch : new.epoch ≡ old.epoch
   pub gate : new.gate ≡ old.gate
   pub disk : ChangesNothing v old.disk new.disk
-  pub counted : v.failures old.disk ≤ v.failures new.disk

@@ -6,7 +6,7 @@ use Rattle.spool_areas.specs.Header.{half}
 use Rattle.spool_areas.specs.Current.{Current, KeepsPayloads}
 use Rattle.spool_core.specs.History.{IsHistory}
 use Rattle.job_table.specs.Attempts.{HasNoProcessing}
-use Rattle.spool_core.specs.Image.{kept_room}
+use Rattle.gate_journal.specs.Appends.{kept_room}
 use Rattle.spool_core.specs.Standing.{Standing}
 use Rattle.spool_core.specs.declared.spool.Spool.TheInside.{Inside}
 

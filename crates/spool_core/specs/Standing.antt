@@ -4,8 +4,11 @@ use Rattle.std.specs.Prelude.{◌≡◌, ◌<◌, ◌≤◌, ◌^◌, ℕ, ◌+�
 use Rattle.spool_types.specs.declared.event.Event.{Event}
 use Rattle.spool_types.specs.declared.event.Reply.{Reply}
 use Rattle.spool_types.specs.State.{State, Job, job_at}
+use Rattle.spool_types.specs.declared.event.Event.TheVariants.{Reopen}
+use Rattle.job_table.specs.Attempts.{HasNoProcessing}
 use Rattle.job_table.specs.Step.{refusal_of, step}
 use Rattle.event_codec.specs.Spelling.{spelling, IsSpellable}
+use Rattle.gate_journal.specs.Appends.{kept_room}
 use Rattle.gate_journal.specs.Frame.{payload_of}
 use Rattle.spool_core.specs.declared.spool.apply_fault.ApplyFault.{ApplyFault}
 use Rattle.spool_core.specs.declared.spool.apply_fault.ApplyFault.TheVariants.{Dead, Refused, Memory, Full, Disk}
@@ -21,11 +24,17 @@ pub record Standing (D : Type 0) : Type 0 where
 abbrev pub record_len : Event → ℕ
 record_len e = 5 + length (spelling e)
 
+-- What an opening leaves of the room: all of it where no job is processing in the table, and else all but the record of
+-- one reopening.
+pub record LeavesRoom (s : State) (room left : ℕ) : Type 0 where
+  pub idle : HasNoProcessing s → left ≡ room
+  pub busy : ¬ (HasNoProcessing s) → left ≡ room - record_len Reopen
+
 -- the event is accepted, and its record and the 7 bytes kept behind it lie in the area
 pub record Fits {D : Type 0} (spool : Standing D) (e : Event) : Type 0 where
   pub alive : spool.dead ≡ false
   pub accepted : refusal_of spool.state e ≡ None
-  pub room : record_len e + 7 ≤ spool.room
+  pub room : record_len e + kept_room ≤ spool.room
 
 pub record IsDone {D : Type 0} (old : Standing D) (e : Event) (reply : Reply) (new : Standing D) : Type 0 where
   pub fits : Fits old e
@@ -43,7 +52,7 @@ pub record IsFailed {D : Type 0} (v : DiskView D) (old : Standing D) (e : Event)
 pub record IsFull {D : Type 0} (old : Standing D) (e : Event) : Type 0 where
   pub alive : old.dead ≡ false
   pub accepted : refusal_of old.state e ≡ None
-  pub room : old.room < record_len e + 7
+  pub room : old.room < record_len e + kept_room
 
 -- Each answer of an apply, with its cause and what it leaves. In this order: dead, refused, no memory, full, failed.
 abbrev pub IsAnswer : {D : Type 0} → DiskView D → Standing D → Event → Result Reply ApplyFault → Standing D → Type 0

@@ -1,6 +1,6 @@
 //! A list of events, applied in turn.
 ghost use Rattle.std.specs.Prelude.{◌≡◌, ◌<◌, ◌≤◌, ◌+◌, ◌⊎◌, ◌↔◌, List, ℕ, Some, None, Ok, IsSome, IsTrue, false, length, take, OnOk, IfOk, IfErr, IsErrOf, slice_get};
-ghost use Rattle.spool_disk.specs.Disk.{LeavesOnly};
+ghost use Rattle.spool_disk.specs.Disk.{Blames, LeavesOnly};
 ghost use Rattle.spool_types.specs.declared.event.Event.{Event as Change};
 ghost use Rattle.spool_types.specs.declared.event.NewJob.{NewJob};
 ghost use Rattle.spool_types.specs.declared.event.Event.TheVariants.{Create};
@@ -46,7 +46,7 @@ pub struct Driven {
 // Applies one event. A refusal is an answer, and any other fault ends the run.
 fn turn<D: Disk>(spool: &mut Spool<D>, event: Event) -> Result<Result<Reply, Refusal>, Ending>
     ensures turn { IsTurn D.device spool.old event result spool.new }
-    ensures later { D.device.failures spool.old.disk ≤ D.device.failures spool.new.disk }
+    ensures blames { Blames (D.device.failures spool.old.disk) (D.device.failures spool.new.disk) (IsErrOf result Ending.Disk) }
     ensures fixed { D.device.size spool.new.disk ≡ D.device.size spool.old.disk }
     ensures told { IsSome (D.device.bytes spool.new.disk) ↔ IsSome (D.device.bytes spool.old.disk) }
     ensures any_moment { spool.old.dead ≡ false → IsSome (D.device.bytes spool.old.disk) →
@@ -132,7 +132,7 @@ pub fn drive<D: Disk>(alloc: Global, spool: &mut Spool<D>, events: Vec<Event>) -
     ensures refused { (j : ℕ) (job : Job) (e : Change) → HasEndedJob spool.old.state j job → subject e ≡ Some j → refusal_of spool.new.state e ≡ Some JobEnded }
     ensures number { (j : ℕ) (job : Job) (n : NewJob) → HasEndedJob spool.old.state j job → n.job ≡ j → IsSome (refusal_of spool.new.state (Create n)) }
 
-    ensures counted { D.device.failures spool.old.disk ≤ D.device.failures spool.new.disk }
+    ensures blames { Blames (D.device.failures spool.old.disk) (D.device.failures spool.new.disk) (result.ending ≡ Ending.Disk) }
     ensures fixed { D.device.size spool.new.disk ≡ D.device.size spool.old.disk }
     ensures told { IsSome (D.device.bytes spool.new.disk) ↔ IsSome (D.device.bytes spool.old.disk) }
 {

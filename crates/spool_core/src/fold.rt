@@ -1,6 +1,7 @@
 //! The table that the payloads of an area lead to.
-ghost use Rattle.std.specs.Prelude.{◌≡◌, ◌<◌, ◌≤◌, ◌+◌, List, ℕ, Some, None, false, OnOk, IfOk, IfErr};
+ghost use Rattle.std.specs.Prelude.{◌≡◌, ◌≤◌, ◌+◌, List, ℕ, Some, None, false, OnOk, IfOk, IfErr, IsErrOf};
 ghost use Rattle.job_table.specs.Step.{refusal_of, after};
+ghost use Rattle.spool_disk.specs.Disk.{Blames};
 ghost use Rattle.spool_areas.specs.Header.{header_len};
 ghost use Rattle.spool_areas.specs.Payloads.{gate_after};
 ghost use Rattle.spool_areas.specs.Extents.{payloads_at, Follow};
@@ -8,14 +9,12 @@ ghost use Rattle.spool_core.specs.History.{IsHistory};
 ghost use Rattle.spool_core.specs.Folding.{IsEventAt, IsReadFault, IsTakeFault, IsFoldFault, IsRead, decode_fault};
 
 use event_codec::{CodecFault, decode};
+use gate_journal::HEAD_LEN;
 use job_table::{PrepareFault, Table};
 use spool_areas::{Areas, Extent, OpenFault};
 use spool_disk::Disk;
 use spool_types::Event;
 use std::alloc::Global;
-
-/// How many bytes of a record stand before its payload: the gate and the length.
-const HEAD_LEN: u64 = 5;
 
 /// Reads the payloads as events, one after another, and commits each to a table that is empty at first. The first
 /// payload that is no event, or an event that is refused, is damage at its gate.
@@ -30,10 +29,9 @@ pub(crate) fn fold<D: Disk>(
     ensures table { IfOk result (λ t. (r : List ℕ) → D.device.bytes areas.old.disk ≡ Some r → IsHistory (payloads_at r payloads.now) t.state) }
     ensures gate { OnOk result ((r : List ℕ) → D.device.bytes areas.old.disk ≡ Some r → areas.old.gate ≡ gate_after areas.old.base (payloads_at r payloads.now)) }
     ensures fault { IfErr result (λ e. (r : List ℕ) → D.device.bytes areas.old.disk ≡ Some r → IsFoldFault areas.old.base payloads.now r e) }
-    ensures cause { IfErr result (λ e. e ≡ OpenFault.Disk → D.device.failures areas.old.disk < D.device.failures areas.new.disk) }
+    ensures blames { Blames (D.device.failures areas.old.disk) (D.device.failures areas.new.disk) (IsErrOf result OpenFault.Disk) }
     ensures alive { OnOk result (areas.new.dead ≡ false) }
     ensures same { IsRead D.device areas.old areas.new }
-    ensures counted { OnOk result (D.device.failures areas.new.disk ≡ D.device.failures areas.old.disk) }
 {
     let mut table = Table::new(alloc);
     let mut buffer = Vec::new(alloc);
@@ -58,14 +56,13 @@ fn read_event<D: Disk>(
     extent: Extent,
 ) -> Result<Event, OpenFault>
     requires alive { areas.old.dead ≡ false }
-    requires head { 5 ≤ extent.place }
+    requires behind { areas.old.base + header_len + 5 ≤ extent.place }
     requires inside { extent.place + extent.len ≤ areas.old.end }
     ensures event { IfOk result (λ event. (r : List ℕ) → D.device.bytes areas.old.disk ≡ Some r → IsEventAt r extent event) }
     ensures fault { IfErr result (λ e. (r : List ℕ) → D.device.bytes areas.old.disk ≡ Some r → IsReadFault r extent e) }
-    ensures cause { IfErr result (λ e. e ≡ OpenFault.Disk → D.device.failures areas.old.disk < D.device.failures areas.new.disk) }
+    ensures blames { Blames (D.device.failures areas.old.disk) (D.device.failures areas.new.disk) (IsErrOf result OpenFault.Disk) }
     ensures alive { OnOk result (areas.new.dead ≡ false) }
     ensures same { IsRead D.device areas.old areas.new }
-    ensures counted { OnOk result (D.device.failures areas.new.disk ≡ D.device.failures areas.old.disk) }
 {
     buffer.clear();
     match buffer.resize(extent.len as usize, 0) {

@@ -18,18 +18,20 @@
 //!
 //! # Promises, on every disk that meets `Disk`
 //!
-//! - *CrashSafeApply*: after [`make`] every image has the empty table (`made`). While the spool isn't dead, a crash at any
-//!   moment of an [`Spool::apply`] leaves the table before the event or the one after it, whatever the call answers
-//!   (`any_moment`). After Ok every image has the table after it (`kept`), nothing is unsynced (`durable`), the table shown
-//!   is that one and the reply is the event's (`answer`).
+//! - *CrashSafeMake*: after [`make`] every image has the empty table (`made`). A crash inside it leaves what the device held
+//!   until the gates of both headers are closed, and then no spool or the empty table (`any_moment`).
+//! - *CrashSafeApply*: while the spool isn't dead, a crash at any moment of an [`Spool::apply`] leaves the table before the
+//!   event or the one after it, whatever the call answers (`any_moment`). After Ok every image has the table after it
+//!   (`kept`), nothing is unsynced (`durable`), the table shown is that one and the reply is the event's (`answer`).
 //! - *CrashSafeOpen*: where [`Spool::open`] answers Ok it gives the table of the bytes after the policy on every job that was
 //!   processing in it (`opened`), so none is left (`idle`), and the room that its disk then has (`room`). Where none was
-//!   processing it writes nothing (`unwritten`), and else the record of one Reopen.
+//!   processing it writes nothing (`unwritten`), and else the record of one Reopen, whose bytes the room loses (`left`).
 //! - *CrashSafeOpen*, meanwhile: until its first sync has answered a crash leaves what it was handed. From then on it leaves
 //!   an image with the table of the bytes or the one after the policy (`synced`). Once it has returned every image has the
 //!   table that is shown (`kept`).
-//! - *CrashSafeOpen*, after an error: the disk is handed back. But for a failed device it reads as before and has no new
-//!   image (`back`). After a failed one each image is one that was handed over, or has one of these two tables (`failed`).
+//! - *CrashSafeOpen*, after an error: the disk is handed back, and tells its bytes if it did before (`told_back`). But for a
+//!   failed device it reads as before and has no new image (`back`). After a failed one each image is one that was handed
+//!   over, or has one of these two tables (`failed`).
 //! - *CrashSafeDrive*: [`drive`] answers each event up to its end as the step does (`replies`), its table is the fold of these
 //!   events (`table`), and it says why it ended (`ending`). On a spool that isn't dead a crash at any moment leaves the table
 //!   after a prefix of the events, the one in hand among them only where the device failed (`any_moment`).
@@ -44,7 +46,7 @@
 //!   would change it is refused (`refused`), and its number is not given again (`number`).
 //! - *ExactRefusals*: each answer of `apply` comes with its cause, in the order of [`ApplyFault`] (`answer`). `open`
 //!   answers `NotASpool` or `Damaged` only for bytes with that fault (`fault`), and `Disk` only where the device's
-//!   count of failures rose (`cause`). Out of memory is the one answer without a cause that a clause can see. `make`
+//!   count of failures rose (`blames`). Out of memory is the one answer without a cause that a clause can see. `make`
 //!   is `Full` exactly where the device is too short (`full`), and a document isn't read exactly where the spool is
 //!   dead (`dead`).
 //! - *UnchangedAfterRefusal*: after `Dead`, `Refused`, `Memory` and `Full` the disk and the table are as before

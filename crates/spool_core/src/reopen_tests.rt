@@ -2,8 +2,8 @@ use super::*;
 use crate::samples::{add_queue, apply_all, close, create, id, made, numbered, opened, queue_with};
 use spool_disk::{Disk, MemDisk};
 use spool_types::{
-    AbortReason, AttemptNumber, Event, Exit, Hold, JobRow, Moment, Phase, Policy, QueueName,
-    Refusal, Reply, StageEnd, StageNumber,
+    AbortReason, AttemptNumber, Effect, Effects, Event, Exit, Hold, JobRow, Moment, Phase, Policy,
+    QueueName, Reason, Refusal, Reply, StageEnd, StageNumber, Words,
 };
 use std::alloc::Global;
 use std::test::Fail;
@@ -117,22 +117,61 @@ fn an_abandoned_attempt_stays_so_after_an_opening(rt: HostRuntime) -> Result<(),
     Ok(())
 }
 
-// The end of the first attempt of job 1, which prints its document.
-fn printed() -> Result<Event, Fail> {
+// The end of the first attempt of job 1, which prints its document, with these effects of its standard error.
+fn printed(effects: Effects) -> Result<Event, Fail> {
     Ok(Event::Stage(StageEnd {
         job: id(1)?,
         attempt: AttemptNumber::new(1).ok_or("no attempt")?,
         stage: StageNumber::new(1).ok_or("no stage")?,
         exit: Exit::Code(0),
         dropped: 0,
+        effects,
     }))
+}
+
+// `STATE: +media-empty,toner-low`, `PAGE: 1 2` and `PAGE: total 9`.
+fn told_effects(alloc: Global) -> Result<Effects, Fail> {
+    let mut words = Vec::new(alloc);
+    for word in ["media-empty", "toner-low"] {
+        words.push(Reason::read(alloc, word)?)?;
+    }
+    let words = Words::new(words).ok().ok_or("too many words")?;
+    let effects = vec![in alloc;
+        Effect::AddReasons(words),
+        Effect::Pages { page: 1, copies: 2 },
+        Effect::TotalPages(9),
+    ]?;
+    Ok(Effects::new(effects).ok().ok_or("too many effects")?)
+}
+
+// Whether the queue has these reasons, and job 1 so many pages.
+fn shows(spool: &Spool<MemDisk>, reasons: &[&str], pages: u32) -> Result<bool, Fail> {
+    let queue = spool.table().queues().first().ok_or("no queue")?;
+    let found = queue.reasons.as_slice();
+    let mut same = found.len() == reasons.len() && job(spool)?.pages == pages;
+    for (reason, wanted) in found.iter().zip(reasons) {
+        same &= reason.as_str() == *wanted;
+    }
+    Ok(same)
+}
+
+#[test]
+fn effects_outlive_the_program(rt: HostRuntime) -> Result<(), Fail> {
+    let alloc = rt.alloc();
+    let mut spool = with_a_job(alloc, 4_096, add_queue(alloc)?)?;
+    let events = vec![in alloc; Event::Start(id(1)?), printed(told_effects(alloc)?)?]?;
+    apply_all(&mut spool, events)?;
+    assert!(rt; shows(&spool, &["media-empty", "toner-low"], 9)?);
+    let spool = opened(alloc, spool.into_disk())?;
+    assert!(rt; shows(&spool, &["media-empty", "toner-low"], 9)?);
+    Ok(())
 }
 
 #[test]
 fn a_completed_job_is_not_started_again(rt: HostRuntime) -> Result<(), Fail> {
     let alloc = rt.alloc();
     let mut spool = with_a_job(alloc, 4_096, add_queue(alloc)?)?;
-    let events = vec![in alloc; Event::Start(id(1)?), printed()?]?;
+    let events = vec![in alloc; Event::Start(id(1)?), printed(Effects::empty(alloc))?]?;
     apply_all(&mut spool, events)?;
     for _ in 0..3 {
         spool = opened(alloc, spool.into_disk())?;

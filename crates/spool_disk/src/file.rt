@@ -1,8 +1,8 @@
 // A file of the system as a disk.
-ghost use Rattle.std.specs.Prelude.{◌≡◌, None, IfOk};
+ghost use Rattle.std.specs.Prelude.{◌≡◌, ◌↔◌, ◌<◌, ◌≤◌, ◌+◌, ◌-◌, ◌^◌, length, IfOk, OnOk, IsOk, IsErr};
 ghost use Rattle.std.proofs.lemmas.Option.{none-some};
-ghost use Rattle.spool_disk.specs.Disk.{Counts};
-ghost use Rattle.spool_disk.specs.File.{file_len, file_faults};
+ghost use Rattle.spool_disk.specs.Disk.{Reads, IsSynced, IsWritten, ChangesNothing, ChangesOnly, Counts, HasCause};
+ghost use Rattle.spool_disk.specs.File.{file_len, file_faults, seen_of_file};
 
 use crate::{DeviceFault, Disk};
 use std::fs::File;
@@ -35,11 +35,13 @@ impl FileDisk {
         })
     }
 
-    // Counts a failure. At the greatest count, where no call may fail, a failure is answered as Ok, which says nothing
-    // of a disk that tells nothing.
+    // Passes the system's answer on, and counts a failure. At the greatest count, where no call may fail, a failure is
+    // answered as Ok, which says nothing of a disk that tells nothing.
     fn counted(&mut self, answer: io::Result<()>) -> Result<(), DeviceFault>
-        ensures len { self.new.len ≡ self.old.len }
-        ensures cause { Counts self.old.faults self.new.faults result }
+        ensures passes { file_faults self.old < 2 ^ 64 - 1 → (IsOk result ↔ IsOk answer) }
+        ensures once { IsErr result → file_faults self.new ≡ file_faults self.old + 1 }
+        ensures len { file_len self.new ≡ file_len self.old }
+        ensures cause { Counts (file_faults self.old) (file_faults self.new) result }
     {
         if answer.is_ok() || self.faults == u64::MAX {
             return Ok(());
@@ -50,14 +52,7 @@ impl FileDisk {
 }
 
 impl Disk for FileDisk {
-    ghost device = { record {
-      bytes = λ d. None;
-      size = λ d. file_len d;
-      image = λ d c. ⊥;
-      moment = λ d. 0;
-      image_since = λ d t c. ⊥;
-      failures = λ d. file_faults d;
-    } };
+    ghost device = { seen_of_file };
 
     ghost lawful = { record {
       reads_image = λ d r tells. absurd (none-some r tells);
@@ -74,17 +69,34 @@ impl Disk for FileDisk {
         self.faults
     }
 
-    fn read(&mut self, at: u64, into: &mut [u8]) -> Result<(), DeviceFault> {
+    fn read(&mut self, at: u64, into: &mut [u8]) -> Result<(), DeviceFault>
+        requires { at + length into.old ≤ file_len self.old }
+        ensures data { OnOk result (Reads (seen_of_file.bytes self.old) at into.new) }
+        ensures same { ChangesNothing seen_of_file self.old self.new }
+        ensures cause { HasCause seen_of_file self.old self.new result }
+        ensures once { IsErr result → file_faults self.new ≡ file_faults self.old + 1 }
+    {
         let answer = self.file.read_exact_at(into, at);
         self.counted(answer)
     }
 
-    fn write(&mut self, at: u64, from: &[u8]) -> Result<(), DeviceFault> {
+    fn write(&mut self, at: u64, from: &[u8]) -> Result<(), DeviceFault>
+        requires { at + length from.now ≤ file_len self.old }
+        ensures written { OnOk result (IsWritten seen_of_file self.old self.new at from.now) }
+        ensures changes { ChangesOnly seen_of_file self.old self.new at (length from.now) }
+        ensures cause { HasCause seen_of_file self.old self.new result }
+        ensures once { IsErr result → file_faults self.new ≡ file_faults self.old + 1 }
+    {
         let answer = self.file.write_all_at(from, at);
         self.counted(answer)
     }
 
-    fn sync(&mut self) -> Result<(), DeviceFault> {
+    fn sync(&mut self) -> Result<(), DeviceFault>
+        ensures durable { OnOk result (IsSynced seen_of_file self.new) }
+        ensures same { ChangesNothing seen_of_file self.old self.new }
+        ensures cause { HasCause seen_of_file self.old self.new result }
+        ensures once { IsErr result → file_faults self.new ≡ file_faults self.old + 1 }
+    {
         let answer = self.file.sync_data();
         self.counted(answer)
     }

@@ -13,6 +13,8 @@
 //!    that answers Ok what a read gives is the only image (`durable`).
 //! 2. A fault has a cause (`cause`): the count `faults` rose during the call, and after an answer Ok it is as before. At
 //!    the greatest count no call fails.
+//!    A call of a higher crate blames the device only where the count rose, and leaves it after every other answer
+//!    (`Blames`).
 //! 3. A write that answers Ok leaves exactly the given bytes at their place (`written`); one that fails may leave any
 //!    bytes there, and all others as they were (`ChangesOnly`). A length never changes.
 //!

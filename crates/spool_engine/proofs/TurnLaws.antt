@@ -5,7 +5,7 @@ use Rattle.std.specs.Prelude.{◌≤◌, ◌↔◌, IfOk, OnOk, IsSome, codes}
 use Rattle.std.specs.Io.KnownBytes.{Appends}
 use Rattle.std.proofs.KnownBytes.{Appends-nil, Appends-trans}
 use Rattle.spool_types.specs.declared.event.Event.{Event}
-use Rattle.spool_types.specs.declared.event.Event.TheVariants.{AddQueue}
+use Rattle.spool_types.specs.declared.event.Event.TheVariants.{AddQueue, Create as NewJob}
 use Rattle.spool_types.specs.declared.event.NewQueue.{NewQueue}
 use Rattle.spool_types.specs.declared.event.Reply.{Reply}
 use Rattle.spool_types.specs.declared.refusal.Refusal.{Refusal}
@@ -19,14 +19,15 @@ use Rattle.command_lines.specs.Pending.{Pending, Leads, to_come}
 use Rattle.command_lines.specs.Replies.{refusal_line}
 use Rattle.command_lines.specs.Steps.{GivesOne, EndsWith}
 use Rattle.command_lines.specs.declared.command.Command.{Command}
-use Rattle.command_lines.specs.declared.command.Command.TheVariants.{Queue}
+use Rattle.command_lines.specs.declared.command.Creation.{Creation}
+use Rattle.command_lines.specs.declared.command.Command.TheVariants.{Queue, Create}
 use Rattle.spool_core.specs.Image.{HasTable, HasBeforeOrAfterEvent}
 use Rattle.spool_core.specs.Standing.{Standing, IsAnswer}
 use Rattle.spool_core.specs.declared.spool.apply_fault.ApplyFault.{ApplyFault}
 use Rattle.spool_core.specs.declared.spool.apply_fault.ApplyFault.TheVariants.{Dead, Refused, Memory, Full, Disk}
 use Rattle.spool_engine.specs.Mime.{Mime}
-use Rattle.spool_engine.specs.Script.{Meaning, says, asks, meaning, event_in, reply_by, after_by, reply_of, after_command, step_line, step_state, reply_line, script_text, script_events, event_then}
-use Rattle.spool_engine.specs.Runs.{Setting, Outcome, Turn, served, no_memory, full, disk, dead, unread, IsServed, IsTaken, IsStep, IsTurn, IsOutcome, IsKept, HasBeforeOrAfterCommand, AreTurns, last_standing, texts_of, commands_in, AllServed, Wrote, WroteSome, Lead, Serves, Drains, DrainsEnd}
+use Rattle.spool_engine.specs.Script.{Meaning, says, asks, meaning, creating, job_options, job_of_creation, event_in, reply_by, after_by, reply_of, after_command, step_line, step_state, reply_line, script_text, script_events, event_then}
+use Rattle.spool_engine.specs.Runs.{Setting, Outcome, Turn, served, no_memory, full, disk, dead, unread, IsServed, IsTaken, IsStep, IsTurn, IsOutcome, MayBeRead, IsKept, HasBeforeOrAfterCommand, AreTurns, last_standing, texts_of, commands_in, AllServed, Wrote, WroteSome, Lead, Serves, Drains, DrainsEnd}
 use Rattle.spool_engine.specs.Answers.{answer_line, IsApplied, Takes}
 use Rattle.spool_engine.specs.declared.fault.RunFault.{RunFault}
 use Rattle.spool_engine.specs.declared.fault.RunFault.TheVariants.{Read, Write, Memory as Wanted}
@@ -123,16 +124,16 @@ said_told bytes r v s c text now kept is h =
     let (t, takes, told) = said_turn v s c text now kept is in
     (t, takes, same_bytes bytes r text t.text told h)
 
--- a queue whose URI wasn't read for want of memory
-pub unread_told : {X E D : Type 0} (bytes : X → List ℕ) (r : Result X E) (v : Setting D) (s : Standing D) (q : NewQueue) → OnlyNow v.device → IsKept v.device s → IfOk r (λ x. bytes x ≡ codes "error memory\n") → (t : Turn D) × Takes v s (Queue q) t s × IfOk r (λ x. bytes x ≡ t.text)
-unread_told bytes r v s q now kept h = (
-  record { command = Queue q; outcome = unread; text = codes "error memory\n"; next = s },
+-- a command whose text wasn't read for want of memory
+pub unread_told : {X E D : Type 0} (bytes : X → List ℕ) (r : Result X E) (v : Setting D) (s : Standing D) (c : Command) → OnlyNow v.device → IsKept v.device s → MayBeRead c → IfOk r (λ x. bytes x ≡ codes "error memory\n") → (t : Turn D) × Takes v s c t s × IfOk r (λ x. bytes x ≡ t.text)
+unread_told bytes r v s c now kept may h = (
+  record { command = c; outcome = unread; text = codes "error memory\n"; next = s },
   record {
     legal = record {
-      outcome = record { queue = q; is = refl; text = refl; same = refl };
+      outcome = record { may = may; text = refl; same = refl };
       counted = omega arith;
       told = (λ h. h, λ h. h);
-      crash = unmoved v.device s (HasBeforeOrAfterCommand v.mime s.state (Queue q)) now kept (λ image h. inl h);
+      crash = unmoved v.device s (HasBeforeOrAfterCommand v.mime s.state c) now kept (λ image h. inl h);
       kept = kept;
     };
     command = refl;
@@ -147,6 +148,13 @@ queue_event m s q is = ap (λ b. cond b (asks (AddQueue q) reply_line) (says (co
 
 pub no_queue_event : (m : Mime) (s : State) (q : NewQueue) → is_device_uri q.uri ≡ false → meaning m s (Queue q) ≡ says (codes "error uri\n")
 no_queue_event m s q is = ap (λ b. cond b (asks (AddQueue q) reply_line) (says (codes "error uri\n"))) is
+
+-- a job whose options can be kept is an event, and another none
+pub create_event : (m : Mime) (s : State) (n : Creation) (options : List ℕ) → job_options n.options ≡ Some options → meaning m s (Create n) ≡ asks (NewJob (job_of_creation s n options)) reply_line
+create_event m s n options is = ap (creating s n) is
+
+pub no_create_event : (m : Mime) (s : State) (n : Creation) → job_options n.options ≡ None → meaning m s (Create n) ≡ says (codes "error options\n")
+no_create_event m s n is = ap (creating s n) is
 
 -- the turn of a command by another name
 pub same_command : {X E D : Type 0} (bytes : X → List ℕ) (r : Result X E) (v : Setting D) (s s' : Standing D) (c c' : Command) → c ≡ c' → (t : Turn D) × Takes v s c' t s' × IfOk r (λ x. bytes x ≡ t.text) → (t : Turn D) × Takes v s c t s' × IfOk r (λ x. bytes x ≡ t.text)
@@ -293,14 +301,6 @@ drains_stop v s m p q q' ts a b h leads = record {
   lead = h.lead;
   commands = λ more. h.commands more ∙ ap (λ l. commands_in ts ++ l) (leads more);
   wrote = wrote_all a b ts h.wrote;
-}
-
--- no whole command is left
-pub drains_wait : {D : Type 0} (v : Setting D) (s m : Standing D) (p q q' : Pending) (ts : List (Turn D)) (a b : Option (List ℕ)) → Drains v s p ts m q (Ok tt) a b → Leads q [] q' → Drains v s p ts m q' (Ok tt) a b
-drains_wait v s m p q q' ts a b h leads = record {
-  lead = h.lead;
-  commands = λ more. h.commands more ∙ ap (λ l. commands_in ts ++ l) (leads more);
-  wrote = h.wrote;
 }
 
 pub ends_stop : {D : Type 0} (v : Setting D) (s m : Standing D) (p : Pending) (ts : List (Turn D)) (rest rest' : List Command) (a b : Option (List ℕ)) → DrainsEnd v s p ts m rest (Ok tt) a b → rest' ≡ rest → DrainsEnd v s p ts m rest' (Err Wanted) a b

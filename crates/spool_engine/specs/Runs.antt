@@ -1,19 +1,21 @@
 -- What a run did, turn by turn, also where something failed.
-use Rattle.std.specs.Prelude.{◌≡◌, ℕ, ◌<◌, ◌≤◌, ◌↔◌, ◌⊎◌, List, [], ◌∷◌, ◌++◌, codes, take, length, map, ⊤, false, IsTrue, IsSome, Option, None, Some, Result, Ok, Err, OnOk}
+use Rattle.std.specs.Prelude.{◌≡◌, ℕ, ◌<◌, ◌≤◌, ◌↔◌, ◌⊎◌, List, [], ◌∷◌, ◌++◌, codes, take, length, map, ⊤, true, false, IsTrue, IsSome, Option, None, Some, Result, Ok, Err, OnOk}
 use Rattle.std.specs.List.{flat_map}
+use Rattle.std.specs.Result.{IsOk}
 use Rattle.std.specs.Io.KnownBytes.{Appends}
 use Rattle.spool_types.specs.declared.event.Event.{Event}
-use Rattle.spool_types.specs.declared.event.NewQueue.{NewQueue}
 use Rattle.spool_types.specs.declared.event.Reply.{Reply}
 use Rattle.spool_types.specs.declared.refusal.Refusal.{Refusal}
 use Rattle.spool_types.specs.State.{State}
+use Rattle.spool_types.specs.Values.{is_uri}
+use Rattle.filter_args.specs.Reading.{reading}
 use Rattle.job_table.specs.Step.{refusal_of, step}
 use Rattle.job_table.specs.Fold.{after_all}
 use Rattle.spool_disk.specs.Disk.{DiskView, LeavesOnly}
 use Rattle.command_lines.specs.Text.{commands_of}
 use Rattle.command_lines.specs.Pending.{Pending, Leads, to_come}
 use Rattle.command_lines.specs.declared.command.Command.{Command}
-use Rattle.command_lines.specs.declared.command.Command.TheVariants.{Queue}
+use Rattle.command_lines.specs.declared.command.Command.TheVariants.{Queue, Create}
 use Rattle.spool_core.specs.Image.{HasTable}
 use Rattle.spool_core.specs.Standing.{Standing, IsDone, IsFull, IsFailed}
 use Rattle.spool_engine.specs.Mime.{Mime}
@@ -41,7 +43,7 @@ pub data Outcome : Type 0 where
   full : Outcome
   disk : Outcome
   dead : Outcome
-  -- no memory was found to read the URI of a queue
+  -- no memory was found to read the URI of a queue, or the options of a job
   unread : Outcome
 
 -- a command, how it went, its reply and the spool after it
@@ -75,10 +77,15 @@ pub record Fails {D : Type 0} (m : Mime) (s : Standing D) (t : Turn D) (line : L
   pub cause : Cause event
   pub text : t.text ≡ line
 
--- the command is a queue whose URI wasn't read, and nothing has changed
+-- the text that is read before the spool is asked may be a good one: a URI within its limits, or options without a fault
+abbrev pub MayBeRead : Command → Type 0
+MayBeRead (Queue q) = is_uri q.uri ≡ true
+MayBeRead (Create c) = IsOk (reading c.options)
+MayBeRead c = ⊥
+
+-- that text wasn't read, and nothing has changed
 pub record IsUnread {D : Type 0} (s : Standing D) (t : Turn D) : Type 0 where
-  pub queue : NewQueue
-  pub is : t.command ≡ Queue queue
+  pub may : MayBeRead t.command
   pub text : t.text ≡ codes "error memory\n"
   pub same : t.next ≡ s
 

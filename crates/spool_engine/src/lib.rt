@@ -10,6 +10,9 @@
 //! of the least chain of conversions from this type to what the job's queue takes; where no chain leads there the
 //! document can't be printed. Both are looked at only where the job can be closed.
 //!
+//! A job keeps the printed form of its options. They are read before the spool is asked, as a queue's URI is: those with
+//! a fault, or too long when printed, are `error options`, also on a dead spool.
+//!
 //! # Promises
 //!
 //! [`Engine::run`] carries them in one clause, `IsRun`:
@@ -20,7 +23,8 @@
 //! - *HonestReplies* (`lead`, by `IsOutcome`): each command in turn has Script's reply on the table that it found, or
 //!   an error's line, and has changed no row. `error full` comes only where the event's record doesn't fit, `error disk`
 //!   only where the device failed, and `error dead` only to events after that. `error memory` has a cause that no clause
-//!   sees. After a fault of the run this holds of the first commands of the text (`first`).
+//!   sees. It comes only to an event that isn't refused, to a queue whose URI is within its limits, or to a job whose
+//!   options have no fault. After a fault of the run this holds of the first commands of the text (`first`).
 //! - *Crashes* (`crash` and `kept` of each turn): unless the device had failed before, a crash at any moment of a turn
 //!   leaves the table before its command or the one after it. A crash after the turn leaves the table that is shown or,
 //!   after `error disk`, that table or the one with the event in hand. [`crashes_between_replies`] says of whole runs that
@@ -46,6 +50,7 @@ mod engine;
 mod fault;
 mod laws;
 mod mime;
+mod options;
 mod server;
 mod writing;
 

@@ -16,6 +16,7 @@ ghost use Rattle.spool_engine.specs.Answers.{IsApplied, Takes, answer_line};
 use crate::answers::{answer_text, fault_text};
 use crate::fault::RunFault;
 use crate::mime::Mime;
+use crate::options::job_options;
 use crate::writing::write_whole;
 use command_lines::{Answer, Command, Commands, Creation, print_reply};
 use device_uri::{DeviceUri, UriFault};
@@ -23,7 +24,8 @@ use job_table::Table;
 use spool_core::{ApplyFault, Spool};
 use spool_disk::Disk;
 use spool_types::{
-    Closing, Event, Filters, JobId, MediaType, NewJob, NewQueue, QueueRow, Refusal, Reply,
+    Closing, Event, Filters, JobId, MediaType, NewJob, NewQueue, OptionText, QueueRow, Refusal,
+    Reply,
 };
 use std::alloc::{AllocError, Global};
 use std::io::{ErrorKind, Read, Write};
@@ -115,6 +117,22 @@ impl<D: Disk> Server<D> {
             Ok(_) => self.serve_event(Event::AddQueue(queue)),
             Err(UriFault::BadUri) => print_reply(self.alloc, &Answer::BadUri),
             Err(UriFault::Memory) => print_reply(self.alloc, &Answer::NoMemory),
+        }
+    }
+
+    // Makes a job, where its options are read and can be kept, and the text of the reply.
+    fn create(&mut self, creation: Creation) -> Result<Vec<u8>, AllocError>
+        ensures { (m : MimeDatabase) → (t : Turn D) ×
+            Takes (setting D.device m) self.old (Command.Create creation) t self.new ×
+            IfOk result (λ text. text.items ≡ t.text) }
+    {
+        match job_options(self.alloc, creation.options.as_str()) {
+            Ok(Some(options)) => {
+                let job = new_job(self.next_number(), creation, options);
+                self.serve_event(Event::Create(job))
+            }
+            Ok(None) => print_reply(self.alloc, &Answer::BadOptions),
+            Err(AllocError) => print_reply(self.alloc, &Answer::NoMemory),
         }
     }
 
@@ -212,10 +230,7 @@ impl<D: Disk> Server<D> {
         match command {
             Command::Apply(event) => self.serve_event(event),
             Command::Queue(queue) => self.add_queue(queue),
-            Command::Create(creation) => {
-                let job = new_job(self.next_number(), creation);
-                self.serve_event(Event::Create(job))
-            }
+            Command::Create(creation) => self.create(creation),
             Command::Close { job, name } => self.close(mime, job, name.as_str()),
             Command::OversizedSend => print_reply(self.alloc, &Answer::Refused(Refusal::TooLong)),
             Command::Jobs => self.jobs(),
@@ -377,7 +392,7 @@ fn stages(closing: &Closing) -> Option<u8>
     }
 }
 
-fn new_job(job: JobId, creation: Creation) -> NewJob
+fn new_job(job: JobId, creation: Creation, options: OptionText) -> NewJob
     ensures { result ≡ record {
       queue = creation.queue;
       job = job;
@@ -385,7 +400,7 @@ fn new_job(job: JobId, creation: Creation) -> NewJob
       title = creation.title;
       copies = creation.copies;
       priority = creation.priority;
-      options = creation.options;
+      options = options;
     } }
 {
     NewJob {
@@ -395,6 +410,6 @@ fn new_job(job: JobId, creation: Creation) -> NewJob
         title: creation.title,
         copies: creation.copies,
         priority: creation.priority,
-        options: creation.options,
+        options,
     }
 }

@@ -5,6 +5,7 @@ use mime_costs::Convs;
 use mime_rules::Types;
 use spool_core::{OpenFault, Spool, make};
 use spool_disk::{Disk, FuseDisk, MemDisk};
+use spool_types::JobId;
 use std::alloc::{AllocError, Global};
 use std::io;
 use std::io::{ErrorKind, Read, Write};
@@ -37,7 +38,8 @@ fn engine_over<D: Disk + Drop>(alloc: Global, disk: D) -> Result<Engine<D>, Open
 
 // What an engine replies where the disk fails after so many calls, if it can be opened.
 fn replies_until(alloc: Global, calls: u64) -> Result<Option<Vec<u8>>, Fail> {
-    let script = "queue a s:/ a/b abort-job\nqueue b s:/ a/b abort-job\nclose 1 x\njobs\n";
+    let script = "queue a s:/ a/b abort-job\nqueue b s:/ a/b abort-job\nclose 1 x\n\
+create a ann t 1 50 c={x=1}\njobs\n";
     let mut engine = match engine_over(alloc, FuseDisk::new(spool_disk(alloc)?, calls)) {
         Ok(engine) => engine,
         Err(_) => return Ok(None),
@@ -47,11 +49,11 @@ fn replies_until(alloc: Global, calls: u64) -> Result<Option<Vec<u8>>, Fail> {
     Ok(Some(written))
 }
 
-const AT_FIRST: &str = "error disk\nerror dead\nerror dead\nok 0\n";
+const AT_FIRST: &str = "error disk\nerror dead\nerror dead\nerror options\nok 0\n";
 
-const THEN: &str = "ok\nerror disk\nerror dead\nok 0\n";
+const THEN: &str = "ok\nerror disk\nerror dead\nerror options\nok 0\n";
 
-const NOT_AT_ALL: &str = "ok\nok\nerror 5 NoJob\nok 0\n";
+const NOT_AT_ALL: &str = "ok\nok\nerror 5 NoJob\nerror options\nok 0\n";
 
 #[test]
 fn a_disk_that_fails_is_dead_from_then_on(rt: HostRuntime) -> Result<(), Fail> {
@@ -83,6 +85,25 @@ fn a_fault_of_the_disk_is_told_to_the_caller(rt: HostRuntime) -> Result<(), Fail
         }
     }
     assert!(rt; told);
+    Ok(())
+}
+
+#[test]
+fn a_job_keeps_its_options_as_they_are_printed(rt: HostRuntime) -> Result<(), Fail> {
+    let alloc = rt.alloc();
+    let mut engine = engine_over(alloc, spool_disk(alloc)?)?;
+    let script = "queue lab s:/ a/b abort-job\n\
+create lab ann t 1 50 \"media=A4 nocollate duplex note='a b'\"\n";
+    let mut written = Vec::new(alloc);
+    engine.run(&mut script.as_bytes(), &mut written)?;
+    assert_eq!(rt; written.as_slice(), b"ok\nok job 1\n".as_slice());
+    let spool = engine.into_parts();
+    let number = JobId::new(1).ok_or("no number")?;
+    let job = spool.table().job(number).ok_or("no job")?;
+    assert_eq!(rt;
+        job.options.as_str(),
+        "media=A4 collate=false duplex=true note=a\\ b"
+    );
     Ok(())
 }
 

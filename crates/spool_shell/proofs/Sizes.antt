@@ -162,9 +162,3 @@ number_read G (Some t) None only none some range =
     let unread = some t refl in
     let given = range t refl in
     absurd (only t (Err unread.0) unread.1 (given.0, given.1))
-
--- a size is in its range, whether it was found or not
-pub size_range : (found : Option Text) → ((t : Text) → found ≡ Some t → IsUnsignedIn 4096 1073741824 t)
-    → (4096 ≤ unwrap_or (option_map number_of found) 4194304) × (unwrap_or (option_map number_of found) 4194304 ≤ 1073741824)
-size_range None range = (omega arith, omega arith)
-size_range (Some t) range = ((range t refl).2, (range t refl).3)

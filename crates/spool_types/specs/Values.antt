@@ -1,6 +1,7 @@
 -- What the texts of the spooler may hold, as tests of their bytes.
-use Rattle.std.specs.Prelude.{ℕ, Bool, ◌||◌, ◌&&◌, not, nat_le, ◌==◌, List, length, codes, nat_eq}
+use Rattle.std.specs.Prelude.{ℕ, Bool, ◌||◌, ◌&&◌, not, cond, nat_le, ◌==◌, List, length, codes, nat_eq, Option, None, Some}
 use Rattle.std.specs.List.{list_all, list_any, before_first, after_first}
+use Rattle.std.specs.Str.{is_utf8, str_to_ascii_lowercase}
 use Rattle.std.specs.Cmp.Lexicographic.{pointwise}
 
 -- of so many bytes, each of which passes
@@ -89,3 +90,17 @@ is_media_part text = is_text_of is_media_byte 1 255 text
 -- a type, a slash and a subtype: what follows the first slash is a part, so there is no second
 abbrev pub is_media_type : List ℕ → Bool
 is_media_type text = nat_le (length text) 255 && list_any is_slash text && is_media_part (before_first is_slash text) && is_media_part (after_first is_slash text)
+
+-- ## What a word of a line is
+
+-- a text of a kind, if it is one
+abbrev pub text_in : (List ℕ → Bool) → List ℕ → Option (List ℕ)
+text_in allowed word = cond (is_utf8 word && allowed word) (Some word) None
+
+-- a text of a kind, once its capitals are folded
+abbrev pub folded_in : (List ℕ → Bool) → List ℕ → Option (List ℕ)
+folded_in allowed word = cond (is_utf8 word && allowed (str_to_ascii_lowercase word)) (Some (str_to_ascii_lowercase word)) None
+
+-- a media type, if it is one
+abbrev pub media_in : List ℕ → Option (List ℕ)
+media_in word = folded_in is_media_type word

@@ -1,6 +1,7 @@
 //! How a child ended, and what it said on standard error.
 use crate::items::Words;
 use crate::kinds::{AttributeName, Message};
+use std::alloc::AllocError;
 
 /// How a child ended.
 #[derive(Clone, Copy, Debug, PartialEq, Eq)]
@@ -35,7 +36,7 @@ pub struct Attribute {
 }
 
 /// What a line of a child's standard error does (filter(7)).
-#[derive(Clone, Debug, PartialEq, Eq, Drop)]
+#[derive(Debug, PartialEq, Eq, Drop)]
 pub enum Effect {
     /// `PAGE: page copies` adds the copies to the job's pages.
     Pages { page: u32, copies: u32 },
@@ -51,4 +52,29 @@ pub enum Effect {
     Attribute(Attribute),
     /// `ERROR: text` and the like set the queue's message.
     Message { level: Level, text: Message },
+}
+
+// By hand, as it says at once that a copy is the same effect, which the copy of a list needs.
+impl Clone for Effect {
+    ghost use Rattle.std.specs.Prelude.{◌≡◌};
+
+    ghost is_clone = { λ effect copy. copy ≡ effect };
+
+    fn clone(&self) -> Result<Effect, AllocError> {
+        Ok(match self {
+            Effect::Pages { page, copies } => Effect::Pages {
+                page: *page,
+                copies: *copies,
+            },
+            Effect::TotalPages(pages) => Effect::TotalPages(*pages),
+            Effect::SetReasons(words) => Effect::SetReasons(words.clone()?),
+            Effect::AddReasons(words) => Effect::AddReasons(words.clone()?),
+            Effect::DropReasons(words) => Effect::DropReasons(words.clone()?),
+            Effect::Attribute(attribute) => Effect::Attribute(attribute.clone()?),
+            Effect::Message { level, text } => Effect::Message {
+                level: *level,
+                text: text.clone()?,
+            },
+        })
+    }
 }

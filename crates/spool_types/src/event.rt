@@ -2,6 +2,7 @@
 ghost use Rattle.std.specs.Prelude.{◌≡◌, IfOk};
 
 use crate::effect::Exit;
+use crate::effects::Effects;
 use crate::items::{Filters, Piece};
 use crate::kinds::{Note, OptionText, QueueName, Title, Uri, UserName};
 use crate::media::MediaType;
@@ -50,14 +51,17 @@ pub struct Closing {
 }
 
 /// The end of a stage of a job's attempt.
-#[derive(Clone, Copy, Debug, PartialEq, Eq)]
+#[derive(Clone, Debug, PartialEq, Eq, Drop)]
 pub struct StageEnd {
     pub job: JobId,
     pub attempt: AttemptNumber,
     pub stage: StageNumber,
     pub exit: Exit,
-    /// How many lines of standard error had no effect, since those before them had as many as one stage may have.
+    /// How many effects of standard error were left out, since those before them had as many bytes of code as one stage
+    /// may have.
     pub dropped: u32,
+    /// What its child's standard error does to the job and its queue.
+    pub effects: Effects,
 }
 
 /// A change of the table.

@@ -1,6 +1,7 @@
 //! The kinds of texts: what each may hold. Lengths are in bytes of UTF-8.
 ghost use Rattle.std.specs.Prelude.{◌≡◌};
 ghost use Rattle.std.specs.List.{list_all};
+ghost use Rattle.std.specs.Str.{str_to_ascii_lowercase};
 ghost use Rattle.spool_types.specs.Values.{is_plain as plain, is_printable as printable, is_graphic as graphic, is_lower_or_digit as lower_or_digit, is_letter_or_digit as letter_or_digit, is_attribute_byte as attribute_byte, is_queue_byte as queue_byte, is_word_byte as word_byte, is_media_byte as media_byte, is_text_of, is_user_name, is_title, is_options, is_note, is_message, is_file_name, is_uri, is_queue_name, is_filter_name, is_reason, is_attribute_name};
 
 use crate::text::{Text, TextKind};
@@ -280,4 +281,13 @@ pub fn has_only_media_bytes(text: &str) -> bool
     ensures { result ≡ list_all media_byte text.now }
 {
     text.as_bytes().iter().all(|b| is_media_byte(*b))
+}
+
+/// Whether a text is so once its capitals are folded.
+pub fn folds_to_media_bytes(text: &str) -> bool
+    ensures { result ≡ list_all media_byte (str_to_ascii_lowercase text.now) }
+{
+    text.as_bytes()
+        .iter()
+        .all(|b| is_media_byte(b.to_ascii_lowercase()))
 }

@@ -8,6 +8,7 @@
 //! Beside the types, `specs/` has the definitions that the crates above share:
 //!
 //! - `Values`, `Limits`: what texts may hold, and how much of each thing there may be.
+//! - `Effects`: which effects one stage may have, and how long their codes are.
 //! - `Phases`: which phases have ended, which hold is in force, and how a job is shown.
 //! - `State`: a table of queues and jobs. `Busy`: whether a job of a queue is processing.
 //! - `Refusals`, `Warnings`: how a refusal and the kind of a warning are told.
@@ -23,6 +24,7 @@
 #![tactic(auto)]
 
 mod effect;
+mod effects;
 mod event;
 mod items;
 mod kinds;
@@ -33,10 +35,10 @@ mod ranged;
 mod refusal;
 mod rows;
 mod text;
-mod verdict;
 mod warning;
 
 pub use effect::{Attribute, Effect, Exit, Level};
+pub use effects::Effects;
 pub use event::{Closing, Event, NewJob, NewQueue, QueueNotes, Reply, StageEnd};
 pub use items::{Attributes, Filters, Items, Piece, Reasons, Words};
 pub use kinds::{
@@ -51,7 +53,6 @@ pub use ranged::{AttemptNumber, Copies, Interval, Priority, Ranged, StageNumber}
 pub use refusal::Refusal;
 pub use rows::{JobRow, QueueRow, is_busy};
 pub use text::{Text, TextFault, TextKind};
-pub use verdict::Verdict;
 pub use warning::{Warning, WarningKind};
 
 #[cfg(test)]

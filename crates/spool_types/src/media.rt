@@ -1,11 +1,12 @@
 //! Media types.
-ghost use Rattle.std.specs.Prelude.{◌≡◌, ◌↔◌, false, IfOk, OnOk, IsTrue, IsErr, IsErrOf};
+ghost use Rattle.std.specs.Prelude.{◌≡◌, ◌↔◌, ◌&&◌, nat_le, length, false, IfOk, OnOk, IsTrue, IsErr, IsErrOf};
+ghost use Rattle.std.specs.List.{list_any, before_first, after_first};
 ghost use Rattle.std.specs.Str.{str_to_ascii_lowercase};
-ghost use Rattle.spool_types.specs.Values.{is_media_part as media_part, is_media_type};
+ghost use Rattle.spool_types.specs.Values.{is_media_part as media_part, is_media_type, is_slash, media_in};
 
-use crate::kinds::has_only_media_bytes;
+use crate::kinds::{folds_to_media_bytes, has_only_media_bytes};
 use crate::text::{Text, TextFault, TextKind};
-use std::alloc::Global;
+use std::alloc::{AllocError, Global};
 use std::marker::Model;
 
 /// The kind of a media type in lower case: a type, a slash and a subtype, at most 255 bytes. Each part is of lower-case
@@ -36,6 +37,35 @@ fn is_part(text: &str) -> bool
     1 <= text.len() && text.len() <= 255 && has_only_media_bytes(text)
 }
 
+// Whether a text is a media type once its capitals are folded.
+fn folds_to_media_type(text: &str) -> bool
+    ensures { result ≡ is_media_type (str_to_ascii_lowercase text.now) }
+{
+    folds_to_two_parts(text)
+}
+
+// Its slash is in the same place then.
+fn folds_to_two_parts(text: &str) -> bool
+    ensures { result ≡ (nat_le (length text.now) 255
+        && list_any is_slash text.now
+        && media_part (str_to_ascii_lowercase (before_first is_slash text.now))
+        && media_part (str_to_ascii_lowercase (after_first is_slash text.now))) }
+{
+    if 255 < text.len() {
+        return false;
+    }
+    match text.split_once('/') {
+        Some((kind, subtype)) => folds_to_part(kind) && folds_to_part(subtype),
+        None => false,
+    }
+}
+
+fn folds_to_part(text: &str) -> bool
+    ensures { result ≡ media_part (str_to_ascii_lowercase text.now) }
+{
+    1 <= text.len() && text.len() <= 255 && folds_to_media_bytes(text)
+}
+
 /// A media type, in lower case.
 #[derive(Clone, Debug, PartialEq, Eq, PartialOrd, Ord, Drop)]
 pub struct MediaType {
@@ -53,16 +83,32 @@ impl Model for MediaType {
 }
 
 impl MediaType {
-    /// Reads a media type. Capitals stand for their small letters.
+    /// Reads a media type. Capitals stand for their small letters, and no memory is taken where it is none.
     pub fn read(alloc: Global, text: &str) -> Result<MediaType, TextFault>
         ensures value { IfOk result (λ media. media ≡ str_to_ascii_lowercase text.now) }
         ensures allowed { OnOk result (IsTrue (is_media_type (str_to_ascii_lowercase text.now))) }
-        ensures bad { IsErrOf result TextFault.Bad → is_media_type (str_to_ascii_lowercase text.now) ≡ false }
+        ensures bad { IsErrOf result TextFault.Bad ↔ (is_media_type (str_to_ascii_lowercase text.now) ≡ false) }
     {
-        let folded = text.to_ascii_lowercase(alloc)?;
+        if !folds_to_media_type(text) {
+            return Err(TextFault::Bad);
+        }
         Ok(MediaType {
-            name: MediaName::read(alloc, folded.as_str())?,
+            name: MediaName::from_string(text.to_ascii_lowercase(alloc)?),
         })
+    }
+
+    /// The media type that a word is, if it is one.
+    pub fn from_word(alloc: Global, word: &[u8]) -> Result<Option<MediaType>, AllocError>
+        ensures { IfOk result (λ media. media ≡ media_in word.now) }
+    {
+        let Ok(text) = str::from_utf8(word) else {
+            return Ok(None);
+        };
+        match MediaType::read(alloc, text) {
+            Ok(media) => Ok(Some(media)),
+            Err(TextFault::Bad) => Ok(None),
+            Err(TextFault::Memory) => Err(AllocError),
+        }
     }
 
     /// Takes a text that is in lower case already.

@@ -274,3 +274,56 @@ fn a_queue_is_busy_while_a_job_of_it_is_processing(rt: HostRuntime) -> Result<()
     assert!(rt; !is_busy(&jobs[..1], &QueueName::read(alloc, "lab")?));
     Ok(())
 }
+
+// An effect that adds one reason of so many bytes: 5 bytes of code and those of the reason.
+fn added_reason(alloc: Global, length: usize) -> Result<Effect, Fail> {
+    let mut text = String::new(alloc);
+    for _ in 0..length {
+        text.push('r')?;
+    }
+    let mut words = Vec::new(alloc);
+    words.push(Reason::read(alloc, text.as_str())?)?;
+    match Words::new(words) {
+        Ok(words) => Ok(Effect::AddReasons(words)),
+        Err(_) => Err(Fail::from("too many words")),
+    }
+}
+
+// Effects with 16,385 bytes of code, less `missing`.
+fn effects_short_of_one_more(alloc: Global, missing: usize) -> Result<Vec<Effect>, Fail> {
+    let mut effects = Vec::new(alloc);
+    for _ in 0..127 {
+        effects.push(added_reason(alloc, 123)?)?;
+    }
+    effects.push(added_reason(alloc, 124usize.saturating_sub(missing))?)?;
+    Ok(effects)
+}
+
+#[test]
+fn the_effects_of_a_stage_have_at_most_16384_bytes_of_code(rt: HostRuntime) -> Result<(), Fail> {
+    let alloc = rt.alloc();
+    let full = effects_short_of_one_more(alloc, 1)?;
+    let Ok(effects) = Effects::new(full) else {
+        return Err(Fail::from("refused"));
+    };
+    assert_eq!(rt; effects.code_len(), 16_384);
+    let further = effects_short_of_one_more(alloc, 0)?;
+    assert!(rt; Effects::new(further).is_err());
+    assert_eq!(rt; Effects::empty(alloc).code_len(), 0);
+    Ok(())
+}
+
+#[test]
+fn an_effect_that_drops_no_reason_is_none(rt: HostRuntime) -> Result<(), Fail> {
+    let alloc = rt.alloc();
+    let mut effects = Vec::new(alloc);
+    effects.push(Effect::SetReasons(Items::empty(alloc)))?;
+    let Ok(effects) = Effects::new(effects) else {
+        return Err(Fail::from("refused"));
+    };
+    assert_eq!(rt; effects.code_len(), 3);
+    let mut effects = effects.into_vec();
+    effects.push(Effect::DropReasons(Items::empty(alloc)))?;
+    assert!(rt; Effects::new(effects).is_err());
+    Ok(())
+}

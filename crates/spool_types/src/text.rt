@@ -1,6 +1,7 @@
 //! Texts of a kind: a text that passes its kind's test.
 ghost use Rattle.std.specs.Prelude.{◌≡◌, ◌↔◌, IfOk, OnOk, IsTrue, IsErrOf, false, []};
 ghost use Rattle.std.specs.String.{string_bytes};
+ghost use Rattle.spool_types.specs.Values.{text_in, folded_in};
 
 use std::alloc::{AllocError, Global};
 use std::cmp::Ordering;
@@ -69,6 +70,46 @@ impl<K: TextKind> Text<K> {
             text: String::from_str(alloc, text)?,
             kind: PhantomData,
         })
+    }
+
+    /// The text that a word is, if it is one of this kind: bytes of UTF-8 that the kind allows.
+    pub fn from_word(alloc: Global, word: &[u8]) -> Result<Option<Text<K>>, AllocError>
+        ensures { IfOk result (λ text. text ≡ text_in K.allowed word.now) }
+    {
+        let Ok(text) = str::from_utf8(word) else {
+            return Ok(None);
+        };
+        match Text::read(alloc, text) {
+            Ok(text) => Ok(Some(text)),
+            Err(TextFault::Bad) => Ok(None),
+            Err(TextFault::Memory) => Err(AllocError),
+        }
+    }
+
+    /// The text that a word is once its capitals stand for their small letters, if it is one of this kind then.
+    pub fn from_folded_word(alloc: Global, word: &[u8]) -> Result<Option<Text<K>>, AllocError>
+        ensures { IfOk result (λ text. text ≡ folded_in K.allowed word.now) }
+    {
+        let Ok(text) = str::from_utf8(word) else {
+            return Ok(None);
+        };
+        let folded = text.to_ascii_lowercase(alloc)?;
+        if K::allows(folded.as_str()) {
+            Ok(Some(Text::from_string(folded)))
+        } else {
+            Ok(None)
+        }
+    }
+
+    /// Takes a text of this kind as it is. It takes no memory.
+    pub fn from_string(text: String) -> Text<K>
+        requires { IsTrue (K.allowed (string_bytes text)) }
+        ensures { result ≡ string_bytes text }
+    {
+        Text {
+            text,
+            kind: PhantomData,
+        }
     }
 
     /// The empty text, where its kind allows it. It takes no memory.

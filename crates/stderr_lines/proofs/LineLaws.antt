@@ -8,7 +8,8 @@ use Rattle.spool_types.specs.Values.{is_printable, is_attribute_name}
 use Rattle.spool_types.specs.declared.effect.Effect.TheVariants.{Attribute}
 use Rattle.stderr_lines.specs.declared.prefix.Prefix.{Prefix}
 use Rattle.stderr_lines.specs.Attributes.{attribute_of, cut_pair}
-use Rattle.stderr_lines.specs.Quoting.{outside, unquoted}
+use Rattle.line_words.specs.Quoting.{said}
+use Rattle.line_words.specs.declared.quoting.Quoting.TheVariants.{Bare}
 use Rattle.stderr_lines.specs.Drafts.{IsLineText}
 use Rattle.spool_types.specs.declared.effect.Effect.{Effect}
 use Rattle.line_words.specs.Blanks.{is_blank, after_blanks}
@@ -19,7 +20,7 @@ use Rattle.stderr_lines.specs.Held.{IsHeld}
 use Rattle.stderr_lines.specs.Pending.{Pending, Tally, Takes, to_come, told_after}
 use Rattle.stderr_lines.specs.Tallies.{keep_all, begun, joined}
 use Rattle.stderr_lines.proofs.PieceLaws.{onto_front, onto_front-end}
-use Rattle.stderr_lines.proofs.TallyLaws.{told_keep_all, told_behind, told_begun, told_joined, told_end}
+use Rattle.stderr_lines.proofs.TallyLaws.{told_keep_all, told_behind, told_joined, told_end}
 
 -- ## Carriage returns
 
@@ -34,11 +35,6 @@ pub cr_front : (xs : List ℕ) → take (length (without_cr xs)) xs ≡ without_
 cr_front [] = refl
 cr_front (b ∷ []) = elim (eqb b 13) as (λ v. take (length (cond v [] (b ∷ []))) (b ∷ []) ≡ cond v [] (b ∷ [])) [ true ↦ refl | false ↦ refl ]
 cr_front (b ∷ c ∷ bs) = ap (λ l. b ∷ l) (cr_front (c ∷ bs))
-
-pub cr_short : (xs : List ℕ) → length (without_cr xs) ≤ length xs
-cr_short [] = omega arith
-cr_short (b ∷ []) = elim (eqb b 13) as (λ v. length (cond v [] (b ∷ [])) ≤ 1) [ true ↦ omega arith | false ↦ omega arith ]
-cr_short (b ∷ c ∷ bs) = let h = cr_short (c ∷ bs) in omega arith
 
 -- a line in hand is kept as it is
 pub kept_held : (line : List ℕ) → length line ≤ 1023 → kept_line line ≡ without_cr line
@@ -233,10 +229,10 @@ rest_short line name rest e =
 
 pub prefix_text : (line name rest text : List ℕ) (prefix : Prefix) → Some (name, rest) ≡ cut_at 58 line → text ≡ after_blanks rest → prefix ≡ prefix_of name
     → line_effects line ≡ effects_by prefix (map shown_byte (drop (length line - length text) line))
-prefix_text line name rest text prefix cut is_text is_prefix =
+prefix_text line name rest text prefix cut keeps is_prefix =
     ap effects_behind (sym cut)
     ∙ ap (λ p. effects_by p (shown_text rest)) (sym is_prefix)
-    ∙ ap (λ t. effects_by prefix (map shown_byte t)) (sym (text_place line name rest (sym cut)) ∙ ap (λ t. drop (length line - length t) line) (sym is_text))
+    ∙ ap (λ t. effects_by prefix (map shown_byte t)) (sym (text_place line name rest (sym cut)) ∙ ap (λ t. drop (length line - length t) line) (sym keeps))
 
 -- ## Pairs
 
@@ -253,7 +249,7 @@ value_text word name value e h =
     }
 
 pub no_pair : (word name value : List ℕ) → Some (name, value) ≡ cut_at 61 word → is_attribute_name name ≡ false → None ≡ attribute_of word
-no_pair word name value cut h = sym (ap cut_pair (sym cut) ∙ ap (λ v. cond v (Some (Attribute (record { name = name; value = unquoted outside value }))) None) h)
+no_pair word name value cut h = sym (ap cut_pair (sym cut) ∙ ap (λ v. cond v (Some (Attribute (record { name = name; value = said Bare value }))) None) h)
 
 -- ## The bytes of a line that are read
 

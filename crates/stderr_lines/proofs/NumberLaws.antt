@@ -4,23 +4,12 @@ use Rattle.std.proofs.lemmas.Bool.{and_from, and_left, and_right, le-leb, lt-leb
 use Rattle.std.proofs.lemmas.List.{take_all, take_more, drop_more, drop_all}
 use Rattle.std.proofs.lemmas.List.Folds.{list_all-append}
 use Rattle.std.specs.List.{list_all}
-use Rattle.stderr_lines.specs.Pages.{is_digit, read_on, is_number, number_of}
+use Rattle.std.specs.Char.{is_ascii_digit}
+use Rattle.line_words.specs.Numbers.{read_on}
+use Rattle.stderr_lines.specs.Pages.{is_number, number_of}
 
 none : (word : List ℕ) → is_number word ≡ false → None ≡ number_of word
 none word h = ap (λ v. cond v (Some (read_on 0 word)) None) (sym h)
-
-pub no_digits : (word : List ℕ) → length word ≡ 0 → None ≡ number_of word
-no_digits word h =
-    none word (and_left (leb 1 (length word) && list_all is_digit word) (leb (read_on 0 word) 4294967295) (and_left (leb 1 (length word)) (list_all is_digit word) (lt-leb 1 (length word) (omega arith))))
-
-not_all : (xs : List ℕ) (i : ℕ) → i < length xs → is_digit (get_or xs i 0) ≡ false → list_all is_digit xs ≡ false
-not_all [] i less h = absurd (omega arith)
-not_all (x ∷ xs) zero less h = and_left (is_digit x) (list_all is_digit xs) h
-not_all (x ∷ xs) (suc i) less h = and_right (is_digit x) (list_all is_digit xs) (not_all xs i (omega arith) h)
-
-pub no_digit : (word : List ℕ) (i : ℕ) → i < length word → is_digit (get_or word i 0) ≡ false → None ≡ number_of word
-no_digit word i less h =
-    none word (and_left (leb 1 (length word) && list_all is_digit word) (leb (read_on 0 word) 4294967295) (and_right (leb 1 (length word)) (list_all is_digit word) (not_all word i less h)))
 
 -- digits behind a number don't make it less
 grows : (n : ℕ) (digits : List ℕ) → n ≤ read_on n digits
@@ -39,20 +28,14 @@ module _ (word : List ℕ) (i value : ℕ) (less : i < length word) (same : read
   too_great d is h =
       let g = grows (10 * value + (get_or word i 0 - 48)) (drop (i + 1) word) in
       let n = next in
-      none word (and_right (leb 1 (length word) && list_all is_digit word) (leb (read_on 0 word) 4294967295) (lt-leb (read_on 0 word) 4294967295 (omega arith)))
+      none word (and_right (leb 1 (length word) && list_all is_ascii_digit word) (leb (read_on 0 word) 4294967295) (lt-leb (read_on 0 word) 4294967295 (omega arith)))
 
-pub digits_more : (word : List ℕ) (i : ℕ) → i < length word → is_digit (get_or word i 0) ≡ true → list_all is_digit (take i word) ≡ true → list_all is_digit (take (i + 1) word) ≡ true
-digits_more word i less is all =
-    ap (list_all is_digit) (take_more word i 0 less)
-    ∙ list_all-append is_digit (take i word) (get_or word i 0 ∷ [])
-    ∙ and_from (list_all is_digit (take i word)) (is_digit (get_or word i 0) && true) all (and_from (is_digit (get_or word i 0)) true is refl)
-
-pub number_whole : (word : List ℕ) (i value : ℕ) → length word ≤ i → (length word ≡ 0 → ⊥) → value ≤ 4294967295 → list_all is_digit (take i word) ≡ true → read_on value (drop i word) ≡ read_on 0 word → Some value ≡ number_of word
+pub number_whole : (word : List ℕ) (i value : ℕ) → length word ≤ i → (length word ≡ 0 → ⊥) → value ≤ 4294967295 → list_all is_ascii_digit (take i word) ≡ true → read_on value (drop i word) ≡ read_on 0 word → Some value ≡ number_of word
 number_whole word i value le some small all same =
     let v : value ≡ read_on 0 word = sym (ap (read_on value) (drop_all i word le)) ∙ same in
-    let digits : list_all is_digit word ≡ true = ap (list_all is_digit) (sym (take_all i word le)) ∙ all in
+    let digits : list_all is_ascii_digit word ≡ true = ap (list_all is_ascii_digit) (sym (take_all i word le)) ∙ all in
     let is : is_number word ≡ true =
-    and_from (leb 1 (length word) && list_all is_digit word) (leb (read_on 0 word) 4294967295)
-    (and_from (leb 1 (length word)) (list_all is_digit word) (le-leb 1 (length word) (grind (arith, some))) digits)
+    and_from (leb 1 (length word) && list_all is_ascii_digit word) (leb (read_on 0 word) 4294967295)
+    (and_from (leb 1 (length word)) (list_all is_ascii_digit word) (le-leb 1 (length word) (grind (arith, some))) digits)
     (le-leb (read_on 0 word) 4294967295 (omega arith)) in
     ap Some v ∙ sym (ap (λ t. cond t (Some (read_on 0 word)) None) is)

@@ -4,7 +4,7 @@ use Rattle.std.specs.List.{slice_split, onto_first}
 use Rattle.std.specs.Option.{option_to_list}
 use Rattle.std.specs.Str.{is_utf8}
 use Rattle.spool_types.specs.Values.{is_reason}
-use Rattle.stderr_lines.specs.EffectSizes.{text_size, texts_size}
+use Rattle.spool_types.specs.Effects.{text_size, texts_size}
 use Rattle.stderr_lines.specs.Reasons.{is_separator, reasons_of}
 use Rattle.stderr_lines.specs.Rests.{pieces_behind, reasons_from}
 use Rattle.stderr_lines.proofs.TextLaws.{reason_test}
@@ -24,10 +24,6 @@ first_reason text word behind e =
     by_test false (Some rest) = refl
 
 -- ## Sizes
-
-pub texts_size-append : (xs ys : List (List ℕ)) → texts_size (xs ++ ys) ≡ texts_size xs + texts_size ys
-texts_size-append [] ys = omega arith
-texts_size-append (x ∷ xs) ys = let h = texts_size-append xs ys in omega arith
 
 pub no_size : (xs : List (List ℕ)) → texts_size xs ≡ 0 → xs ≡ []
 no_size [] h = refl

@@ -6,7 +6,7 @@ use Rattle.std.specs.List.{cons_option}
 use Rattle.std.specs.Option.{option_to_list}
 use Rattle.spool_types.specs.declared.effect.Effect.{Effect}
 use Rattle.spool_types.specs.declared.effect.Effect.TheVariants.{Pages, TotalPages, SetReasons, AddReasons, DropReasons, Attribute, Message}
-use Rattle.stderr_lines.specs.EffectSizes.{list_size, text_size, effect_size}
+use Rattle.spool_types.specs.Effects.{list_size, text_size, effect_size}
 use Rattle.stderr_lines.specs.Reports.{Told, fitting, left_out, counted}
 use Rattle.stderr_lines.specs.Pending.{Tally, told_after}
 use Rattle.stderr_lines.specs.Tallies.{keep, keep_all, begun, joined}
@@ -55,19 +55,9 @@ pub told_keep_all : (t : Tally) (es fs : List Effect) → told_after t (es ++ fs
 told_keep_all t [] fs = refl
 told_keep_all t (e ∷ es) fs = told_keep t e (es ++ fs) ∙ told_keep_all (keep t e) es fs
 
-pub keep_all-append : (t : Tally) (es fs : List Effect) → keep_all t (es ++ fs) ≡ keep_all (keep_all t es) fs
-keep_all-append t [] fs = refl
-keep_all-append t (e ∷ es) fs = keep_all-append (keep t e) es fs
-
-pub keep_one : (t : Tally) (e : Effect) → keep_all t (e ∷ []) ≡ keep t e
-keep_one t e = refl
-
 -- effects in front of what is told
 abbrev pub told_behind : List Effect → Told → Told
 told_behind es r = record r { effects = es ++ r.effects }
-
-pub told_begun : (t : Tally) (es : List Effect) → told_after t es ≡ told_behind t.effects (told_after (begun t) es)
-told_begun t es = refl
 
 pub told_joined : (t u : Tally) (es : List Effect) → told_after (joined t u) es ≡ told_behind t.effects (told_after u es)
 told_joined t u es = ap (λ l. told l (counted (u.dropped + left_out u.room es))) (append_assoc t.effects u.effects (fitting u.room es))

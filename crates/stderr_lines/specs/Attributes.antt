@@ -5,10 +5,11 @@ use Rattle.spool_types.specs.Values.{is_attribute_name}
 use Rattle.spool_types.specs.declared.effect.Effect.{Effect}
 use Rattle.spool_types.specs.declared.effect.Effect.TheVariants.{Attribute}
 use Rattle.stderr_lines.specs.Cuts.{cut_at}
-use Rattle.stderr_lines.specs.Quoting.{outside, unquoted, words_from}
+use Rattle.line_words.specs.Quoting.{said, pieces}
+use Rattle.line_words.specs.declared.quoting.Quoting.TheVariants.{Bare}
 
 abbrev pub pair_of : List ℕ → List ℕ → Option Effect
-pair_of name value = cond (is_attribute_name name) (Some (Attribute (record { name = name; value = unquoted outside value }))) None
+pair_of name value = cond (is_attribute_name name) (Some (Attribute (record { name = name; value = said Bare value }))) None
 
 abbrev pub cut_pair : Option (List ℕ × List ℕ) → Option Effect
 cut_pair None = None
@@ -20,4 +21,4 @@ attribute_of word = cut_pair (cut_at 61 word)
 
 -- the pairs in order; other words are skipped
 abbrev pub attribute_effects : List ℕ → List Effect
-attribute_effects text = filter_map attribute_of (words_from outside text)
+attribute_effects text = filter_map attribute_of (pieces Bare text)

@@ -9,7 +9,8 @@ use Rattle.stderr_lines.specs.declared.draft.Change.TheVariants.{Set, Add, Remov
 use Rattle.stderr_lines.specs.declared.draft.Draft.{Draft}
 use Rattle.stderr_lines.specs.declared.draft.Draft.TheVariants.{Pages, TotalPages, Reasons, Attribute, Message}
 use Rattle.stderr_lines.specs.Reasons.{reasons_of}
-use Rattle.stderr_lines.specs.Quoting.{outside, unquoted}
+use Rattle.line_words.specs.Quoting.{said}
+use Rattle.line_words.specs.declared.quoting.Quoting.TheVariants.{Bare}
 
 -- bytes of the text of a line
 pub record IsLineText (text : List ℕ) : Type 0 where
@@ -25,7 +26,7 @@ abbrev pub effect_of : Draft → Effect
 effect_of (Pages page copies) = effects.Pages page copies
 effect_of (TotalPages pages) = effects.TotalPages pages
 effect_of (Reasons change words) = changed change (reasons_of words.now)
-effect_of (Attribute name value) = effects.Attribute (record { name = name.now; value = unquoted outside value.now })
+effect_of (Attribute name value) = effects.Attribute (record { name = name.now; value = said Bare value.now })
 effect_of (Message level text) = effects.Message level text.now
 
 -- what a draft may hold

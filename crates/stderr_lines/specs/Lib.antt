@@ -1,8 +1,6 @@
-pub mod EffectSizes
 pub mod Cuts
 pub mod Pages
 pub mod Reasons
-pub mod Quoting
 pub mod Attributes
 pub mod LineEffects
 pub mod Reports

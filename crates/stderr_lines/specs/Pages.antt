@@ -1,22 +1,16 @@
 -- The pages that a line tells: `PAGE: page copies`, or `PAGE: total pages`.
-use Rattle.std.specs.Prelude.{ℕ, Bool, ◌+◌, ◌*◌, ◌-◌, ◌&&◌, not, cond, nat_le, nat_eq, ◌==◌, List, [], ◌∷◌, length, codes, Option, None, Some}
+use Rattle.std.specs.Prelude.{ℕ, Bool, ◌&&◌, not, cond, nat_le, nat_eq, ◌==◌, List, [], ◌∷◌, length, codes, Option, None, Some}
 use Rattle.std.specs.List.{list_all}
+use Rattle.std.specs.Char.{is_ascii_digit}
 use Rattle.std.specs.Cmp.Lexicographic.{pointwise}
 use Rattle.line_words.specs.Blanks.{first_word, after_word, is_nothing}
+use Rattle.line_words.specs.Numbers.{read_on}
 use Rattle.spool_types.specs.declared.effect.Effect.{Effect}
 use Rattle.spool_types.specs.declared.effect.Effect.TheVariants.{Pages, TotalPages}
 
-abbrev pub is_digit : ℕ → Bool
-is_digit b = nat_le 48 b && nat_le b 57
-
--- the number, where n stands before the digits
-abbrev pub read_on : ℕ → List ℕ → ℕ
-read_on n [] = n
-read_on n (b ∷ bs) = read_on (10 * n + (b - 48)) bs
-
 -- one digit at least, as many as it likes, and a value of at most 4,294,967,295
 abbrev pub is_number : List ℕ → Bool
-is_number word = nat_le 1 (length word) && list_all is_digit word && nat_le (read_on 0 word) 4294967295
+is_number word = nat_le 1 (length word) && list_all is_ascii_digit word && nat_le (read_on 0 word) 4294967295
 
 abbrev pub number_of : List ℕ → Option ℕ
 number_of word = cond (is_number word) (Some (read_on 0 word)) None

@@ -2,7 +2,8 @@
 use Rattle.std.specs.Prelude.{◌≡◌, ℕ, ◌+◌, List, [], ◌∷◌, ◌++◌}
 use Rattle.spool_types.specs.declared.effect.Effect.{Effect}
 use Rattle.stderr_lines.specs.LineEffects.{effects_of}
-use Rattle.stderr_lines.specs.Reports.{Told, fitting, left_out, counted, most_bytes}
+use Rattle.stderr_lines.specs.Reports.{Told, fitting, left_out, counted}
+use Rattle.spool_types.specs.Effects.{most_effect_bytes}
 
 -- effects that are kept, how many bytes of code have still room, and how many effects were left out; once one was, there
 -- is no room any more
@@ -12,7 +13,7 @@ pub record Tally : Type 0 where
   pub dropped : ℕ
 
 abbrev pub nothing_kept : Tally
-nothing_kept = record { effects = []; room = most_bytes; dropped = 0 }
+nothing_kept = record { effects = []; room = most_effect_bytes; dropped = 0 }
 
 -- the front of a line that isn't whole, as far as it is read, and the effects of the lines before it
 pub record Pending : Type 0 where

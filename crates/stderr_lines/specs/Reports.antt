@@ -2,12 +2,8 @@
 use Rattle.std.specs.Prelude.{ℕ, ◌-◌, cond, nat_le, min, List, [], ◌∷◌, length}
 use Rattle.spool_types.specs.declared.effect.Effect.{Effect}
 use Rattle.stderr_lines.specs.declared.lines.Report.{Report}
-use Rattle.stderr_lines.specs.EffectSizes.{effect_size}
+use Rattle.spool_types.specs.Effects.{effect_size, most_effect_bytes}
 use Rattle.stderr_lines.specs.LineEffects.{effects_of}
-
--- how many bytes of code the effects of a text may have
-abbrev pub most_bytes : ℕ
-most_bytes = 16384
 
 -- what is told of a child's standard error
 pub record Told : Type 0 where
@@ -33,4 +29,4 @@ counted n = min n 4294967295
 
 -- what a text says is reported
 abbrev pub report_of : List ℕ → Told
-report_of text = record { effects = fitting most_bytes (effects_of text); dropped = counted (left_out most_bytes (effects_of text)) }
+report_of text = record { effects = fitting most_effect_bytes (effects_of text); dropped = counted (left_out most_effect_bytes (effects_of text)) }

@@ -2,7 +2,8 @@
 use Rattle.std.specs.Prelude.{ℕ, ◌+◌, List, [], Option, None, Some, length}
 use Rattle.std.specs.List.{slice_split}
 use Rattle.stderr_lines.specs.Reasons.{is_separator, reasons_of}
-use Rattle.stderr_lines.specs.Quoting.{outside, words_from}
+use Rattle.line_words.specs.Quoting.{pieces}
+use Rattle.line_words.specs.declared.quoting.Quoting.TheVariants.{Bare}
 
 -- the pieces of a rest between separators, if there is one
 abbrev pub pieces_behind : Option (List ℕ) → List (List ℕ)
@@ -17,7 +18,7 @@ reasons_from (Some rest) = reasons_of rest
 -- the words of a rest, if there is one
 abbrev pub words_behind : Option (List ℕ) → List (List ℕ)
 words_behind None = []
-words_behind (Some rest) = words_from outside rest
+words_behind (Some rest) = pieces Bare rest
 
 -- falls from rest to rest
 abbrev pub rest_weight : Option (List ℕ) → ℕ

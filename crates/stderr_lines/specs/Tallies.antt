@@ -1,7 +1,7 @@
 -- How effects are tallied one by one. No caller needs this.
 use Rattle.std.specs.Prelude.{ℕ, ◌+◌, ◌-◌, cond, nat_le, List, [], ◌∷◌, ◌++◌}
 use Rattle.spool_types.specs.declared.effect.Effect.{Effect}
-use Rattle.stderr_lines.specs.EffectSizes.{effect_size}
+use Rattle.spool_types.specs.Effects.{effect_size}
 use Rattle.stderr_lines.specs.Reports.{counted}
 use Rattle.stderr_lines.specs.Pending.{Tally}
 

@@ -1,8 +1,9 @@
 //! Effects whose texts still lie in the line.
 ghost use Rattle.std.specs.Prelude.{◌≡◌, ◌+◌, IfOk};
-ghost use Rattle.stderr_lines.specs.EffectSizes.{text_size, effect_size};
+ghost use Rattle.spool_types.specs.Effects.{text_size, effect_size};
 ghost use Rattle.stderr_lines.specs.Drafts.{effect_of, changed as changed_by, IsSound, IsLineText};
-ghost use Rattle.stderr_lines.specs.Quoting.{outside, unquoted as unquoted_text};
+ghost use Rattle.line_words.specs.Quoting.{said};
+ghost use Rattle.line_words.specs.declared.quoting.Quoting.TheVariants.{Bare};
 
 use crate::quoting::{unquoted, unquoted_len};
 use crate::reasons::{read_reasons, reasons_size};
@@ -70,7 +71,7 @@ impl<'a> Draft<'a> {
 // How many bytes of code an attribute has.
 fn attribute_size(name: &str, value: &[u8]) -> usize
     requires { IsLineText value.now }
-    ensures { result ≡ 1 + text_size name.now + text_size (unquoted_text outside value.now) }
+    ensures { result ≡ 1 + text_size name.now + text_size (said Bare value.now) }
 {
     5 + name.len() + unquoted_len(value)
 }
@@ -88,7 +89,7 @@ fn changed(change: Change, words: Words) -> Effect
 // The value of an attribute, without its quotes.
 fn read_value(alloc: Global, value: &[u8]) -> Result<Message, AllocError>
     requires { IsLineText value.now }
-    ensures { IfOk result (λ text. text ≡ unquoted_text outside value.now) }
+    ensures { IfOk result (λ text. text ≡ said Bare value.now) }
 {
     let bytes = unquoted(alloc, value)?;
     read_message(alloc, &bytes)

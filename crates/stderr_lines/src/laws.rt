@@ -1,6 +1,6 @@
 //! What holds of each report.
-ghost use Rattle.std.specs.Prelude.{◌≡◌, ◌≤◌, ℕ, List, []};
-ghost use Rattle.stderr_lines.specs.EffectSizes.{effects_size};
+ghost use Rattle.std.specs.Prelude.{◌≡◌, ℕ, List, []};
+ghost use Rattle.spool_types.specs.Effects.{AreEffects};
 ghost use Rattle.stderr_lines.specs.Reports.{report_of};
 ghost use Rattle.stderr_lines.specs.Pending.{Pending, TakesAll, joined_pieces, to_come};
 
@@ -9,7 +9,8 @@ pub fn any_pieces()
     ensures { (begun read : Pending) (pieces : List (List ℕ)) → ((text : List ℕ) → to_come begun text ≡ report_of text) → TakesAll begun pieces read → to_come read [] ≡ report_of (joined_pieces pieces) }
 {}
 
-/// The effects that are reported of a text have at most 16,384 bytes of code.
+/// The effects that are reported of a text may be those of one stage: their codes have at most 16,384 bytes, and those
+/// that add reasons or drop some name one at least.
 pub fn effects_fit()
-    ensures { (text : List ℕ) → effects_size (report_of text).effects ≤ 16384 }
+    ensures { (text : List ℕ) → AreEffects (report_of text).effects }
 {}

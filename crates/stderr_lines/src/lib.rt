@@ -18,7 +18,7 @@
 //! - `Attributes`, `Quoting`: `ATTR: name=value ..`. Blanks outside quotes separate, single and double quotes quote, and
 //!   a backslash takes the next byte as it is. A word that is no pair is skipped whole.
 //! - The levels EMERG, ALERT, CRIT, ERROR, WARNING, NOTICE and INFO give a message, which may be empty.
-//! - `Reports`: effects are kept while their codes (`EffectSizes`) fit in 16,384 bytes. From the first that doesn't fit
+//! - `Reports`: effects are kept while their codes (`Effects` of spool_types) fit in 16,384 bytes. From the first that doesn't fit
 //!   they are left out and counted, up to 4,294,967,295.
 //!
 //! # Promises
@@ -27,7 +27,7 @@
 //!   `to_come` what it will report, as a function of the text that follows. A new reader has `report_of` all of it to
 //!   come (`whole`); `feed` only moves a piece from what follows to what is read (`Takes`); `finish` reports what is to
 //!   come where nothing follows (`ok`). [`any_pieces`] says it of each list of pieces at once, and [`effects_fit`] that
-//!   the reported effects have at most 16,384 bytes of code.
+//!   the reported effects may be those of one stage.
 //! - Want of memory, the only fault, loses nothing: after `feed` the reader is as it was, and `finish` hands it back
 //!   (`err`). The call may be made again.
 //!

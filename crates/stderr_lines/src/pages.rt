@@ -1,7 +1,7 @@
 //! The pages that a line tells.
 ghost use Rattle.std.specs.Prelude.{◌≡◌, IfSome};
 ghost use Rattle.std.specs.Option.{option_map};
-ghost use Rattle.stderr_lines.specs.Pages.{is_digit as digit, number_of as number_in, page_effect, two_words as in_two_words};
+ghost use Rattle.stderr_lines.specs.Pages.{number_of as number_in, page_effect, two_words as in_two_words};
 ghost use Rattle.stderr_lines.specs.Drafts.{effect_of, IsSound};
 
 use crate::draft::Draft;
@@ -42,16 +42,10 @@ fn number_of(word: &[u8]) -> Option<u32>
     }
     let mut value: u32 = 0;
     for b in word {
-        if !is_digit(*b) {
+        if !b.is_ascii_digit() {
             return None;
         }
         value = value.checked_mul(10)?.checked_add(u32::from(*b - b'0'))?;
     }
     Some(value)
-}
-
-fn is_digit(b: u8) -> bool
-    ensures { result ≡ digit b }
-{
-    b'0' <= b && b <= b'9'
 }

@@ -3,7 +3,7 @@ ghost use Rattle.std.specs.Prelude.{◌≡◌, ◌+◌, ◌<◌, ◌≤◌, ◌�
 ghost use Rattle.std.specs.Option.{option_map, option_copied, option_to_list};
 ghost use Rattle.std.specs.List.{slice_split};
 ghost use Rattle.spool_types.specs.Values.{is_reason};
-ghost use Rattle.stderr_lines.specs.EffectSizes.{texts_size};
+ghost use Rattle.spool_types.specs.Effects.{texts_size};
 ghost use Rattle.stderr_lines.specs.Reasons.{is_separator as separator, reasons_of, unless_none, state_effect};
 ghost use Rattle.stderr_lines.specs.Rests.{pieces_behind, reasons_from, rest_weight};
 ghost use Rattle.stderr_lines.specs.Drafts.{changed as changed_by, effect_of, IsLineText, IsSound};

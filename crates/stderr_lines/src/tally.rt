@@ -8,11 +8,9 @@ ghost use Rattle.stderr_lines.specs.Drafts.{effect_of, IsSound};
 
 use crate::draft::Draft;
 use crate::lines::Report;
-use spool_types::Effect;
+use spool_types::{Effect, Effects};
 use std::alloc::{AllocError, Global};
 use std::marker::Model;
-
-const MOST_BYTES: usize = 16_384;
 
 /// The effects of the lines so far, as far as they are kept.
 #[derive(Debug, Drop)]
@@ -38,7 +36,7 @@ impl Tally {
     {
         Tally {
             effects: Vec::new(alloc),
-            room: MOST_BYTES,
+            room: Effects::MOST_BYTES,
             dropped: 0,
         }
     }

@@ -37,7 +37,7 @@ impl Table {
             Event::Cancel(job) => self.cancel_refusal(*job),
             Event::Clock(_) | Event::Reopen => None,
             Event::Start(job) => self.start_refusal(*job),
-            Event::Stage(end) => self.stage_refusal(*end),
+            Event::Stage(end) => self.stage_refusal(end),
             Event::Abandon(job) => self.abandon_refusal(*job),
         }
     }
@@ -151,8 +151,8 @@ impl Table {
         }
     }
 
-    fn stage_refusal(&self, end: StageEnd) -> Option<Refusal>
-        ensures { result ≡ refusal_of self.now.state (Event.Stage end) }
+    fn stage_refusal(&self, end: &StageEnd) -> Option<Refusal>
+        ensures { result ≡ refusal_of self.now.state (Event.Stage end.now) }
     {
         match self.processing_job(end.job) {
             Ok(row) if !is_in_stage(row.phase, end) => Some(Refusal::WrongStage),
@@ -238,8 +238,8 @@ impl Table {
 }
 
 // Whether the stage that ended is the one that runs.
-fn is_in_stage(phase: Phase, end: StageEnd) -> bool
-    ensures { result ≡ is_stage end.attempt end.stage phase }
+fn is_in_stage(phase: Phase, end: &StageEnd) -> bool
+    ensures { result ≡ is_stage end.now.attempt end.now.stage phase }
 {
     match phase {
         Phase::Processing { attempt, stage, .. } => {

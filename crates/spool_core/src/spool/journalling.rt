@@ -1,14 +1,14 @@
 //! The record of an event in the journal.
-ghost use Rattle.std.specs.Prelude.{◌≡◌, ◌<◌, ◌≤◌, ◌↔◌, OnOk, OnErr, IfErr, IsErrOf, IsSome, false};
+ghost use Rattle.std.specs.Prelude.{◌≡◌, ◌≤◌, ◌-◌, ◌↔◌, OnOk, OnErr, IfErr, IsErrOf, IsSome, false};
 ghost use Rattle.job_table.specs.Attempts.{HasNoProcessing, reopened};
 ghost use Rattle.job_table.specs.Legal.{IsLegal};
 ghost use Rattle.spool_types.specs.declared.event.Event.TheVariants as Event;
 ghost use Rattle.job_table.specs.Step.{after};
-ghost use Rattle.spool_disk.specs.Disk.{IsSynced, LeavesOnly};
+ghost use Rattle.spool_disk.specs.Disk.{Blames, IsSynced, LeavesOnly};
 ghost use Rattle.job_table.specs.Contents.{IsPrepared};
 ghost use Rattle.spool_core.specs.Image.{HasBeforeOrAfterEvent, IsReopeningFault};
 ghost use Rattle.spool_core.specs.Seen.{standing_at, IsStandingAt};
-ghost use Rattle.spool_core.specs.Standing.{IsJournalled, IsFrameOf};
+ghost use Rattle.spool_core.specs.Standing.{IsJournalled, IsFrameOf, record_len};
 
 use super::ApplyFault;
 use event_codec::encode_onto;
@@ -82,11 +82,12 @@ pub(super) fn journal_reopening<D: Disk>(
     ensures alive { OnOk result (areas.new.dead ≡ false) }
     ensures fault { IfErr result IsReopeningFault }
     ensures unchanged { IsErrOf result OpenFault.Memory → areas.new ≡ areas.old }
-    ensures cause { IsErrOf result OpenFault.Disk → D.device.failures areas.old.disk < D.device.failures areas.new.disk }
-    ensures later { D.device.failures areas.old.disk ≤ D.device.failures areas.new.disk }
-    ensures counted { OnOk result (D.device.failures areas.new.disk ≡ D.device.failures areas.old.disk) }
+    ensures blames { Blames (D.device.failures areas.old.disk) (D.device.failures areas.new.disk) (IsErrOf result OpenFault.Disk) }
     ensures fixed { D.device.size areas.new.disk ≡ D.device.size areas.old.disk }
     ensures told { IsSome (D.device.bytes areas.new.disk) ↔ IsSome (D.device.bytes areas.old.disk) }
+
+    // The room that is left, without its record.
+    ensures room { OnOk result (areas.new.end - areas.new.gate ≡ areas.old.end - areas.old.gate - record_len Event.Reopen) }
 
     // Whatever it answers, a crash at any moment of it leaves the table before the reopening or the one after it.
     ensures any_moment { LeavesOnly D.device areas.old.disk areas.new.disk (λ c. IsSome (D.device.bytes areas.old.disk) → HasBeforeOrAfterEvent table.old.state Event.Reopen c) }

@@ -1,23 +1,23 @@
 //! Opening a spool.
-ghost use Rattle.std.specs.Prelude.{◌≡◌, ◌<◌, ◌≤◌, ◌⊎◌, ◌↔◌, List, ℕ, Some, IsSome, IsTrue, false, IfOk, IfErr, OnOk, IsErrOf};
+ghost use Rattle.std.specs.Prelude.{◌≡◌, ◌<◌, ◌≤◌, ◌-◌, ◌⊎◌, ◌↔◌, List, ℕ, Some, IsSome, IsTrue, false, IfOk, IfErr, OnOk, IsErrOf};
 ghost use Rattle.job_table.specs.Attempts.{HasNoProcessing, reopened};
 ghost use Rattle.job_table.specs.Legal.{IsLegal};
 ghost use Rattle.spool_types.specs.State.{State};
 ghost use Rattle.spool_types.specs.declared.event.Event.TheVariants as Event;
-ghost use Rattle.spool_disk.specs.Disk.{LeavesOnly, ChangesNothing};
-ghost use Rattle.spool_core.specs.Image.{HasTable, HasRoom, HasBeforeOrAfterEvent, IsReopenedFrom, IsMidway, IsFaultOf, IsReopeningFault, kept_room};
+ghost use Rattle.spool_disk.specs.Disk.{Blames, LeavesOnly, ChangesNothing};
+ghost use Rattle.gate_journal.specs.Appends.{kept_room};
+ghost use Rattle.spool_core.specs.Image.{HasTable, HasRoom, HasBeforeOrAfterEvent, IsReopenedFrom, IsMidway, IsFaultOf, IsReopeningFault};
+ghost use Rattle.spool_core.specs.Standing.{LeavesRoom, record_len};
 
 use super::Spool;
 use super::journalling::journal_reopening;
 use crate::fold::fold;
+use gate_journal::KEPT_ROOM;
 use job_table::{Table, reopening};
 use spool_areas::{Areas, OpenError, OpenFault, Opened};
 use spool_disk::Disk;
 use spool_types::Event;
 use std::alloc::Global;
-
-/// Room for the record of one reopening, whose payload is one byte, and the gate behind it.
-const KEPT_ROOM: u64 = 7;
 
 impl<D: Disk> Spool<D> {
     /// Opens the spool on a disk: syncs it, makes the table anew from the events of its current area, and gives up each
@@ -31,11 +31,14 @@ impl<D: Disk> Spool<D> {
         ensures room { IfOk result (λ spool. (r : List ℕ) → D.device.bytes spool.disk ≡ Some r → HasRoom spool.room r) }
         ensures fault { IfErr result (λ e. (r : List ℕ) → D.device.bytes disk ≡ Some r → IsFaultOf r e.fault) }
         ensures alive { IfOk result (λ spool. spool.dead ≡ false) }
-        ensures cause { IfErr result (λ e. e.fault ≡ OpenFault.Disk → D.device.failures disk < D.device.failures e.disk) }
         ensures counted { IfOk result (λ spool. D.device.failures spool.disk ≡ D.device.failures disk) }
-        ensures counted_back { IfErr result (λ e. D.device.failures disk ≤ D.device.failures e.disk) }
+        ensures blames { IfErr result (λ e. Blames (D.device.failures disk) (D.device.failures e.disk) (e.fault ≡ OpenFault.Disk)) }
         ensures size { IfOk result (λ spool. D.device.size spool.disk ≡ D.device.size disk) }
         ensures told { IfOk result (λ spool. IsSome (D.device.bytes spool.disk) ↔ IsSome (D.device.bytes disk)) }
+        ensures told_back { IfErr result (λ e. IsSome (D.device.bytes e.disk) ↔ IsSome (D.device.bytes disk)) }
+
+        // The room is that of the bytes, less the record of a reopening where a job was processing.
+        ensures left { IfOk result (λ spool. (r : List ℕ) (t : State) (room : ℕ) → D.device.bytes disk ≡ Some r → HasTable t r → HasRoom room r → LeavesRoom t room spool.room) }
 
         // Where no job is processing it writes nothing.
         ensures unwritten { IfOk result (λ spool. (r : List ℕ) (t : State) → D.device.bytes disk ≡ Some r → HasTable t r → HasNoProcessing t → D.device.bytes spool.disk ≡ Some r) }
@@ -78,9 +81,8 @@ impl<D: Disk> Spool<D> {
         ensures room { IfOk result (λ spool. (r : List ℕ) → D.device.bytes disk ≡ Some r → HasRoom spool.room r) }
         ensures fault { IfErr result (λ e. (r : List ℕ) → D.device.bytes disk ≡ Some r → IsFaultOf r e.fault) }
         ensures alive { IfOk result (λ spool. spool.dead ≡ false) }
-        ensures cause { IfErr result (λ e. e.fault ≡ OpenFault.Disk → D.device.failures disk < D.device.failures e.disk) }
         ensures counted { IfOk result (λ spool. D.device.failures spool.disk ≡ D.device.failures disk) }
-        ensures counted_back { IfErr result (λ e. D.device.failures disk ≤ D.device.failures e.disk) }
+        ensures blames { IfErr result (λ e. Blames (D.device.failures disk) (D.device.failures e.disk) (e.fault ≡ OpenFault.Disk)) }
 
         // It writes nothing.
         ensures same { IfOk result (λ spool. ChangesNothing D.device disk spool.disk) }
@@ -138,9 +140,8 @@ impl<D: Disk> Spool<D> {
         ensures alive { OnOk result (self.new.dead ≡ false) }
         ensures fault { IfErr result IsReopeningFault }
         ensures unchanged { IsErrOf result OpenFault.Memory → self.new ≡ self.old }
-        ensures cause { IsErrOf result OpenFault.Disk → D.device.failures self.old.disk < D.device.failures self.new.disk }
-        ensures later { D.device.failures self.old.disk ≤ D.device.failures self.new.disk }
-        ensures counted { OnOk result (D.device.failures self.new.disk ≡ D.device.failures self.old.disk) }
+        ensures blames { Blames (D.device.failures self.old.disk) (D.device.failures self.new.disk) (IsErrOf result OpenFault.Disk) }
+        ensures left { OnOk result (self.new.room ≡ self.old.room - record_len Event.Reopen) }
         ensures fixed { D.device.size self.new.disk ≡ D.device.size self.old.disk }
         ensures told { IsSome (D.device.bytes self.new.disk) ↔ IsSome (D.device.bytes self.old.disk) }
         ensures any_moment { LeavesOnly D.device self.old.disk self.new.disk (λ c. IsSome (D.device.bytes self.old.disk) → HasBeforeOrAfterEvent self.old.state Event.Reopen c) }
@@ -157,7 +158,7 @@ impl<D: Disk> Spool<D> {
     }
 }
 
-// Whether a job is processing, and so many bytes are no room for the record of its reopening.
+// Whether a job is processing, and so many bytes are no room for the record of its reopening, whose payload is one byte.
 fn is_cramped(table: &Table, room: u64) -> bool
     ensures cramped { IsTrue result → ¬ (HasNoProcessing table.now.state) × (room < kept_room) }
     ensures roomy { result ≡ false → ¬ (HasNoProcessing table.now.state) → kept_room ≤ room }

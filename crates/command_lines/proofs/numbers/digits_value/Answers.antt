@@ -1,11 +1,12 @@
 use Rattle.std.proofs.Common.{◌≡◌, ◌&&◌, ℕ, ◌+◌, ◌*◌, ◌^◌, ◌<◌, ◌≤◌, Bool, true, List, length, leb, arith}
 use Rattle.std.proofs.Math.Nat.{pow-le-pow_right}
 use Rattle.std.specs.List.{list_all}
-use Rattle.command_lines.specs.Numbers.{is_number, is_digit}
+use Rattle.std.specs.Char.{is_ascii_digit}
+use Rattle.command_lines.specs.Numbers.{is_number}
 use Rattle.command_lines.proofs.numbers.digits_value.Goals as goal
 
 short : (word : List ℕ) → is_number word ≡ true → length word ≤ 13
-short word h = le_13 (leb 1 (length word)) (length word) (list_all is_digit word) h
+short word h = le_13 (leb 1 (length word)) (length word) (list_all is_ascii_digit word) h
   where
     le_13 : (a : Bool) (n : ℕ) (d : Bool) → (a && leb n 13 && d) ≡ true → n ≤ 13
     le_13 a n d h = grind (arith, h)

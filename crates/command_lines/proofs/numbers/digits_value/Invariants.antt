@@ -1,5 +1,5 @@
 use Rattle.std.proofs.Common.{◌≡◌, ◌<◌, ◌^◌, drop}
-use Rattle.command_lines.specs.Numbers.{read_on}
+use Rattle.line_words.specs.Numbers.{read_on}
 use Rattle.command_lines.proofs.numbers.digits_value.Given as goal
 
 abbrev pub invariant-loop-b : goal.invariant-loop-b

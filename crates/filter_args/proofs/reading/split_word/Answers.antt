@@ -1,6 +1,6 @@
-use Rattle.std.proofs.Common.{◌≡◌, ◌+◌, ◌<◌, true, length, get_or, subst, ap, sym, ◌∙◌, arith, IsUtf8}
+use Rattle.std.proofs.Common.{◌≡◌, ◌<◌, true, length, get_or, subst, sym, ◌∙◌, arith, IsUtf8}
 use Rattle.std.proofs.lemmas.Str.{lead_after_ascii}
-use Rattle.filter_args.specs.Quoting.{is_cut}
+use Rattle.line_words.specs.Quoting.{is_cut}
 use Rattle.filter_args.proofs.WordLaws.{cut_ascii}
 use Rattle.filter_args.proofs.reading.split_word.Goals as goal
 

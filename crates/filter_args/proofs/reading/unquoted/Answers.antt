@@ -1,7 +1,7 @@
 use Rattle.std.proofs.Common.{◌++◌, string_bytes, ap, sym, ◌∙◌}
 use Rattle.std.proofs.lemmas.List.{append_assoc}
-use Rattle.filter_args.specs.Quoting.{next, said, place_after}
-use Rattle.filter_args.proofs.CharLaws.{said-encode, place-encode}
+use Rattle.line_words.specs.Quoting.{next, said}
+use Rattle.filter_args.proofs.CharLaws.{said-encode}
 use Rattle.filter_args.proofs.reading.unquoted.Goals as goal
 
 pub loop-c-preserved : goal.loop-c-preserved
@@ -10,14 +10,9 @@ loop-c-preserved c =
     let value = string_bytes c.loop-c.value in
     let char = c.in-Some.c in
     let t = c.next.new.self.rest.now in
-    record {
-      says =
-          ap (λ q. string_bytes c.push_kept.new.value ++ said q t) c.next-place.ensures
-          ∙ ap (λ l. l ++ said (next place char) t) c.in_ok-push_kept.ensures
-          ∙ append_assoc value _ (said (next place char) t)
-          ∙ ap (λ l. value ++ l) (sym (said-encode place char t))
-          ∙ ap (λ l. value ++ said place l) (sym c.in-Some.ensures.steps.0)
-          ∙ c.loop-c.invariant.says;
-      leads =
-          ap (λ q. place_after q t) c.next-place.ensures ∙ sym (place-encode place char t) ∙ ap (place_after place) (sym c.in-Some.ensures.steps.0) ∙ c.loop-c.invariant.leads;
-    }
+    ap (λ q. string_bytes c.push_kept.new.value ++ said q t) c.next-place.ensures
+    ∙ ap (λ l. l ++ said (next place char) t) c.in_ok-push_kept.ensures
+    ∙ append_assoc value _ (said (next place char) t)
+    ∙ ap (λ l. value ++ l) (sym (said-encode place char t))
+    ∙ ap (λ l. value ++ said place l) (sym c.in-Some.ensures.steps.0)
+    ∙ c.loop-c.invariant

@@ -1,7 +1,5 @@
-use Rattle.std.proofs.Common.{◌++◌, ℕ, List, codes, ap, refl, map, string_bytes, sym, ◌∙◌}
-use Rattle.filter_args.specs.Environment.{variable, document_variables, device_variables, place_variables, printer_variables, stage_variables}
-use Rattle.filter_args.specs.Seen.{texts}
-use Rattle.filter_args.proofs.ListLaws.{two, four}
+use Rattle.std.proofs.Common.{◌++◌, ap, map, string_bytes, ◌∙◌}
+use Rattle.filter_args.specs.Environment.{document_variables, device_variables, place_variables, printer_variables, stage_variables}
 use Rattle.filter_args.proofs.variables.environment_of_stage.Goals as goal
 
 pub returns : goal.returns

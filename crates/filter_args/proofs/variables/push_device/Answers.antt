@@ -1,4 +1,4 @@
-use Rattle.std.proofs.Common.{ℕ, List, codes, ap, refl}
+use Rattle.std.proofs.Common.{ℕ, List, codes, ap}
 use Rattle.filter_args.specs.Environment.{variable}
 use Rattle.filter_args.specs.Seen.{texts}
 use Rattle.filter_args.proofs.ListLaws.{two}

@@ -1,7 +1,7 @@
-use Rattle.std.proofs.Common.{◌++◌, ℕ, List, codes, ap, refl, map, string_bytes, sym, ◌∙◌}
-use Rattle.filter_args.specs.Environment.{variable, document_variables, device_variables, place_variables, printer_variables, stage_variables}
+use Rattle.std.proofs.Common.{ℕ, List, codes, ap}
+use Rattle.filter_args.specs.Environment.{variable}
 use Rattle.filter_args.specs.Seen.{texts}
-use Rattle.filter_args.proofs.ListLaws.{two, four}
+use Rattle.filter_args.proofs.ListLaws.{two}
 use Rattle.filter_args.proofs.variables.push_place.Goals as goal
 
 pub returns : goal.returns

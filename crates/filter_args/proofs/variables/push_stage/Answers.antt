@@ -1,8 +1,8 @@
-use Rattle.std.proofs.Common.{◌++◌, ℕ, List, codes, ap, refl, map, string_bytes, sym, ◌∙◌}
+use Rattle.std.proofs.Common.{ℕ, List, codes, ap, ◌∙◌}
 use Rattle.std.specs.Fmt.{decimal}
-use Rattle.filter_args.specs.Environment.{variable, document_variables, device_variables, place_variables, printer_variables, stage_variables}
+use Rattle.filter_args.specs.Environment.{variable}
 use Rattle.filter_args.specs.Seen.{texts}
-use Rattle.filter_args.proofs.ListLaws.{two, four}
+use Rattle.filter_args.proofs.ListLaws.{four}
 use Rattle.filter_args.proofs.variables.push_stage.Goals as goal
 
 pub returns : goal.returns

@@ -5,4 +5,4 @@ pub returns-clause-begins : goal.returns-clause-begins
 returns-clause-begins c = legal_nothing
 
 pub returns-clause-stays : goal.returns-clause-stays
-returns-clause-stays c = λ s events. legal_after_all events s
+returns-clause-stays c = λ s events. legal_after_all c.queues_stay_in_order.ensures.stays events s

@@ -1,5 +1,5 @@
-use Rattle.stderr_lines.proofs.ReportLaws.{reported_size}
+use Rattle.stderr_lines.proofs.ReportLaws.{reported}
 use Rattle.stderr_lines.proofs.laws.effects_fit.Goals as goal
 
 pub returns : goal.returns
-returns c = reported_size
+returns c = reported

@@ -1,8 +1,9 @@
 -- the bytes so far stand in the first word
 use Rattle.std.proofs.Common.{◌≡◌, take, drop}
-use Rattle.stderr_lines.specs.Quoting.{outside, words_from}
+use Rattle.line_words.specs.Quoting.{pieces}
+use Rattle.line_words.specs.declared.quoting.Quoting.TheVariants.{Bare}
 use Rattle.stderr_lines.proofs.PieceLaws.{onto_front}
 use Rattle.stderr_lines.proofs.quoting.split_word.Given as goal
 
 abbrev pub invariant-loop-i : goal.invariant-loop-i
-invariant-loop-i l = onto_front (take l.i l.text) (words_from l.place (drop l.i l.text)) ≡ words_from outside l.text
+invariant-loop-i l = onto_front (take l.i l.text) (pieces l.place (drop l.i l.text)) ≡ pieces Bare l.text

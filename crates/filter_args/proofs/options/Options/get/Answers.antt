@@ -1,6 +1,5 @@
-use Rattle.std.proofs.Common.{◌≡◌, ℕ, List, Some, None, option_map, bytes_eq, ap, sym, ◌∙◌}
+use Rattle.std.proofs.Common.{ℕ, List, Some, option_map, ap, ◌∙◌}
 use Rattle.std.specs.Cow.{cow_str_bytes}
-use Rattle.std.specs.Map.{lookup}
 use denote.Ref.{Bor}
 use Rattle.filter_args.specs.Pairs.{value_of}
 use Rattle.filter_args.proofs.PairLaws.{value_of-pairs_of}

@@ -1,8 +1,10 @@
 -- the rows are the map's values
-use Rattle.std.proofs.Common.{map, sym, ap, ◌∙◌}
+use Rattle.std.proofs.Common.{map, sym, ap, subst, ◌∙◌}
 use Rattle.std.specs.FinMap as finite
 use Rattle.spool_types.specs.State.{job_of}
-use Rattle.job_table.proofs.Tables.{values_jobs}
+use Rattle.job_table.specs.Contents.{IsFreedWhenEnded}
+use Rattle.job_table.proofs.Rooms.{freed_room}
+use Rattle.job_table.proofs.Tables.{values_jobs, find_job}
 use Rattle.job_table.proofs.table.Table.jobs.Goals as goal
 
 pub returns-clause-rows : goal.returns-clause-rows
@@ -10,3 +12,7 @@ returns-clause-rows c =
     ap (map job_of) c.deref.ensures.value
     ∙ sym (values_jobs c.self.inside.jobs.items c.self.invariant.jobs)
     ∙ ap (λ v. finite.values v.state.jobs) c.self.view_is
+
+pub returns-clause-freed : goal.returns-clause-freed
+returns-clause-freed c = subst IsFreedWhenEnded c.self.view_is (λ j r there over.
+    freed_room c.self.inside.jobs.items c.self.invariant.freed j r (find_job c.self.inside.jobs.items c.self.invariant.jobs j ∙ there) over)

@@ -1,10 +1,11 @@
-use Rattle.std.proofs.Common.{◌≡◌, ◌⊎◌, ℕ, List, Some, Err, refl, sym, subst, ap, ◌∙◌}
+use Rattle.std.proofs.Common.{◌≡◌, ◌⊎◌, ◌-◌, ℕ, List, Some, Err, refl, sym, subst, ap, ◌∙◌}
 use Rattle.job_table.specs.Attempts.{HasNoProcessing}
+use Rattle.spool_types.specs.declared.event.Event.TheVariants.{Reopen}
 use Rattle.spool_disk.specs.Disk.{LeavesOnly}
 use Rattle.spool_areas.specs.declared.fault.OpenFault.{OpenFault}
 use Rattle.spool_core.specs.Image.{IsMidway}
-use Rattle.spool_core.specs.Standing.{Standing}
-use Rattle.spool_core.proofs.ReadingLaws.{one_table}
+use Rattle.spool_core.specs.Standing.{Standing, record_len}
+use Rattle.spool_core.proofs.ReadingLaws.{one_table, one_room}
 use Rattle.spool_core.proofs.Restarts.{wants_memory, still, since_sync, since_start}
 use Rattle.spool_core.proofs.spool.Spool.open.Goals as goal
 
@@ -19,6 +20,15 @@ returns-then-is_idle-clause-synced g c =
     let w = c.in-Ok.ensures.synced in
     (w.0, w.1, still disk.device c.args.disk c.in-Ok.spool.disk w.0 c.in-Ok.spool.state c.in-Ok.ensures.opened c.in-Ok.ensures.same.bytes w.2)
 
+pub returns-then-is_idle-clause-left : goal.returns-then-is_idle-clause-left
+returns-then-is_idle-clause-left g c = λ r t room tells has roomy.
+    let idle : HasNoProcessing c.in-Ok.spool.state = subst (λ (v : Standing g.row.D.Denot). HasNoProcessing v.state) c.spool.view_is (c.if-is_idle.ensures.idle refl) in
+    let same : t ≡ c.in-Ok.spool.state = one_table r t c.in-Ok.spool.state has (c.in-Ok.ensures.opened r tells) in
+    record {
+      idle = λ none. one_room r c.in-Ok.spool.room room (c.in-Ok.ensures.room r tells) roomy;
+      busy = λ some. absurd (some (subst HasNoProcessing (sym same) idle));
+    }
+
 pub reopen-requires-clause-busy : goal.reopen-requires-clause-busy
 reopen-requires-clause-busy g c =
     subst (λ (v : Standing g.row.D.Denot). ¬ (HasNoProcessing v.state)) c.spool.view_is (c.if-is_idle.ensures.busy refl)
@@ -26,6 +36,15 @@ reopen-requires-clause-busy g c =
 pub returns-in-Ok-reopen-clause-opened : goal.returns-in-Ok-reopen-clause-opened
 returns-in-Ok-reopen-clause-opened g c = λ r tells.
     record { table = c.in-Ok.spool.state; found = c.in-Ok.ensures.opened r tells; reopened_is = c.in-Ok-reopen.ensures.state.0 }
+
+pub returns-in-Ok-reopen-clause-left : goal.returns-in-Ok-reopen-clause-left
+returns-in-Ok-reopen-clause-left g c = λ r t room tells has roomy.
+    let busy = subst (λ (v : Standing g.row.D.Denot). ¬ (HasNoProcessing v.state)) c.spool.view_is (c.if-is_idle.ensures.busy refl) in
+    let same : t ≡ c.in-Ok.spool.state = one_table r t c.in-Ok.spool.state has (c.in-Ok.ensures.opened r tells) in
+    record {
+      idle = λ none. absurd (busy (subst HasNoProcessing same none));
+      busy = λ some. c.in-Ok-reopen.ensures.left ∙ ap (λ (n : ℕ). n - record_len Reopen) (one_room r c.in-Ok.spool.room room (c.in-Ok.ensures.room r tells) roomy);
+    }
 
 pub returns-in-Ok-reopen-clause-unwritten : goal.returns-in-Ok-reopen-clause-unwritten
 returns-in-Ok-reopen-clause-unwritten g c = λ r t tells has idle.

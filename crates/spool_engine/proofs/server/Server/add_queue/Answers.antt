@@ -24,4 +24,4 @@ returns-in-Err-BadUri g c = λ m.
 
 pub returns : goal.returns
 returns g c = λ m.
-    unread_told (λ v. v.items) c.print_reply-in-Err-Memory.result (setting g.D.Disk.device m) c.args.self.now c.args.queue g.met.D.Disk.lawful.only_now (kept_as g.D.Disk.device _ _ c.self.view_is c.self.invariant) c.print_reply-in-Err-Memory.ensures
+    unread_told (λ v. v.items) c.print_reply-in-Err-Memory.result (setting g.D.Disk.device m) c.args.self.now (Queue c.args.queue) g.met.D.Disk.lawful.only_now (kept_as g.D.Disk.device _ _ c.self.view_is c.self.invariant) c.as_str.ensures.allowed c.print_reply-in-Err-Memory.ensures

@@ -1,7 +1,7 @@
 -- each command is told as it went
 use Rattle.std.proofs.Common.{ap, ◌∙◌, sym, codes}
 use Rattle.std.specs.FinMap as finite
-use Rattle.spool_types.specs.declared.event.Event.TheVariants.{Create, Close}
+use Rattle.spool_types.specs.declared.event.Event.TheVariants.{Close}
 use Rattle.spool_types.specs.declared.refusal.Refusal.TheVariants.{TooLong}
 use Rattle.command_lines.specs.Replies.{jobs_text, queues_text, refusal_line}
 use Rattle.spool_engine.specs.Runs.{setting}
@@ -19,12 +19,7 @@ returns-in-Queue g c =
 
 pub returns-in-Create : goal.returns-in-Create
 returns-in-Create g c =
-    let s = c.args.self.now in
-    let n = c.in-Create.creation in
-    let e = ap (meaning c.args.mime.now s.state) c.in-Create.is
-    ∙ ap (λ j. asks (Create (record { queue = n.queue; job = j; user = n.user; title = n.title; copies = n.copies; priority = n.priority; options = n.options })) reply_line) (sym c.next_number.ensures)
-    ∙ ap (λ j. asks (Create j) reply_line) (sym c.new_job-job.ensures) in
-    event_told (λ v. v.items) c.serve_event-in-Create.result _ s _ c.args.command (Create c.new_job-job.result) reply_line e c.serve_event-in-Create.ensures
+    same_command (λ v. v.items) c.create.result _ c.args.self.now _ c.args.command _ c.in-Create.is (c.create.ensures c.args.mime.now)
 
 pub returns-in-Close : goal.returns-in-Close
 returns-in-Close g c =

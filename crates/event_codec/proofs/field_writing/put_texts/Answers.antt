@@ -1,0 +1,6 @@
+use Rattle.event_codec.specs.Spelling.{text_code, IsText}
+use Rattle.event_codec.proofs.Added.{has_place}
+use Rattle.event_codec.proofs.field_writing.put_texts.Goals as goal
+
+pub put_text-requires-clause-room : goal.put_text-requires-clause-room
+put_text-requires-clause-room g c = has_place text_code (IsText g.K.TextKind.allowed) c.args.out.now c.loop-text.out c.args.texts.now c.loop-text.text-index c.text-item.result c.text-item.is c.loop-text-test.true c.loop-text.invariant c.requires.room

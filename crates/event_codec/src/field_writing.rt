@@ -1,0 +1,105 @@
+//! Writing fields behind the bytes that are there already, in room that is there already.
+ghost use Rattle.std.specs.Prelude.{◌≡◌, ◌+◌, ◌*◌, ◌≤◌, ◌<◌, ◌^◌, ◌++◌, List, ℕ, true, length, vec_len, vec_capacity};
+ghost use Rattle.std.specs.List.{flat_map, AllByRecursion};
+ghost use Rattle.spool_types.specs.Values.{is_media_type};
+ghost use Rattle.event_codec.specs.Spelling.{text_code, flag_code, IsText};
+
+use spool_types::{MediaType, Text, TextKind};
+
+/// Bytes as they are.
+pub(crate) fn put(out: &mut Vec<u8>, bytes: &[u8])
+    requires room { vec_len out.old + length bytes.now ≤ vec_capacity out.old }
+    ensures written { out.new.items ≡ out.old.items ++ bytes.now }
+    ensures len { vec_len out.new ≡ vec_len out.old + length bytes.now }
+    ensures grown { vec_capacity out.old ≤ vec_capacity out.new }
+{
+    match out.extend_from_slice(bytes) {
+        Ok(()) => {}
+        Err(_) => unreachable!(),
+    }
+}
+
+fn put_str(out: &mut Vec<u8>, text: &str)
+    requires short { length text.now < 2 ^ 16 }
+    requires room { vec_len out.old + length (text_code text.now) ≤ vec_capacity out.old }
+    ensures written { out.new.items ≡ out.old.items ++ text_code text.now }
+    ensures len { vec_len out.new ≡ vec_len out.old + length (text_code text.now) }
+    ensures grown { vec_capacity out.old ≤ vec_capacity out.new }
+{
+    put(out, &(text.len() as u16).to_be_bytes());
+    put(out, text.as_bytes());
+}
+
+pub(crate) fn put_text<K: TextKind>(out: &mut Vec<u8>, text: &Text<K>)
+    requires short { (t : List ℕ) → K.allowed t ≡ true → length t < 2 ^ 16 }
+    requires room { vec_len out.old + length (text_code text.now) ≤ vec_capacity out.old }
+    ensures written { out.new.items ≡ out.old.items ++ text_code text.now }
+    ensures len { vec_len out.new ≡ vec_len out.old + length (text_code text.now) }
+    ensures grown { vec_capacity out.old ≤ vec_capacity out.new }
+    ensures is_text { IsText K.allowed text.now }
+{
+    put_str(out, text.as_str());
+}
+
+pub(crate) fn put_media(out: &mut Vec<u8>, media: &MediaType)
+    requires room { vec_len out.old + length (text_code media.now) ≤ vec_capacity out.old }
+    ensures written { out.new.items ≡ out.old.items ++ text_code media.now }
+    ensures len { vec_len out.new ≡ vec_len out.old + length (text_code media.now) }
+    ensures grown { vec_capacity out.old ≤ vec_capacity out.new }
+    ensures is_text { IsText is_media_type media.now }
+{
+    put_str(out, media.as_str());
+}
+
+pub(crate) fn put_flag(out: &mut Vec<u8>, flag: bool)
+    requires room { vec_len out.old + length (flag_code flag) ≤ vec_capacity out.old }
+    ensures written { out.new.items ≡ out.old.items ++ flag_code flag }
+    ensures len { vec_len out.new ≡ vec_len out.old + length (flag_code flag) }
+    ensures grown { vec_capacity out.old ≤ vec_capacity out.new }
+{
+    put(out, &u8::from(flag).to_be_bytes());
+}
+
+/// Texts in turn.
+pub(crate) fn put_texts<K: TextKind>(out: &mut Vec<u8>, texts: &[Text<K>])
+    requires short { (t : List ℕ) → K.allowed t ≡ true → length t < 2 ^ 16 }
+    requires room { vec_len out.old + length (flat_map text_code texts.now) ≤ vec_capacity out.old }
+    ensures written { out.new.items ≡ out.old.items ++ flat_map text_code texts.now }
+    ensures len { vec_len out.new ≡ vec_len out.old + length (flat_map text_code texts.now) }
+    ensures grown { vec_capacity out.old ≤ vec_capacity out.new }
+    ensures are_texts { AllByRecursion (IsText K.allowed) texts.now }
+{
+    for text in texts {
+        put_text(out, text);
+    }
+}
+
+/// How many bytes the code of a text has.
+pub(crate) fn text_len<K: TextKind>(text: &Text<K>) -> usize
+    requires short { (t : List ℕ) → K.allowed t ≡ true → length t ≤ 2048 }
+    ensures value { result ≡ length (text_code text.now) }
+    ensures small { result ≤ 2050 }
+{
+    2 + text.as_str().len()
+}
+
+pub(crate) fn media_len(media: &MediaType) -> usize
+    ensures value { result ≡ length (text_code media.now) }
+    ensures small { result ≤ 2050 }
+{
+    2 + media.as_str().len()
+}
+
+/// How many bytes the codes of a few texts have.
+pub(crate) fn texts_len<K: TextKind>(texts: &[Text<K>]) -> usize
+    requires short { (t : List ℕ) → K.allowed t ≡ true → length t ≤ 2048 }
+    requires few { length texts.now ≤ 15 }
+    ensures value { result ≡ length (flat_map text_code texts.now) }
+    ensures small { result ≤ 15 * 2050 }
+{
+    let mut len = 0;
+    for text in texts {
+        len += text_len(text);
+    }
+    len
+}

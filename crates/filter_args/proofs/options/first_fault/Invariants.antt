@@ -1,0 +1,16 @@
+-- the words so far have no fault, and what the rest of the text says
+use Rattle.std.proofs.Common.{◌≡◌, List, length}
+use denote.Text.{Utf8}
+use denote.Shadow.{shadow}
+use Rattle.filter_args.specs.Pairs.{Pair}
+use Rattle.filter_args.specs.Reading.{words_of, pairs_in, joined, reading}
+use Rattle.filter_args.proofs.options.first_fault.Given as goal
+
+abbrev pub invariant-loop-rest : goal.invariant-loop-rest
+invariant-loop-rest l = record {
+  utf8 : shadow (Utf8 l.rest);
+  read : (qs : List Pair) × (joined qs (pairs_in (words_of l.rest)) ≡ reading l.text);
+}
+
+abbrev pub decreases-loop-rest : goal.decreases-loop-rest
+decreases-loop-rest l = length l.rest

@@ -1,0 +1,56 @@
+-- Quotes and backslashes in a text whose words they hold together. Single and double quotes quote, and a backslash takes
+-- the next byte as it is, between quotes too.
+use Rattle.std.specs.Prelude.{ℕ, Bool, true, false, ◌&&◌, ◌||◌, not, cond, ◌==◌, List, [], ◌∷◌}
+use Rattle.std.specs.List.{onto_first}
+use Rattle.line_words.specs.Blanks.{is_blank}
+use Rattle.line_words.specs.declared.quoting.Quoting.{Quoting}
+use Rattle.line_words.specs.declared.quoting.Quoting.TheVariants.{Bare, Single, Double, BareEscaped, SingleEscaped, DoubleEscaped}
+
+-- a backslash or a quote
+abbrev pub is_quoting : ℕ → Bool
+is_quoting b = b == 92 || (b == 39 || b == 34)
+
+-- where the byte after this one is
+abbrev pub next : Quoting → ℕ → Quoting
+next Bare b = cond (b == 92) BareEscaped (cond (b == 39) Single (cond (b == 34) Double Bare))
+next Single b = cond (b == 92) SingleEscaped (cond (b == 39) Bare Single)
+next Double b = cond (b == 92) DoubleEscaped (cond (b == 34) Bare Double)
+next BareEscaped b = Bare
+next SingleEscaped b = Single
+next DoubleEscaped b = Double
+
+-- the byte belongs to the value: it is escaped, or neither a backslash nor a quote that opens or closes
+abbrev pub keeps : Quoting → ℕ → Bool
+keeps Bare b = not (is_quoting b)
+keeps Single b = not (b == 92 || b == 39)
+keeps Double b = not (b == 92 || b == 34)
+keeps BareEscaped b = true
+keeps SingleEscaped b = true
+keeps DoubleEscaped b = true
+
+abbrev pub is_bare : Quoting → Bool
+is_bare Bare = true
+is_bare Single = false
+is_bare Double = false
+is_bare BareEscaped = false
+is_bare SingleEscaped = false
+is_bare DoubleEscaped = false
+
+-- a blank that is neither in quotes nor escaped
+abbrev pub is_cut : Quoting → ℕ → Bool
+is_cut place b = is_blank b && is_bare place
+
+-- what the bytes say: those that belong to the value
+abbrev pub said : Quoting → List ℕ → List ℕ
+said place [] = []
+said place (b ∷ bs) = cond (keeps place b) (b ∷ said (next place b) bs) (said (next place b) bs)
+
+-- where these bytes lead
+abbrev pub place_after : Quoting → List ℕ → Quoting
+place_after place [] = place
+place_after place (b ∷ bs) = place_after (next place b) bs
+
+-- the pieces between the blanks that cut; where two such blanks are side by side, the piece between them is empty
+abbrev pub pieces : Quoting → List ℕ → List (List ℕ)
+pieces place [] = [] ∷ []
+pieces place (b ∷ bs) = cond (is_cut place b) ([] ∷ pieces Bare bs) (onto_first b (pieces (next place b) bs))

@@ -1,0 +1,65 @@
+//! Quotes and backslashes in a text whose words they hold together, as in a job's options (filter(7)).
+ghost use Rattle.std.specs.Prelude.{◌≡◌};
+ghost use Rattle.line_words.specs.Quoting.{next as next_place, keeps as kept_at, is_bare as bare, is_cut as cut};
+
+use crate::blanks::is_blank;
+
+/// Where a character of such a text is. Single and double quotes quote, and a backslash takes the next character as it is,
+/// between quotes too.
+#[derive(Clone, Copy, Debug, PartialEq, Eq)]
+pub enum Quoting {
+    Bare,
+    Single,
+    Double,
+    /// Right after a backslash.
+    BareEscaped,
+    SingleEscaped,
+    DoubleEscaped,
+}
+
+impl Quoting {
+    /// Whether it is neither between quotes nor after a backslash.
+    pub fn is_bare(self) -> bool
+        ensures { result ≡ bare self }
+    {
+        matches!(self, Quoting::Bare)
+    }
+
+    /// Whether a byte is a blank that ends a word.
+    pub fn is_cut(self, b: u8) -> bool
+        ensures { result ≡ cut self b }
+    {
+        is_blank(b) && self.is_bare()
+    }
+
+    /// Where the character after this one is.
+    pub fn next(self, c: char) -> Quoting
+        ensures { result ≡ next_place self c }
+    {
+        match (self, c) {
+            (Quoting::BareEscaped, _) => Quoting::Bare,
+            (Quoting::SingleEscaped, _) => Quoting::Single,
+            (Quoting::DoubleEscaped, _) => Quoting::Double,
+            (Quoting::Bare, '\\') => Quoting::BareEscaped,
+            (Quoting::Single, '\\') => Quoting::SingleEscaped,
+            (Quoting::Double, '\\') => Quoting::DoubleEscaped,
+            (Quoting::Bare, '\'') => Quoting::Single,
+            (Quoting::Bare, '"') => Quoting::Double,
+            (Quoting::Single, '\'') | (Quoting::Double, '"') => Quoting::Bare,
+            (same, _) => same,
+        }
+    }
+
+    /// Whether the character belongs to what the text says: it is escaped, or neither a backslash nor a quote that opens or
+    /// closes.
+    pub fn keeps(self, c: char) -> bool
+        ensures { result ≡ kept_at self c }
+    {
+        match self {
+            Quoting::Bare => c != '\\' && c != '\'' && c != '"',
+            Quoting::Single => c != '\\' && c != '\'',
+            Quoting::Double => c != '\\' && c != '"',
+            _ => true,
+        }
+    }
+}

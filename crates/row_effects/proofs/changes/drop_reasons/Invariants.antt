@@ -1,0 +1,12 @@
+-- the reasons are those without the words so far
+use Rattle.std.proofs.Common.{◌≡◌, ◌≤◌, true, take, vec_capacity}
+use Rattle.row_effects.specs.Keys.{is_ascending}
+use Rattle.row_effects.specs.Reasons.{word_of, drop_reasons}
+use Rattle.row_effects.proofs.changes.drop_reasons.Given as goal
+
+abbrev pub invariant-loop-word : goal.invariant-loop-word
+invariant-loop-word l = record {
+  items : l.reasons.items ≡ drop_reasons (take l.word-index l.words) l.fn.reasons.items;
+  ascending : is_ascending word_of l.reasons.items ≡ true;
+  room : vec_capacity l.fn.reasons ≤ vec_capacity l.reasons;
+}

@@ -1,0 +1,107 @@
+//! Changes of reasons and of attributes, in place.
+ghost use Rattle.std.specs.Prelude.{◌≡◌, ◌≤◌, [], ◌∷◌, IsTrue, IfOk, IfErr, vec_capacity};
+ghost use Rattle.row_effects.specs.Keys.{IsPlace, IsGap, is_ascending, most_kept};
+ghost use Rattle.row_effects.specs.Reasons.{word_of, set_reasons as only_reasons, add_reason as with_reason, add_reasons as with_reasons, drop_reasons as without_reasons};
+ghost use Rattle.row_effects.specs.Attributes.{name_of, set_attribute as with_attribute};
+
+use spool_types::{Attribute, AttributeName, Reason, Words};
+
+/// How many reasons, and how many attributes, a queue keeps.
+pub(super) const MOST: usize = 64;
+
+// Where the reason stands, or would go.
+fn reason_place(reasons: &[Reason], word: &Reason) -> Result<usize, usize>
+    requires { IsTrue (is_ascending word_of reasons.now) }
+    ensures found { IfOk result (IsPlace word_of reasons.now word.now) }
+    ensures absent { IfErr result (IsGap word_of reasons.now word.now) }
+{
+    reasons.binary_search(word)
+}
+
+// Where the attribute of this name stands, or would go.
+fn attribute_place(attributes: &[Attribute], name: &AttributeName) -> Result<usize, usize>
+    requires { IsTrue (is_ascending name_of attributes.now) }
+    ensures found { IfOk result (IsPlace name_of attributes.now name.now) }
+    ensures absent { IfErr result (IsGap name_of attributes.now name.now) }
+{
+    attributes.binary_search_by(|attribute| attribute.name.as_str().cmp(name.as_str()))
+}
+
+/// Adds the words in turn to no reasons. There is room for all that are kept, so it takes no memory.
+pub(super) fn set_reasons(reasons: &mut Vec<Reason>, words: Words)
+    requires { most_kept ≤ vec_capacity reasons.old }
+    ensures items { reasons.new.items ≡ only_reasons words }
+    ensures ascending { IsTrue (is_ascending word_of reasons.new.items) }
+    ensures room { vec_capacity reasons.old ≤ vec_capacity reasons.new }
+{
+    reasons.clear();
+    add_reasons(reasons, words);
+}
+
+/// Adds the words in turn. There is room for all that are kept, so it takes no memory.
+pub(super) fn add_reasons(reasons: &mut Vec<Reason>, words: Words)
+    requires ascending { IsTrue (is_ascending word_of reasons.old.items) }
+    requires room { most_kept ≤ vec_capacity reasons.old }
+    ensures items { reasons.new.items ≡ with_reasons words reasons.old.items }
+    ensures ascending { IsTrue (is_ascending word_of reasons.new.items) }
+    ensures room { vec_capacity reasons.old ≤ vec_capacity reasons.new }
+{
+    for word in words.into_vec() {
+        add_reason(reasons, word);
+    }
+}
+
+fn add_reason(reasons: &mut Vec<Reason>, word: Reason)
+    requires ascending { IsTrue (is_ascending word_of reasons.old.items) }
+    requires room { most_kept ≤ vec_capacity reasons.old }
+    ensures items { reasons.new.items ≡ with_reason reasons.old.items word }
+    ensures ascending { IsTrue (is_ascending word_of reasons.new.items) }
+    ensures room { vec_capacity reasons.old ≤ vec_capacity reasons.new }
+{
+    if let Err(at) = reason_place(reasons, &word) {
+        if reasons.len() < MOST {
+            reasons.insert(at, word).unwrap();
+        }
+    }
+}
+
+/// Drops the words from the reasons. Each is found by binary search.
+pub(super) fn drop_reasons(reasons: &mut Vec<Reason>, words: &[Reason])
+    requires { IsTrue (is_ascending word_of reasons.old.items) }
+    ensures items { reasons.new.items ≡ without_reasons words.now reasons.old.items }
+    ensures ascending { IsTrue (is_ascending word_of reasons.new.items) }
+    ensures room { vec_capacity reasons.old ≤ vec_capacity reasons.new }
+{
+    for word in words {
+        drop_reason(reasons, word);
+    }
+}
+
+fn drop_reason(reasons: &mut Vec<Reason>, word: &Reason)
+    requires { IsTrue (is_ascending word_of reasons.old.items) }
+    ensures items { reasons.new.items ≡ without_reasons (word.now ∷ []) reasons.old.items }
+    ensures ascending { IsTrue (is_ascending word_of reasons.new.items) }
+    ensures room { vec_capacity reasons.old ≤ vec_capacity reasons.new }
+{
+    if let Ok(at) = reason_place(reasons, word) {
+        reasons.remove(at);
+    }
+}
+
+/// Sets the attribute. There is room for all that are kept, so it takes no memory.
+pub(super) fn set_attribute(attributes: &mut Vec<Attribute>, attribute: Attribute)
+    requires ascending { IsTrue (is_ascending name_of attributes.old.items) }
+    requires room { most_kept ≤ vec_capacity attributes.old }
+    ensures items { attributes.new.items ≡ with_attribute attributes.old.items attribute }
+    ensures ascending { IsTrue (is_ascending name_of attributes.new.items) }
+    ensures room { vec_capacity attributes.old ≤ vec_capacity attributes.new }
+{
+    match attribute_place(attributes, &attribute.name) {
+        Ok(at) => attributes[at] = attribute,
+        Err(at) => {
+            if attributes.len() < MOST {
+                attributes.insert(at, attribute).unwrap();
+            }
+        }
+    }
+}

@@ -1,0 +1,86 @@
+//! The memory that effects take.
+ghost use Rattle.std.specs.Prelude.{◌≡◌, ◌≤◌, true, OnOk, IsOk, vec_len, vec_capacity};
+ghost use Rattle.std.specs.List.{list_any};
+ghost use Rattle.row_effects.specs.Keys.{most_kept};
+ghost use Rattle.row_effects.specs.Room.{HasRoom, can_add_reasons, can_add_attributes};
+
+use crate::changes::MOST;
+use spool_types::{Attribute, Effect, Reason};
+use std::alloc::{AllocError, Global};
+use std::marker::Model;
+
+/// Memory that is set aside for effects: seen as for how many reasons, and for how many attributes.
+#[derive(Debug, Drop)]
+pub struct Spare {
+    pub(super) reasons: Vec<Reason>,
+    pub(super) attributes: Vec<Attribute>,
+}
+
+impl Model for Spare {
+    ghost use Rattle.std.specs.Prelude.{◌≡◌, vec_len, vec_capacity};
+    ghost use Rattle.row_effects.specs.Room.{Room};
+
+    ghost Value = { Room };
+
+    ghost view = { λ a. record { reasons = vec_capacity a.reasons; attributes = vec_capacity a.attributes } };
+
+    ghost invariant = { λ a. (vec_len a.reasons ≡ 0) × (vec_len a.attributes ≡ 0) };
+}
+
+impl Spare {
+    /// No memory yet.
+    pub fn new(alloc: Global) -> Spare
+        ensures reasons { result.reasons ≡ 0 }
+        ensures attributes { result.attributes ≡ 0 }
+    {
+        Spare {
+            reasons: Vec::new(alloc),
+            attributes: Vec::new(alloc),
+        }
+    }
+
+    /// Sets aside what the effects may take.
+    pub fn reserve(&mut self, effects: &[Effect]) -> Result<(), AllocError>
+        ensures room { OnOk result (HasRoom self.new effects.now) }
+
+        // Memory is asked for only where the room is missing.
+        ensures ready { HasRoom self.old effects.now → IsOk result }
+
+        // What was set aside stays, whatever the answer.
+        ensures reasons { self.old.reasons ≤ self.new.reasons }
+        ensures attributes { self.old.attributes ≤ self.new.attributes }
+    {
+        make_room(&mut self.reasons, adds_reasons(effects))?;
+        make_room(&mut self.attributes, adds_attributes(effects))?;
+        Ok(())
+    }
+}
+
+// Room for all that are kept, where it is wanted.
+fn make_room<T>(items: &mut Vec<T>, is_wanted: bool) -> Result<(), AllocError>
+    requires { vec_len items.old ≡ 0 }
+    ensures room { OnOk result (is_wanted ≡ true → most_kept ≤ vec_capacity items.new) }
+    ensures ready { (is_wanted ≡ true → most_kept ≤ vec_capacity items.old) → IsOk result }
+    ensures capacity { vec_capacity items.old ≤ vec_capacity items.new }
+    ensures empty { vec_len items.new ≡ 0 }
+{
+    if is_wanted {
+        items.reserve(MOST)
+    } else {
+        Ok(())
+    }
+}
+
+fn adds_reasons(effects: &[Effect]) -> bool
+    ensures { result ≡ list_any can_add_reasons effects.now }
+{
+    effects.iter().any(|effect| matches!(effect, Effect::SetReasons(_) | Effect::AddReasons(_)))
+}
+
+fn adds_attributes(effects: &[Effect]) -> bool
+    ensures { result ≡ list_any can_add_attributes effects.now }
+{
+    effects
+        .iter()
+        .any(|effect| matches!(effect, Effect::Attribute(_)))
+}

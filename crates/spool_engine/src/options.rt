@@ -1,0 +1,37 @@
+//! The options that a job keeps.
+ghost use Rattle.std.specs.Prelude.{◌≡◌, cond, None, Some, IfOk, OnErr};
+ghost use Rattle.std.specs.Result.{IsOk};
+ghost use Rattle.spool_types.specs.Values.{is_options};
+ghost use Rattle.filter_args.specs.Reading.{reading};
+ghost use Rattle.spool_engine.specs.Script.{job_options as options_kept};
+
+use filter_args::{OptionFault, Options};
+use spool_types::{OptionText, TextFault};
+use std::alloc::{AllocError, Global};
+
+/// What a job keeps of these options: their printed form, if they are read and it isn't too long.
+pub fn job_options(alloc: Global, text: &str) -> Result<Option<OptionText>, AllocError>
+    ensures value { IfOk result (λ options. options ≡ options_kept text.now) }
+    // Only of options without a fault it says that memory is wanting.
+    ensures memory { OnErr result (IsOk (reading text.now)) }
+{
+    match Options::parse(alloc, text) {
+        Ok(options) => {
+            let printed = options.print()?;
+            option_text(alloc, printed.as_str())
+        }
+        Err(OptionFault::Memory) => Err(AllocError),
+        Err(OptionFault::BadName | OptionFault::Unclosed | OptionFault::Collection) => Ok(None),
+    }
+}
+
+// The text as one of options, if it isn't too long.
+fn option_text(alloc: Global, text: &str) -> Result<Option<OptionText>, AllocError>
+    ensures { IfOk result (λ options. options ≡ cond (is_options text.now) (Some text.now) None) }
+{
+    match OptionText::read(alloc, text) {
+        Ok(options) => Ok(Some(options)),
+        Err(TextFault::Bad) => Ok(None),
+        Err(TextFault::Memory) => Err(AllocError),
+    }
+}
