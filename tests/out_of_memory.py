@@ -22,6 +22,7 @@ NAMES = re.compile(r"Memory|AllocError")
 # The functions with an arm, an `else` or a `map_err` for a call whose only fault is out of memory, and how many of these
 # they have. Whoever adds one here has looked at that call.
 PASSED_ON = {
+    ("child_pipeline", "insert"): 1,
     ("command_lines", "push_count"): 1,
     ("command_lines", "push_head"): 1,
     ("command_lines", "push_queue_head"): 1,
@@ -29,15 +30,15 @@ PASSED_ON = {
     ("command_lines", "push_sizes"): 1,
     ("device_uri", "options"): 1,
     ("spool_areas", "collect"): 1,
+    ("spool_core", "drive_all"): 1,
     ("spool_core", "journal"): 1,
     ("spool_core", "journal_reopening"): 1,
     ("spool_core", "read_event"): 1,
-    ("spool_core", "run"): 1,
+    ("spool_engine", "answer"): 1,
     ("spool_engine", "close"): 1,
     ("spool_engine", "drain"): 1,
     ("spool_engine", "drain_end"): 1,
-    ("spool_engine", "take"): 1,
-    ("spool_engine", "turn"): 1,
+    ("spool_engine", "take_piece"): 1,
     ("spool_shell", "long_root"): 1,
     ("spool_shell", "no_words"): 1,
     ("spool_shell", "read_words"): 1,

@@ -12,7 +12,7 @@ use Rattle.spool_types.specs.declared.event.Event.TheVariants.{SetAccept, SetSto
 use Rattle.command_lines.specs.Asked.{is_line_event, AsksForLineEvent}
 use Rattle.command_lines.specs.Lines.{first_line, after_line}
 use Rattle.command_lines.specs.Words.{words_of}
-use Rattle.command_lines.specs.Grammar.{is_word, policy_in, interval_in, limit_in, copies_in, priority_in, count_in, until_in, job_in, moment_in, queue_in, one_word, one_word_line, queue_of, queue_line, info_of, info_line, creation_of, create_line, send_of, send_line, close_of, close_line, hold_of, hold_line, jobs_line, queues_line, line_of, or_malformed, kind_of_words, is_remark, kind_of}
+use Rattle.command_lines.specs.Grammar.{is_word, policy_in, interval_in, limit_in, copies_in, priority_in, count_in, until_in, job_in, moment_in, queue_in, one_word, one_word_line, new_queue_of, queue_line, info_of, info_line, creation_of, create_line, send_of, send_line, close_of, close_line, hold_of, hold_line, jobs_line, queues_line, line_of, or_malformed, kind_of_words, is_remark, kind_of}
 use Rattle.command_lines.specs.Text.{is_lf_at, sent, after_bytes, after_kind, commands_within, commands_of}
 use Rattle.command_lines.specs.declared.command.Command.{Command}
 use Rattle.command_lines.specs.declared.command.Command.TheVariants.{Apply, Malformed}
@@ -64,7 +64,7 @@ one_word_line_asks name [] = tt
 one_word_line_asks name (word ∷ []) = says_event (one_word name word) (one_word_asks name word)
 one_word_line_asks name (word ∷ other ∷ words) = tt
 
-queue_asks : (name uri target : Option (List ℕ)) (policy : Option Policy) (interval limit : Option ℕ) → MayAsk (queue_of name uri target policy interval limit)
+queue_asks : (name uri target : Option (List ℕ)) (policy : Option Policy) (interval limit : Option ℕ) → MayAsk (new_queue_of name uri target policy interval limit)
 queue_asks None uri target policy interval limit = tt
 queue_asks (Some name) None target policy interval limit = tt
 queue_asks (Some name) (Some uri) None policy interval limit = tt

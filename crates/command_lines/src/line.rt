@@ -6,7 +6,7 @@ ghost use Rattle.command_lines.specs.declared.command.Command.{Command};
 ghost use Rattle.command_lines.specs.declared.command.Kind.{Kind};
 ghost use Rattle.spool_types.specs.Values.{is_queue_name, is_uri, is_user_name, is_title, is_options, is_note, text_in, media_in};
 ghost use Rattle.line_words.specs.Seen.{bytes_of};
-ghost use Rattle.command_lines.specs.Grammar.{kind_of as line_kind, is_remark as remark, kind_in, line_of, one_word, one_word_line as asks, queue_line as queues, queue_of, info_line as informs, info_of, create_line as creates, creation_of, send_line as sends, send_of, close_line as closes, close_of, hold_line as holds, jobs_line as lists, queues_line as lists_queues, queue_in, copies_in, priority_in, policy_in as policy_word};
+ghost use Rattle.command_lines.specs.Grammar.{kind_of, is_remark, kind_in, line_of, one_word, one_word_line, queue_line, new_queue_of, info_line, info_of, create_line, creation_of, send_line, send_of, close_line, close_of, hold_line, jobs_line, queues_line, queue_in, copies_in, priority_in, policy_in};
 
 use crate::command::{Command, Creation, Kind};
 use crate::numbers::{job_number, moment_number, ranged_number, short_number, small_number};
@@ -32,7 +32,7 @@ const USUAL_LIMIT: u16 = 5;
 /// What the line says.
 #[tactic(auto, unfolding(crate::specs::Grammar::kind_of))]
 pub fn kind_of(alloc: Global, line: &[u8]) -> Result<Kind, AllocError>
-    ensures { IfOk result (λ kind. kind ≡ line_kind line.now) }
+    ensures { IfOk result (λ kind. kind ≡ kind_of line.now) }
 {
     if is_remark(line) {
         return Ok(Kind::Remark);
@@ -51,7 +51,7 @@ pub fn kind_of(alloc: Global, line: &[u8]) -> Result<Kind, AllocError>
 
 // Whether a line has no reply: it is empty, or begins with `#`.
 fn is_remark(line: &[u8]) -> bool
-    ensures { result ≡ remark line.now }
+    ensures { result ≡ is_remark line.now }
 {
     match line.first() {
         Some(b) => *b == REMARK,
@@ -113,7 +113,7 @@ fn line_of_command(
 
 // A command of one word.
 fn one_word_line(alloc: Global, name: &[u8], words: &[Word<'_>]) -> Result<Option<Kind>, AllocError>
-    ensures { IfOk result (λ kind. kind ≡ asks name.now (map bytes_of words.now)) }
+    ensures { IfOk result (λ kind. kind ≡ one_word_line name.now (map bytes_of words.now)) }
 {
     let [word] = words else {
         return Ok(None);
@@ -171,7 +171,7 @@ fn set_stop(alloc: Global, word: &[u8], stopped: bool) -> Result<Option<Event>, 
 
 // `queue NAME URI TYPE POLICY [INTERVAL [LIMIT]]`
 fn queue_line(alloc: Global, words: &[Word<'_>]) -> Result<Option<Kind>, AllocError>
-    ensures { IfOk result (λ kind. kind ≡ queues (map bytes_of words.now)) }
+    ensures { IfOk result (λ kind. kind ≡ queue_line (map bytes_of words.now)) }
 {
     match words {
         [name, uri, target, policy] => new_queue(
@@ -215,7 +215,7 @@ fn new_queue(
     interval: Option<Interval>,
     limit: Option<u16>,
 ) -> Result<Option<Kind>, AllocError>
-    ensures { IfOk result (λ kind. kind ≡ queue_of (text_in is_queue_name name.now) (text_in is_uri uri.now) (media_in target.now) (policy_word policy.now) interval limit) }
+    ensures { IfOk result (λ kind. kind ≡ new_queue_of (text_in is_queue_name name.now) (text_in is_uri uri.now) (media_in target.now) (policy_in policy.now) interval limit) }
 {
     let name = QueueName::from_word(alloc, name)?;
     let uri = Uri::from_word(alloc, uri)?;
@@ -237,7 +237,7 @@ fn new_queue(
 
 // `info QUEUE INFO LOCATION`
 fn info_line(alloc: Global, words: &[Word<'_>]) -> Result<Option<Kind>, AllocError>
-    ensures { IfOk result (λ kind. kind ≡ informs (map bytes_of words.now)) }
+    ensures { IfOk result (λ kind. kind ≡ info_line (map bytes_of words.now)) }
 {
     match words {
         [queue, info, location] => notes(alloc, queue.bytes(), info.bytes(), location.bytes()),
@@ -271,7 +271,7 @@ fn notes(
 
 // `create QUEUE USER TITLE COPIES PRIORITY OPTIONS`
 fn create_line(alloc: Global, words: &[Word<'_>]) -> Result<Option<Kind>, AllocError>
-    ensures { IfOk result (λ kind. kind ≡ creates (map bytes_of words.now)) }
+    ensures { IfOk result (λ kind. kind ≡ create_line (map bytes_of words.now)) }
 {
     match words {
         [queue, user, title, copies, priority, options] => creation(
@@ -322,7 +322,7 @@ fn creation(
 
 // `send JOB N`
 fn send_line(words: &[Word<'_>]) -> Option<Kind>
-    ensures { result ≡ sends (map bytes_of words.now) }
+    ensures { result ≡ send_line (map bytes_of words.now) }
 {
     let [job, count] = words else {
         return None;
@@ -335,7 +335,7 @@ fn send_line(words: &[Word<'_>]) -> Option<Kind>
 
 // `close JOB NAME`
 fn close_line(alloc: Global, words: &[Word<'_>]) -> Result<Option<Kind>, AllocError>
-    ensures { IfOk result (λ kind. kind ≡ closes (map bytes_of words.now)) }
+    ensures { IfOk result (λ kind. kind ≡ close_line (map bytes_of words.now)) }
 {
     let [job, name] = words else {
         return Ok(None);
@@ -349,7 +349,7 @@ fn close_line(alloc: Global, words: &[Word<'_>]) -> Result<Option<Kind>, AllocEr
 
 // `hold JOB MOMENT` and `hold JOB indefinite`
 fn hold_line(words: &[Word<'_>]) -> Option<Kind>
-    ensures { result ≡ holds (map bytes_of words.now) }
+    ensures { result ≡ hold_line (map bytes_of words.now) }
 {
     let [job, until] = words else {
         return None;
@@ -365,7 +365,7 @@ fn hold_line(words: &[Word<'_>]) -> Option<Kind>
 
 // `jobs`
 fn jobs_line(words: &[Word<'_>]) -> Option<Kind>
-    ensures { result ≡ lists (map bytes_of words.now) }
+    ensures { result ≡ jobs_line (map bytes_of words.now) }
 {
     match words {
         [] => Some(Kind::Says(Command::Jobs)),
@@ -375,7 +375,7 @@ fn jobs_line(words: &[Word<'_>]) -> Option<Kind>
 
 // `queues`
 fn queues_line(words: &[Word<'_>]) -> Option<Kind>
-    ensures { result ≡ lists_queues (map bytes_of words.now) }
+    ensures { result ≡ queues_line (map bytes_of words.now) }
 {
     match words {
         [] => Some(Kind::Says(Command::Queues)),
@@ -384,7 +384,7 @@ fn queues_line(words: &[Word<'_>]) -> Option<Kind>
 }
 
 fn policy_of(word: &[u8]) -> Option<Policy>
-    ensures { result ≡ policy_word word.now }
+    ensures { result ≡ policy_in word.now }
 {
     if word == Policy::AbortJob.word().as_bytes() {
         return Some(Policy::AbortJob);

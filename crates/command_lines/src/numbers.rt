@@ -2,7 +2,7 @@
 ghost use Rattle.std.specs.Prelude.{◌≡◌, ◌<◌, ◌^◌, true};
 ghost use Rattle.std.specs.List.{list_all};
 ghost use Rattle.spool_types.specs.Limits.{greatest_number, greatest_moment};
-ghost use Rattle.command_lines.specs.Numbers.{number_of as number_in, is_number as is_digits, ranged};
+ghost use Rattle.command_lines.specs.Numbers.{number_of, is_number, ranged};
 ghost use Rattle.std.specs.Char.{is_ascii_digit};
 ghost use Rattle.line_words.specs.Numbers.{read_on};
 
@@ -45,7 +45,7 @@ pub fn short_number(word: &[u8]) -> Option<u16>
 
 // The number that a word of 1 to 13 digits is.
 fn number_of(word: &[u8]) -> Option<u64>
-    ensures { result ≡ number_in word.now }
+    ensures { result ≡ number_of word.now }
 {
     if is_number(word) {
         Some(digits_value(word))
@@ -55,7 +55,7 @@ fn number_of(word: &[u8]) -> Option<u64>
 }
 
 fn is_number(word: &[u8]) -> bool
-    ensures { result ≡ is_digits word.now }
+    ensures { result ≡ is_number word.now }
 {
     1 <= word.len() && word.len() <= 13 && has_only_digits(word)
 }
@@ -68,7 +68,7 @@ fn has_only_digits(word: &[u8]) -> bool
 
 // The number that the digits spell.
 fn digits_value(word: &[u8]) -> u64
-    requires { is_digits word.now ≡ true }
+    requires { is_number word.now ≡ true }
     ensures { result ≡ read_on 0 word.now }
 {
     let mut value: u64 = 0;

@@ -3,7 +3,7 @@ ghost use Rattle.std.specs.Prelude.{◌≡◌, IfOk, false, map};
 ghost use Rattle.std.specs.Option.{option_map};
 ghost use Rattle.line_words.specs.Quotes.{quoted};
 ghost use Rattle.line_words.specs.Seen.{bytes_of};
-ghost use Rattle.command_lines.specs.Words.{bare_word as bare, quoted_word as closed, is_end as end, next_word as next, words_of as words_in};
+ghost use Rattle.command_lines.specs.Words.{bare_word, quoted_word, is_end, next_word, words_of};
 ghost use Rattle.command_lines.specs.Fronts.{front_of};
 
 use line_words::{Word, after_blanks, has_quote, is_blank, is_quote, read_quoted, split_at_blank};
@@ -25,7 +25,7 @@ enum Front<'a> {
 /// The words of a line, or `None` where one is broken: an open quote, a quote in a bare word, or no blank behind a
 /// closing quote.
 pub fn words_of<'a>(alloc: Global, line: &'a [u8]) -> Result<Option<Vec<Word<'a>>>, AllocError>
-    ensures { IfOk result (λ words. option_map (λ v. map bytes_of v.items) words ≡ words_in line.now) }
+    ensures { IfOk result (λ words. option_map (λ v. map bytes_of v.items) words ≡ words_of line.now) }
 {
     let mut words = Vec::with_capacity(alloc, MOST_WORDS)?;
     let mut rest = line;
@@ -43,7 +43,7 @@ pub fn words_of<'a>(alloc: Global, line: &'a [u8]) -> Result<Option<Vec<Word<'a>
 
 // The next word.
 fn next_word<'a>(alloc: Global, line: &'a [u8]) -> Result<Front<'a>, AllocError>
-    ensures { IfOk result (λ front. front_of front ≡ next line.now) }
+    ensures { IfOk result (λ front. front_of front ≡ next_word line.now) }
 {
     let here = after_blanks(line);
     match here.split_first() {
@@ -60,7 +60,7 @@ fn next_word<'a>(alloc: Global, line: &'a [u8]) -> Result<Front<'a>, AllocError>
 
 // A word up to the next blank, with no quote in it.
 fn bare_word(line: &[u8]) -> Front<'_>
-    ensures { front_of result ≡ bare line.now }
+    ensures { front_of result ≡ bare_word line.now }
 {
     let (word, rest) = split_at_blank(line);
     if has_quote(word) {
@@ -71,7 +71,7 @@ fn bare_word(line: &[u8]) -> Front<'_>
 
 // A word behind its opening quote.
 fn quoted_word<'a>(alloc: Global, line: &'a [u8]) -> Result<Front<'a>, AllocError>
-    ensures { IfOk result (λ front. front_of front ≡ closed (quoted false line.now)) }
+    ensures { IfOk result (λ front. front_of front ≡ quoted_word (quoted false line.now)) }
 {
     let Some((word, rest)) = read_quoted(alloc, line)? else {
         return Ok(Front::Broken);
@@ -84,7 +84,7 @@ fn quoted_word<'a>(alloc: Global, line: &'a [u8]) -> Result<Front<'a>, AllocErro
 
 // Whether a quoted word may end before this rest.
 fn is_end(rest: &[u8]) -> bool
-    ensures { result ≡ end rest.now }
+    ensures { result ≡ is_end rest.now }
 {
     match rest.first() {
         Some(b) => is_blank(*b),

@@ -1,10 +1,11 @@
 -- What a device line says is what is read of it.
-use Rattle.std.proofs.Common.{◌≡◌, ℕ, suc, zero, ◌<◌, ◌≤◌, Bool, true, false, ◌&&◌, not, cond, leb, eqb, List, [], ◌∷◌, ◌++◌, length, refl, ap, sym, subst, ◌∙◌, arith, lit<, IsAscii, IsUtf8, ◌⊎◌, inl, inr, Result, Err}
+use Rattle.std.proofs.Common.{◌≡◌, ℕ, suc, zero, ◌<◌, ◌≤◌, Bool, true, false, ◌&&◌, not, cond, leb, eqb, List, [], ◌∷◌, ◌++◌, length, refl, ap, sym, subst, ◌∙◌, arith, lit<, IsAscii, IsUtf8, ◌⊎◌, inl, inr, Option, None, Some, Result, Err}
 use Rattle.std.specs.List.{list_all, list_any}
-use Rattle.std.proofs.lemmas.Str.{IsUtf8-from_ascii}
+use Rattle.std.specs.Str.{is_utf8}
+use Rattle.std.proofs.lemmas.Str.{IsUtf8-from_ascii, is_utf8-from_IsUtf8}
 use Rattle.std.proofs.lemmas.Bool.{eqb-true, leb-true, and_parts, or_from, false_from_ne_true, both_ways}
 use Rattle.std.proofs.lemmas.Bool.Decides.{nat_tests}
-use Rattle.spool_types.specs.Values.{is_text_of, is_attribute_byte, is_graphic, is_uri}
+use Rattle.spool_types.specs.Values.{is_text_of, is_attribute_byte, is_graphic, is_uri, text_in}
 use Rattle.line_words.specs.Blanks.{is_blank, word_here, behind_word, after_blanks}
 use Rattle.line_words.specs.Quotes.{is_quote}
 use Rattle.device_uri.specs.Fields.{IsBlanks, IsField}
@@ -16,6 +17,15 @@ use Rattle.device_uri.specs.declared.line.DeviceLine.{DeviceLine}
 use Rattle.device_uri.proofs.FieldForm.{after_sound, after_complete, field_sound, field_complete, if_any_sound, if_any_complete}
 
 -- ## Texts
+
+-- a word that is no text of a kind isn't allowed, or isn't UTF-8
+pub no_text : (allowed : List ℕ → Bool) (word : List ℕ) → None ≡ text_in allowed word → (allowed word ≡ false) ⊎ ¬ (IsUtf8 word)
+no_text allowed word none = by_tests (is_utf8 word) (allowed word) refl refl none
+  where
+    by_tests : (whole may : Bool) → is_utf8 word ≡ whole → allowed word ≡ may → None ≡ cond (whole && may) (Some word) None → (allowed word ≡ false) ⊎ ¬ (IsUtf8 word)
+    by_tests true true whole may none = absurd (cc)
+    by_tests true false whole may none = inl may
+    by_tests false may broken is none = inr (λ utf8. let whole : is_utf8 word ≡ true = is_utf8-from_IsUtf8 word utf8 in absurd (cc))
 
 -- of a text that passes a test byte by byte
 text_parts : (p : ℕ → Bool) (least most : ℕ) (text : List ℕ) → is_text_of p least most text ≡ true → (least ≤ length text) × (list_all p text ≡ true)

@@ -1,7 +1,7 @@
 //! The quoted fields of a device line.
 ghost use Rattle.std.specs.Prelude.{◌≡◌, None, Some, IfOk, IsErrOf};
 ghost use Rattle.std.specs.Option.{option_map};
-ghost use Rattle.device_uri.specs.Reading.{behind_quote as inside_of, next_field, next_if_any};
+ghost use Rattle.device_uri.specs.Reading.{behind_quote, next_field, next_if_any};
 ghost use Rattle.device_uri.specs.Taken.{AreFields};
 
 use crate::line::LineFault;
@@ -75,7 +75,7 @@ fn read_field<'a>(alloc: Global, line: &'a [u8]) -> Result<(Field, &'a [u8]), Li
 
 // What follows blanks and an opening quote.
 fn behind_quote(line: &[u8]) -> Option<&[u8]>
-    ensures { option_map (λ inside. inside.now) result ≡ inside_of line.now }
+    ensures { option_map (λ inside. inside.now) result ≡ behind_quote line.now }
 {
     let (b, behind) = line.split_first()?;
     if !is_blank(*b) {

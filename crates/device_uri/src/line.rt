@@ -4,7 +4,7 @@ ghost use Rattle.device_uri.specs.Lines.{IsDeviceLine, is_device_class, is_bare_
 
 use crate::fields::{Field, read_fields};
 use line_words::{after_blanks, has_quote, split_at_blank};
-use spool_types::{AttributeNameKind, Text, TextFault, TextKind, Uri};
+use spool_types::{AttributeNameKind, Text, TextKind, Uri};
 use std::alloc::{AllocError, Global};
 
 /// Why a device line was not read.
@@ -105,12 +105,8 @@ fn read_text<K: TextKind>(alloc: Global, word: &[u8]) -> Result<Text<K>, LineFau
     ensures allowed { OnOk result (IsTrue (K.allowed word.now)) }
     ensures bad { IsErrOf result LineFault.BadLine → (K.allowed word.now ≡ false) ⊎ ¬ (IsUtf8 word.now) }
 {
-    let Ok(text) = str::from_utf8(word) else {
-        return Err(LineFault::BadLine);
-    };
-    match Text::read(alloc, text) {
-        Ok(text) => Ok(text),
-        Err(TextFault::Bad) => Err(LineFault::BadLine),
-        Err(TextFault::Memory) => Err(LineFault::Memory),
+    match Text::from_word(alloc, word)? {
+        Some(text) => Ok(text),
+        None => Err(LineFault::BadLine),
     }
 }

@@ -3,7 +3,7 @@ ghost use Rattle.std.specs.Prelude.{◌≡◌, ℕ, List, length, nat_le, IfOk, 
 ghost use Rattle.std.specs.Int.{w16};
 ghost use Rattle.spool_types.specs.declared.effect.Effect.TheVariants as Change;
 ghost use Rattle.spool_types.specs.Effects.{most_effect_bytes};
-ghost use Rattle.event_codec.specs.Reading.{Gives, MemoryOnly, list_at, pages_at as pages, total_at as total, words_at as words, worded_at, attribute_at as attribute, level_at as level, message_at as message, effect_at as effect, effect_within as within, listed_at as listed, effects_at as effects, effects_copy};
+ghost use Rattle.event_codec.specs.Reading.{Gives, MemoryOnly, list_at, pages_at, total_at, words_at, worded_at, attribute_at, level_at, message_at, effect_at, effect_within, listed_at, effects_at, effects_copy};
 
 use crate::fault::CodecFault;
 use crate::fields::{text_at, texts_at, u8_at, u16_at, u32_at};
@@ -12,7 +12,7 @@ use std::alloc::Global;
 
 #[tactic(auto, unfolding(crate::specs::Reading::pages_at))]
 fn pages_at(bytes: &[u8]) -> Result<(Effect, &[u8]), CodecFault>
-    ensures { Gives (λ x. (x.0, x.1.now)) result (pages bytes.now) }
+    ensures { Gives (λ x. (x.0, x.1.now)) result (pages_at bytes.now) }
 {
     let (page, rest) = u32_at(bytes)?;
     let (copies, rest) = u32_at(rest)?;
@@ -21,7 +21,7 @@ fn pages_at(bytes: &[u8]) -> Result<(Effect, &[u8]), CodecFault>
 
 #[tactic(auto, unfolding(crate::specs::Reading::total_at))]
 fn total_at(bytes: &[u8]) -> Result<(Effect, &[u8]), CodecFault>
-    ensures { Gives (λ x. (x.0, x.1.now)) result (total bytes.now) }
+    ensures { Gives (λ x. (x.0, x.1.now)) result (total_at bytes.now) }
 {
     let (pages, rest) = u32_at(bytes)?;
     Ok((Effect::TotalPages(pages), rest))
@@ -30,7 +30,7 @@ fn total_at(bytes: &[u8]) -> Result<(Effect, &[u8]), CodecFault>
 /// So many words at least.
 #[tactic(auto, unfolding(crate::specs::Reading::words_at, crate::specs::Reading::ranged_at, crate::specs::Reading::ranged, crate::specs::Reading::checked))]
 fn words_at(alloc: Global, least: u16, bytes: &[u8]) -> Result<(Words, &[u8]), CodecFault>
-    ensures { Gives (λ x. (x.0, x.1.now)) result (words least bytes.now) }
+    ensures { Gives (λ x. (x.0, x.1.now)) result (words_at least bytes.now) }
 {
     let (count, rest) = u16_at(bytes)?;
     if count < least {
@@ -45,7 +45,7 @@ fn words_at(alloc: Global, least: u16, bytes: &[u8]) -> Result<(Words, &[u8]), C
 
 #[tactic(auto, unfolding(crate::specs::Reading::attribute_at))]
 fn attribute_at(alloc: Global, bytes: &[u8]) -> Result<(Effect, &[u8]), CodecFault>
-    ensures { Gives (λ x. (x.0, x.1.now)) result (attribute bytes.now) }
+    ensures { Gives (λ x. (x.0, x.1.now)) result (attribute_at bytes.now) }
 {
     let (name, rest) = text_at(alloc, bytes)?;
     let (value, rest) = text_at(alloc, rest)?;
@@ -54,7 +54,7 @@ fn attribute_at(alloc: Global, bytes: &[u8]) -> Result<(Effect, &[u8]), CodecFau
 
 #[tactic(auto, unfolding(crate::specs::Reading::level_at, crate::specs::Reading::level_of))]
 fn level_at(bytes: &[u8]) -> Result<(Level, &[u8]), CodecFault>
-    ensures { Gives (λ x. (x.0, x.1.now)) result (level bytes.now) }
+    ensures { Gives (λ x. (x.0, x.1.now)) result (level_at bytes.now) }
 {
     let (number, rest) = u8_at(bytes)?;
     let level = match number {
@@ -72,7 +72,7 @@ fn level_at(bytes: &[u8]) -> Result<(Level, &[u8]), CodecFault>
 
 #[tactic(auto, unfolding(crate::specs::Reading::message_at))]
 fn message_at(alloc: Global, bytes: &[u8]) -> Result<(Effect, &[u8]), CodecFault>
-    ensures { Gives (λ x. (x.0, x.1.now)) result (message bytes.now) }
+    ensures { Gives (λ x. (x.0, x.1.now)) result (message_at bytes.now) }
 {
     let (level, rest) = level_at(bytes)?;
     let (text, rest) = text_at(alloc, rest)?;
@@ -105,7 +105,7 @@ fn drop_reasons_at(alloc: Global, bytes: &[u8]) -> Result<(Effect, &[u8]), Codec
 
 #[tactic(auto, unfolding(crate::specs::Reading::effect_at, crate::specs::Reading::kind_of_effect))]
 fn effect_at(alloc: Global, bytes: &[u8]) -> Result<(Effect, &[u8]), CodecFault>
-    ensures { Gives (λ x. (x.0, x.1.now)) result (effect bytes.now) }
+    ensures { Gives (λ x. (x.0, x.1.now)) result (effect_at bytes.now) }
 {
     let (kind, rest) = u8_at(bytes)?;
     match kind {
@@ -127,7 +127,7 @@ fn effect_within(
     room: usize,
     bytes: &[u8],
 ) -> Result<(Effect, usize, &[u8]), CodecFault>
-    ensures { Gives (λ x. (x.0, (x.1, x.2.now))) result (within (room, bytes.now)) }
+    ensures { Gives (λ x. (x.0, (x.1, x.2.now))) result (effect_within (room, bytes.now)) }
 {
     let (effect, rest) = effect_at(alloc, bytes)?;
     match effect.room_after(room) {
@@ -138,7 +138,7 @@ fn effect_within(
 
 /// So many effects, in the room of one stage. Each has three bytes at least, so the bytes bound what is reserved for them.
 fn listed_at(alloc: Global, count: u16, bytes: &[u8]) -> Result<(Vec<Effect>, &[u8]), CodecFault>
-    ensures read { Gives (λ x. (x.0.items, x.1.now)) result (listed count bytes.now) }
+    ensures read { Gives (λ x. (x.0.items, x.1.now)) result (listed_at count bytes.now) }
     ensures memory { IfErr result (MemoryOnly (nat_le 1 count)) }
 {
     let mut effects = Vec::with_capacity(alloc, (count as usize).min(bytes.len() / 3))?;
@@ -156,7 +156,7 @@ fn listed_at(alloc: Global, count: u16, bytes: &[u8]) -> Result<(Vec<Effect>, &[
 /// How many effects there are, and each of them.
 #[tactic(auto, unfolding(crate::specs::Reading::effects_at, crate::specs::Reading::effects_copy, crate::specs::Reading::some_effects_at, crate::specs::Reading::checked))]
 pub(crate) fn effects_at(alloc: Global, bytes: &[u8]) -> Result<(Effects, &[u8]), CodecFault>
-    ensures read { Gives (λ x. (x.0, x.1.now)) result (effects bytes.now) }
+    ensures read { Gives (λ x. (x.0, x.1.now)) result (effects_at bytes.now) }
     ensures memory { IfErr result (MemoryOnly (effects_copy bytes.now)) }
 {
     let (count, rest) = u16_at(bytes)?;

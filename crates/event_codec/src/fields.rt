@@ -2,7 +2,7 @@
 ghost use Rattle.std.specs.Prelude.{◌≡◌, length, is_ok, false, IfOk, IfErr};
 ghost use Rattle.std.specs.Int.{w8, w16, w32, w64};
 ghost use Rattle.spool_types.specs.Limits.{greatest_number, greatest_moment};
-ghost use Rattle.event_codec.specs.Reading.{Gives, MemoryOnly, part_at as part, number_at, ranged as in_range, list_at, text_at as text, utf8_of};
+ghost use Rattle.event_codec.specs.Reading.{Gives, MemoryOnly, part_at, number_at, ranged, list_at, text_at, utf8_of};
 
 use crate::fault::CodecFault;
 use spool_types::{JobId, Moment, Ranged, Text, TextKind};
@@ -11,7 +11,7 @@ use std::alloc::Global;
 /// The first `count` bytes.
 #[tactic(auto, unfolding(crate::specs::Reading::part_at))]
 pub(crate) fn part_at(count: usize, bytes: &[u8]) -> Result<(&[u8], &[u8]), CodecFault>
-    ensures read { Gives (λ x. (x.0.now, x.1.now)) result (part count bytes.now) }
+    ensures read { Gives (λ x. (x.0.now, x.1.now)) result (part_at count bytes.now) }
     ensures length { IfOk result (λ x. length x.0.now ≡ count) }
     ensures memory { IfErr result (MemoryOnly false) }
 {
@@ -66,7 +66,7 @@ pub(crate) fn u64_at(bytes: &[u8]) -> Result<(u64, &[u8]), CodecFault>
 pub(crate) fn ranged<const LEAST: u32, const MOST: u32>(
     number: u32,
 ) -> Result<Ranged<LEAST, MOST>, CodecFault>
-    ensures read { Gives (λ n. n) result (in_range LEAST MOST number) }
+    ensures read { Gives (λ n. n) result (ranged LEAST MOST number) }
     ensures memory { IfErr result (MemoryOnly false) }
 {
     match Ranged::new(number) {
@@ -77,7 +77,7 @@ pub(crate) fn ranged<const LEAST: u32, const MOST: u32>(
 
 #[tactic(auto, unfolding(crate::specs::Reading::ranged, crate::specs::Reading::checked))]
 pub(crate) fn job_id(number: u32) -> Result<JobId, CodecFault>
-    ensures read { Gives (λ n. n) result (in_range 1 greatest_number number) }
+    ensures read { Gives (λ n. n) result (ranged 1 greatest_number number) }
     ensures memory { IfErr result (MemoryOnly false) }
 {
     match JobId::new(number) {
@@ -88,7 +88,7 @@ pub(crate) fn job_id(number: u32) -> Result<JobId, CodecFault>
 
 #[tactic(auto, unfolding(crate::specs::Reading::ranged, crate::specs::Reading::checked))]
 pub(crate) fn moment(seconds: u64) -> Result<Moment, CodecFault>
-    ensures read { Gives (λ n. n) result (in_range 0 greatest_moment seconds) }
+    ensures read { Gives (λ n. n) result (ranged 0 greatest_moment seconds) }
     ensures memory { IfErr result (MemoryOnly false) }
 {
     match Moment::new(seconds) {
@@ -113,8 +113,8 @@ pub(crate) fn text_at<K: TextKind>(
     alloc: Global,
     bytes: &[u8],
 ) -> Result<(Text<K>, &[u8]), CodecFault>
-    ensures read { Gives (λ x. (x.0, x.1.now)) result (text K.allowed bytes.now) }
-    ensures memory { IfErr result (MemoryOnly (is_ok (text K.allowed bytes.now))) }
+    ensures read { Gives (λ x. (x.0, x.1.now)) result (text_at K.allowed bytes.now) }
+    ensures memory { IfErr result (MemoryOnly (is_ok (text_at K.allowed bytes.now))) }
 {
     let (length, rest) = u16_at(bytes)?;
     let (part, rest) = part_at(length as usize, rest)?;
@@ -128,7 +128,7 @@ pub(crate) fn texts_at<K: TextKind>(
     count: u16,
     bytes: &[u8],
 ) -> Result<(Vec<Text<K>>, &[u8]), CodecFault>
-    ensures read { Gives (λ x. (x.0.items, x.1.now)) result (list_at (text K.allowed) count bytes.now) }
+    ensures read { Gives (λ x. (x.0.items, x.1.now)) result (list_at (text_at K.allowed) count bytes.now) }
     ensures length { IfOk result (λ x. length x.0.items ≡ count) }
 {
     let mut texts = Vec::with_capacity(alloc, (count as usize).min(bytes.len() / 2))?;

@@ -1,7 +1,7 @@
 //! Laws of the spelling.
 ghost use Rattle.std.specs.Prelude.{◌≡◌, ◌+◌, List, ℕ, [], ◌++◌, length};
 ghost use Rattle.spool_types.specs.declared.event.Event.{Event};
-ghost use Rattle.spool_types.specs.declared.effect.Effect.{Effect as Change};
+ghost use Rattle.spool_types.specs.declared.effect.Effect.{Effect};
 ghost use Rattle.spool_types.specs.Effects.{effects_size};
 ghost use Rattle.event_codec.specs.Spelling.{effects_code, IsSpellable, spelling};
 
@@ -17,5 +17,5 @@ pub fn one_event()
 
 /// The code of effects has two bytes for their number, and as many more as their size says.
 pub fn effects_have_their_size()
-    ensures { (effects : List Change) → length (effects_code effects) ≡ 2 + effects_size effects }
+    ensures { (effects : List Effect) → length (effects_code effects) ≡ 2 + effects_size effects }
 {}

@@ -1,10 +1,10 @@
 //! Reading events.
 ghost use Rattle.std.specs.Prelude.{◌≡◌, ◌↔◌, ◌⊎◌, ℕ, length, is_ok, false, IfOk, IfErr, IsOk, Ok};
 ghost use Rattle.std.specs.Int.{w8, w16, w32};
-ghost use Rattle.spool_types.specs.declared.event.Event.{Event as Change};
+ghost use Rattle.spool_types.specs.declared.event.Event.{Event};
 ghost use Rattle.spool_types.specs.Values.{is_media_type, is_queue_name};
 ghost use Rattle.event_codec.specs.Spelling.{IsSpellable, spelling};
-ghost use Rattle.event_codec.specs.Reading.{Gives, MemoryOnly, text_at as text, flag_at as flagged, until_at as until, exit_at as exit, policy_at as policy, counted_filters_at as counted_filters, maybe_filters_at as maybe_filters, piece_at as piece, queue_at, notes_at, accept_at, stop_at, job_at, send_at, closing_at, hold_at, numbered_at, clock_at, stage_at, closing_copies, stage_copies, reaches_copy, whole, reading};
+ghost use Rattle.event_codec.specs.Reading.{Gives, MemoryOnly, text_at, flag_at, until_at, exit_at, policy_at, counted_filters_at, maybe_filters_at, piece_at, queue_at, notes_at, accept_at, stop_at, job_at, send_at, closing_at, hold_at, numbered_at, clock_at, stage_at, closing_copies, stage_copies, reaches_copy, whole, reading};
 
 use crate::effect_reading::effects_at;
 use crate::fault::CodecFault;
@@ -12,14 +12,14 @@ use crate::fields::{
     job_id, moment, part_at, ranged, text_at, texts_at, u8_at, u16_at, u32_at, u64_at,
 };
 use spool_types::{
-    Closing, Event, Exit, Filters, JobId, MediaType, MediaTypeKind, Moment, NewJob, NewQueue,
-    Piece, Policy, QueueNotes, StageEnd,
+    Closing, Event, Exit, Filters, JobId, LONGEST_SEND, MediaType, MediaTypeKind, Moment, NewJob,
+    NewQueue, Piece, Policy, QueueNotes, StageEnd,
 };
 use std::alloc::Global;
 
 #[tactic(auto, unfolding(crate::specs::Reading::flag_at, crate::specs::Reading::flag_of))]
 fn flag_at(bytes: &[u8]) -> Result<(bool, &[u8]), CodecFault>
-    ensures read { Gives (λ x. (x.0, x.1.now)) result (flagged bytes.now) }
+    ensures read { Gives (λ x. (x.0, x.1.now)) result (flag_at bytes.now) }
     ensures memory { IfErr result (MemoryOnly false) }
 {
     let (number, rest) = u8_at(bytes)?;
@@ -33,7 +33,7 @@ fn flag_at(bytes: &[u8]) -> Result<(bool, &[u8]), CodecFault>
 /// Until when a job is held: a moment, or none where it is held until it is released.
 #[tactic(auto, unfolding(crate::specs::Reading::until_at, crate::specs::Reading::flagged_until_at, crate::specs::Reading::moment_at, crate::specs::Reading::ranged_at))]
 fn until_at(bytes: &[u8]) -> Result<(Option<Moment>, &[u8]), CodecFault>
-    ensures read { Gives (λ x. (x.0, x.1.now)) result (until bytes.now) }
+    ensures read { Gives (λ x. (x.0, x.1.now)) result (until_at bytes.now) }
     ensures memory { IfErr result (MemoryOnly false) }
 {
     let (flag, rest) = u8_at(bytes)?;
@@ -50,7 +50,7 @@ fn until_at(bytes: &[u8]) -> Result<(Option<Moment>, &[u8]), CodecFault>
 
 #[tactic(auto, unfolding(crate::specs::Reading::exit_at, crate::specs::Reading::kind_of_exit, crate::specs::Reading::status_at))]
 fn exit_at(bytes: &[u8]) -> Result<(Exit, &[u8]), CodecFault>
-    ensures read { Gives (λ x. (x.0, x.1.now)) result (exit bytes.now) }
+    ensures read { Gives (λ x. (x.0, x.1.now)) result (exit_at bytes.now) }
     ensures memory { IfErr result (MemoryOnly false) }
 {
     let (kind, rest) = u8_at(bytes)?;
@@ -68,7 +68,7 @@ fn exit_at(bytes: &[u8]) -> Result<(Exit, &[u8]), CodecFault>
 
 #[tactic(auto, unfolding(crate::specs::Reading::policy_at, crate::specs::Reading::policy_of))]
 fn policy_at(bytes: &[u8]) -> Result<(Policy, &[u8]), CodecFault>
-    ensures read { Gives (λ x. (x.0, x.1.now)) result (policy bytes.now) }
+    ensures read { Gives (λ x. (x.0, x.1.now)) result (policy_at bytes.now) }
     ensures memory { IfErr result (MemoryOnly false) }
 {
     let (number, rest) = u8_at(bytes)?;
@@ -83,8 +83,8 @@ fn policy_at(bytes: &[u8]) -> Result<(Policy, &[u8]), CodecFault>
 }
 
 fn media_at(alloc: Global, bytes: &[u8]) -> Result<(MediaType, &[u8]), CodecFault>
-    ensures read { Gives (λ x. (x.0, x.1.now)) result (text is_media_type bytes.now) }
-    ensures memory { IfErr result (MemoryOnly (is_ok (text is_media_type bytes.now))) }
+    ensures read { Gives (λ x. (x.0, x.1.now)) result (text_at is_media_type bytes.now) }
+    ensures memory { IfErr result (MemoryOnly (is_ok (text_at is_media_type bytes.now))) }
 {
     let (name, rest) = text_at::<MediaTypeKind>(alloc, bytes)?;
     Ok((MediaType::from_name(name), rest))
@@ -92,7 +92,7 @@ fn media_at(alloc: Global, bytes: &[u8]) -> Result<(MediaType, &[u8]), CodecFaul
 
 #[tactic(auto, unfolding(crate::specs::Reading::counted_filters_at, crate::specs::Reading::ranged_at, crate::specs::Reading::ranged, crate::specs::Reading::checked))]
 fn counted_filters_at(alloc: Global, bytes: &[u8]) -> Result<(Option<Filters>, &[u8]), CodecFault>
-    ensures read { Gives (λ x. (x.0, x.1.now)) result (counted_filters bytes.now) }
+    ensures read { Gives (λ x. (x.0, x.1.now)) result (counted_filters_at bytes.now) }
 {
     let (count, rest) = u8_at(bytes)?;
     if 15 < count {
@@ -107,7 +107,7 @@ fn counted_filters_at(alloc: Global, bytes: &[u8]) -> Result<(Option<Filters>, &
 
 #[tactic(auto, unfolding(crate::specs::Reading::maybe_filters_at, crate::specs::Reading::flagged_filters_at))]
 fn maybe_filters_at(alloc: Global, bytes: &[u8]) -> Result<(Option<Filters>, &[u8]), CodecFault>
-    ensures read { Gives (λ x. (x.0, x.1.now)) result (maybe_filters bytes.now) }
+    ensures read { Gives (λ x. (x.0, x.1.now)) result (maybe_filters_at bytes.now) }
 {
     let (flag, rest) = u8_at(bytes)?;
     match flag {
@@ -119,11 +119,11 @@ fn maybe_filters_at(alloc: Global, bytes: &[u8]) -> Result<(Option<Filters>, &[u
 
 #[tactic(auto, unfolding(crate::specs::Reading::piece_at, crate::specs::Reading::ranged_at, crate::specs::Reading::ranged, crate::specs::Reading::checked))]
 fn piece_at(alloc: Global, bytes: &[u8]) -> Result<(Piece, &[u8]), CodecFault>
-    ensures read { Gives (λ x. (x.0, x.1.now)) result (piece bytes.now) }
-    ensures memory { IfErr result (MemoryOnly (is_ok (piece bytes.now))) }
+    ensures read { Gives (λ x. (x.0, x.1.now)) result (piece_at bytes.now) }
+    ensures memory { IfErr result (MemoryOnly (is_ok (piece_at bytes.now))) }
 {
     let (count, rest) = u32_at(bytes)?;
-    if 65_536 < count {
+    if LONGEST_SEND < count as usize {
         return Err(CodecFault::Range);
     }
     let (part, rest) = part_at(count as usize, rest)?;
@@ -146,9 +146,9 @@ fn ended(rest: &[u8]) -> Result<(), CodecFault>
 }
 
 #[tactic(auto, unfolding(crate::specs::Reading::queue_at, crate::specs::Reading::ranged_at, crate::specs::Reading::whole))]
-fn queue_of(alloc: Global, fields: &[u8]) -> Result<Event, CodecFault>
+fn new_queue_of(alloc: Global, fields: &[u8]) -> Result<Event, CodecFault>
     ensures read { Gives (λ e. e) result (whole (queue_at fields.now)) }
-    ensures memory { IfErr result (MemoryOnly (is_ok (text is_queue_name fields.now))) }
+    ensures memory { IfErr result (MemoryOnly (is_ok (text_at is_queue_name fields.now))) }
 {
     let (name, rest) = text_at(alloc, fields)?;
     let (uri, rest) = text_at(alloc, rest)?;
@@ -171,7 +171,7 @@ fn queue_of(alloc: Global, fields: &[u8]) -> Result<Event, CodecFault>
 #[tactic(auto, unfolding(crate::specs::Reading::notes_at, crate::specs::Reading::whole))]
 fn notes_of(alloc: Global, fields: &[u8]) -> Result<Event, CodecFault>
     ensures read { Gives (λ e. e) result (whole (notes_at fields.now)) }
-    ensures memory { IfErr result (MemoryOnly (is_ok (text is_queue_name fields.now))) }
+    ensures memory { IfErr result (MemoryOnly (is_ok (text_at is_queue_name fields.now))) }
 {
     let (queue, rest) = text_at(alloc, fields)?;
     let (info, rest) = text_at(alloc, rest)?;
@@ -187,7 +187,7 @@ fn notes_of(alloc: Global, fields: &[u8]) -> Result<Event, CodecFault>
 #[tactic(auto, unfolding(crate::specs::Reading::accept_at, crate::specs::Reading::whole))]
 fn accept_of(alloc: Global, fields: &[u8]) -> Result<Event, CodecFault>
     ensures read { Gives (λ e. e) result (whole (accept_at fields.now)) }
-    ensures memory { IfErr result (MemoryOnly (is_ok (text is_queue_name fields.now))) }
+    ensures memory { IfErr result (MemoryOnly (is_ok (text_at is_queue_name fields.now))) }
 {
     let (queue, rest) = text_at(alloc, fields)?;
     let (accepting, rest) = flag_at(rest)?;
@@ -198,7 +198,7 @@ fn accept_of(alloc: Global, fields: &[u8]) -> Result<Event, CodecFault>
 #[tactic(auto, unfolding(crate::specs::Reading::stop_at, crate::specs::Reading::whole))]
 fn stop_of(alloc: Global, fields: &[u8]) -> Result<Event, CodecFault>
     ensures read { Gives (λ e. e) result (whole (stop_at fields.now)) }
-    ensures memory { IfErr result (MemoryOnly (is_ok (text is_queue_name fields.now))) }
+    ensures memory { IfErr result (MemoryOnly (is_ok (text_at is_queue_name fields.now))) }
 {
     let (queue, rest) = text_at(alloc, fields)?;
     let (stopped, rest) = flag_at(rest)?;
@@ -209,7 +209,7 @@ fn stop_of(alloc: Global, fields: &[u8]) -> Result<Event, CodecFault>
 #[tactic(auto, unfolding(crate::specs::Reading::job_at, crate::specs::Reading::ranged_at, crate::specs::Reading::whole))]
 fn job_of(alloc: Global, fields: &[u8]) -> Result<Event, CodecFault>
     ensures read { Gives (λ e. e) result (whole (job_at fields.now)) }
-    ensures memory { IfErr result (MemoryOnly (is_ok (text is_queue_name fields.now))) }
+    ensures memory { IfErr result (MemoryOnly (is_ok (text_at is_queue_name fields.now))) }
 {
     let (queue, rest) = text_at(alloc, fields)?;
     let (number, rest) = u32_at(rest)?;
@@ -282,7 +282,7 @@ fn hold_of(fields: &[u8]) -> Result<Event, CodecFault>
 // A job's number, and nothing after it.
 #[tactic(auto, unfolding(crate::specs::Reading::numbered_at, crate::specs::Reading::ranged_at, crate::specs::Reading::whole))]
 fn only_job(fields: &[u8]) -> Result<JobId, CodecFault>
-    ensures read { (event : ℕ → Change) → Gives event result (whole (numbered_at event fields.now)) }
+    ensures read { (event : ℕ → Event) → Gives event result (whole (numbered_at event fields.now)) }
     ensures memory { IfErr result (MemoryOnly false) }
 {
     let (number, rest) = u32_at(fields)?;
@@ -343,7 +343,7 @@ fn event_of(alloc: Global, payload: &[u8]) -> Result<Event, CodecFault>
 {
     match payload {
         [] => Err(CodecFault::Length),
-        [0x01, fields @ ..] => queue_of(alloc, fields),
+        [0x01, fields @ ..] => new_queue_of(alloc, fields),
         [0x02, fields @ ..] => notes_of(alloc, fields),
         [0x03, fields @ ..] => accept_of(alloc, fields),
         [0x04, fields @ ..] => stop_of(alloc, fields),
@@ -367,7 +367,7 @@ pub fn decode(alloc: Global, payload: &[u8]) -> Result<Event, CodecFault>
     // What is read is spelled so.
     ensures sound { IfOk result (λ event. IsSpellable event × (payload.now ≡ spelling event)) }
     // What is spelled so is read, unless memory runs out.
-    ensures complete { (event : Change) → IsSpellable event → payload.now ≡ spelling event → Gives (λ e. e) result (Ok event) }
+    ensures complete { (event : Event) → IsSpellable event → payload.now ≡ spelling event → Gives (λ e. e) result (Ok event) }
     // Which fault it is.
     ensures exact { Gives (λ e. e) result (reading payload.now) }
     // Memory is wanted only where a value is copied.

@@ -2,8 +2,8 @@
 use Rattle.std.specs.Prelude.{ℕ, List, ◌∷◌, Option}
 use Rattle.std.specs.Fmt.{decimal}
 use Rattle.std.specs.Option.{option_to_list}
-use Rattle.spool_types.specs.declared.rows.JobRow.{JobRow}
+use Rattle.spool_types.specs.State.{Job}
 
 -- the job's number, its user, its title, how many copies, its options, and the document where it is a file
-abbrev pub arguments : JobRow → Option (List ℕ) → List (List ℕ)
+abbrev pub arguments : Job → Option (List ℕ) → List (List ℕ)
 arguments job file = decimal job.id ∷ job.user ∷ job.title ∷ decimal job.copies ∷ job.options ∷ option_to_list file

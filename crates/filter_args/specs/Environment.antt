@@ -4,8 +4,8 @@ use Rattle.std.specs.Fmt.{decimal}
 use Rattle.std.specs.String.{string_bytes}
 use Rattle.spool_types.specs.declared.phase.Phase.{Phase}
 use Rattle.spool_types.specs.declared.phase.Phase.TheVariants.{Processing}
-use Rattle.spool_types.specs.declared.rows.JobRow.{JobRow}
 use Rattle.spool_types.specs.declared.rows.QueueRow.{QueueRow}
+use Rattle.spool_types.specs.State.{Job}
 use Rattle.filter_args.specs.declared.files.ChildFile.TheVariants.{Side}
 use Rattle.filter_args.specs.declared.place.Place.{Place}
 use Rattle.filter_args.specs.Files.{file_name}
@@ -18,7 +18,7 @@ abbrev pub variable : List ℕ → List ℕ → List ℕ
 variable name value = name ++ 61 ∷ value
 
 -- what is told of the document
-abbrev pub document_variables : JobRow → List (List ℕ)
+abbrev pub document_variables : Job → List (List ℕ)
 document_variables job =
     variable (codes "CHARSET") (codes "utf-8")
     ∷ variable (codes "CONTENT_TYPE") (unwrap_or job.media [])
@@ -57,14 +57,14 @@ stage_variables place job attempt stage =
     ∷ []
 
 -- all of them
-abbrev pub environment_at : JobRow → QueueRow → Place → ℕ → ℕ → List (List ℕ)
+abbrev pub environment_at : Job → QueueRow → Place → ℕ → ℕ → List (List ℕ)
 environment_at job queue place attempt stage =
     document_variables job ++ device_variables queue ++ place_variables place ++ printer_variables queue ++ stage_variables place job.id attempt stage
 
 -- those of a processing job; no other has any
-abbrev pub variables : Phase → JobRow → QueueRow → Place → List (List ℕ)
+abbrev pub variables : Phase → Job → QueueRow → Place → List (List ℕ)
 variables (Processing attempt stage stages) job queue place = environment_at job queue place attempt stage
 variables phase job queue place = []
 
-abbrev pub environment_of : JobRow → QueueRow → Place → List (List ℕ)
+abbrev pub environment_of : Job → QueueRow → Place → List (List ℕ)
 environment_of job queue place = variables job.phase job queue place

@@ -1,7 +1,7 @@
 //! How options are printed.
 ghost use Rattle.std.specs.Prelude.{◌≡◌, ◌++◌, ◌∷◌, if◌then◌else◌, encode_utf8, OnOk};
 ghost use Rattle.std.specs.String.{string_bytes};
-ghost use Rattle.filter_args.specs.Printing.{printed_pair, printed_value, is_special as special};
+ghost use Rattle.filter_args.specs.Printing.{printed_pair, printed_value, is_special};
 
 use crate::reading::opens_collection;
 use std::alloc::AllocError;
@@ -31,7 +31,7 @@ fn push_value(text: &mut String, value: &str) -> Result<(), AllocError>
 
 // Adds a character, after a backslash if it is special.
 fn push_escaped(text: &mut String, c: char) -> Result<(), AllocError>
-    ensures { OnOk result (string_bytes text.new ≡ string_bytes text.old ++ (if special c then 92 ∷ encode_utf8 c else encode_utf8 c)) }
+    ensures { OnOk result (string_bytes text.new ≡ string_bytes text.old ++ (if is_special c then 92 ∷ encode_utf8 c else encode_utf8 c)) }
 {
     if is_special(c) {
         text.push('\\')?;
@@ -40,7 +40,7 @@ fn push_escaped(text: &mut String, c: char) -> Result<(), AllocError>
 }
 
 fn is_special(c: char) -> bool
-    ensures { result ≡ special c }
+    ensures { result ≡ is_special c }
 {
     c == ' ' || c == '\t' || c == '\\' || c == '\'' || c == '"'
 }

@@ -7,7 +7,7 @@ ghost use Rattle.std.specs.Result.{result_err};
 ghost use Rattle.spool_types.specs.Values.{is_word_byte};
 ghost use Rattle.filter_args.specs.Pairs.{is_option_name};
 ghost use Rattle.line_words.specs.Quoting.{keeps, is_quoting, is_bare, said, place_after};
-ghost use Rattle.filter_args.specs.Reading.{is_collection, pair_in, value_in, bare_pair as pair_of_name, word_here, after_word};
+ghost use Rattle.filter_args.specs.Reading.{is_collection, pair_in, value_in, bare_pair, word_here, after_word};
 ghost use Rattle.filter_args.specs.Seen.{pair_of};
 
 use crate::fault::OptionFault;
@@ -116,7 +116,7 @@ fn is_name_byte(b: u8) -> bool
 
 // A bare name is true, and false after `no`.
 fn bare_pair(name: &str) -> (&str, &'static str)
-    ensures { (result.0.now, result.1.now) ≡ pair_of_name name.now }
+    ensures { (result.0.now, result.1.now) ≡ bare_pair name.now }
 {
     if 2 < name.len() && name.starts_with("no") {
         (&name[2..], "false")

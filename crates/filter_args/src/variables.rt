@@ -3,6 +3,7 @@ ghost use Rattle.std.specs.Prelude.{◌≡◌, ◌++◌, ◌∷◌, [], true, un
 ghost use Rattle.std.specs.Fmt.{decimal};
 ghost use Rattle.std.specs.String.{string_bytes};
 ghost use Rattle.spool_types.specs.Phases.{is_processing};
+ghost use Rattle.spool_types.specs.State.{job_of};
 ghost use Rattle.filter_args.specs.Environment.{environment_of, environment_at, document_variables, device_variables, place_variables, printer_variables, stage_variables, side_name, variable};
 ghost use Rattle.filter_args.specs.Seen.{texts};
 
@@ -19,7 +20,7 @@ pub fn environment(
     place: &Place,
 ) -> Result<Vec<String>, AllocError>
     requires { is_processing job.now.phase ≡ true }
-    ensures { IfOk result (λ variables. texts variables ≡ environment_of job.now queue.now place.now) }
+    ensures { IfOk result (λ variables. texts variables ≡ environment_of (job_of job.now) queue.now place.now) }
 {
     match job.phase {
         Phase::Processing { attempt, stage, .. } => {
@@ -37,7 +38,7 @@ fn environment_of_stage(
     attempt: u32,
     stage: u8,
 ) -> Result<Vec<String>, AllocError>
-    ensures { IfOk result (λ variables. texts variables ≡ environment_at job.now queue.now place.now attempt stage) }
+    ensures { IfOk result (λ variables. texts variables ≡ environment_at (job_of job.now) queue.now place.now attempt stage) }
 {
     let mut variables = Vec::with_capacity(alloc, 14)?;
     push_document(alloc, &mut variables, job)?;
@@ -49,7 +50,7 @@ fn environment_of_stage(
 }
 
 fn push_document(alloc: Global, variables: &mut Vec<String>, job: &JobRow) -> Result<(), AllocError>
-    ensures { OnOk result (texts variables.new ≡ texts variables.old ++ document_variables job.now) }
+    ensures { OnOk result (texts variables.new ≡ texts variables.old ++ document_variables (job_of job.now)) }
 {
     push(alloc, variables, "CHARSET", "utf-8")?;
     push(alloc, variables, "CONTENT_TYPE", content_type(job))?;

@@ -1,17 +1,17 @@
 //! Blanks, and the words between them.
 ghost use Rattle.std.specs.Prelude.{◌≡◌, ◌≤◌, length};
-ghost use Rattle.line_words.specs.Blanks.{is_blank as blank, after_blanks as behind_blanks, word_here as here, behind_word as behind, first_word as first, after_word, trimmed};
+ghost use Rattle.line_words.specs.Blanks.{is_blank, after_blanks, word_here, behind_word, first_word, after_word, trimmed};
 
 /// Whether a byte is a space or a tab.
 pub fn is_blank(b: u8) -> bool
-    ensures value { result ≡ blank b }
+    ensures value { result ≡ is_blank b }
 {
     b == b' ' || b == b'\t'
 }
 
 /// A line without the blanks at its front.
 pub fn after_blanks(line: &[u8]) -> &[u8]
-    ensures value { result.now ≡ behind_blanks line.now }
+    ensures value { result.now ≡ after_blanks line.now }
     ensures bound { length result.now ≤ length line.now }
 {
     let mut rest = line;
@@ -26,8 +26,8 @@ pub fn after_blanks(line: &[u8]) -> &[u8]
 
 /// What stands before the first blank, and what begins with it.
 pub fn split_at_blank(line: &[u8]) -> (&[u8], &[u8])
-    ensures word { result.0.now ≡ here line.now }
-    ensures rest { result.1.now ≡ behind line.now }
+    ensures word { result.0.now ≡ word_here line.now }
+    ensures rest { result.1.now ≡ behind_word line.now }
 {
     for (i, b) in line.iter().enumerate() {
         if is_blank(*b) {
@@ -39,7 +39,7 @@ pub fn split_at_blank(line: &[u8]) -> (&[u8], &[u8])
 
 /// The first word of a line, empty where the line has none, and what follows it.
 pub fn first_word(line: &[u8]) -> (&[u8], &[u8])
-    ensures word { result.0.now ≡ first line.now }
+    ensures word { result.0.now ≡ first_word line.now }
     ensures rest { result.1.now ≡ after_word line.now }
 {
     split_at_blank(after_blanks(line))

@@ -2,7 +2,7 @@
 ghost use Rattle.std.specs.Prelude.{◌≡◌, ◌++◌, false, IfOk, IsOk, OnOk};
 ghost use Rattle.std.specs.List.{list_any};
 ghost use Rattle.std.specs.Option.{option_map};
-ghost use Rattle.line_words.specs.Quotes.{is_quote as quote, is_backslash as backslash, escape_of, with_bytes, quoted};
+ghost use Rattle.line_words.specs.Quotes.{is_quote, is_backslash, escape_of, with_bytes, quoted};
 ghost use Rattle.line_words.specs.Seen.{bytes_of};
 
 use crate::words::Word;
@@ -14,21 +14,21 @@ const BACKSLASH: u8 = b'\\';
 
 /// Whether a byte is `"`.
 pub fn is_quote(b: u8) -> bool
-    ensures value { result ≡ quote b }
+    ensures value { result ≡ is_quote b }
 {
     b == QUOTE
 }
 
 /// Whether a quote stands among the bytes.
 pub fn has_quote(bytes: &[u8]) -> bool
-    ensures value { result ≡ list_any quote bytes.now }
+    ensures value { result ≡ list_any is_quote bytes.now }
 {
     bytes.iter().any(|b| is_quote(*b))
 }
 
 /// Whether a byte is `\`.
 pub fn is_backslash(b: u8) -> bool
-    ensures value { result ≡ backslash b }
+    ensures value { result ≡ is_backslash b }
 {
     b == BACKSLASH
 }
@@ -40,7 +40,7 @@ pub fn read_quoted<'a>(
     line: &'a [u8],
 ) -> Result<Option<(Word<'a>, &'a [u8])>, AllocError>
     ensures value { IfOk result (λ found. option_map (λ p. (bytes_of p.0, p.1.now)) found ≡ quoted false line.now) }
-    ensures lent { list_any backslash line.now ≡ false → IsOk result }
+    ensures lent { list_any is_backslash line.now ≡ false → IsOk result }
 {
     for (i, b) in line.iter().enumerate() {
         if is_quote(*b) {

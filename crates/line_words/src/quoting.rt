@@ -1,6 +1,6 @@
 //! Quotes and backslashes in a text whose words they hold together, as in a job's options (filter(7)).
 ghost use Rattle.std.specs.Prelude.{◌≡◌};
-ghost use Rattle.line_words.specs.Quoting.{next as next_place, keeps as kept_at, is_bare as bare, is_cut as cut};
+ghost use Rattle.line_words.specs.Quoting.{next, keeps, is_bare, is_cut};
 
 use crate::blanks::is_blank;
 
@@ -20,21 +20,21 @@ pub enum Quoting {
 impl Quoting {
     /// Whether it is neither between quotes nor after a backslash.
     pub fn is_bare(self) -> bool
-        ensures { result ≡ bare self }
+        ensures { result ≡ is_bare self }
     {
         matches!(self, Quoting::Bare)
     }
 
     /// Whether a byte is a blank that ends a word.
     pub fn is_cut(self, b: u8) -> bool
-        ensures { result ≡ cut self b }
+        ensures { result ≡ is_cut self b }
     {
         is_blank(b) && self.is_bare()
     }
 
     /// Where the character after this one is.
     pub fn next(self, c: char) -> Quoting
-        ensures { result ≡ next_place self c }
+        ensures { result ≡ next self c }
     {
         match (self, c) {
             (Quoting::BareEscaped, _) => Quoting::Bare,
@@ -53,7 +53,7 @@ impl Quoting {
     /// Whether the character belongs to what the text says: it is escaped, or neither a backslash nor a quote that opens or
     /// closes.
     pub fn keeps(self, c: char) -> bool
-        ensures { result ≡ kept_at self c }
+        ensures { result ≡ keeps self c }
     {
         match self {
             Quoting::Bare => c != '\\' && c != '\'' && c != '"',

@@ -4,7 +4,7 @@ ghost use Rattle.std.specs.List.{All};
 ghost use Rattle.std.specs.declared.alloc.Global.{Global};
 ghost use Rattle.std.specs.declared.vec.Vec.{Vec};
 ghost use Rattle.mime_costs.specs.Index.{sources_of, places_in, links_in, AreCheap, Ascends};
-ghost use Rattle.mime_costs.specs.Costs.{best, least_in, IsSmall, IsRow, IsTable, IsBestSize, better_size, costs_from, is_taken, is_step as is_step_at};
+ghost use Rattle.mime_costs.specs.Costs.{best, least_in, IsSmall, IsRow, IsTable, IsBestSize, better_size, costs_from, is_taken, is_step};
 ghost use Rattle.mime_costs.specs.Walks.{line_of};
 ghost use Rattle.mime_costs.specs.Seen.{IsAnswer};
 ghost use Rattle.mime_costs.specs.declared.conversion.Conversion.{Conversion};
@@ -153,8 +153,8 @@ fn first_step(
     requires small { All IsSmall row.now }
     requires there { least_in (is_taken conversions.now places) conversions.now row.now ≡ Some cost }
     ensures inside { result < length conversions.now }
-    ensures begins { (d : Conversion) → is_step_at conversions.now row.now places cost result d ≡ true }
-    ensures first { (j : ℕ) (d : Conversion) → j < result → is_step_at conversions.now row.now places cost j d ≡ false }
+    ensures begins { (d : Conversion) → is_step conversions.now row.now places cost result d ≡ true }
+    ensures first { (j : ℕ) (d : Conversion) → j < result → is_step conversions.now row.now places cost j d ≡ false }
 {
     for (i, conversion) in conversions.iter().enumerate() {
         if is_step(conversion, links[i], row[i], places, cost) {

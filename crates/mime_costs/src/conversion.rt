@@ -1,8 +1,8 @@
 //! What a line of the file says.
 ghost use Rattle.std.specs.Prelude.{◌≡◌};
 ghost use Rattle.std.specs.List.{list_all};
-ghost use Rattle.spool_types.specs.Values.{is_media_byte as media_byte};
-ghost use Rattle.mime_costs.specs.Conversions.{every_type, is_super_source as super_source, is_source};
+ghost use Rattle.spool_types.specs.Values.{is_media_byte};
+ghost use Rattle.mime_costs.specs.Conversions.{every_type, is_super_source, is_source};
 
 use spool_types::{FilterName, MediaType, MediaTypeKind, Ranged, Text, TextKind};
 
@@ -32,7 +32,7 @@ impl TextKind for SourceKind {
 
 // Whether a text is a super type and `/*`.
 fn is_super_source(text: &str) -> bool
-    ensures { result ≡ super_source text.now }
+    ensures { result ≡ is_super_source text.now }
 {
     match text.split_once('/') {
         Some((kind, rest)) => 1 <= kind.len() && has_only_media_bytes(kind) && rest == "*",
@@ -41,14 +41,14 @@ fn is_super_source(text: &str) -> bool
 }
 
 fn has_only_media_bytes(text: &str) -> bool
-    ensures { result ≡ list_all media_byte text.now }
+    ensures { result ≡ list_all is_media_byte text.now }
 {
     text.as_bytes().iter().all(|b| is_media_byte(*b))
 }
 
 // A lower-case letter, a digit or one of `!#$&^_.+-`.
 fn is_media_byte(b: u8) -> bool
-    ensures { result ≡ media_byte b }
+    ensures { result ≡ is_media_byte b }
 {
     matches!(b, b'a'..=b'z' | b'0'..=b'9' | b'!' | b'#' | b'$' | b'&' | b'^' | b'_' | b'.' | b'+' | b'-')
 }

@@ -3,8 +3,8 @@
 //! A row says of each conversion what the cheapest walk of so many lines behind it costs, if there is one.
 ghost use Rattle.std.specs.Prelude.{◌≡◌, ◌≤◌, ℕ, IfOk, IfSome, map, length, ◌==◌, slice_index_or, cond, None};
 ghost use Rattle.std.specs.List.{All};
-ghost use Rattle.mime_costs.specs.Index.{takes as takes_place, links_in};
-ghost use Rattle.mime_costs.specs.Costs.{lesser as lesser_cost, plus as cost_more, is_at, least_in, row_of, IsSmall, cost_in_groups, next_cost, is_of_group, is_taken};
+ghost use Rattle.mime_costs.specs.Index.{takes, links_in};
+ghost use Rattle.mime_costs.specs.Costs.{lesser, plus, is_at, least_in, row_of, IsSmall, cost_in_groups, next_cost, is_of_group, is_taken};
 
 use crate::conversion::Conversion;
 use crate::links::{Link, Places};
@@ -16,7 +16,7 @@ pub const MOST_LINES: usize = 15;
 
 /// The lesser cost, if there is one.
 pub fn lesser(a: Option<u32>, b: Option<u32>) -> Option<u32>
-    ensures { result ≡ lesser_cost a b }
+    ensures { result ≡ lesser a b }
 {
     match (a, b) {
         (Some(a), Some(b)) => Some(a.min(b)),
@@ -28,7 +28,7 @@ pub fn lesser(a: Option<u32>, b: Option<u32>) -> Option<u32>
 /// The cost of a conversion and of what follows it, if there is such a walk.
 pub fn cost_with(conversion: &Conversion, rest: Option<u32>) -> Option<u32>
     requires { IsSmall rest }
-    ensures { result ≡ cost_more conversion.now.cost rest }
+    ensures { result ≡ plus conversion.now.cost rest }
 {
     match rest {
         Some(rest) => Some(conversion.cost.get() + rest),
@@ -44,7 +44,7 @@ fn cost_if_taken(
     places: Places,
 ) -> Option<u32>
     requires { IsSmall rest }
-    ensures { result ≡ cond (takes_place places link.group) (cost_more conversion.now.cost rest) None }
+    ensures { result ≡ cond (takes places link.group) (plus conversion.now.cost rest) None }
 {
     if places.takes(link.group) {
         cost_with(conversion, rest)
@@ -62,7 +62,7 @@ pub fn is_step(
     cost: u32,
 ) -> bool
     requires { IsSmall rest }
-    ensures { result ≡ is_at (cond (takes_place places link.group) (cost_more conversion.now.cost rest) None) cost }
+    ensures { result ≡ is_at (cond (takes places link.group) (plus conversion.now.cost rest) None) cost }
 {
     match cost_if_taken(conversion, link, rest, places) {
         Some(least) => least == cost,

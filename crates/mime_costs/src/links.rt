@@ -1,8 +1,8 @@
 //! Where the sources stand that take a type, found once when a file is read.
 ghost use Rattle.std.specs.Prelude.{◌≡◌, ℕ, List, IfOk};
 ghost use Rattle.std.specs.String.{string_bytes};
-ghost use Rattle.mime_costs.specs.Conversions.{super_source as source_of_super};
-ghost use Rattle.mime_costs.specs.Index.{sources_of, place_in, places_in, takes as takes_place, links_in, AreSources};
+ghost use Rattle.mime_costs.specs.Conversions.{super_source};
+ghost use Rattle.mime_costs.specs.Index.{sources_of, place_in, places_in, takes, links_in, AreSources};
 
 use crate::conversion::{Conversion, EVERY_TYPE};
 use spool_types::MediaType;
@@ -29,7 +29,7 @@ pub struct Link {
 impl Places {
     /// Whether the conversions of this group take the type.
     pub fn takes(self, group: usize) -> bool
-        ensures { result ≡ takes_place self group }
+        ensures { result ≡ takes self group }
     {
         group == self.of_type || group == self.of_super || group == self.of_any
     }
@@ -113,7 +113,7 @@ pub fn places_of(
 
 // The super type of a media type and `/*`.
 fn super_source(alloc: Global, media: &str) -> Result<String, AllocError>
-    ensures { IfOk result (λ source. string_bytes source ≡ source_of_super media.now) }
+    ensures { IfOk result (λ source. string_bytes source ≡ super_source media.now) }
 {
     let kind = match media.split_once('/') {
         Some((kind, _)) => kind,

@@ -1,7 +1,7 @@
 //! The lines of a file of mime.convs(5).
 ghost use Rattle.std.specs.Prelude.{◌≡◌, IfOk};
 ghost use Rattle.std.specs.Option.{option_map};
-ghost use Rattle.mime_costs.specs.Reading.{cost_in, four_words as words_of_line, of_words, conversions_of, warnings_of};
+ghost use Rattle.mime_costs.specs.Reading.{cost_in, four_words, of_words, conversions_of, warnings_of};
 ghost use Rattle.mime_costs.specs.Seen.{words_in};
 
 use crate::conversion::{Conversion, Cost, Source};
@@ -44,7 +44,7 @@ fn read_line(
     number: usize,
     line: &[u8],
 ) -> Result<Result<Conversion, WarningKind>, AllocError>
-    ensures { IfOk result (λ said. said ≡ of_words number (words_of_line line.now)) }
+    ensures { IfOk result (λ said. said ≡ of_words number (four_words line.now)) }
 {
     let Some(words) = four_words(line) else {
         return Ok(Err(WarningKind::BadLine));
@@ -72,7 +72,7 @@ fn read_line(
 
 // The words of a line that has four.
 fn four_words(line: &[u8]) -> Option<Words<'_>>
-    ensures { option_map words_in result ≡ words_of_line line.now }
+    ensures { option_map words_in result ≡ four_words line.now }
 {
     let (source, rest) = first_word(line);
     let (destination, rest) = first_word(rest);

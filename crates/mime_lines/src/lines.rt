@@ -1,7 +1,7 @@
 //! The lines of a file.
 ghost use Rattle.std.specs.Prelude.{◌≡◌, ◌<◌, ◌∷◌, ◌++◌, [], IfOk, IfSome, MatchOption, map, length};
 ghost use Rattle.std.specs.Option.{option_map};
-ghost use Rattle.mime_lines.specs.JoinedLines.{is_silent as silent, is_continued as continued, with_line as line_with, left_open as open_line, without_last, without_cr as cr_dropped, lines_of, joined_lines as lines_that_speak};
+ghost use Rattle.mime_lines.specs.JoinedLines.{is_silent, is_continued, with_line, left_open, without_last, without_cr, lines_of, joined_lines};
 ghost use Rattle.mime_lines.specs.Seen.{text_of, line_of};
 
 use line_words::after_blanks;
@@ -44,7 +44,7 @@ pub struct JoinedLine<'a> {
 
 /// The lines of a file that say something: no blank lines, and no remarks.
 pub fn joined_lines<'a>(alloc: Global, text: &'a str) -> Result<Vec<JoinedLine<'a>>, AllocError>
-    ensures value { IfOk result (λ lines. map line_of lines.items ≡ lines_that_speak text.now) }
+    ensures value { IfOk result (λ lines. map line_of lines.items ≡ joined_lines text.now) }
 {
     let mut lines = Vec::new(alloc);
     let mut open = None;
@@ -87,7 +87,7 @@ fn next_line(text: &[u8]) -> Option<(&[u8], &[u8])>
 
 // The bytes without a carriage return at their end.
 fn without_cr(line: &[u8]) -> &[u8]
-    ensures { result.now ≡ cr_dropped line.now }
+    ensures { result.now ≡ without_cr line.now }
 {
     match line.split_last() {
         Some((b, before)) if *b == CARRIAGE_RETURN => before,
@@ -97,7 +97,7 @@ fn without_cr(line: &[u8]) -> &[u8]
 
 // Whether a line holds nothing but blanks, or a remark.
 fn is_silent(line: &[u8]) -> bool
-    ensures { result ≡ silent line.now }
+    ensures { result ≡ is_silent line.now }
 {
     match after_blanks(line).split_first() {
         Some((b, _)) => *b == b'#',
@@ -107,7 +107,7 @@ fn is_silent(line: &[u8]) -> bool
 
 // Whether a backslash at its end joins the next line.
 fn is_continued(line: &[u8]) -> bool
-    ensures { result ≡ continued line.now }
+    ensures { result ≡ is_continued line.now }
 {
     match line.split_last() {
         Some((b, _)) => *b == BACKSLASH,
@@ -122,7 +122,7 @@ fn with_line<'a>(
     number: usize,
     text: &'a [u8],
 ) -> Result<JoinedLine<'a>, AllocError>
-    ensures { IfOk result (λ line. line_of line ≡ line_with (option_map line_of begun.entry) number text.now) }
+    ensures { IfOk result (λ line. line_of line ≡ with_line (option_map line_of begun.entry) number text.now) }
 {
     match begun {
         None => Ok(JoinedLine {
@@ -151,7 +151,7 @@ fn join(alloc: Global, text: LineText<'_>, next: &[u8]) -> Result<Vec<u8>, Alloc
 
 // The line without its last byte.
 fn left_open<'a>(line: JoinedLine<'a>) -> JoinedLine<'a>
-    ensures { line_of result ≡ open_line (line_of line.entry) }
+    ensures { line_of result ≡ left_open (line_of line.entry) }
 {
     let JoinedLine { number, text } = line;
     JoinedLine {

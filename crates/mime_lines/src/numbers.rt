@@ -2,7 +2,7 @@
 ghost use Rattle.std.specs.Prelude.{◌≡◌, ◌≤◌, true, min};
 ghost use Rattle.std.specs.List.{list_all};
 ghost use Rattle.std.specs.Option.{option_map};
-ghost use Rattle.mime_lines.specs.Numbers.{number_of, in_base as base_number, is_digit_in as digit_in, is_hex_digit as hex_digit, digit_value as value_of, behind_zero as zero_number, read_on, told};
+ghost use Rattle.mime_lines.specs.Numbers.{number_of, in_base, is_digit_in, is_hex_digit, digit_value, behind_zero, read_on, told};
 
 // One more than the greatest number.
 const TOO_GREAT: u64 = 4_294_967_296;
@@ -30,7 +30,7 @@ pub fn read_number(word: &[u8]) -> Option<Number>
 
 // The number that a zero and these bytes are.
 fn behind_zero(bytes: &[u8]) -> Option<Number>
-    ensures { result ≡ option_map told (zero_number bytes.now) }
+    ensures { result ≡ option_map told (behind_zero bytes.now) }
 {
     match bytes.split_first() {
         None => Some(Number::Fits(0)),
@@ -48,7 +48,7 @@ fn behind_zero(bytes: &[u8]) -> Option<Number>
 fn in_base(base: u8, digits: &[u8]) -> Option<Number>
     requires least { 1 ≤ base }
     requires most { base ≤ 16 }
-    ensures { result ≡ option_map told (base_number base digits.now) }
+    ensures { result ≡ option_map told (in_base base digits.now) }
 {
     if !are_digits(base, digits) {
         return None;
@@ -61,21 +61,21 @@ fn in_base(base: u8, digits: &[u8]) -> Option<Number>
 }
 
 fn are_digits(base: u8, digits: &[u8]) -> bool
-    ensures { result ≡ list_all (digit_in base) digits.now }
+    ensures { result ≡ list_all (is_digit_in base) digits.now }
 {
     digits.iter().all(|b| is_digit_in(base, *b))
 }
 
 fn is_digit_in(base: u8, b: u8) -> bool
-    ensures { result ≡ digit_in base b }
+    ensures { result ≡ is_digit_in base b }
 {
     b.is_ascii_hexdigit() && digit_value(b) < base
 }
 
 // What a hexadecimal digit stands for.
 fn digit_value(b: u8) -> u8
-    requires { hex_digit b ≡ true }
-    ensures { result ≡ value_of b }
+    requires { is_hex_digit b ≡ true }
+    ensures { result ≡ digit_value b }
 {
     if b <= b'9' {
         b - b'0'
@@ -90,7 +90,7 @@ fn digit_value(b: u8) -> u8
 fn digits_value(base: u8, digits: &[u8]) -> u64
     requires least { 1 ≤ base }
     requires most { base ≤ 16 }
-    requires digits { list_all (digit_in base) digits.now ≡ true }
+    requires digits { list_all (is_digit_in base) digits.now ≡ true }
     ensures { result ≡ min 4294967296 (read_on base 0 digits.now) }
 {
     let mut value: u64 = 0;

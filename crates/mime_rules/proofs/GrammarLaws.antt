@@ -13,7 +13,7 @@ use Rattle.mime_rules.specs.Reading.{Read, read, wrong, on}
 use Rattle.mime_rules.specs.Tests.{Subject, never, always, negation, both, either, any_of}
 use Rattle.mime_rules.specs.Tokens.{Token, gap, comma, plus, bang, opening, closing, test, priority, fault}
 use Rattle.mime_rules.specs.Grammar.{after_separators, is_end, both_of, either_of, negated, group_end, behind_factor, fault_of, item_end, behind_item, list_here, factor_within, item_within, list_within, line_end, whole, most_depth, steps, list_of}
-use Rattle.mime_rules.specs.Seen.{token_of, Reads, Stopped, ListSays, ItemSays, FactorSays, GroupSays, turned, turned_meaning, all_or_none, is_bang_next, behind_bang, is_plus_next, behind_plus}
+use Rattle.mime_rules.specs.Seen.{token_of, Reads, Stopped, ListSays, ItemSays, FactorSays, GroupSays, with_bangs, negated_meaning, all_or_none, is_bang_next, behind_bang, is_plus_next, behind_plus}
 
 -- the list, behind the separators at its front
 abbrev pub HereSays : ℕ → List Token → Read Token (Subject → Bool) → Type 0
@@ -55,9 +55,9 @@ negated_twice (read None ts) = refl
 negated_twice (read (Some m) ts) = ap (λ k. read (Some k) ts) (negation_twice m)
 negated_twice (wrong kind) = refl
 
-pub turned_more : (odd : Bool) (r : Read Token (Option (Subject → Bool))) → turned odd (negated r) ≡ turned (not odd) r
-turned_more true r = negated_twice r
-turned_more false r = refl
+pub more_bangs : (odd : Bool) (r : Read Token (Option (Subject → Bool))) → with_bangs odd (negated r) ≡ with_bangs (not odd) r
+more_bangs true r = negated_twice r
+more_bangs false r = refl
 
 -- the factors
 pub bang_says : (groups : ℕ) (ts : List Token) (r : Read Token (Option (Subject → Bool))) → FactorSays groups ts r → FactorSays groups (bang ∷ ts) (negated r)
@@ -311,14 +311,14 @@ pub list_ends : (groups : ℕ) (ts entry : List Token) (ms : List (Subject → B
 list_ends groups ts entry ms at_end inv n le = inv (read never ts) (here_ends groups ts at_end) n le ∙ any_before_end ms ts
 
 -- a factor behind its `!`s
-pub factor_stops : (groups : ℕ) (stop : Stop) (odd : Bool) (ts entry : List Token) → Stopped stop (FactorSays groups ts) → ((q : ℕ) (r : Read Token (Option (Subject → Bool))) → FactorSays q ts r → FactorSays q entry (turned odd r)) → Stopped stop (FactorSays groups entry)
+pub factor_stops : (groups : ℕ) (stop : Stop) (odd : Bool) (ts entry : List Token) → Stopped stop (FactorSays groups ts) → ((q : ℕ) (r : Read Token (Option (Subject → Bool))) → FactorSays q ts r → FactorSays q entry (with_bangs odd r)) → Stopped stop (FactorSays groups entry)
 factor_stops groups Memory odd ts entry h turns = tt
 factor_stops groups (Fault kind) true ts entry h turns = turns groups (wrong kind) h
 factor_stops groups (Fault kind) false ts entry h turns = turns groups (wrong kind) h
 
-pub factor_turned : (groups : ℕ) (odd : Bool) (ts rest entry : List Token) (m k : Option (Subject → Bool)) → FactorSays groups ts (read m rest) → k ≡ turned_meaning odd m → ((q : ℕ) (r : Read Token (Option (Subject → Bool))) → FactorSays q ts r → FactorSays q entry (turned odd r)) → FactorSays groups entry (read k rest)
-factor_turned groups true ts rest entry m k h is turns n le = turns groups (read m rest) h n le ∙ ap (λ v. read v rest) (sym is)
-factor_turned groups false ts rest entry m k h is turns n le = turns groups (read m rest) h n le ∙ ap (λ v. read v rest) (sym is)
+pub factor_with_bangs : (groups : ℕ) (odd : Bool) (ts rest entry : List Token) (m k : Option (Subject → Bool)) → FactorSays groups ts (read m rest) → k ≡ negated_meaning odd m → ((q : ℕ) (r : Read Token (Option (Subject → Bool))) → FactorSays q ts r → FactorSays q entry (with_bangs odd r)) → FactorSays groups entry (read k rest)
+factor_with_bangs groups true ts rest entry m k h is turns n le = turns groups (read m rest) h n le ∙ ap (λ v. read v rest) (sym is)
+factor_with_bangs groups false ts rest entry m k h is turns n le = turns groups (read m rest) h n le ∙ ap (λ v. read v rest) (sym is)
 
 -- a line that stops inside its list, or behind it
 pub line_stops : (stop : Stop) (ts : List Token) → Stopped stop (ListSays most_depth ts) → Stopped stop (λ r. list_of ts ≡ r)

@@ -164,13 +164,13 @@ all_or_none [] = None
 all_or_none (m ∷ ms) = Some (all_of (m ∷ ms))
 
 -- an odd number of `!` negates
-abbrev pub turned_meaning : Bool → Option (Subject → Bool) → Option (Subject → Bool)
-turned_meaning false m = m
-turned_meaning true m = option_map negation m
+abbrev pub negated_meaning : Bool → Option (Subject → Bool) → Option (Subject → Bool)
+negated_meaning false m = m
+negated_meaning true m = option_map negation m
 
-abbrev pub turned : Bool → Read Token (Option (Subject → Bool)) → Read Token (Option (Subject → Bool))
-turned false r = r
-turned true r = negated r
+abbrev pub with_bangs : Bool → Read Token (Option (Subject → Bool)) → Read Token (Option (Subject → Bool))
+with_bangs false r = r
+with_bangs true r = negated r
 
 abbrev pub alternative_of : MemoryAlternative → Alternative
 alternative_of a = record { media = a.media_type; priority = a.priority; rule = meaning_of a.rule }

@@ -1,9 +1,9 @@
 //! The arguments of tests: numbers, texts and values.
 ghost use Rattle.std.specs.Prelude.{◌≡◌, ◌<◌, ◌≤◌, ◌∷◌, ℕ, ◌+◌, ◌*◌, List, length, IfOk, true, false};
-ghost use Rattle.line_words.specs.Blanks.{is_blank as blank};
-ghost use Rattle.mime_lines.specs.Numbers.{is_hex_digit as hex_digit, digit_value as value_of};
-ghost use Rattle.mime_rules.specs.Reading.{read, before, from, closed_by as closed};
-ghost use Rattle.mime_rules.specs.Arguments.{is_close as closes, is_mark as marks, is_close_next as close_next, is_quote as quotes, is_closing as closing_next, number_at as number_here, number_then as number_with, text_from, text_at as text_here, pair_at, value_at as value_here, text_of_width as width_text, bare, quoted, hex, width_of, most_of, value_bytes as bytes_of};
+ghost use Rattle.line_words.specs.Blanks.{is_blank};
+ghost use Rattle.mime_lines.specs.Numbers.{is_hex_digit, digit_value};
+ghost use Rattle.mime_rules.specs.Reading.{read, before, from, closed_by};
+ghost use Rattle.mime_rules.specs.Arguments.{is_close, is_mark, is_quote, is_closing, number_at, number_then, text_from, text_at, pair_at, value_at, text_of_width, bare, quoted, hex, width_of, most_of, value_bytes};
 ghost use Rattle.mime_rules.specs.Seen.{Told, Grown};
 
 use crate::stop::Stop;
@@ -48,7 +48,7 @@ impl Width {
 
 /// A number up to the greatest allowed, and the byte that must follow it.
 pub(crate) fn number_then(line: &[u8], mark: u8, most: u32) -> Result<(u32, &[u8]), Stop>
-    ensures value { Told result (λ r. read r.0 r.1.now) (number_with mark most line.now) }
+    ensures value { Told result (λ r. read r.0 r.1.now) (number_then mark most line.now) }
     ensures within { IfOk result (λ r. r.0 ≤ most) }
     ensures bound { IfOk result (λ r. length r.1.now < length line.now) }
 {
@@ -59,7 +59,7 @@ pub(crate) fn number_then(line: &[u8], mark: u8, most: u32) -> Result<(u32, &[u8
 
 // The number up to the next mark, and what follows from there on.
 fn number_at(line: &[u8], most: u32) -> Result<(u32, &[u8]), Stop>
-    ensures value { Told result (λ r. read r.0 r.1.now) (number_here most line.now) }
+    ensures value { Told result (λ r. read r.0 r.1.now) (number_at most line.now) }
     ensures within { IfOk result (λ r. r.0 ≤ most) }
     ensures bound { IfOk result (λ r. length r.1.now ≤ length line.now) }
 {
@@ -79,7 +79,7 @@ fn number_at(line: &[u8], most: u32) -> Result<(u32, &[u8]), Stop>
 
 // What follows the wanted byte, which must stand here.
 fn closed_by(line: &[u8], wanted: u8) -> Result<&[u8], Stop>
-    ensures value { Told result (λ rest. read wanted rest.now) (closed wanted line.now) }
+    ensures value { Told result (λ rest. read wanted rest.now) (closed_by wanted line.now) }
     ensures bound { IfOk result (λ rest. length rest.now < length line.now) }
 {
     match line.split_first() {
@@ -96,8 +96,8 @@ fn closed_by(line: &[u8], wanted: u8) -> Result<&[u8], Stop>
 
 // Up to the first `,` or `)`, and from there on.
 fn cut_at_mark(line: &[u8]) -> (&[u8], &[u8])
-    ensures before { result.0.now ≡ before marks line.now }
-    ensures rest { result.1.now ≡ from marks line.now }
+    ensures before { result.0.now ≡ before is_mark line.now }
+    ensures rest { result.1.now ≡ from is_mark line.now }
     ensures bound { length result.1.now ≤ length line.now }
 {
     for (i, b) in line.iter().enumerate() {
@@ -110,8 +110,8 @@ fn cut_at_mark(line: &[u8]) -> (&[u8], &[u8])
 
 // Up to the first `)`, and from there on.
 fn cut_at_close(line: &[u8]) -> (&[u8], &[u8])
-    ensures before { result.0.now ≡ before closes line.now }
-    ensures rest { result.1.now ≡ from closes line.now }
+    ensures before { result.0.now ≡ before is_close line.now }
+    ensures rest { result.1.now ≡ from is_close line.now }
     ensures bound { length result.1.now ≤ length line.now }
 {
     for (i, b) in line.iter().enumerate() {
@@ -124,7 +124,7 @@ fn cut_at_close(line: &[u8]) -> (&[u8], &[u8])
 
 /// A text up to its closing parenthesis, and what follows that.
 pub(crate) fn text_at<'a>(alloc: Global, line: &'a [u8]) -> Result<(Vec<u8>, &'a [u8]), Stop>
-    ensures value { Told result (λ r. read r.0.items r.1.now) (text_here line.now) }
+    ensures value { Told result (λ r. read r.0.items r.1.now) (text_at line.now) }
     ensures bound { IfOk result (λ r. length r.1.now < length line.now) }
 {
     let mut text = Vec::new(alloc);
@@ -136,15 +136,15 @@ pub(crate) fn text_at<'a>(alloc: Global, line: &'a [u8]) -> Result<(Vec<u8>, &'a
                 if *b == CLOSE {
                     return Ok((text, behind));
                 }
-                rest = run(&mut text, *b, behind)?;
+                rest = any_run(&mut text, *b, behind)?;
             }
         }
     }
 }
 
 // The run that begins with this byte: in quotes, in hexadecimal digits, or a byte that stands for itself.
-fn run<'a>(text: &mut Vec<u8>, first: u8, behind: &'a [u8]) -> Result<&'a [u8], Stop>
-    requires { closes first ≡ false }
+fn any_run<'a>(text: &mut Vec<u8>, first: u8, behind: &'a [u8]) -> Result<&'a [u8], Stop>
+    requires { is_close first ≡ false }
     ensures grown { Grown result (λ rest. text_from bare rest.now) text.old.items text.new.items (text_from bare (first ∷ behind.now)) }
     ensures bound { IfOk result (λ rest. length rest.now ≤ length behind.now) }
 {
@@ -161,7 +161,7 @@ fn run<'a>(text: &mut Vec<u8>, first: u8, behind: &'a [u8]) -> Result<&'a [u8], 
 }
 
 fn is_quote(b: u8) -> bool
-    ensures { result ≡ quotes b }
+    ensures { result ≡ is_quote b }
 {
     b == b'"' || b == b'\''
 }
@@ -232,8 +232,8 @@ fn hex_pair(high: u8, line: &[u8]) -> Result<(u8, &[u8]), Stop>
 
 // What a hexadecimal digit stands for.
 fn hex_value(b: u8) -> u8
-    requires { hex_digit b ≡ true }
-    ensures value { result ≡ value_of b }
+    requires { is_hex_digit b ≡ true }
+    ensures value { result ≡ digit_value b }
     ensures bound { result < 16 }
 {
     if b <= b'9' {
@@ -247,7 +247,7 @@ fn hex_value(b: u8) -> u8
 
 // A blank counts where no parenthesis follows it and the blanks behind it.
 fn blank_run<'a>(text: &mut Vec<u8>, first: u8, behind: &'a [u8]) -> Result<&'a [u8], Stop>
-    requires { blank first ≡ true }
+    requires { is_blank first ≡ true }
     ensures grown { Grown result (λ rest. text_from bare rest.now) text.old.items text.new.items (text_from bare (first ∷ behind.now)) }
     ensures bound { IfOk result (λ rest. length rest.now ≤ length behind.now) }
 {
@@ -260,7 +260,7 @@ fn blank_run<'a>(text: &mut Vec<u8>, first: u8, behind: &'a [u8]) -> Result<&'a 
 
 // Blanks that no parenthesis follows.
 fn push_blanks<'a>(text: &mut Vec<u8>, line: &'a [u8]) -> Result<&'a [u8], Stop>
-    requires { closing_next line.now ≡ false }
+    requires { is_closing line.now ≡ false }
     ensures grown { Grown result (λ rest. text_from bare rest.now) text.old.items text.new.items (text_from bare line.now) }
     ensures bound { IfOk result (λ rest. length rest.now ≤ length line.now) }
 {
@@ -277,7 +277,7 @@ fn push_blanks<'a>(text: &mut Vec<u8>, line: &'a [u8]) -> Result<&'a [u8], Stop>
 
 // Whether nothing but blanks stands before the closing parenthesis.
 fn is_closing(line: &[u8]) -> bool
-    ensures { result ≡ closing_next line.now }
+    ensures { result ≡ is_closing line.now }
 {
     match after_blanks(line).split_first() {
         Some((b, _)) => *b == CLOSE,
@@ -291,7 +291,7 @@ pub(crate) fn value_at<'a>(
     line: &'a [u8],
     width: Width,
 ) -> Result<(Vec<u8>, &'a [u8]), Stop>
-    ensures value { Told result (λ r. read r.0.items r.1.now) (value_here width line.now) }
+    ensures value { Told result (λ r. read r.0.items r.1.now) (value_at width line.now) }
     ensures bound { IfOk result (λ r. length r.1.now < length line.now) }
 {
     let (word, rest) = cut_at_close(line);
@@ -316,7 +316,7 @@ fn text_of_width<'a>(
     line: &'a [u8],
     width: Width,
 ) -> Result<(Vec<u8>, &'a [u8]), Stop>
-    ensures value { Told result (λ r. read r.0.items r.1.now) (width_text width line.now) }
+    ensures value { Told result (λ r. read r.0.items r.1.now) (text_of_width width line.now) }
     ensures bound { IfOk result (λ r. length r.1.now < length line.now) }
 {
     let (text, rest) = text_at(alloc, line)?;
@@ -330,7 +330,7 @@ fn text_of_width<'a>(
 // The bytes of a number, high byte first.
 fn value_bytes(alloc: Global, n: u32, width: Width) -> Result<Vec<u8>, AllocError>
     requires { n ≤ most_of width }
-    ensures { IfOk result (λ v. v.items ≡ bytes_of width n) }
+    ensures { IfOk result (λ v. v.items ≡ value_bytes width n) }
 {
     match width {
         Width::Char => Vec::from_slice(alloc, &[n as u8]),
@@ -341,13 +341,13 @@ fn value_bytes(alloc: Global, n: u32, width: Width) -> Result<Vec<u8>, AllocErro
 
 fn short_bytes(alloc: Global, n: u32) -> Result<Vec<u8>, AllocError>
     requires { n ≤ 65535 }
-    ensures { IfOk result (λ v. v.items ≡ bytes_of Width.Short n) }
+    ensures { IfOk result (λ v. v.items ≡ value_bytes Width.Short n) }
 {
     Vec::from_slice(alloc, &[(n / 256) as u8, (n % 256) as u8])
 }
 
 fn int_bytes(alloc: Global, n: u32) -> Result<Vec<u8>, AllocError>
-    ensures { IfOk result (λ v. v.items ≡ bytes_of Width.Int n) }
+    ensures { IfOk result (λ v. v.items ≡ value_bytes Width.Int n) }
 {
     Vec::from_slice(
         alloc,

@@ -2,10 +2,10 @@
 ghost use Rattle.std.specs.Prelude.{◌≡◌, ◌<◌, ◌≤◌, ℕ, Bool, List, [], ◌++◌, Option, map, length, IfOk, true, false};
 ghost use Rattle.std.specs.Option.{option_map, option_to_list};
 ghost use Rattle.mime_rules.specs.Reading.{Read, read, wrong};
-ghost use Rattle.mime_rules.specs.Tests.{Subject as Document, any_of as any_meaning};
+ghost use Rattle.mime_rules.specs.Tests.{Subject, any_of};
 ghost use Rattle.mime_rules.specs.Tokens.{Token as Sign};
-ghost use Rattle.mime_rules.specs.Grammar.{list_of as list_in, priority_of as priority_in, after_separators, separates, is_end, group_end, fault_of, item_end, line_end};
-ghost use Rattle.mime_rules.specs.Seen.{Reads, Told, token_of, meaning_of, meaning_of_test, ListSays, ItemSays, FactorSays, GroupSays, is_bang_next, behind_bang, turned, turned_meaning, all_or_none, ended, behind_plus, is_plus_next};
+ghost use Rattle.mime_rules.specs.Grammar.{list_of, priority_of, after_separators, separates, is_end, group_end, fault_of, item_end, line_end};
+ghost use Rattle.mime_rules.specs.Seen.{Reads, Told, token_of, meaning_of, meaning_of_test, ListSays, ItemSays, FactorSays, GroupSays, is_bang_next, behind_bang, with_bangs, negated_meaning, all_or_none, ended, behind_plus, is_plus_next};
 
 use crate::rule::{Rule, Test};
 use crate::stop::Stop;
@@ -21,7 +21,7 @@ const USUAL_PRIORITY: u8 = 100;
 
 /// The priority that a line sets last, or 100.
 pub(crate) fn priority_of(tokens: &VecDeque<Token>) -> u8
-    ensures value { result ≡ priority_in (map token_of tokens.now.items) }
+    ensures value { result ≡ priority_of (map token_of tokens.now.items) }
 {
     let mut priority = USUAL_PRIORITY;
     for i in 0..tokens.len() {
@@ -34,7 +34,7 @@ pub(crate) fn priority_of(tokens: &VecDeque<Token>) -> u8
 
 /// The rule that a line's list is.
 pub(crate) fn list_of(alloc: Global, tokens: VecDeque<Token>) -> Result<Rule, Stop>
-    ensures value { Told result (λ rule. read (meaning_of rule) []) (list_in (map token_of tokens.items)) }
+    ensures value { Told result (λ rule. read (meaning_of rule) []) (list_of (map token_of tokens.items)) }
 {
     let mut rest = tokens;
     match list(alloc, &mut rest, MOST_DEPTH) {
@@ -91,7 +91,7 @@ fn list(alloc: Global, tokens: &mut VecDeque<Token>, groups: u8) -> Result<Rule,
 
 // Any of these items.
 fn any_of(items: Vec<Rule>) -> Rule
-    ensures { meaning_of result ≡ any_meaning (map meaning_of items.items) }
+    ensures { meaning_of result ≡ any_of (map meaning_of items.items) }
 {
     Rule::Any(items)
 }
@@ -147,15 +147,15 @@ fn factor(alloc: Global, tokens: &mut VecDeque<Token>, groups: u8) -> Result<Opt
     match operand(alloc, tokens, groups) {
         Err(stop) => Err(stop),
         Ok(found) => {
-            let rule = turn(alloc, is_negated, found)?;
+            let rule = negated(alloc, is_negated, found)?;
             Ok(rule)
         }
     }
 }
 
 // A rule, or its negation.
-fn turn(alloc: Global, negates: bool, found: Option<Rule>) -> Result<Option<Rule>, AllocError>
-    ensures { IfOk result (λ rule. option_map meaning_of rule ≡ turned_meaning negates (option_map meaning_of found)) }
+fn negated(alloc: Global, negates: bool, found: Option<Rule>) -> Result<Option<Rule>, AllocError>
+    ensures { IfOk result (λ rule. option_map meaning_of rule ≡ negated_meaning negates (option_map meaning_of found)) }
 {
     match found {
         None => Ok(None),
@@ -219,7 +219,7 @@ fn group(alloc: Global, tokens: &mut VecDeque<Token>, groups: u8) -> Result<Opti
 
 // Takes the parenthesis that closes a group, and tells whether one stood there.
 fn takes_close(tokens: &mut VecDeque<Token>) -> bool
-    ensures value { (m : Document → Bool) → group_end m (map token_of tokens.old.items) ≡ ended result m (map token_of tokens.new.items) }
+    ensures value { (m : Subject → Bool) → group_end m (map token_of tokens.old.items) ≡ ended result m (map token_of tokens.new.items) }
     ensures shorter { length tokens.new.items ≤ length tokens.old.items }
 {
     match tokens.pop_front() {
@@ -291,7 +291,7 @@ fn takes_plus(tokens: &mut VecDeque<Token>) -> bool
 
 // Takes each `!`, and tells whether there are an odd number of them.
 fn takes_bangs(tokens: &mut VecDeque<Token>) -> bool
-    ensures turns { (groups : ℕ) (r : Read Sign (Option (Document → Bool))) → FactorSays groups (map token_of tokens.new.items) r → FactorSays groups (map token_of tokens.old.items) (turned result r) }
+    ensures bangs { (groups : ℕ) (r : Read Sign (Option (Subject → Bool))) → FactorSays groups (map token_of tokens.new.items) r → FactorSays groups (map token_of tokens.old.items) (with_bangs result r) }
     ensures next { is_bang_next (map token_of tokens.new.items) ≡ false }
     ensures bound { length tokens.new.items ≤ length tokens.old.items }
 {

@@ -1,7 +1,7 @@
 //! Whether a rule is true of a document.
 ghost use Rattle.std.specs.Prelude.{◌≡◌, ◌≤◌, length, take, drop, map};
 ghost use Rattle.std.specs.List.{list_all, list_any};
-ghost use Rattle.mime_rules.specs.Tests.{window as window_of, last_bytes as last_of, some_end, stands, stands_folded, is_ascii_text as ascii_text, is_printable_text as printable_text};
+ghost use Rattle.mime_rules.specs.Tests.{window, last_bytes, some_end, stands, stands_folded, is_ascii_text, is_printable_text};
 ghost use Rattle.mime_rules.specs.Seen.{subject_of, meaning_of_test, meaning_of, all_mean, any_means};
 
 use crate::pattern::matches;
@@ -71,7 +71,7 @@ fn test_holds(test: &Test, subject: &Subject<'_>) -> bool
 
 // The last bytes, or all where there are fewer.
 fn last_bytes(bytes: &[u8], count: usize) -> &[u8]
-    ensures { result.now ≡ last_of count bytes.now }
+    ensures { result.now ≡ last_bytes count bytes.now }
 {
     &bytes[bytes.len().saturating_sub(count)..]
 }
@@ -100,7 +100,7 @@ fn front(bytes: &[u8], count: usize) -> &[u8]
 }
 
 fn window<'a>(bytes: &'a [u8], place: &Window) -> &'a [u8]
-    ensures { result.now ≡ window_of place.now.offset place.now.count bytes.now }
+    ensures { result.now ≡ window place.now.offset place.now.count bytes.now }
 {
     front(from_offset(bytes, place.offset), place.count as usize)
 }
@@ -125,25 +125,25 @@ fn contains(bytes: &[u8], text: &[u8]) -> bool
 }
 
 fn are_ascii_text(bytes: &[u8]) -> bool
-    ensures { result ≡ list_all ascii_text bytes.now }
+    ensures { result ≡ list_all is_ascii_text bytes.now }
 {
     bytes.iter().all(|b| is_ascii_text(*b))
 }
 
 fn are_printable(bytes: &[u8]) -> bool
-    ensures { result ≡ list_all printable_text bytes.now }
+    ensures { result ≡ list_all is_printable_text bytes.now }
 {
     bytes.iter().all(|b| is_printable_text(*b))
 }
 
 fn is_ascii_text(b: u8) -> bool
-    ensures { result ≡ ascii_text b }
+    ensures { result ≡ is_ascii_text b }
 {
     b == 8 || b == 9 || b == 10 || b == 13 || (32 <= b && b <= 126)
 }
 
 fn is_printable_text(b: u8) -> bool
-    ensures { result ≡ printable_text b }
+    ensures { result ≡ is_printable_text b }
 {
     is_ascii_text(b) || (128 <= b && b <= 254)
 }

@@ -1,6 +1,6 @@
 //! The names of the rules.
 ghost use Rattle.std.specs.Prelude.{◌≡◌};
-ghost use Rattle.mime_rules.specs.Tokens.{rule_name as name_of, other_name as other_name_of};
+ghost use Rattle.mime_rules.specs.Tokens.{rule_name, other_name};
 
 /// What stands before a parenthesis.
 #[derive(Clone, Copy)]
@@ -20,7 +20,7 @@ pub(crate) enum RuleName {
 
 /// The rule of this name, in lower case exactly.
 pub(crate) fn rule_name(word: &[u8]) -> Option<RuleName>
-    ensures value { result ≡ name_of word.now }
+    ensures value { result ≡ rule_name word.now }
 {
     if word == b"match".as_slice() {
         Some(RuleName::Match)
@@ -39,7 +39,7 @@ pub(crate) fn rule_name(word: &[u8]) -> Option<RuleName>
 
 // The same of the other names.
 fn other_name(word: &[u8]) -> Option<RuleName>
-    ensures { result ≡ other_name_of word.now }
+    ensures { result ≡ other_name word.now }
 {
     if word == b"char".as_slice() {
         Some(RuleName::ValueChar)

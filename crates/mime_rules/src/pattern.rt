@@ -3,8 +3,8 @@ ghost use Rattle.std.specs.Prelude.{◌≡◌, ◌≤◌, ◌<◌, ◌&&◌, ◌
 ghost use Rattle.std.specs.Option.{option_map};
 ghost use Rattle.mime_rules.specs.Reading.{read};
 ghost use Rattle.mime_rules.specs.Tests.{some_end};
-ghost use Rattle.mime_rules.specs.Patterns.{matching, is_in as member, piece_of_byte as piece_of_code, pieces_in, with_piece, one, range_behind};
-ghost use Rattle.mime_rules.specs.Seen.{piece_of, passes_piece, is_run as runs, rest_matches, Reads, PatternSays, PieceSays};
+ghost use Rattle.mime_rules.specs.Patterns.{matching, is_in, piece_of_byte, pieces_in, with_piece, one, range_behind};
+ghost use Rattle.mime_rules.specs.Seen.{piece_of, passes_piece, is_run, rest_matches, Reads, PatternSays, PieceSays};
 
 use crate::stop::Stop;
 use spool_types::WarningKind;
@@ -85,7 +85,7 @@ fn first_fit<'a, 'b>(pattern: &'a [Piece], name: &'b [u8]) -> Option<(&'a [Piece
 }
 
 fn is_run(piece: &Piece) -> bool
-    ensures { result ≡ runs (piece_of piece.now) }
+    ensures { result ≡ is_run (piece_of piece.now) }
 {
     match piece {
         Piece::Run => true,
@@ -106,7 +106,7 @@ fn passes(piece: &Piece, b: u8) -> bool
 
 // Whether a byte is in a set: of its single bytes, or of its ranges of three bytes.
 fn is_in(set: &[u8], x: u8) -> bool
-    ensures { result ≡ member set.now x }
+    ensures { result ≡ is_in set.now x }
 {
     let mut rest = set;
     while let Some((first, behind)) = rest.split_first() {
@@ -189,7 +189,7 @@ fn next_piece<'a>(alloc: Global, first: u8, behind: &'a [u8]) -> Result<(Piece, 
 }
 
 fn piece_of_byte(b: u8) -> Piece
-    ensures { piece_of result ≡ piece_of_code b }
+    ensures { piece_of result ≡ piece_of_byte b }
 {
     if b == b'*' {
         Piece::Run
@@ -202,7 +202,7 @@ fn piece_of_byte(b: u8) -> Piece
 
 // A set, and what follows its bracket.
 fn cut_set(text: &[u8]) -> Option<(&[u8], &[u8])>
-    ensures value { MatchOption result (pieces_in (Some []) text.now ≡ None) (λ r. pieces_in (Some []) text.now ≡ with_piece (one (member r.0.now)) (pieces_in None r.1.now)) }
+    ensures value { MatchOption result (pieces_in (Some []) text.now ≡ None) (λ r. pieces_in (Some []) text.now ≡ with_piece (one (is_in r.0.now)) (pieces_in None r.1.now)) }
     ensures bound { IfSome result (λ r. length r.1.now < length text.now) }
 {
     for (i, b) in text.iter().enumerate() {

@@ -1,10 +1,10 @@
 //! The tokens of a list of rules.
 ghost use Rattle.std.specs.Prelude.{◌≡◌, ◌<◌, ◌≤◌, ◌+◌, ◌∷◌, Some, None, map, length, IfOk, IfSome, true, false};
 ghost use Rattle.std.specs.Option.{option_map};
-ghost use Rattle.line_words.specs.Blanks.{after_blanks as behind_blanks};
+ghost use Rattle.line_words.specs.Blanks.{after_blanks};
 ghost use Rattle.mime_rules.specs.Reading.{read};
 ghost use Rattle.mime_rules.specs.Tests.{suffix_test};
-ghost use Rattle.mime_rules.specs.Tokens.{test, tokens_of as tokens_in, token_at as token_here, other_token as plain_token, behind_plus as plus_end, is_sign as signs, sign_token, is_and as and_next, word_token as token_of_word, word_here, behind_word, named_token, pattern_token as pattern_at, ascii_token as ascii_at, printable_token as printable_at, string_token as string_at, istring_token as istring_at, value_token as value_token_at, contains_token as contains_at, locale_token as locale_at, priority_token as priority_at};
+ghost use Rattle.mime_rules.specs.Tokens.{test, tokens_of, token_at, other_token, behind_plus, is_sign, sign_token, is_and, word_token, word_here, behind_word, named_token, pattern_token, ascii_token, printable_token, string_token, istring_token, value_token, contains_token, locale_token, priority_token};
 ghost use Rattle.mime_rules.specs.Seen.{Told, token_of, EndsBy};
 
 use crate::arguments::{Width, number_then, text_at, value_at};
@@ -44,7 +44,7 @@ pub(crate) enum Token {
 
 /// The tokens of a list of rules, up to the first fault.
 pub(crate) fn tokens_of(alloc: Global, line: &[u8]) -> Result<VecDeque<Token>, AllocError>
-    ensures value { IfOk result (λ tokens. map token_of tokens.items ≡ tokens_in line.now) }
+    ensures value { IfOk result (λ tokens. map token_of tokens.items ≡ tokens_of line.now) }
 {
     let mut tokens = VecDeque::new(alloc);
     let mut rest = line;
@@ -76,7 +76,7 @@ fn with_last(tokens: VecDeque<Token>, stop: Stop) -> Result<VecDeque<Token>, All
 
 // The token that begins here. Blanks beside a plus are part of it.
 fn token_at<'a>(alloc: Global, line: &'a [u8]) -> Result<(Token, &'a [u8]), Stop>
-    ensures value { Told result (λ r. read (token_of r.0) r.1.now) (token_here line.now) }
+    ensures value { Told result (λ r. read (token_of r.0) r.1.now) (token_at line.now) }
     ensures bound { IfOk result (λ r. length r.1.now < length line.now) }
 {
     match behind_plus(after_blanks(line)) {
@@ -87,8 +87,8 @@ fn token_at<'a>(alloc: Global, line: &'a [u8]) -> Result<(Token, &'a [u8]), Stop
 
 // A token that is no plus.
 fn other_token<'a>(alloc: Global, line: &'a [u8]) -> Result<(Token, &'a [u8]), Stop>
-    requires { plus_end (behind_blanks line.now) ≡ None }
-    ensures value { Told result (λ r. read (token_of r.0) r.1.now) (plain_token line.now) }
+    requires { behind_plus (after_blanks line.now) ≡ None }
+    ensures value { Told result (λ r. read (token_of r.0) r.1.now) (other_token line.now) }
     ensures bound { IfOk result (λ r. length r.1.now < length line.now) }
 {
     match line.split_first() {
@@ -105,7 +105,7 @@ fn other_token<'a>(alloc: Global, line: &'a [u8]) -> Result<(Token, &'a [u8]), S
 
 // What follows a `+` or `&&`, if one is next.
 fn behind_plus(line: &[u8]) -> Option<&[u8]>
-    ensures value { option_map (λ r. r.now) result ≡ plus_end line.now }
+    ensures value { option_map (λ r. r.now) result ≡ behind_plus line.now }
     ensures bound { IfSome result (λ r. length r.now < length line.now) }
 {
     match line {
@@ -116,7 +116,7 @@ fn behind_plus(line: &[u8]) -> Option<&[u8]>
 }
 
 fn is_sign(b: u8) -> bool
-    ensures { result ≡ signs b }
+    ensures { result ≡ is_sign b }
 {
     is_blank(b) || b == b',' || b == b'+' || b == b'(' || b == b')' || b == b'!' || b == b'"'
 }
@@ -139,7 +139,7 @@ fn sign(first: u8, behind: &[u8]) -> Result<(Token, &[u8]), Stop>
 }
 
 fn is_and(line: &[u8]) -> bool
-    ensures { result ≡ and_next line.now }
+    ensures { result ≡ is_and line.now }
 {
     match line {
         [a, b, ..] => *a == b'&' && *b == b'&',
@@ -150,7 +150,7 @@ fn is_and(line: &[u8]) -> bool
 // A suffix of names, or a rule that a name and `(` begin.
 fn word<'a>(alloc: Global, line: &'a [u8]) -> Result<(Token, &'a [u8]), Stop>
     requires { 0 < length (word_here line.now) }
-    ensures value { Told result (λ r. read (token_of r.0) r.1.now) (token_of_word (word_here line.now) (behind_word line.now)) }
+    ensures value { Told result (λ r. read (token_of r.0) r.1.now) (word_token (word_here line.now) (behind_word line.now)) }
     ensures bound { IfOk result (λ r. length r.1.now < length line.now) }
 {
     let (word, rest) = cut_word(line);
@@ -224,7 +224,7 @@ fn named<'a>(
 }
 
 fn pattern_token<'a>(alloc: Global, line: &'a [u8]) -> Result<(Token, &'a [u8]), Stop>
-    ensures value { Told result (λ r. read (token_of r.0) r.1.now) (pattern_at line.now) }
+    ensures value { Told result (λ r. read (token_of r.0) r.1.now) (pattern_token line.now) }
     ensures bound { IfOk result (λ r. length r.1.now ≤ length line.now) }
 {
     let (text, rest) = text_at(alloc, line)?;
@@ -235,7 +235,7 @@ fn pattern_token<'a>(alloc: Global, line: &'a [u8]) -> Result<(Token, &'a [u8]),
 }
 
 fn ascii_token(line: &[u8]) -> Result<(Token, &[u8]), Stop>
-    ensures value { Told result (λ r. read (token_of r.0) r.1.now) (ascii_at line.now) }
+    ensures value { Told result (λ r. read (token_of r.0) r.1.now) (ascii_token line.now) }
     ensures bound { IfOk result (λ r. length r.1.now ≤ length line.now) }
 {
     let (offset, behind) = number_then(line, COMMA, GREATEST)?;
@@ -244,7 +244,7 @@ fn ascii_token(line: &[u8]) -> Result<(Token, &[u8]), Stop>
 }
 
 fn printable_token(line: &[u8]) -> Result<(Token, &[u8]), Stop>
-    ensures value { Told result (λ r. read (token_of r.0) r.1.now) (printable_at line.now) }
+    ensures value { Told result (λ r. read (token_of r.0) r.1.now) (printable_token line.now) }
     ensures bound { IfOk result (λ r. length r.1.now ≤ length line.now) }
 {
     let (offset, behind) = number_then(line, COMMA, GREATEST)?;
@@ -253,7 +253,7 @@ fn printable_token(line: &[u8]) -> Result<(Token, &[u8]), Stop>
 }
 
 fn string_token<'a>(alloc: Global, line: &'a [u8]) -> Result<(Token, &'a [u8]), Stop>
-    ensures value { Told result (λ r. read (token_of r.0) r.1.now) (string_at line.now) }
+    ensures value { Told result (λ r. read (token_of r.0) r.1.now) (string_token line.now) }
     ensures bound { IfOk result (λ r. length r.1.now ≤ length line.now) }
 {
     let (offset, behind) = number_then(line, COMMA, GREATEST)?;
@@ -262,7 +262,7 @@ fn string_token<'a>(alloc: Global, line: &'a [u8]) -> Result<(Token, &'a [u8]), 
 }
 
 fn istring_token<'a>(alloc: Global, line: &'a [u8]) -> Result<(Token, &'a [u8]), Stop>
-    ensures value { Told result (λ r. read (token_of r.0) r.1.now) (istring_at line.now) }
+    ensures value { Told result (λ r. read (token_of r.0) r.1.now) (istring_token line.now) }
     ensures bound { IfOk result (λ r. length r.1.now ≤ length line.now) }
 {
     let (offset, behind) = number_then(line, COMMA, GREATEST)?;
@@ -271,7 +271,7 @@ fn istring_token<'a>(alloc: Global, line: &'a [u8]) -> Result<(Token, &'a [u8]),
 }
 
 fn value_token<'a>(alloc: Global, width: Width, line: &'a [u8]) -> Result<(Token, &'a [u8]), Stop>
-    ensures value { Told result (λ r. read (token_of r.0) r.1.now) (value_token_at width line.now) }
+    ensures value { Told result (λ r. read (token_of r.0) r.1.now) (value_token width line.now) }
     ensures bound { IfOk result (λ r. length r.1.now ≤ length line.now) }
 {
     let (offset, behind) = number_then(line, COMMA, GREATEST)?;
@@ -280,7 +280,7 @@ fn value_token<'a>(alloc: Global, width: Width, line: &'a [u8]) -> Result<(Token
 }
 
 fn contains_token<'a>(alloc: Global, line: &'a [u8]) -> Result<(Token, &'a [u8]), Stop>
-    ensures value { Told result (λ r. read (token_of r.0) r.1.now) (contains_at line.now) }
+    ensures value { Told result (λ r. read (token_of r.0) r.1.now) (contains_token line.now) }
     ensures bound { IfOk result (λ r. length r.1.now ≤ length line.now) }
 {
     let (offset, behind) = number_then(line, COMMA, GREATEST)?;
@@ -293,7 +293,7 @@ fn contains_token<'a>(alloc: Global, line: &'a [u8]) -> Result<(Token, &'a [u8])
 }
 
 fn locale_token<'a>(alloc: Global, line: &'a [u8]) -> Result<(Token, &'a [u8]), Stop>
-    ensures value { Told result (λ r. read (token_of r.0) r.1.now) (locale_at line.now) }
+    ensures value { Told result (λ r. read (token_of r.0) r.1.now) (locale_token line.now) }
     ensures bound { IfOk result (λ r. length r.1.now ≤ length line.now) }
 {
     let (text, rest) = text_at(alloc, line)?;
@@ -301,7 +301,7 @@ fn locale_token<'a>(alloc: Global, line: &'a [u8]) -> Result<(Token, &'a [u8]), 
 }
 
 fn priority_token(line: &[u8]) -> Result<(Token, &[u8]), Stop>
-    ensures value { Told result (λ r. read (token_of r.0) r.1.now) (priority_at line.now) }
+    ensures value { Told result (λ r. read (token_of r.0) r.1.now) (priority_token line.now) }
     ensures bound { IfOk result (λ r. length r.1.now ≤ length line.now) }
 {
     let (n, rest) = number_then(line, CLOSE, GREATEST_PRIORITY)?;

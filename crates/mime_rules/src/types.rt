@@ -3,7 +3,7 @@ ghost use Rattle.std.specs.Prelude.{◌≡◌, ◌∷◌, ◌++◌, [], IfOk, ma
 ghost use Rattle.std.specs.Option.{option_map};
 ghost use Rattle.mime_lines.specs.Seen.{line_of};
 ghost use Rattle.mime_rules.specs.Lines.{alternatives_of, warnings_of, alternatives_in, warnings_in};
-ghost use Rattle.mime_rules.specs.Best.{type_of as best_type, best as best_of, better as better_of, beats as beaten_by};
+ghost use Rattle.mime_rules.specs.Best.{type_of, best, better, beats};
 ghost use Rattle.mime_rules.specs.Seen.{types_of, alternative_of, subject_of};
 
 use crate::line::{Alternative, read_line};
@@ -44,7 +44,7 @@ impl Types {
 
     /// The type of a document with this name and these bytes, in this locale. It takes no memory.
     pub fn type_of(&self, name: &str, bytes: &[u8], locale: &str) -> Option<&MediaType>
-        ensures value { option_map (λ media. media.now) result ≡ best_type (record { name = name.now; bytes = bytes.now; locale = locale.now }) (types_of self.now) }
+        ensures value { option_map (λ media. media.now) result ≡ type_of (record { name = name.now; bytes = bytes.now; locale = locale.now }) (types_of self.now) }
     {
         let subject = Subject {
             name: name.as_bytes(),
@@ -102,7 +102,7 @@ fn add_line(
 
 // The best of the alternatives that are true.
 fn best<'a>(alternatives: &'a [Alternative], subject: &Subject<'_>) -> Option<&'a Alternative>
-    ensures { option_map (λ a. alternative_of a.now) result ≡ best_of (subject_of subject.now) (map alternative_of alternatives.now) }
+    ensures { option_map (λ a. alternative_of a.now) result ≡ best (subject_of subject.now) (map alternative_of alternatives.now) }
 {
     let mut found: Option<&'a Alternative> = None;
     let mut rest = alternatives;
@@ -117,7 +117,7 @@ fn best<'a>(alternatives: &'a [Alternative], subject: &Subject<'_>) -> Option<&'
 
 // Which of the two counts.
 fn better<'a>(first: &'a Alternative, later: Option<&'a Alternative>) -> &'a Alternative
-    ensures { alternative_of result.now ≡ better_of (alternative_of first.now) (option_map (λ a. alternative_of a.now) later.entry) }
+    ensures { alternative_of result.now ≡ better (alternative_of first.now) (option_map (λ a. alternative_of a.now) later.entry) }
 {
     match later {
         None => first,
@@ -127,7 +127,7 @@ fn better<'a>(first: &'a Alternative, later: Option<&'a Alternative>) -> &'a Alt
 
 // Whether an alternative has the higher priority, or the same and the type that is alphabetically before.
 fn beats(a: &Alternative, b: &Alternative) -> bool
-    ensures { result ≡ beaten_by (alternative_of a.now) (alternative_of b.now) }
+    ensures { result ≡ beats (alternative_of a.now) (alternative_of b.now) }
 {
     b.priority < a.priority
         || (a.priority == b.priority && a.media_type.as_str() < b.media_type.as_str())

@@ -1,13 +1,10 @@
 //! Changes of reasons and of attributes, in place.
 ghost use Rattle.std.specs.Prelude.{◌≡◌, ◌≤◌, [], ◌∷◌, IsTrue, IfOk, IfErr, vec_capacity};
 ghost use Rattle.row_effects.specs.Keys.{IsPlace, IsGap, is_ascending, most_kept};
-ghost use Rattle.row_effects.specs.Reasons.{word_of, set_reasons as only_reasons, add_reason as with_reason, add_reasons as with_reasons, drop_reasons as without_reasons};
-ghost use Rattle.row_effects.specs.Attributes.{name_of, set_attribute as with_attribute};
+ghost use Rattle.row_effects.specs.Reasons.{word_of, set_reasons, add_reason, add_reasons, drop_reasons};
+ghost use Rattle.row_effects.specs.Attributes.{name_of, set_attribute};
 
-use spool_types::{Attribute, AttributeName, Reason, Words};
-
-/// How many reasons, and how many attributes, a queue keeps.
-pub(super) const MOST: usize = 64;
+use spool_types::{Attribute, AttributeName, MOST_KEPT, Reason, Words};
 
 // Where the reason stands, or would go.
 fn reason_place(reasons: &[Reason], word: &Reason) -> Result<usize, usize>
@@ -30,7 +27,7 @@ fn attribute_place(attributes: &[Attribute], name: &AttributeName) -> Result<usi
 /// Adds the words in turn to no reasons. There is room for all that are kept, so it takes no memory.
 pub(super) fn set_reasons(reasons: &mut Vec<Reason>, words: Words)
     requires { most_kept ≤ vec_capacity reasons.old }
-    ensures items { reasons.new.items ≡ only_reasons words }
+    ensures items { reasons.new.items ≡ set_reasons words }
     ensures ascending { IsTrue (is_ascending word_of reasons.new.items) }
     ensures room { vec_capacity reasons.old ≤ vec_capacity reasons.new }
 {
@@ -42,7 +39,7 @@ pub(super) fn set_reasons(reasons: &mut Vec<Reason>, words: Words)
 pub(super) fn add_reasons(reasons: &mut Vec<Reason>, words: Words)
     requires ascending { IsTrue (is_ascending word_of reasons.old.items) }
     requires room { most_kept ≤ vec_capacity reasons.old }
-    ensures items { reasons.new.items ≡ with_reasons words reasons.old.items }
+    ensures items { reasons.new.items ≡ add_reasons words reasons.old.items }
     ensures ascending { IsTrue (is_ascending word_of reasons.new.items) }
     ensures room { vec_capacity reasons.old ≤ vec_capacity reasons.new }
 {
@@ -54,12 +51,12 @@ pub(super) fn add_reasons(reasons: &mut Vec<Reason>, words: Words)
 fn add_reason(reasons: &mut Vec<Reason>, word: Reason)
     requires ascending { IsTrue (is_ascending word_of reasons.old.items) }
     requires room { most_kept ≤ vec_capacity reasons.old }
-    ensures items { reasons.new.items ≡ with_reason reasons.old.items word }
+    ensures items { reasons.new.items ≡ add_reason reasons.old.items word }
     ensures ascending { IsTrue (is_ascending word_of reasons.new.items) }
     ensures room { vec_capacity reasons.old ≤ vec_capacity reasons.new }
 {
     if let Err(at) = reason_place(reasons, &word) {
-        if reasons.len() < MOST {
+        if reasons.len() < MOST_KEPT {
             reasons.insert(at, word).unwrap();
         }
     }
@@ -68,7 +65,7 @@ fn add_reason(reasons: &mut Vec<Reason>, word: Reason)
 /// Drops the words from the reasons. Each is found by binary search.
 pub(super) fn drop_reasons(reasons: &mut Vec<Reason>, words: &[Reason])
     requires { IsTrue (is_ascending word_of reasons.old.items) }
-    ensures items { reasons.new.items ≡ without_reasons words.now reasons.old.items }
+    ensures items { reasons.new.items ≡ drop_reasons words.now reasons.old.items }
     ensures ascending { IsTrue (is_ascending word_of reasons.new.items) }
     ensures room { vec_capacity reasons.old ≤ vec_capacity reasons.new }
 {
@@ -79,7 +76,7 @@ pub(super) fn drop_reasons(reasons: &mut Vec<Reason>, words: &[Reason])
 
 fn drop_reason(reasons: &mut Vec<Reason>, word: &Reason)
     requires { IsTrue (is_ascending word_of reasons.old.items) }
-    ensures items { reasons.new.items ≡ without_reasons (word.now ∷ []) reasons.old.items }
+    ensures items { reasons.new.items ≡ drop_reasons (word.now ∷ []) reasons.old.items }
     ensures ascending { IsTrue (is_ascending word_of reasons.new.items) }
     ensures room { vec_capacity reasons.old ≤ vec_capacity reasons.new }
 {
@@ -92,14 +89,14 @@ fn drop_reason(reasons: &mut Vec<Reason>, word: &Reason)
 pub(super) fn set_attribute(attributes: &mut Vec<Attribute>, attribute: Attribute)
     requires ascending { IsTrue (is_ascending name_of attributes.old.items) }
     requires room { most_kept ≤ vec_capacity attributes.old }
-    ensures items { attributes.new.items ≡ with_attribute attributes.old.items attribute }
+    ensures items { attributes.new.items ≡ set_attribute attributes.old.items attribute }
     ensures ascending { IsTrue (is_ascending name_of attributes.new.items) }
     ensures room { vec_capacity attributes.old ≤ vec_capacity attributes.new }
 {
     match attribute_place(attributes, &attribute.name) {
         Ok(at) => attributes[at] = attribute,
         Err(at) => {
-            if attributes.len() < MOST {
+            if attributes.len() < MOST_KEPT {
                 attributes.insert(at, attribute).unwrap();
             }
         }

@@ -1,12 +1,12 @@
 //! The pages of a job.
 ghost use Rattle.std.specs.Prelude.{◌≡◌};
-ghost use Rattle.row_effects.specs.Fold.{pages_after as pages_after_all, pages_by as pages_after_one};
+ghost use Rattle.row_effects.specs.Fold.{pages_after, pages_by};
 
 use spool_types::Effect;
 
 /// The pages of a job that had so many before these effects.
 pub fn pages_after(pages: u32, effects: &[Effect]) -> u32
-    ensures { result ≡ pages_after_all effects.now pages }
+    ensures { result ≡ pages_after effects.now pages }
 {
     let mut after = pages;
     for effect in effects {
@@ -16,7 +16,7 @@ pub fn pages_after(pages: u32, effects: &[Effect]) -> u32
 }
 
 fn pages_by(pages: u32, effect: &Effect) -> u32
-    ensures { result ≡ pages_after_one pages effect.now }
+    ensures { result ≡ pages_by pages effect.now }
 {
     match effect {
         Effect::Pages { copies, .. } => pages.saturating_add(*copies),

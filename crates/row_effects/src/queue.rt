@@ -4,10 +4,9 @@ ghost use Rattle.row_effects.specs.Keys.{most_kept};
 ghost use Rattle.row_effects.specs.Fold.{queue_after, IsInOrder};
 ghost use Rattle.row_effects.specs.Room.{HasRoom};
 
-use crate::changes::MOST;
 use crate::draft::Draft;
 use crate::spare::Spare;
-use spool_types::{Effect, Items, Message, QueueRow};
+use spool_types::{Effect, Items, MOST_KEPT, Message, QueueRow};
 use std::mem;
 
 /// Folds the effects into the queue, one after another. It takes no memory: words, names, values and texts are moved out
@@ -44,7 +43,7 @@ fn roomy<T>(spare: &mut Vec<T>, items: Vec<T>) -> Vec<T>
     ensures spare { vec_len spare.new ≡ 0 }
     ensures smaller { vec_capacity spare.new ≤ vec_capacity spare.old }
 {
-    if MOST <= items.capacity() || spare.capacity() < MOST {
+    if MOST_KEPT <= items.capacity() || spare.capacity() < MOST_KEPT {
         return items;
     }
     let mut moved = mem::replace(spare, items);

@@ -4,8 +4,7 @@ ghost use Rattle.std.specs.List.{list_any};
 ghost use Rattle.row_effects.specs.Keys.{most_kept};
 ghost use Rattle.row_effects.specs.Room.{HasRoom, can_add_reasons, can_add_attributes};
 
-use crate::changes::MOST;
-use spool_types::{Attribute, Effect, Reason};
+use spool_types::{Attribute, Effect, MOST_KEPT, Reason};
 use std::alloc::{AllocError, Global};
 use std::marker::Model;
 
@@ -65,7 +64,7 @@ fn make_room<T>(items: &mut Vec<T>, is_wanted: bool) -> Result<(), AllocError>
     ensures empty { vec_len items.new ≡ 0 }
 {
     if is_wanted {
-        items.reserve(MOST)
+        items.reserve(MOST_KEPT)
     } else {
         Ok(())
     }

@@ -9,8 +9,6 @@ use Rattle.spool_disk.specs.Disk.{Reads}
 use Rattle.gate_journal.proofs.Places.{read_told}
 use Rattle.spool_areas.specs.declared.extent.Extent.{Extent}
 use Rattle.spool_areas.specs.declared.fault.OpenFault.TheVariants as open_fault
-use Rattle.spool_areas.specs.declared.fault.ReadFault.{ReadFault}
-use Rattle.spool_areas.specs.declared.fault.ReadFault.TheVariants as read_fault
 use Rattle.spool_areas.specs.Extents.{bytes_of}
 use Rattle.spool_core.specs.Folding.{IsEventAt, IsReadFault, decode_fault}
 

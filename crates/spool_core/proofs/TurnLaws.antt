@@ -1,10 +1,9 @@
 -- One event of a run after those before it.
-use Rattle.std.proofs.Common.{◌≡◌, ◌<◌, ◌≤◌, inl, inr, ℕ, zero, suc, ◌+◌, List, [], ◌∷◌, ◌++◌, length, take, Bool, true, false, IsSome, IsTrue, Result, Err, refl, sym, subst, ap, ◌∙◌, arith, length-append}
+use Rattle.std.proofs.Common.{◌≡◌, ◌<◌, ℕ, zero, suc, ◌+◌, List, [], ◌∷◌, ◌++◌, length, take, Bool, true, false, IsSome, IsTrue, Result, Err, refl, sym, subst, ap, ◌∙◌, arith, length-append}
 use Rattle.spool_types.specs.declared.event.Event.{Event}
 use Rattle.spool_types.specs.declared.event.Reply.{Reply}
 use Rattle.spool_types.specs.declared.refusal.Refusal.{Refusal}
 use Rattle.spool_types.specs.State.{State}
-use Rattle.std.proofs.lemmas.Bool.{cases_lt}
 use Rattle.job_table.specs.Step.{refusal_of}
 use Rattle.job_table.specs.Fold.{after_one, after_all}
 use Rattle.spool_disk.specs.Disk.{DiskView, IsLawful, Blames, LeavesOnly}
@@ -12,7 +11,7 @@ use Rattle.spool_disk.proofs.Moments.{started, weaker_run}
 use Rattle.spool_core.specs.Image.{HasTable, HasBeforeOrAfterEvent}
 use Rattle.spool_core.specs.Standing.{Standing}
 use Rattle.spool_core.specs.Driving.{answer_to, replies_to, HasPrefixTable, IsAcknowledged, IsChain, KeepsImages, room_after, room_after_one, IsDriven, IsOutcome, IsEnding, reach}
-use Rattle.spool_core.specs.Turns.{IsAnswered, IsBroken, IsTurn}
+use Rattle.spool_core.specs.Turns.{IsAnswered, IsBroken, DrivesOne}
 use Rattle.spool_core.specs.declared.driving.Ending.{Ending}
 use Rattle.spool_core.specs.declared.driving.Ending.TheVariants.{End, Memory, Full, Disk, Dead}
 use Rattle.spool_core.proofs.DriveLaws.{after_all_last, replies_last, IsNext, turn_prefix, run_none, run_more, chain_more, room_last}
@@ -168,7 +167,7 @@ module _ {D : Type 0} (v : DiskView D)
       none_answered zero alive dead = refl
       none_answered (suc n) alive dead = absurd (not_dead old.dead (alive (omega arith)) dead)
 
-      pub end_of_turn : (ending : Ending) → IsTurn v now e (Err ending) new → IsOutcome v old events replies ending new
+      pub end_of_turn : (ending : Ending) → DrivesOne v now e (Err ending) new → IsOutcome v old events replies ending new
       end_of_turn End is = absurd is
       end_of_turn Memory is = end_unchanged Memory (λ same. cc same) (next.fits, sym driven.dead ∙ is.0, is.0) refl is.1
       end_of_turn Full is = end_unchanged Full (λ same. cc same) (e, next.hand, is.0, sym driven.dead ∙ is.0.alive) refl is.1

@@ -1,6 +1,6 @@
 -- The payloads of an area, read as events one after another.
 use Rattle.spool_disk.specs.Disk.{DiskView, ChangesNothing}
-use Rattle.std.specs.Prelude.{◌≡◌, ◌≤◌, ℕ, ◌-◌, List, ◌∷◌, ◌++◌, length, take, drop, ⊤, None}
+use Rattle.std.specs.Prelude.{◌≡◌, ℕ, ◌-◌, List, ◌∷◌, ◌++◌, length, take, drop, ⊤, None}
 use Rattle.spool_types.specs.declared.event.Event.{Event}
 use Rattle.spool_types.specs.State.{State}
 use Rattle.job_table.specs.Step.{refusal_of}

@@ -28,10 +28,10 @@ pub record IsBroken {D : Type 0} (v : DiskView D) (old : Standing D) (e : Event)
   pub dead : new.dead ≡ true
   pub cause : v.failures old.disk < v.failures new.disk
 
-abbrev pub IsTurn : {D : Type 0} → DiskView D → Standing D → Event → Result (Result Reply Refusal) Ending → Standing D → Type 0
-IsTurn v old e (Ok answer) new = IsAnswered old e answer new
-IsTurn v old e (Err End) new = ⊥
-IsTurn v old e (Err Memory) new = (old.dead ≡ false) × (new ≡ old)
-IsTurn v old e (Err Full) new = IsFull old e × (new ≡ old)
-IsTurn v old e (Err Disk) new = IsBroken v old e new
-IsTurn v old e (Err Dead) new = IsTrue old.dead × (new ≡ old)
+abbrev pub DrivesOne : {D : Type 0} → DiskView D → Standing D → Event → Result (Result Reply Refusal) Ending → Standing D → Type 0
+DrivesOne v old e (Ok answer) new = IsAnswered old e answer new
+DrivesOne v old e (Err End) new = ⊥
+DrivesOne v old e (Err Memory) new = (old.dead ≡ false) × (new ≡ old)
+DrivesOne v old e (Err Full) new = IsFull old e × (new ≡ old)
+DrivesOne v old e (Err Disk) new = IsBroken v old e new
+DrivesOne v old e (Err Dead) new = IsTrue old.dead × (new ≡ old)

@@ -1,9 +1,9 @@
 use super::*;
-use crate::samples::{add_queue, cancel, close, create, id, made, opened, send};
-use spool_disk::{Disk, FuseDisk, MemDisk};
-use spool_types::{Event, Hold, Moment, Phase, Refusal, Reply};
+use crate::samples::{id, made, opened};
+use crate::test_words::{Device, check_rows, lasting};
+use spool_disk::{FuseDisk, MemDisk};
 use std::alloc::Global;
-use std::test::*;
+use std::test::Fail;
 
 // How many device calls the opening of an empty spool takes.
 pub(crate) fn calls_of_opening(alloc: Global) -> Result<u32, Fail> {
@@ -16,9 +16,16 @@ pub(crate) fn calls_of_opening(alloc: Global) -> Result<u32, Fail> {
     Err(Fail::from("never opened"))
 }
 
+// An empty spool whose device fails after so many calls behind its opening. An event takes four.
+pub(crate) fn failing(alloc: Global, size: usize, calls: u32) -> Result<Spool<Device>, Fail> {
+    let opening = calls_of_opening(alloc)?;
+    let calls = u64::from(opening) + u64::from(calls);
+    opened(alloc, FuseDisk::new(made(alloc, size)?, calls))
+}
+
 // Reads as many bytes of the document of job 1, from a place on, as there is room for, where it has them.
-fn read<D: Disk>(
-    spool: &mut Spool<D>,
+fn read(
+    spool: &mut Spool<Device>,
     at: usize,
     into: &mut [u8],
 ) -> Result<Result<(), ReadFault>, Fail> {
@@ -35,95 +42,72 @@ fn a_spool_takes_two_areas_of_23_bytes(rt: HostRuntime) -> Result<(), Fail> {
     let alloc = rt.alloc();
     let mut short = MemDisk::new(alloc, 45)?;
     assert_eq!(rt; make(&mut short), Err(MakeFault::Full));
-    let spool = opened(alloc, made(alloc, 46)?)?;
-    assert!(rt; spool.table().queues().is_empty());
-    assert!(rt; spool.table().jobs().is_empty());
+    let spool = lasting(alloc, made(alloc, 46)?)?;
+    let _ = check_rows(&rt, alloc, spool, &[("queues?", "0"), ("jobs?", "0")])?;
     Ok(())
 }
 
 #[test]
 fn events_are_applied_until_the_area_is_full(rt: HostRuntime) -> Result<(), Fail> {
     let alloc = rt.alloc();
-    let mut spool = opened(alloc, made(alloc, 198)?)?;
-    assert_eq!(rt; spool.apply(add_queue(alloc)?), Ok(Reply::Done));
-    assert_eq!(rt; spool.apply(create(alloc)?), Ok(Reply::Number(id(1)?)));
-    assert_eq!(rt; spool.apply(close(alloc)?), Ok(Reply::Done));
-    assert_eq!(rt;
-        spool.apply(Event::Clock(Moment::ZERO)),
-        Err(ApplyFault::Full)
-    );
-    assert_eq!(rt; spool.apply(cancel()?), Ok(Reply::Done));
-    Ok(())
-}
-
-#[test]
-fn what_was_applied_is_there_after_an_opening(rt: HostRuntime) -> Result<(), Fail> {
-    let alloc = rt.alloc();
-    let mut spool = opened(alloc, made(alloc, 198)?)?;
-    assert_eq!(rt; spool.apply(add_queue(alloc)?), Ok(Reply::Done));
-    assert_eq!(rt; spool.apply(create(alloc)?), Ok(Reply::Number(id(1)?)));
-    let again = opened(alloc, spool.into_disk())?;
-    assert_eq!(rt; again.table().queues().len(), 1);
-    let row = again.table().job(id(1)?).ok_or("no job")?;
-    assert_eq!(rt; row.phase, Phase::Incoming(Hold::Free));
-    Ok(())
-}
-
-#[test]
-fn a_refused_event_changes_nothing(rt: HostRuntime) -> Result<(), Fail> {
-    let alloc = rt.alloc();
-    let mut spool = opened(alloc, made(alloc, 198)?)?;
-    assert_eq!(rt;
-        spool.apply(create(alloc)?),
-        Err(ApplyFault::Refused(Refusal::NoQueue))
-    );
-    assert!(rt; spool.table().jobs().is_empty());
-    let again = opened(alloc, spool.into_disk())?;
-    assert!(rt; again.table().jobs().is_empty());
+    let spool = lasting(alloc, made(alloc, 198)?)?;
+    let rows = [
+        ("create 1", "NoQueue"),
+        ("jobs?", "0"),
+        ("open", ""),
+        ("jobs?", "0"),
+        ("queue", "done"),
+        ("queue", "QueueExists"),
+        ("create 1", "number 1"),
+        ("open", ""),
+        ("queues?", "1"),
+        ("phase?", "incoming free"),
+        ("close", "done"),
+        ("clock 0", "full"),
+        ("cancel", "done"),
+    ];
+    let spool = check_rows(&rt, alloc, spool, &rows)?;
+    let disk = spool.into_disk().into_disk();
+    let record = [0xA5, 0, 0, 0, 5, 0x0A, 0, 0, 0, 1, 0];
+    let written = disk.bytes().get(82..93).ok_or("no record")?;
+    assert_eq!(rt; written, record.as_slice());
     Ok(())
 }
 
 #[test]
 fn a_device_that_fails_leaves_what_was_acknowledged(rt: HostRuntime) -> Result<(), Fail> {
     let alloc = rt.alloc();
-    let calls = calls_of_opening(alloc)?;
-    // The queue takes four calls, and two are left for the job.
-    let fuse = FuseDisk::new(made(alloc, 198)?, u64::from(calls) + 6);
-    let mut spool = opened(alloc, fuse)?;
-    assert_eq!(rt; spool.apply(add_queue(alloc)?), Ok(Reply::Done));
-    assert_eq!(rt; spool.apply(create(alloc)?), Err(ApplyFault::Disk));
-    assert!(rt; spool.is_dead());
-    assert_eq!(rt; spool.apply(create(alloc)?), Err(ApplyFault::Dead));
-    let again = opened(alloc, spool.into_disk().into_disk())?;
-    assert_eq!(rt; again.table().queues().len(), 1);
-    assert!(rt; again.table().jobs().is_empty());
+    // Two calls are left for the job.
+    let spool = failing(alloc, 198, 6)?;
+    let rows = [
+        ("queue", "done"),
+        ("create 1", "disk"),
+        ("dead?", "true"),
+        ("create 1", "dead"),
+        ("open", ""),
+        ("dead?", "false"),
+        ("queues?", "1"),
+        ("jobs?", "0"),
+    ];
+    let _ = check_rows(&rt, alloc, spool, &rows)?;
     Ok(())
 }
 
 #[test]
 fn a_part_of_a_document_is_read(rt: HostRuntime) -> Result<(), Fail> {
     let alloc = rt.alloc();
-    let mut spool = opened(alloc, made(alloc, 1024)?)?;
-    assert_eq!(rt; spool.apply(add_queue(alloc)?), Ok(Reply::Done));
-    assert_eq!(rt; spool.apply(create(alloc)?), Ok(Reply::Number(id(1)?)));
-    assert_eq!(rt; spool.apply(send(alloc, b"hello")?), Ok(Reply::Size(5)));
+    // The queue, the job, its bytes and one read.
+    let spool = failing(alloc, 1_024, 13)?;
+    let rows = [
+        ("queue", "done"),
+        ("create 1", "number 1"),
+        ("send hello", "size 5"),
+    ];
+    let mut spool = check_rows(&rt, alloc, spool, &rows)?;
     let mut part = [0; 3];
     assert_eq!(rt; read(&mut spool, 1, &mut part)?, Ok(()));
     assert_eq!(rt; part, *b"ell");
-    Ok(())
-}
-
-#[test]
-fn no_document_is_read_once_the_device_has_failed(rt: HostRuntime) -> Result<(), Fail> {
-    let alloc = rt.alloc();
-    let calls = calls_of_opening(alloc)?;
-    // The queue, the job and its bytes take four calls each.
-    let fuse = FuseDisk::new(made(alloc, 1024)?, u64::from(calls) + 12);
-    let mut spool = opened(alloc, fuse)?;
-    assert_eq!(rt; spool.apply(add_queue(alloc)?), Ok(Reply::Done));
-    assert_eq!(rt; spool.apply(create(alloc)?), Ok(Reply::Number(id(1)?)));
-    assert_eq!(rt; spool.apply(send(alloc, b"hello")?), Ok(Reply::Size(5)));
-    assert_eq!(rt; spool.apply(cancel()?), Err(ApplyFault::Disk));
+    let mut spool = check_rows(&rt, alloc, spool, &[("cancel", "disk")])?;
     let mut part = [7; 3];
     assert_eq!(rt; read(&mut spool, 1, &mut part)?, Err(ReadFault::Dead));
     assert_eq!(rt; part, [7, 7, 7]);

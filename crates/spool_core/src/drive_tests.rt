@@ -1,8 +1,8 @@
 use super::*;
-use crate::apply_tests::calls_of_opening;
+use crate::apply_tests::failing;
 use crate::samples::{add_queue, close, create, id, made, numbered, opened};
 use job_table::Table;
-use spool_disk::{Disk, FuseDisk};
+use spool_disk::FuseDisk;
 use spool_types::{Event, Hold, Moment, Phase, Refusal, Reply};
 use std::alloc::Global;
 use std::test::Fail;
@@ -39,22 +39,6 @@ fn the_script_stops_at_full(rt: HostRuntime) -> Result<(), Fail> {
     replies.push(Ok(Reply::Done))?;
     assert!(rt; driven.replies.as_slice() == replies.as_slice());
     assert_eq!(rt; driven.ending, Ending::Full);
-    Ok(())
-}
-
-#[test]
-fn a_cancel_fits_where_a_clock_does_not(rt: HostRuntime) -> Result<(), Fail> {
-    let alloc = rt.alloc();
-    let mut spool = opened(alloc, made(alloc, SIZE)?)?;
-    assert_eq!(rt;
-        drive(alloc, &mut spool, script(alloc)?).ending,
-        Ending::Full
-    );
-    assert_eq!(rt; spool.apply(Event::Cancel(id(1)?)), Ok(Reply::Done));
-    let disk = spool.into_disk();
-    let record = [0xA5, 0, 0, 0, 5, 0x0A, 0, 0, 0, 1, 0];
-    let written = disk.bytes().get(82..93).ok_or("no record")?;
-    assert_eq!(rt; written, record.as_slice());
     Ok(())
 }
 
@@ -118,10 +102,8 @@ fn a_fuse_stops_each_call_in_turn(rt: HostRuntime) -> Result<(), Fail> {
 #[test]
 fn a_dead_spool_answers_no_event(rt: HostRuntime) -> Result<(), Fail> {
     let alloc = rt.alloc();
-    let calls = calls_of_opening(alloc)?;
-    // The queue takes four calls, and none is left for the job.
-    let fuse = FuseDisk::new(made(alloc, SIZE)?, u64::from(calls) + 4);
-    let mut spool = opened(alloc, fuse)?;
+    // One event is journalled, and no call is left for the next.
+    let mut spool = failing(alloc, SIZE, 4)?;
     assert_eq!(rt; spool.apply(add_queue(alloc)?), Ok(Reply::Done));
     assert_eq!(rt; spool.apply(create(alloc)?), Err(ApplyFault::Disk));
     let driven = drive(alloc, &mut spool, script(alloc)?);

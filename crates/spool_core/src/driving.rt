@@ -1,7 +1,7 @@
 //! A list of events, applied in turn.
 ghost use Rattle.std.specs.Prelude.{◌≡◌, ◌<◌, ◌≤◌, ◌+◌, ◌⊎◌, ◌↔◌, List, ℕ, Some, None, Ok, IsSome, IsTrue, false, length, take, OnOk, IfOk, IfErr, IsErrOf, slice_get};
 ghost use Rattle.spool_disk.specs.Disk.{Blames, LeavesOnly};
-ghost use Rattle.spool_types.specs.declared.event.Event.{Event as Change};
+ghost use Rattle.spool_types.specs.declared.event.Event.{Event};
 ghost use Rattle.spool_types.specs.declared.event.NewJob.{NewJob};
 ghost use Rattle.spool_types.specs.declared.event.Event.TheVariants.{Create};
 ghost use Rattle.spool_types.specs.declared.refusal.Refusal.TheVariants.{JobEnded};
@@ -12,7 +12,7 @@ ghost use Rattle.job_table.specs.Ended.{HasEndedJob, subject};
 ghost use Rattle.spool_core.specs.Image.{HasTable, HasBeforeOrAfterEvent};
 ghost use Rattle.spool_core.specs.Standing.{IsFull};
 ghost use Rattle.spool_core.specs.Driving.{replies_to, reach, room_after, HasPrefixTable, IsEnding, IsAcknowledged, KeepsImages, IsOutcome};
-ghost use Rattle.spool_core.specs.Turns.{IsTurn};
+ghost use Rattle.spool_core.specs.Turns.{DrivesOne};
 
 use crate::spool::{ApplyFault, Spool};
 use job_table::ended_jobs_stay;
@@ -44,8 +44,8 @@ pub struct Driven {
 }
 
 // Applies one event. A refusal is an answer, and any other fault ends the run.
-fn turn<D: Disk>(spool: &mut Spool<D>, event: Event) -> Result<Result<Reply, Refusal>, Ending>
-    ensures turn { IsTurn D.device spool.old event result spool.new }
+fn drive_one<D: Disk>(spool: &mut Spool<D>, event: Event) -> Result<Result<Reply, Refusal>, Ending>
+    ensures driven { DrivesOne D.device spool.old event result spool.new }
     ensures blames { Blames (D.device.failures spool.old.disk) (D.device.failures spool.new.disk) (IsErrOf result Ending.Disk) }
     ensures fixed { D.device.size spool.new.disk ≡ D.device.size spool.old.disk }
     ensures told { IsSome (D.device.bytes spool.new.disk) ↔ IsSome (D.device.bytes spool.old.disk) }
@@ -79,7 +79,7 @@ fn is_over<D: Disk>(spool: &Spool<D>, events: &Vec<Event>) -> bool
 }
 
 // Applies the events up to the end of the run. A reply's place is reserved before its event is applied.
-fn run<D: Disk>(alloc: Global, spool: &mut Spool<D>, events: Vec<Event>) -> Driven
+fn drive_all<D: Disk>(alloc: Global, spool: &mut Spool<D>, events: Vec<Event>) -> Driven
     ensures { IsOutcome D.device spool.old events.items result.replies.items result.ending spool.new }
 {
     let mut replies = Vec::new(alloc);
@@ -94,7 +94,7 @@ fn run<D: Disk>(alloc: Global, spool: &mut Spool<D>, events: Vec<Event>) -> Driv
             let ending = Ending::Memory;
             return Driven { replies, ending };
         }
-        match turn(spool, event) {
+        match drive_one(spool, event) {
             Ok(answer) => replies.push(answer).unwrap(),
             Err(ending) => return Driven { replies, ending },
         }
@@ -129,7 +129,7 @@ pub fn drive<D: Disk>(alloc: Global, spool: &mut Spool<D>, events: Vec<Event>) -
 
     // A job that has ended stays as it is, and what would change it is refused.
     ensures ended { (j : ℕ) (job : Job) → HasEndedJob spool.old.state j job → job_at spool.new.state j ≡ Some job }
-    ensures refused { (j : ℕ) (job : Job) (e : Change) → HasEndedJob spool.old.state j job → subject e ≡ Some j → refusal_of spool.new.state e ≡ Some JobEnded }
+    ensures refused { (j : ℕ) (job : Job) (e : Event) → HasEndedJob spool.old.state j job → subject e ≡ Some j → refusal_of spool.new.state e ≡ Some JobEnded }
     ensures number { (j : ℕ) (job : Job) (n : NewJob) → HasEndedJob spool.old.state j job → n.job ≡ j → IsSome (refusal_of spool.new.state (Create n)) }
 
     ensures blames { Blames (D.device.failures spool.old.disk) (D.device.failures spool.new.disk) (result.ending ≡ Ending.Disk) }
@@ -137,5 +137,5 @@ pub fn drive<D: Disk>(alloc: Global, spool: &mut Spool<D>, events: Vec<Event>) -
     ensures told { IsSome (D.device.bytes spool.new.disk) ↔ IsSome (D.device.bytes spool.old.disk) }
 {
     ended_jobs_stay();
-    run(alloc, spool, events)
+    drive_all(alloc, spool, events)
 }

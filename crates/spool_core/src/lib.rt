@@ -110,3 +110,5 @@ mod open_tests;
 mod reopen_tests;
 #[cfg(test)]
 mod samples;
+#[cfg(test)]
+mod test_words;

@@ -2,8 +2,9 @@
 use crate::{Spool, make};
 use spool_disk::{Disk, MemDisk};
 use spool_types::{
-    Closing, Copies, Event, Filters, Interval, JobId, MediaType, NewJob, NewQueue, OptionText,
-    Piece, Policy, Priority, QueueName, Title, Uri, UserName,
+    AttemptNumber, Closing, Copies, Effect, Effects, Event, Exit, Filters, Interval, JobId,
+    MediaType, NewJob, NewQueue, OptionText, Piece, Policy, Priority, QueueName, Reason, StageEnd,
+    StageNumber, Title, Uri, UserName, Words,
 };
 use std::alloc::Global;
 use std::test::*;
@@ -75,10 +76,29 @@ pub(crate) fn opened<D: Disk + Drop>(alloc: Global, disk: D) -> Result<Spool<D>,
     Ok(Spool::open(alloc, disk).ok().ok_or("not opened")?)
 }
 
-// Applies the events, each of which is accepted.
-pub(crate) fn apply_all(spool: &mut Spool<MemDisk>, events: Vec<Event>) -> Result<(), Fail> {
-    for event in events {
-        spool.apply(event).ok().ok_or("not applied")?;
+// The end of the first attempt of job 1, which prints its document, with these effects of its standard error.
+pub(crate) fn printed(effects: Effects) -> Result<Event, Fail> {
+    Ok(Event::Stage(StageEnd {
+        job: id(1)?,
+        attempt: AttemptNumber::new(1).ok_or("no attempt")?,
+        stage: StageNumber::new(1).ok_or("no stage")?,
+        exit: Exit::Code(0),
+        dropped: 0,
+        effects,
+    }))
+}
+
+// `STATE: +media-empty,toner-low`, `PAGE: 1 2` and `PAGE: total 9`.
+pub(crate) fn told_effects(alloc: Global) -> Result<Effects, Fail> {
+    let mut words = Vec::new(alloc);
+    for word in ["media-empty", "toner-low"] {
+        words.push(Reason::read(alloc, word)?)?;
     }
-    Ok(())
+    let words = Words::new(words).ok().ok_or("too many words")?;
+    let effects = vec![in alloc;
+        Effect::AddReasons(words),
+        Effect::Pages { page: 1, copies: 2 },
+        Effect::TotalPages(9),
+    ]?;
+    Ok(Effects::new(effects).ok().ok_or("too many effects")?)
 }

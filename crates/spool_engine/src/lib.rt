@@ -2,7 +2,7 @@
 //!
 //! Each command is one *turn*: the engine reads the command, applies its event to the spool that it finds, prints the
 //! reply and writes it, and only then takes the next command. No clause says when a reply is written: that is in the code
-//! (`Server::turn`). The buffering of the text does not show: the commands are those of the whole text, whatever the
+//! (`Executor::turn`). The buffering of the text does not show: the commands are those of the whole text, whatever the
 //! pieces in which the reader gives it.
 //!
 //! A document is typed when its job is closed: by the job's file name and its bytes, in the locale `C`, with the rules
@@ -34,7 +34,7 @@
 //!
 //! # Invariant
 //!
-//! Until the device has failed, a crash leaves the table that the engine shows (`IsKept`, of `Server`, which serves the
+//! Until the device has failed, a crash leaves the table that the engine shows (`IsKept`, of `Executor`, which serves the
 //! commands; the engine lends it the rules and conversions, which never change).
 //!
 //! # Faults
@@ -47,11 +47,11 @@
 
 mod answers;
 mod engine;
+mod executor;
 mod fault;
 mod laws;
 mod mime;
 mod options;
-mod server;
 mod writing;
 
 pub use engine::Engine;

@@ -1,7 +1,7 @@
 //! The MIME database: what documents are read by.
 ghost use Rattle.std.specs.Prelude.{◌≡◌, IfOk};
 ghost use Rattle.mime_costs.specs.LeastWalk.{filters_between};
-ghost use Rattle.spool_engine.specs.Mime.{media_of, unknown_type as unknown_media};
+ghost use Rattle.spool_engine.specs.Mime.{media_of, unknown_type};
 
 use mime_costs::Convs;
 use mime_rules::Types;
@@ -63,7 +63,7 @@ impl Mime {
 }
 
 fn unknown_type(alloc: Global) -> Result<MediaType, AllocError>
-    ensures { IfOk result (λ media. media ≡ unknown_media) }
+    ensures { IfOk result (λ media. media ≡ unknown_type) }
 {
     match MediaType::read(alloc, UNKNOWN_TYPE) {
         Ok(media) => Ok(media),

@@ -3,7 +3,7 @@ ghost use Rattle.std.specs.Prelude.{◌≡◌, cond, None, Some, IfOk, OnErr};
 ghost use Rattle.std.specs.Result.{IsOk};
 ghost use Rattle.spool_types.specs.Values.{is_options};
 ghost use Rattle.filter_args.specs.Reading.{reading};
-ghost use Rattle.spool_engine.specs.Script.{job_options as options_kept};
+ghost use Rattle.spool_engine.specs.Script.{job_options};
 
 use filter_args::{OptionFault, Options};
 use spool_types::{OptionText, TextFault};
@@ -11,7 +11,7 @@ use std::alloc::{AllocError, Global};
 
 /// What a job keeps of these options: their printed form, if they are read and it isn't too long.
 pub fn job_options(alloc: Global, text: &str) -> Result<Option<OptionText>, AllocError>
-    ensures value { IfOk result (λ options. options ≡ options_kept text.now) }
+    ensures value { IfOk result (λ options. options ≡ job_options text.now) }
     // Only of options without a fault it says that memory is wanting.
     ensures memory { OnErr result (IsOk (reading text.now)) }
 {

@@ -5,7 +5,9 @@ use mime_costs::Convs;
 use mime_rules::Types;
 use spool_core::{OpenFault, Spool, make};
 use spool_disk::{Disk, FuseDisk, MemDisk};
-use spool_types::JobId;
+use spool_types::{
+    AttemptNumber, Effect, Effects, Event, Exit, JobId, Reason, StageEnd, StageNumber, Words,
+};
 use std::alloc::{AllocError, Global};
 use std::io;
 use std::io::{ErrorKind, Read, Write};
@@ -104,6 +106,44 @@ create lab ann t 1 50 \"media=A4 nocollate duplex note='a b'\"\n";
         job.options.as_str(),
         "media=A4 collate=false duplex=true note=a\\ b"
     );
+    Ok(())
+}
+
+// The end of the first attempt of job 1, whose backend says `STATE: +toner-low,media-empty`.
+fn printed(alloc: Global) -> Result<Event, Fail> {
+    let mut words = Vec::new(alloc);
+    for word in ["toner-low", "media-empty"] {
+        words.push(Reason::read(alloc, word)?)?;
+    }
+    let words = Words::new(words).ok().ok_or("too many words")?;
+    let effects = vec![in alloc; Effect::AddReasons(words)]?;
+    Ok(Event::Stage(StageEnd {
+        job: JobId::new(1).ok_or("no number")?,
+        attempt: AttemptNumber::new(1).ok_or("no attempt")?,
+        stage: StageNumber::new(1).ok_or("no stage")?,
+        exit: Exit::Code(0),
+        dropped: 0,
+        effects: Effects::new(effects).ok().ok_or("too many effects")?,
+    }))
+}
+
+#[test]
+fn a_queue_lists_what_its_printer_lacks(rt: HostRuntime) -> Result<(), Fail> {
+    let alloc = rt.alloc();
+    let mut engine = engine_over(alloc, spool_disk(alloc)?)?;
+    let script = "queue lab s:/ application/octet-stream abort-job\n\
+create lab ann t 1 50 \"\"\nclose 1 x\n";
+    engine.run(&mut script.as_bytes(), &mut Vec::new(alloc))?;
+    let mut spool = engine.into_parts();
+    let job = JobId::new(1).ok_or("no number")?;
+    assert!(rt; spool.apply(Event::Start(job)).is_ok());
+    assert!(rt; spool.apply(printed(alloc)?).is_ok());
+    let mut engine = plain_engine(alloc, spool)?;
+    let mut written = Vec::new(alloc);
+    engine.run(&mut "queues\n".as_bytes(), &mut written)?;
+    let listing = "queue lab 3 accepting application/octet-stream abort-job 30 5 \
+media-empty,toner-low \"\"\nok 1\n";
+    assert_eq!(rt; str::from_utf8(&written)?, listing);
     Ok(())
 }
 

@@ -1,6 +1,6 @@
 //! Where a script is cut.
 ghost use Rattle.std.specs.Prelude.{◌≡◌, ◌+◌, ◌<◌, ◌≤◌, ◌↔◌, ◌++◌, ℕ, IfNone, IfSome, IsTrue, length};
-ghost use Rattle.spool_scripts.specs.Cut.{begins_line as begins, cut_line, IsCut};
+ghost use Rattle.spool_scripts.specs.Cut.{begins_line, cut_line, IsCut};
 
 // The line that cuts a script.
 const CUT: &[u8] = b"# reopen\n";
@@ -9,7 +9,7 @@ const CUT: &[u8] = b"# reopen\n";
 pub fn next_part(script: &[u8]) -> (&[u8], Option<&[u8]>)
     ensures whole { IfNone result.1 (result.0.now ≡ script.now) }
     ensures joined { IfSome result.1 (λ after. script.now ≡ result.0.now ++ cut_line ++ after.now) }
-    ensures begins { IfSome result.1 (λ _. IsTrue (begins script.now (length result.0.now))) }
+    ensures begins { IfSome result.1 (λ _. IsTrue (begins_line script.now (length result.0.now))) }
     ensures first { (k : ℕ) → k < length result.0.now → ¬ IsCut script.now k }
 {
     match next_cut(script) {
@@ -45,7 +45,7 @@ fn is_cut(script: &[u8], at: usize) -> bool
 // Whether a line begins at this place.
 fn begins_line(script: &[u8], at: usize) -> bool
     requires { at ≤ length script.now }
-    ensures { result ≡ begins script.now at }
+    ensures { result ≡ begins_line script.now at }
 {
     at == 0 || script[at - 1] == b'\n'
 }

@@ -1,7 +1,7 @@
 //! The effects of one stage.
 ghost use Rattle.std.specs.Prelude.{◌≡◌, ◌≤◌, ◌↔◌, [], false, nat_le, IfOk, IfErr, IsOk, IsTrue};
 ghost use Rattle.std.specs.List.{list_all};
-ghost use Rattle.spool_types.specs.Effects.{AreEffects, effect_size, effects_size, text_size, texts_size, names_enough as names_enough_words, most_effect_bytes, room_left};
+ghost use Rattle.spool_types.specs.Effects.{AreEffects, effect_size, effects_size, text_size, texts_size, names_enough, most_effect_bytes, room_left};
 
 use crate::effect::Effect;
 use crate::items::Items;
@@ -30,7 +30,7 @@ impl Effect {
 
     // Whether it names a reason, where it adds reasons or drops some.
     fn names_enough(&self) -> bool
-        ensures { result ≡ names_enough_words self.now }
+        ensures { result ≡ names_enough self.now }
     {
         match self {
             Effect::AddReasons(words) | Effect::DropReasons(words) => !words.as_slice().is_empty(),
@@ -76,7 +76,7 @@ fn are_effects(effects: &[Effect]) -> bool
 }
 
 fn name_enough(effects: &[Effect]) -> bool
-    ensures { result ≡ list_all names_enough_words effects.now }
+    ensures { result ≡ list_all names_enough effects.now }
 {
     effects.iter().all(|effect| effect.names_enough())
 }
@@ -96,10 +96,10 @@ pub struct Effects {
 
 impl Model for Effects {
     ghost use Rattle.std.specs.Prelude.{List};
-    ghost use Rattle.spool_types.specs.declared.effect.Effect.{Effect as Change};
+    ghost use Rattle.spool_types.specs.declared.effect.Effect.{Effect};
     ghost use Rattle.spool_types.specs.Effects.{AreEffects};
 
-    ghost Value = { List Change };
+    ghost Value = { List Effect };
 
     ghost view = { λ a. a.effects };
 

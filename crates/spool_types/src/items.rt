@@ -3,6 +3,7 @@ ghost use Rattle.std.specs.Prelude.{◌≡◌, ◌≤◌, ◌↔◌, [], length,
 
 use crate::effect::Attribute;
 use crate::kinds::{FilterName, Reason};
+use crate::limits::{LONGEST_SEND, MOST_KEPT};
 use std::alloc::{AllocError, Global};
 use std::marker::Model;
 
@@ -84,13 +85,13 @@ impl<T: Eq, const MOST: usize> Eq for Items<T, MOST> {
 pub type Filters = Items<FilterName, 15>;
 
 /// The bytes of one send.
-pub type Piece = Items<u8, 65_536>;
+pub type Piece = Items<u8, LONGEST_SEND>;
 
 /// The printer-state-reasons of a queue.
-pub type Reasons = Items<Reason, 64>;
+pub type Reasons = Items<Reason, MOST_KEPT>;
 
 /// The reasons that an effect names.
 pub type Words = Items<Reason, 65_535>;
 
 /// The attributes of a queue.
-pub type Attributes = Items<Attribute, 64>;
+pub type Attributes = Items<Attribute, MOST_KEPT>;

@@ -2,7 +2,7 @@
 ghost use Rattle.std.specs.Prelude.{◌≡◌};
 ghost use Rattle.std.specs.List.{list_all};
 ghost use Rattle.std.specs.Str.{str_to_ascii_lowercase};
-ghost use Rattle.spool_types.specs.Values.{is_plain as plain, is_printable as printable, is_graphic as graphic, is_lower_or_digit as lower_or_digit, is_letter_or_digit as letter_or_digit, is_attribute_byte as attribute_byte, is_queue_byte as queue_byte, is_word_byte as word_byte, is_media_byte as media_byte, is_text_of, is_user_name, is_title, is_options, is_note, is_message, is_file_name, is_uri, is_queue_name, is_filter_name, is_reason, is_attribute_name};
+ghost use Rattle.spool_types.specs.Values.{is_plain, is_printable, is_graphic, is_lower_or_digit, is_letter_or_digit, is_attribute_byte, is_queue_byte, is_word_byte, is_media_byte, is_text_of, is_user_name, is_title, is_options, is_note, is_message, is_file_name, is_uri, is_queue_name, is_filter_name, is_reason, is_attribute_name};
 
 use crate::text::{Text, TextKind};
 
@@ -172,67 +172,67 @@ impl TextKind for AttributeNameKind {
 }
 
 fn is_word(text: &str) -> bool
-    ensures { result ≡ is_text_of word_byte 1 127 text.now }
+    ensures { result ≡ is_text_of is_word_byte 1 127 text.now }
 {
     1 <= text.len() && text.len() <= 127 && has_only_word_bytes(text)
 }
 
 fn has_only_plain_bytes(text: &str) -> bool
-    ensures { result ≡ list_all plain text.now }
+    ensures { result ≡ list_all is_plain text.now }
 {
     text.as_bytes().iter().all(|b| is_plain(*b))
 }
 
 fn is_plain(byte: u8) -> bool
-    ensures { result ≡ plain byte }
+    ensures { result ≡ is_plain byte }
 {
     32 <= byte && byte != 127
 }
 
 fn is_printable(byte: u8) -> bool
-    ensures { result ≡ printable byte }
+    ensures { result ≡ is_printable byte }
 {
     32 <= byte && byte <= 126
 }
 
 fn is_graphic(byte: u8) -> bool
-    ensures { result ≡ graphic byte }
+    ensures { result ≡ is_graphic byte }
 {
     33 <= byte && byte <= 126
 }
 
 fn is_lower_or_digit(byte: u8) -> bool
-    ensures { result ≡ lower_or_digit byte }
+    ensures { result ≡ is_lower_or_digit byte }
 {
     (b'a' <= byte && byte <= b'z') || (b'0' <= byte && byte <= b'9')
 }
 
 fn is_letter_or_digit(byte: u8) -> bool
-    ensures { result ≡ letter_or_digit byte }
+    ensures { result ≡ is_letter_or_digit byte }
 {
     is_lower_or_digit(byte) || (b'A' <= byte && byte <= b'Z')
 }
 
 fn is_attribute_byte(byte: u8) -> bool
-    ensures { result ≡ attribute_byte byte }
+    ensures { result ≡ is_attribute_byte byte }
 {
     is_letter_or_digit(byte) || byte == b'-'
 }
 
 fn is_queue_byte(byte: u8) -> bool
-    ensures { result ≡ queue_byte byte }
+    ensures { result ≡ is_queue_byte byte }
 {
     is_attribute_byte(byte) || byte == b'_'
 }
 
 fn is_word_byte(byte: u8) -> bool
-    ensures { result ≡ word_byte byte }
+    ensures { result ≡ is_word_byte byte }
 {
     is_queue_byte(byte) || byte == b'.'
 }
 
 fn is_media_byte(byte: u8) -> bool
-    ensures { result ≡ media_byte byte }
+    ensures { result ≡ is_media_byte byte }
 {
     is_lower_or_digit(byte)
         || byte == b'!'
@@ -247,45 +247,45 @@ fn is_media_byte(byte: u8) -> bool
 }
 
 fn has_only_printable_bytes(text: &str) -> bool
-    ensures { result ≡ list_all printable text.now }
+    ensures { result ≡ list_all is_printable text.now }
 {
     text.as_bytes().iter().all(|b| is_printable(*b))
 }
 
 fn has_only_graphic_bytes(text: &str) -> bool
-    ensures { result ≡ list_all graphic text.now }
+    ensures { result ≡ list_all is_graphic text.now }
 {
     text.as_bytes().iter().all(|b| is_graphic(*b))
 }
 
 fn has_only_queue_bytes(text: &str) -> bool
-    ensures { result ≡ list_all queue_byte text.now }
+    ensures { result ≡ list_all is_queue_byte text.now }
 {
     text.as_bytes().iter().all(|b| is_queue_byte(*b))
 }
 
 fn has_only_attribute_bytes(text: &str) -> bool
-    ensures { result ≡ list_all attribute_byte text.now }
+    ensures { result ≡ list_all is_attribute_byte text.now }
 {
     text.as_bytes().iter().all(|b| is_attribute_byte(*b))
 }
 
 fn has_only_word_bytes(text: &str) -> bool
-    ensures { result ≡ list_all word_byte text.now }
+    ensures { result ≡ list_all is_word_byte text.now }
 {
     text.as_bytes().iter().all(|b| is_word_byte(*b))
 }
 
 /// Whether a text is of lower-case letters, digits and `!#$&^_.+-`.
 pub fn has_only_media_bytes(text: &str) -> bool
-    ensures { result ≡ list_all media_byte text.now }
+    ensures { result ≡ list_all is_media_byte text.now }
 {
     text.as_bytes().iter().all(|b| is_media_byte(*b))
 }
 
 /// Whether a text is so once its capitals are folded.
 pub fn folds_to_media_bytes(text: &str) -> bool
-    ensures { result ≡ list_all media_byte (str_to_ascii_lowercase text.now) }
+    ensures { result ≡ list_all is_media_byte (str_to_ascii_lowercase text.now) }
 {
     text.as_bytes()
         .iter()

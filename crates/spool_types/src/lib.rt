@@ -28,6 +28,7 @@ mod effects;
 mod event;
 mod items;
 mod kinds;
+mod limits;
 mod media;
 mod numbers;
 mod phase;
@@ -46,6 +47,7 @@ pub use kinds::{
     MessageKind, Note, NoteKind, OptionText, OptionTextKind, QueueName, QueueNameKind, Reason,
     ReasonKind, Title, TitleKind, Uri, UriKind, UserName, UserNameKind,
 };
+pub use limits::{LONGEST_DOCUMENT, LONGEST_SEND, MOST_KEPT, MOST_QUEUES};
 pub use media::{MediaName, MediaType, MediaTypeKind};
 pub use numbers::{JobId, Moment};
 pub use phase::{AbortReason, Hold, HoldReason, Phase, Policy};

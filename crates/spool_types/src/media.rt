@@ -2,7 +2,7 @@
 ghost use Rattle.std.specs.Prelude.{◌≡◌, ◌↔◌, ◌&&◌, nat_le, length, false, IfOk, OnOk, IsTrue, IsErr, IsErrOf};
 ghost use Rattle.std.specs.List.{list_any, before_first, after_first};
 ghost use Rattle.std.specs.Str.{str_to_ascii_lowercase};
-ghost use Rattle.spool_types.specs.Values.{is_media_part as media_part, is_media_type, is_slash, media_in};
+ghost use Rattle.spool_types.specs.Values.{is_media_part, is_media_type, is_slash, media_in};
 
 use crate::kinds::{folds_to_media_bytes, has_only_media_bytes};
 use crate::text::{Text, TextFault, TextKind};
@@ -32,7 +32,7 @@ impl TextKind for MediaTypeKind {
 }
 
 fn is_part(text: &str) -> bool
-    ensures { result ≡ media_part text.now }
+    ensures { result ≡ is_media_part text.now }
 {
     1 <= text.len() && text.len() <= 255 && has_only_media_bytes(text)
 }
@@ -48,8 +48,8 @@ fn folds_to_media_type(text: &str) -> bool
 fn folds_to_two_parts(text: &str) -> bool
     ensures { result ≡ (nat_le (length text.now) 255
         && list_any is_slash text.now
-        && media_part (str_to_ascii_lowercase (before_first is_slash text.now))
-        && media_part (str_to_ascii_lowercase (after_first is_slash text.now))) }
+        && is_media_part (str_to_ascii_lowercase (before_first is_slash text.now))
+        && is_media_part (str_to_ascii_lowercase (after_first is_slash text.now))) }
 {
     if 255 < text.len() {
         return false;
@@ -61,7 +61,7 @@ fn folds_to_two_parts(text: &str) -> bool
 }
 
 fn folds_to_part(text: &str) -> bool
-    ensures { result ≡ media_part (str_to_ascii_lowercase text.now) }
+    ensures { result ≡ is_media_part (str_to_ascii_lowercase text.now) }
 {
     1 <= text.len() && text.len() <= 255 && folds_to_media_bytes(text)
 }

@@ -1,11 +1,11 @@
 //! Where bytes are cut.
 ghost use Rattle.std.specs.Prelude.{◌≡◌};
 ghost use Rattle.std.specs.Option.{option_map};
-ghost use Rattle.stderr_lines.specs.Cuts.{cut_at as parts_at};
+ghost use Rattle.stderr_lines.specs.Cuts.{cut_at};
 
 /// What stands before the first byte `c`, and what follows it, if there is one.
 pub fn cut_at(c: u8, bytes: &[u8]) -> Option<(&[u8], &[u8])>
-    ensures { option_map (λ p. (p.0.now, p.1.now)) result ≡ parts_at c bytes.now }
+    ensures { option_map (λ p. (p.0.now, p.1.now)) result ≡ cut_at c bytes.now }
 {
     for (i, b) in bytes.iter().enumerate() {
         if *b == c {

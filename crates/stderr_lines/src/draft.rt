@@ -1,7 +1,7 @@
 //! Effects whose texts still lie in the line.
 ghost use Rattle.std.specs.Prelude.{◌≡◌, ◌+◌, IfOk};
 ghost use Rattle.spool_types.specs.Effects.{text_size, effect_size};
-ghost use Rattle.stderr_lines.specs.Drafts.{effect_of, changed as changed_by, IsSound, IsLineText};
+ghost use Rattle.stderr_lines.specs.Drafts.{effect_of, changed, IsSound, IsLineText};
 ghost use Rattle.line_words.specs.Quoting.{said};
 ghost use Rattle.line_words.specs.declared.quoting.Quoting.TheVariants.{Bare};
 
@@ -77,7 +77,7 @@ fn attribute_size(name: &str, value: &[u8]) -> usize
 }
 
 fn changed(change: Change, words: Words) -> Effect
-    ensures { result ≡ changed_by change words }
+    ensures { result ≡ changed change words }
 {
     match change {
         Change::Set => Effect::SetReasons(words),

@@ -1,6 +1,6 @@
 //! What a line says.
 ghost use Rattle.std.specs.Prelude.{◌≡◌, ◌≤◌, length, map, OnOk};
-ghost use Rattle.stderr_lines.specs.LineEffects.{shown_byte as shown, effects_by, line_effects};
+ghost use Rattle.stderr_lines.specs.LineEffects.{shown_byte, effects_by, line_effects};
 ghost use Rattle.stderr_lines.specs.Tallies.{keep_all};
 ghost use Rattle.stderr_lines.specs.Drafts.{IsLineText};
 
@@ -28,7 +28,7 @@ pub fn add_line(tally: &mut Tally, line: &mut [u8]) -> Result<(), AllocError>
 
 // Puts a question mark in the place of each byte that isn't printable.
 fn show(bytes: &mut [u8])
-    ensures { bytes.new ≡ map shown bytes.old }
+    ensures { bytes.new ≡ map shown_byte bytes.old }
 {
     for i in 0..bytes.len() {
         bytes[i] = shown_byte(bytes[i]);
@@ -36,7 +36,7 @@ fn show(bytes: &mut [u8])
 }
 
 fn shown_byte(b: u8) -> u8
-    ensures { result ≡ shown b }
+    ensures { result ≡ shown_byte b }
 {
     if b < 32 || 126 < b { QUESTION_MARK } else { b }
 }

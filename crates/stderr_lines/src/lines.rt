@@ -1,7 +1,7 @@
 //! A reader of standard error.
 ghost use Rattle.std.specs.Prelude.{◌≡◌, ◌≤◌, ◌-◌, ◌∷◌, ◌++◌, false, [], ℕ, List, length, take, OnOk, OnErr, IfOk, IfErr};
 ghost use Rattle.std.specs.List.{list_any};
-ghost use Rattle.stderr_lines.specs.LineEffects.{is_lf, without_cr as cr_dropped, kept_line, line_effects};
+ghost use Rattle.stderr_lines.specs.LineEffects.{is_lf, without_cr, kept_line, line_effects};
 ghost use Rattle.stderr_lines.specs.Reports.{told_by, report_of};
 ghost use Rattle.stderr_lines.specs.Pending.{Pending, Takes, to_come};
 ghost use Rattle.stderr_lines.specs.Tallies.{begun, joined, keep_all};
@@ -163,7 +163,7 @@ fn end_line(tally: &mut Tally, line: &mut Vec<u8>) -> Result<(), AllocError>
 
 // A line without a carriage return at its end.
 fn without_cr(line: &[u8]) -> &[u8]
-    ensures { result.now ≡ cr_dropped line.now }
+    ensures { result.now ≡ without_cr line.now }
 {
     match line.split_last() {
         Some((b, before)) if *b == CARRIAGE_RETURN => before,

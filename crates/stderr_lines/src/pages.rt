@@ -1,7 +1,7 @@
 //! The pages that a line tells.
 ghost use Rattle.std.specs.Prelude.{◌≡◌, IfSome};
 ghost use Rattle.std.specs.Option.{option_map};
-ghost use Rattle.stderr_lines.specs.Pages.{number_of as number_in, page_effect, two_words as in_two_words};
+ghost use Rattle.stderr_lines.specs.Pages.{number_of, page_effect, two_words};
 ghost use Rattle.stderr_lines.specs.Drafts.{effect_of, IsSound};
 
 use crate::draft::Draft;
@@ -21,7 +21,7 @@ pub fn page_draft(text: &[u8]) -> Option<Draft<'_>>
 }
 
 fn two_words<'a>(first: &[u8], second: &[u8]) -> Option<Draft<'a>>
-    ensures effect { option_map effect_of result ≡ in_two_words first.now second.now }
+    ensures effect { option_map effect_of result ≡ two_words first.now second.now }
     ensures sound { IfSome result (λ draft. IsSound draft) }
 {
     if first == b"total".as_slice() {
@@ -35,7 +35,7 @@ fn two_words<'a>(first: &[u8], second: &[u8]) -> Option<Draft<'a>>
 
 // The number that a word is, of any number of digits, where it has at most 32 bits.
 fn number_of(word: &[u8]) -> Option<u32>
-    ensures { result ≡ number_in word.now }
+    ensures { result ≡ number_of word.now }
 {
     if word.is_empty() {
         return None;

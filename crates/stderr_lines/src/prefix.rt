@@ -1,6 +1,6 @@
 //! The prefix of a line (filter(7)).
 ghost use Rattle.std.specs.Prelude.{◌≡◌, ◌≤◌, [], MatchOption, length, map, drop};
-ghost use Rattle.stderr_lines.specs.LineEffects.{prefix_of as prefix_named, shown_byte, effects_by, line_effects};
+ghost use Rattle.stderr_lines.specs.LineEffects.{prefix_of, shown_byte, effects_by, line_effects};
 
 use crate::cuts::cut_at;
 use line_words::after_blanks;
@@ -31,7 +31,7 @@ pub fn prefix_at(line: &[u8]) -> Option<(Prefix, usize)>
 }
 
 fn prefix_of(name: &[u8]) -> Prefix
-    ensures { result ≡ prefix_named name.now }
+    ensures { result ≡ prefix_of name.now }
 {
     if name == b"PAGE".as_slice() {
         return Prefix::Page;

@@ -4,9 +4,9 @@ ghost use Rattle.std.specs.Option.{option_map, option_copied, option_to_list};
 ghost use Rattle.std.specs.List.{slice_split};
 ghost use Rattle.spool_types.specs.Values.{is_reason};
 ghost use Rattle.spool_types.specs.Effects.{texts_size};
-ghost use Rattle.stderr_lines.specs.Reasons.{is_separator as separator, reasons_of, unless_none, state_effect};
+ghost use Rattle.stderr_lines.specs.Reasons.{is_separator, reasons_of, unless_none, state_effect};
 ghost use Rattle.stderr_lines.specs.Rests.{pieces_behind, reasons_from, rest_weight};
-ghost use Rattle.stderr_lines.specs.Drafts.{changed as changed_by, effect_of, IsLineText, IsSound};
+ghost use Rattle.stderr_lines.specs.Drafts.{changed, effect_of, IsLineText, IsSound};
 
 use crate::draft::{Change, Draft};
 use crate::texts::{copy_of, text_in};
@@ -39,7 +39,7 @@ pub fn state_draft(text: &[u8]) -> Option<Draft<'_>>
 // A change by at least one reason.
 fn changed(change: Change, words: &[u8]) -> Option<Draft<'_>>
     requires { IsLineText words.now }
-    ensures effect { option_map effect_of result ≡ unless_none (changed_by change) (reasons_of words.now) }
+    ensures effect { option_map effect_of result ≡ unless_none (changed change) (reasons_of words.now) }
     ensures sound { IfSome result (λ draft. IsSound draft) }
 {
     if reasons_size(words) == 0 {
@@ -98,7 +98,7 @@ fn next_reason(text: &[u8]) -> (Option<&str>, Option<&[u8]>)
 
 // What stands before the first separator, and what follows it, if there is one.
 fn split_word(text: &[u8]) -> (&[u8], Option<&[u8]>)
-    ensures words { slice_split separator text.now ≡ result.0.now ∷ pieces_behind (option_copied result.1) }
+    ensures words { slice_split is_separator text.now ≡ result.0.now ∷ pieces_behind (option_copied result.1) }
     ensures shorter { rest_weight (option_copied result.1) < length text.now + 1 }
 {
     for (i, b) in text.iter().enumerate() {
@@ -110,7 +110,7 @@ fn split_word(text: &[u8]) -> (&[u8], Option<&[u8]>)
 }
 
 fn is_separator(b: u8) -> bool
-    ensures { result ≡ separator b }
+    ensures { result ≡ is_separator b }
 {
     b == b',' || is_blank(b)
 }

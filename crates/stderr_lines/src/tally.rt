@@ -3,7 +3,7 @@ ghost use Rattle.std.specs.Prelude.{◌≡◌, ◌≤◌, OnOk, OnErr};
 ghost use Rattle.std.specs.Option.{ForSome, option_map, option_to_list};
 ghost use Rattle.stderr_lines.specs.Reports.{told_by};
 ghost use Rattle.stderr_lines.specs.Pending.{nothing_kept};
-ghost use Rattle.stderr_lines.specs.Tallies.{keep, keep_all, begun as begun_again, joined};
+ghost use Rattle.stderr_lines.specs.Tallies.{keep, keep_all, begun, joined};
 ghost use Rattle.stderr_lines.specs.Drafts.{effect_of, IsSound};
 
 use crate::draft::Draft;
@@ -22,9 +22,9 @@ pub struct Tally {
 }
 
 impl Model for Tally {
-    ghost use Rattle.stderr_lines.specs.Pending.{Tally as Kept};
+    ghost use Rattle.stderr_lines.specs.Pending.{Tally};
 
-    ghost Value = { Kept };
+    ghost Value = { Tally };
 
     ghost view = { λ a. record { effects = a.effects.items; room = a.room; dropped = a.dropped } };
 }
@@ -43,7 +43,7 @@ impl Tally {
 
     /// A tally that goes on where this one is, with no effects yet. It takes no memory.
     pub fn begun(&self) -> Tally
-        ensures { result ≡ begun_again self.now }
+        ensures { result ≡ begun self.now }
     {
         Tally {
             effects: Vec::new(self.alloc()),

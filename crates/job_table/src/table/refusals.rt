@@ -2,22 +2,16 @@
 ghost use Rattle.std.specs.Prelude.{◌≡◌, Bool, true, false, not, List, [], ◌∷◌, Some, IfOk, IfErr};
 ghost use Rattle.spool_types.specs.declared.event.Closing.{Closing};
 ghost use Rattle.spool_types.specs.declared.refusal.Refusal.{Refusal};
-ghost use Rattle.job_table.specs.Attempts.{is_in_stage as is_stage};
+ghost use Rattle.job_table.specs.Attempts.{is_in_stage};
 ghost use Rattle.spool_types.specs.Phases.{has_ended, is_incoming, is_processing, is_waiting};
 ghost use Rattle.spool_types.specs.State.{job_of, job_at};
 ghost use Rattle.job_table.specs.Step.{about_job, about_queue, first_cause, refusal_of, where_it};
 
 use super::Table;
 use spool_types::{
-    Event, JobId, JobRow, Moment, NewJob, NewQueue, Phase, Piece, QueueName, QueueNotes, Refusal,
-    StageEnd,
+    Event, JobId, JobRow, LONGEST_DOCUMENT, MOST_QUEUES, Moment, NewJob, NewQueue, Phase, Piece,
+    QueueName, QueueNotes, Refusal, StageEnd,
 };
-
-/// The most queues of a table.
-const MOST_QUEUES: usize = 64;
-
-/// The most bytes of a document.
-const LONGEST_DOCUMENT: usize = 1_048_576;
 
 impl Table {
     // Why the event is refused, if it is.
@@ -239,7 +233,7 @@ impl Table {
 
 // Whether the stage that ended is the one that runs.
 fn is_in_stage(phase: Phase, end: &StageEnd) -> bool
-    ensures { result ≡ is_stage end.now.attempt end.now.stage phase }
+    ensures { result ≡ is_in_stage end.now.attempt end.now.stage phase }
 {
     match phase {
         Phase::Processing { attempt, stage, .. } => {

@@ -2,16 +2,16 @@ use Rattle.std.proofs.Common.{◌≡◌, length, map, refl, ap, sym, ◌∙◌, 
 use Rattle.std.specs.Option.{option_map}
 use Rattle.mime_rules.specs.Reading.{read}
 use Rattle.mime_rules.specs.Seen.{token_of, meaning_of}
-use Rattle.mime_rules.proofs.GrammarLaws.{factor_stops, factor_turned, item_stops, item_ends, item_goes_on, list_begins, list_stops, list_breaks, list_goes_on, list_ends, nothing_left, factor_along, popped, test_says, priority_says, opened_reads, wrong_says, no_bang, behind_none, shorter_map, no_longer_map}
+use Rattle.mime_rules.proofs.GrammarLaws.{factor_stops, factor_with_bangs, item_stops, item_ends, item_goes_on, list_begins, list_stops, list_breaks, list_goes_on, list_ends, nothing_left, factor_along, popped, test_says, priority_says, opened_reads, wrong_says, no_bang, behind_none, shorter_map, no_longer_map}
 use Rattle.mime_rules.proofs.grammar.+grammar.Goals as goal
 
 pub factor-returns-in-Err-clause-reads : goal.factor-returns-in-Err-clause-reads
-factor-returns-in-Err-clause-reads t c = factor_stops c.args.groups c.in-Err.stop c.takes_bangs-is_negated.result (map token_of c.takes_bangs-is_negated.new.tokens.items) (map token_of c.args.tokens.now.items) c.in-Err.ensures.reads c.takes_bangs-is_negated.ensures.turns
+factor-returns-in-Err-clause-reads t c = factor_stops c.args.groups c.in-Err.stop c.takes_bangs-is_negated.result (map token_of c.takes_bangs-is_negated.new.tokens.items) (map token_of c.args.tokens.now.items) c.in-Err.ensures.reads c.takes_bangs-is_negated.ensures.bangs
 
 pub factor-returns-in_ok-rule-in-Ok-clause-reads : goal.factor-returns-in_ok-rule-in-Ok-clause-reads
 factor-returns-in_ok-rule-in-Ok-clause-reads t c =
-    factor_turned c.args.groups c.takes_bangs-is_negated.result (map token_of c.takes_bangs-is_negated.new.tokens.items) (map token_of c.operand.new.tokens.items) (map token_of c.args.tokens.now.items)
-    (option_map meaning_of c.in-Ok.found) (option_map meaning_of c.in_ok-rule-in-Ok.rule) c.in-Ok.ensures.reads c.in_ok-rule-in-Ok.ensures c.takes_bangs-is_negated.ensures.turns
+    factor_with_bangs c.args.groups c.takes_bangs-is_negated.result (map token_of c.takes_bangs-is_negated.new.tokens.items) (map token_of c.operand.new.tokens.items) (map token_of c.args.tokens.now.items)
+    (option_map meaning_of c.in-Ok.found) (option_map meaning_of c.in_ok-rule-in-Ok.rule) c.in-Ok.ensures.reads c.in_ok-rule-in-Ok.ensures c.takes_bangs-is_negated.ensures.bangs
 
 pub item-returns-in-Err-clause-reads : goal.item-returns-in-Err-clause-reads
 item-returns-in-Err-clause-reads t c =

@@ -9,17 +9,17 @@ pub returns-in-Ok-clause-items : goal.returns-in-Ok-clause-items
 returns-in-Ok-clause-items c =
     sym (kept_place name_of c.args.attributes.now.items c.requires.ascending c.args.attribute c.in-Ok.at (rw c.deref.ensures.value at c.in-Ok.ensures.found))
 
-pub returns-then-len-lt-MOST-clause-items : goal.returns-then-len-lt-MOST-clause-items
-returns-then-len-lt-MOST-clause-items c =
+pub returns-then-len-lt-MOST_KEPT-clause-items : goal.returns-then-len-lt-MOST_KEPT-clause-items
+returns-then-len-lt-MOST_KEPT-clause-items c =
     rw c.unwrap.ensures at c.insert.ensures.items
     ∙ sym (kept_gap name_of c.args.attributes.now.items c.args.attribute c.in-Err.at (rw c.deref.ensures.value at c.in-Err.ensures.absent) (omega (arith, ap length c.deref.ensures.value)))
 
-pub returns-else-len-lt-MOST-clause-items : goal.returns-else-len-lt-MOST-clause-items
-returns-else-len-lt-MOST-clause-items c =
+pub returns-else-len-lt-MOST_KEPT-clause-items : goal.returns-else-len-lt-MOST_KEPT-clause-items
+returns-else-len-lt-MOST_KEPT-clause-items c =
     sym (kept_dropped name_of c.args.attributes.now.items c.args.attribute c.in-Err.at (rw c.deref.ensures.value at c.in-Err.ensures.absent) (omega (arith, ap length c.deref.ensures.value)))
 
 pub returns-in-Ok-clause-ascending : goal.returns-in-Ok-clause-ascending
 returns-in-Ok-clause-ascending c = subst (λ kept. is_ascending name_of kept ≡ true) (sym (returns-in-Ok-clause-items c)) (ascends_kept name_of c.args.attribute c.args.attributes.now.items c.requires.ascending)
 
-pub returns-then-len-lt-MOST-clause-ascending : goal.returns-then-len-lt-MOST-clause-ascending
-returns-then-len-lt-MOST-clause-ascending c = subst (λ kept. is_ascending name_of kept ≡ true) (sym (returns-then-len-lt-MOST-clause-items c)) (ascends_kept name_of c.args.attribute c.args.attributes.now.items c.requires.ascending)
+pub returns-then-len-lt-MOST_KEPT-clause-ascending : goal.returns-then-len-lt-MOST_KEPT-clause-ascending
+returns-then-len-lt-MOST_KEPT-clause-ascending c = subst (λ kept. is_ascending name_of kept ≡ true) (sym (returns-then-len-lt-MOST_KEPT-clause-items c)) (ascends_kept name_of c.args.attribute c.args.attributes.now.items c.requires.ascending)

@@ -1,5 +1,5 @@
 -- Each life is a list of events after the acknowledged ones of another.
-use Rattle.std.proofs.Common.{◌≡◌, ◌∷◌, ◌++◌, sym, ap, ◌∙◌, subst, take, Some}
+use Rattle.std.proofs.Common.{◌++◌, sym, ap, ◌∙◌, subst, take}
 use Rattle.std.specs.Prelude.{IsSome}
 use Rattle.spool_types.specs.declared.event.Event.TheVariants.{Create}
 use Rattle.spool_types.specs.State.{State, job_at, nothing}
@@ -7,7 +7,7 @@ use Rattle.job_table.specs.Attempts.{reopened}
 use Rattle.job_table.specs.Fold.{after_all}
 use Rattle.job_table.specs.Legal.{IsLegal}
 use Rattle.job_table.specs.Step.{refusal_of}
-use Rattle.spool_core.specs.Lives.{Life, history_of, after_lives}
+use Rattle.spool_core.specs.Lives.{history_of}
 use Rattle.spool_core.proofs.LifeLaws.{one_history, later_events, after_acknowledged, further}
 use Rattle.spool_core.proofs.laws.lives_go_on.Goals as goal
 

@@ -1,0 +1,35 @@
+//! Children of which none can be started.
+ghost use Rattle.std.specs.Prelude.{None, IsErr};
+ghost use Rattle.child_pipeline.specs.Told.{Starts};
+ghost use Rattle.child_pipeline.specs.declared.none.NoTicket.{NoTicket as NoTicketValue};
+
+use crate::children::Children;
+use crate::order::{ChildFault, Finish, Order};
+
+/// Children of which none can be started, and that tell nothing.
+#[derive(Clone, Copy, Debug)]
+pub struct NoChildren;
+
+/// The ticket of a child of [`NoChildren`]: none is given.
+#[derive(Clone, Copy, Debug)]
+pub struct NoTicket;
+
+impl Children for NoChildren {
+    type Ticket = NoTicket;
+
+    ghost tells = { λ _. None };
+
+    ghost number = { λ _. 0 };
+
+    fn start(&mut self, order: Order) -> Result<NoTicket, ChildFault>
+        ensures told { Starts (λ (_ : NoTicketValue). 0) None order result None }
+        ensures fault { IsErr result }
+    {
+        drop(order);
+        Err(ChildFault)
+    }
+
+    fn finish(&mut self, _ticket: NoTicket) -> Result<Finish, ChildFault> {
+        Err(ChildFault)
+    }
+}

@@ -1,0 +1,14 @@
+-- the spool's answer, and what a crash leaves then
+use Rattle.std.proofs.Common.{subst}
+use Rattle.spool_core.specs.Standing.{Standing}
+use Rattle.spool_engine.specs.Answers.{IsApplied}
+use Rattle.spool_engine.proofs.TurnLaws.{spool_applied}
+use Rattle.spool_engine.proofs.executor.Executor.apply.Goals as goal
+
+pub invariant_of-self : goal.invariant_of-self
+invariant_of-self g c =
+    (spool_applied g.D.Disk.device c.self.inside.spool c.apply.new.self c.args.event c.apply.result c.apply.ensures.answer c.apply.ensures.later c.apply.ensures.told c.apply.ensures.any_moment c.apply.ensures.kept c.self.invariant).kept
+
+pub returns : goal.returns
+returns g c = subst (λ (s : Standing g.row.D.Denot). IsApplied g.D.Disk.device s c.args.event c.apply.result c.apply.new.self) c.self.view_is
+    (spool_applied g.D.Disk.device c.self.inside.spool c.apply.new.self c.args.event c.apply.result c.apply.ensures.answer c.apply.ensures.later c.apply.ensures.told c.apply.ensures.any_moment c.apply.ensures.kept c.self.invariant)

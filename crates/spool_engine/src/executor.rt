@@ -1,0 +1,415 @@
+//! The executor of commands: it serves each on the spool that it finds.
+ghost use Rattle.std.specs.Prelude.{◌≡◌, ℕ, List, Option, Some, Result, [], false, IfOk, OnOk};
+ghost use Rattle.std.specs.Option.{option_and_then, option_copied};
+ghost use Rattle.std.specs.FinMap as finite;
+ghost use Rattle.spool_types.specs.State.{job_at};
+ghost use Rattle.spool_types.specs.declared.event.Reply.{Reply};
+ghost use Rattle.command_lines.specs.Replies.{jobs_text, queues_text};
+ghost use Rattle.command_lines.specs.declared.command.Command.{Command};
+ghost use Rattle.spool_core.specs.declared.spool.apply_fault.ApplyFault.{ApplyFault};
+ghost use Rattle.spool_engine.specs.Mime.{Mime as MimeDatabase};
+ghost use Rattle.spool_engine.specs.Script.{closing_line, closing_of, document_in, filters_to, queue_of_job, reply_line, stages_of};
+ghost use Rattle.spool_engine.specs.Script.{next_number};
+ghost use Rattle.spool_engine.specs.Runs.{setting, IsKept, Turn, Serves, IsRun, Drains, DrainsEnd, DrainsPiece};
+ghost use Rattle.spool_engine.specs.Answers.{IsApplied, Takes, answer_line};
+
+use crate::answers::{answer_text, fault_text};
+use crate::fault::RunFault;
+use crate::mime::Mime;
+use crate::options::job_options;
+use crate::writing::write_whole;
+use command_lines::{Answer, Command, Commands, Creation, print_reply};
+use device_uri::{DeviceUri, UriFault};
+use job_table::Table;
+use spool_core::{ApplyFault, Spool};
+use spool_disk::Disk;
+use spool_types::{
+    Closing, Event, Filters, JobId, MediaType, NewJob, NewQueue, OptionText, QueueRow, Refusal,
+    Reply,
+};
+use std::alloc::{AllocError, Global};
+use std::io::{ErrorKind, Read, Write};
+use std::marker::Model;
+
+// How many bytes are asked of the reader at once.
+const PIECE: usize = 16_384;
+
+/// An executor over a spool, seen as what the spool shows.
+#[derive(Drop)]
+pub(crate) struct Executor<D: Disk> {
+    alloc: Global,
+    spool: Spool<D>,
+}
+
+impl<D: Disk> Model for Executor<D> {
+    ghost use Rattle.spool_core.specs.Standing.{Standing};
+    ghost use Rattle.spool_engine.specs.Runs.{IsKept};
+    ghost use Rattle.std.specs.Coded.{codes};
+    ghost use Rattle.std.specs.FinMap as map;
+
+    ghost Value = { Standing D };
+
+    ghost coded = { Prim.hlevel (codes, map.code, D.code) };
+
+    ghost view = { λ e. e.spool };
+
+    ghost invariant = { λ e. IsKept D.device e.spool };
+}
+
+impl<D: Disk> Executor<D> {
+    /// An executor that goes on from this spool.
+    pub fn new(alloc: Global, spool: Spool<D>) -> Executor<D>
+        ensures { result ≡ spool }
+    {
+        // A crash leaves this table, which is the executor's invariant.
+        let _table = spool.table();
+        Executor { alloc, spool }
+    }
+
+    /// The spool as it is now.
+    pub fn into_spool(self) -> Spool<D>
+        ensures { result ≡ self }
+    {
+        let Executor { spool, .. } = self;
+        spool
+    }
+
+    /// Whether the device has failed. Then every event is answered `error dead`.
+    pub fn met_fault(&self) -> bool
+        ensures dead { result ≡ self.now.dead }
+        // Until then a crash leaves the table that is shown.
+        ensures kept { IsKept D.device self.now }
+    {
+        self.spool.is_dead()
+    }
+
+    // The table as it is now.
+    fn table(&self) -> &Table
+        ensures { result.now.state ≡ self.now.state }
+    {
+        self.spool.table()
+    }
+
+    // Applies an event.
+    fn apply(&mut self, event: Event) -> Result<Reply, ApplyFault>
+        ensures { IsApplied D.device self.old event result self.new }
+    {
+        self.spool.apply(event)
+    }
+
+    // Applies an event, and makes the text of its reply, where that is told by the reply alone.
+    fn execute_event(&mut self, event: Event) -> Result<Vec<u8>, AllocError>
+        ensures { (answer : Result Reply ApplyFault) ×
+            IsApplied D.device self.old event answer self.new ×
+            IfOk result (λ text. text.items ≡ answer_line reply_line answer) }
+    {
+        let answer = self.apply(event);
+        answer_text(self.alloc, answer)
+    }
+
+    // Makes a queue, where its URI is that of a device, and the text of the reply.
+    fn add_queue(&mut self, queue: NewQueue) -> Result<Vec<u8>, AllocError>
+        ensures { (m : MimeDatabase) → (t : Turn D) ×
+            Takes (setting D.device m) self.old (Command.Queue queue) t self.new ×
+            IfOk result (λ text. text.items ≡ t.text) }
+    {
+        match DeviceUri::parse(self.alloc, queue.uri.as_str()) {
+            Ok(_) => self.execute_event(Event::AddQueue(queue)),
+            Err(UriFault::BadUri) => print_reply(self.alloc, &Answer::BadUri),
+            Err(UriFault::Memory) => print_reply(self.alloc, &Answer::NoMemory),
+        }
+    }
+
+    // Makes a job, where its options are read and can be kept, and the text of the reply.
+    fn create(&mut self, creation: Creation) -> Result<Vec<u8>, AllocError>
+        ensures { (m : MimeDatabase) → (t : Turn D) ×
+            Takes (setting D.device m) self.old (Command.Create creation) t self.new ×
+            IfOk result (λ text. text.items ≡ t.text) }
+    {
+        match job_options(self.alloc, creation.options.as_str()) {
+            Ok(Some(options)) => {
+                let job = new_job(self.next_number(), creation, options);
+                self.execute_event(Event::Create(job))
+            }
+            Ok(None) => print_reply(self.alloc, &Answer::BadOptions),
+            Err(AllocError) => print_reply(self.alloc, &Answer::NoMemory),
+        }
+    }
+
+    // Closes a job, and makes the text of its reply. A document is read only where the job can be closed.
+    fn close(&mut self, mime: &Mime, job: JobId, name: &str) -> Result<Vec<u8>, AllocError>
+        ensures { (answer : Result Reply ApplyFault) ×
+            IsApplied D.device
+            self.old (Event.Close (closing_of mime.now self.old.state job name.now)) answer self.new ×
+            IfOk result (λ text. text.items ≡ answer_line (closing_line (closing_of mime.now self.old.state job name.now)) answer) }
+    {
+        if self.met_fault() {
+            return fault_text(self.alloc, ApplyFault::Dead);
+        }
+        if let Some(refusal) = self.table().close_refusal(job) {
+            return fault_text(self.alloc, ApplyFault::Refused(refusal));
+        }
+        let (closing, media) = match self.closing(mime, job, name) {
+            Ok(both) => both,
+            Err(_) => return fault_text(self.alloc, ApplyFault::Memory),
+        };
+        let stages = stages(&closing);
+        match self.apply(Event::Close(closing)) {
+            Ok(_) => print_reply(self.alloc, &Answer::Closed { media, stages }),
+            Err(fault) => fault_text(self.alloc, fault),
+        }
+    }
+
+    // The event that closes a job, and its media type once more for the reply.
+    fn closing(
+        &self,
+        mime: &Mime,
+        job: JobId,
+        name: &str,
+    ) -> Result<(Closing, MediaType), AllocError>
+        ensures closing { IfOk result (λ both. both.0 ≡ closing_of mime.now self.now.state job name.now) }
+        ensures media { IfOk result (λ both. both.1 ≡ both.0.media) }
+    {
+        let media = mime.type_of(self.alloc, name, self.document(job))?;
+        let filters = self.filters(mime, job, &media)?;
+        let told = media.clone()?;
+        let closing = Closing {
+            job,
+            media,
+            filters,
+        };
+        Ok((closing, told))
+    }
+
+    // The document of a job so far.
+    fn document(&self, job: JobId) -> &[u8]
+        ensures { result.now ≡ document_in (job_at self.now.state job) }
+    {
+        match self.table().job(job) {
+            Some(row) => &row.document,
+            None => &[],
+        }
+    }
+
+    // The filters that lead a job's document of this type to what its queue takes.
+    fn filters(
+        &self,
+        mime: &Mime,
+        job: JobId,
+        media: &MediaType,
+    ) -> Result<Option<Filters>, AllocError>
+        ensures { IfOk result (λ filters. filters ≡ option_and_then (filters_to mime.now media.now) (queue_of_job self.now.state job)) }
+    {
+        match self.queue_of_job(job) {
+            Some(queue) => mime.filters(media, &queue.target),
+            None => Ok(None),
+        }
+    }
+
+    // The queue of a job.
+    fn queue_of_job(&self, job: JobId) -> Option<&QueueRow>
+        ensures { option_copied result ≡ queue_of_job self.now.state job }
+    {
+        let row = self.table().job(job)?;
+        self.table().queue(&row.queue)
+    }
+
+    fn next_number(&self) -> JobId
+        ensures { result ≡ next_number self.now.state }
+    {
+        let next = self.table().highest().saturating_add(1);
+        JobId::new(next.min(JobId::GREATEST)).unwrap()
+    }
+
+    // Serves a command, and makes the text of its reply.
+    fn execute(&mut self, mime: &Mime, command: Command) -> Result<Vec<u8>, AllocError>
+        ensures { (t : Turn D) ×
+            Takes (setting D.device mime.now) self.old command t self.new ×
+            IfOk result (λ text. text.items ≡ t.text) }
+    {
+        match command {
+            Command::Apply(event) => self.execute_event(event),
+            Command::Queue(queue) => self.add_queue(queue),
+            Command::Create(creation) => self.create(creation),
+            Command::Close { job, name } => self.close(mime, job, name.as_str()),
+            Command::OversizedSend => print_reply(self.alloc, &Answer::Refused(Refusal::TooLong)),
+            Command::Jobs => self.jobs(),
+            Command::Queues => self.queues(),
+            Command::Malformed => print_reply(self.alloc, &Answer::Malformed),
+        }
+    }
+
+    // The text that lists the jobs.
+    fn jobs(&self) -> Result<Vec<u8>, AllocError>
+        ensures text { IfOk result (λ text.
+            text.items ≡ jobs_text self.now.state.moment (finite.values self.now.state.jobs)) }
+        // Until the device has failed a crash leaves what is listed.
+        ensures kept { IsKept D.device self.now }
+    {
+        let rows = self.table().jobs();
+        let now = self.table().now();
+        print_reply(self.alloc, &Answer::Jobs { rows, now })
+    }
+
+    // The text that lists the queues.
+    fn queues(&self) -> Result<Vec<u8>, AllocError>
+        ensures text { IfOk result (λ text.
+            text.items ≡ queues_text (finite.values self.now.state.jobs) (finite.values self.now.state.queues)) }
+        // Until the device has failed a crash leaves what is listed.
+        ensures kept { IsKept D.device self.now }
+    {
+        let table = self.table();
+        print_reply(
+            self.alloc,
+            &Answer::Queues {
+                rows: table.queues(),
+                jobs: table.jobs(),
+            },
+        )
+    }
+
+    // Serves a command, and writes its reply.
+    fn answer<W: Write>(
+        &mut self,
+        mime: &Mime,
+        command: Command,
+        writer: &mut W,
+    ) -> Result<(), RunFault>
+        ensures { (t : Turn D) × Serves (setting D.device mime.now)
+            self.old command t self.new result (W.contents writer.old) (W.contents writer.new) }
+    {
+        match self.execute(mime, command) {
+            Ok(text) => match write_whole(writer, &text) {
+                Ok(()) => Ok(()),
+                Err(_) => Err(RunFault::Write),
+            },
+            Err(_) => Err(RunFault::Memory),
+        }
+    }
+
+    // Serves the commands that are whole.
+    fn drain<W: Write>(
+        &mut self,
+        mime: &Mime,
+        commands: &mut Commands,
+        writer: &mut W,
+    ) -> Result<(), RunFault>
+        ensures { (turns : List (Turn D)) × Drains (setting D.device mime.now)
+            self.old commands.old turns self.new commands.new result (W.contents writer.old) (W.contents writer.new) }
+    {
+        'commands: loop {
+            match commands.next() {
+                Ok(Some(command)) => match self.answer(mime, command, writer) {
+                    Ok(()) => {}
+                    Err(fault) => return Err(fault),
+                },
+                Ok(None) => return Ok(()),
+                Err(_) => return Err(RunFault::Memory),
+            }
+        }
+    }
+
+    // Serves the commands that are left where the text ends.
+    fn drain_end<W: Write>(
+        &mut self,
+        mime: &Mime,
+        commands: &mut Commands,
+        writer: &mut W,
+    ) -> Result<(), RunFault>
+        ensures { (turns : List (Turn D)) × (rest : List Command) ×
+            DrainsEnd (setting D.device mime.now)
+            self.old commands.old turns self.new rest result (W.contents writer.old) (W.contents writer.new) ×
+            OnOk result (rest ≡ []) }
+    {
+        'commands: loop {
+            match commands.finish() {
+                Ok(Some(command)) => match self.answer(mime, command, writer) {
+                    Ok(()) => {}
+                    Err(fault) => return Err(fault),
+                },
+                Ok(None) => return Ok(()),
+                Err(_) => return Err(RunFault::Memory),
+            }
+        }
+    }
+
+    // Takes a piece of the text, and serves the commands that are whole then.
+    fn take_piece<W: Write>(
+        &mut self,
+        mime: &Mime,
+        commands: &mut Commands,
+        piece: &[u8],
+        writer: &mut W,
+    ) -> Result<(), RunFault>
+        ensures { (turns : List (Turn D)) × DrainsPiece (setting D.device mime.now)
+            piece.now self.old commands.old turns self.new commands.new result (W.contents writer.old) (W.contents writer.new) }
+    {
+        match commands.feed(piece) {
+            Ok(()) => self.drain(mime, commands, writer),
+            Err(_) => Err(RunFault::Memory),
+        }
+    }
+
+    /// Serves the commands of a text, and writes the reply to each before the next is looked at. A read that was
+    /// interrupted is made again.
+    pub fn serve<R: Read, W: Write>(
+        &mut self,
+        mime: &Mime,
+        reader: &mut R,
+        writer: &mut W,
+    ) -> Result<(), RunFault>
+        ensures { (text : List ℕ) × (turns : List (Turn D)) ×
+            IsRun (setting D.device mime.now) (R.remaining reader.old)
+            self.old text turns self.new result (W.contents writer.old) (W.contents writer.new) }
+    {
+        let mut commands = Commands::new(self.alloc);
+        let mut piece = [0u8; PIECE];
+        'reads: for _ in 0..u32::MAX {
+            match reader.read(&mut piece) {
+                Ok(0) => return self.drain_end(mime, &mut commands, writer),
+                Ok(count) => match self.take_piece(mime, &mut commands, &piece[..count], writer) {
+                    Ok(()) => {}
+                    Err(fault) => return Err(fault),
+                },
+                Err(e) => {
+                    if e.kind() != ErrorKind::Interrupted {
+                        return Err(RunFault::Read);
+                    }
+                }
+            }
+        }
+        Err(RunFault::Read)
+    }
+}
+
+// How many stages a closed job has: its filters, and then the backend.
+fn stages(closing: &Closing) -> Option<u8>
+    ensures { result ≡ stages_of closing.now.filters }
+{
+    match &closing.filters {
+        Some(filters) => Some(filters.as_slice().len() as u8 + 1),
+        None => None,
+    }
+}
+
+fn new_job(job: JobId, creation: Creation, options: OptionText) -> NewJob
+    ensures { result ≡ record {
+      queue = creation.queue;
+      job = job;
+      user = creation.user;
+      title = creation.title;
+      copies = creation.copies;
+      priority = creation.priority;
+      options = options;
+    } }
+{
+    NewJob {
+        queue: creation.queue,
+        job,
+        user: creation.user,
+        title: creation.title,
+        copies: creation.copies,
+        priority: creation.priority,
+        options,
+    }
+}
