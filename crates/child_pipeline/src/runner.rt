@@ -208,7 +208,7 @@ impl<C: Children> Runner<C> {
 
     /// Frees the slot of a job, if it has one. A slot with a ticket isn't to be freed.
     pub fn release(&mut self, job: JobId)
-        requires { IsTicketless (finite.get self.old job) }
+        requires ticketless { IsTicketless (finite.get self.old job) }
         ensures { self.new ≡ finite.remove self.old job }
     {
         if let Some(key) = self.keys.remove(&job) {
@@ -292,9 +292,10 @@ impl<C: Children> Runner<C> {
     }
 
     /// Reserves a slot for the first stage of an attempt, in which the job is. A later stage has the slot of the one
-    /// before it.
+    /// before it. It takes the place of a slot that is left from an earlier attempt, which isn't to run a child.
     pub fn begin(&mut self, row: &JobRow) -> Result<(), AllocError>
-        requires { IsFirstStage row.now.phase }
+        requires first { IsFirstStage row.now.phase }
+        requires ticketless { IsTicketless (finite.get self.old row.now.id) }
         ensures ok { OnOk result (self.new ≡ begun_in self.old row.now.id row.now.phase) }
         ensures err { OnErr result (self.new ≡ self.old) }
     {

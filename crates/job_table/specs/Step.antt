@@ -4,7 +4,6 @@ use Rattle.std.specs.FinMap as map
 use Rattle.spool_types.specs.declared.phase.Phase.{Phase}
 use Rattle.spool_types.specs.declared.phase.Phase.TheVariants.{Canceled}
 use Rattle.spool_types.specs.declared.phase.Hold.TheVariants.{Free}
-use Rattle.spool_types.specs.declared.rows.QueueRow.{QueueRow}
 use Rattle.spool_types.specs.declared.event.Event.{Event}
 use Rattle.spool_types.specs.declared.event.Event.TheVariants.{AddQueue, Info, SetAccept, SetStop, Create, Send, Close, Hold, Release, Cancel, Clock, Start, Stage, Abandon, Reopen}
 use Rattle.spool_types.specs.declared.event.Reply.{Reply}

@@ -96,7 +96,7 @@ fn a_device_that_fails_leaves_what_was_acknowledged(rt: HostRuntime) -> Result<(
 #[test]
 fn a_part_of_a_document_is_read(rt: HostRuntime) -> Result<(), Fail> {
     let alloc = rt.alloc();
-    // The queue, the job, its bytes and one read.
+    // The queue, the job and its bytes, and one call for the cancel. A read of the document takes none.
     let spool = failing(alloc, 1_024, 13)?;
     let rows = [
         ("queue", "done"),

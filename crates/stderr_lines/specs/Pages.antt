@@ -1,5 +1,5 @@
 -- The pages that a line tells: `PAGE: page copies`, or `PAGE: total pages`.
-use Rattle.std.specs.Prelude.{ℕ, Bool, ◌&&◌, not, cond, nat_le, nat_eq, ◌==◌, List, [], ◌∷◌, length, codes, Option, None, Some}
+use Rattle.std.specs.Prelude.{ℕ, Bool, ◌&&◌, cond, nat_le, nat_eq, List, length, codes, Option, None, Some}
 use Rattle.std.specs.List.{list_all}
 use Rattle.std.specs.Char.{is_ascii_digit}
 use Rattle.std.specs.Cmp.Lexicographic.{pointwise}

@@ -1,5 +1,5 @@
 -- How effects are tallied one by one. No caller needs this.
-use Rattle.std.specs.Prelude.{ℕ, ◌+◌, ◌-◌, cond, nat_le, List, [], ◌∷◌, ◌++◌}
+use Rattle.std.specs.Prelude.{◌+◌, ◌-◌, cond, nat_le, List, [], ◌∷◌, ◌++◌}
 use Rattle.spool_types.specs.declared.effect.Effect.{Effect}
 use Rattle.spool_types.specs.Effects.{effect_size}
 use Rattle.stderr_lines.specs.Reports.{counted}
