@@ -124,7 +124,7 @@ said_told bytes r v s c text now kept is h =
     let (t, takes, told) = said_turn v s c text now kept is in
     (t, takes, same_bytes bytes r text t.text told h)
 
--- a command whose text wasn't read for want of memory
+-- a command whose text wasn't read since there was no memory
 pub unread_told : {X E D : Type 0} (bytes : X → List ℕ) (r : Result X E) (v : Setting D) (s : Standing D) (c : Command) → OnlyNow v.device → IsKept v.device s → MayBeRead c → IfOk r (λ x. bytes x ≡ codes "error memory\n") → (t : Turn D) × Takes v s c t s × IfOk r (λ x. bytes x ≡ t.text)
 unread_told bytes r v s c now kept may h = (
   record { command = c; outcome = unread; text = codes "error memory\n"; next = s },
