@@ -11,7 +11,7 @@ compared with those in tests/allocations.txt, a line `CRATE TEST COUNT` for each
 file is there. A call that begins to take memory, or takes more of it, shows as a greater count. With `--write` the file is
 written anew.
 
-The last line is `none`, with status 0, or `N differ`, with status 1. A crate takes some three minutes of a processor.
+The last line is `none`, with status 0, or `N differ`, with status 1. A crate takes some nine minutes of a processor.
 """
 import concurrent.futures
 import os
@@ -27,7 +27,9 @@ MOST = 32
 AT_ONCE = 4
 
 RESULT = re.compile(r"^test (?:\w+::)*(\w+) \.\.\. (ok|FAILED)$")
-REFUSED = {"error: AllocError", "error: Memory"}
+# What a test ends with whose allocation was refused: the error of std, with the value given back or without it, that of a
+# crate, or the word of a test that tells faults apart.
+REFUSED = {"error: AllocError", "error: AllocFailed { .. }", "error: Memory", 'error: "no memory"'}
 
 
 def run(crate, number):

@@ -6,10 +6,11 @@ use spool_types::{
 use std::alloc::Global;
 use std::test::Fail;
 
-// The printed form of the options of a text, or its fault.
+// The printed form of the options of a text, or its fault. Out of memory is neither.
 fn printed(alloc: Global, text: &str) -> Result<String, Fail> {
     match Options::parse(alloc, text) {
         Ok(options) => Ok(options.print()?),
+        Err(OptionFault::Memory) => Err(Fail::from("no memory")),
         Err(fault) => Ok(format!(in alloc; "{fault:?}")?),
     }
 }
