@@ -1,13 +1,13 @@
 #!/usr/bin/env bash
 # Tries the wrong bodies that the gate leaves out: more_edits.sh [CRATE..]
 #
-# The gate tries some three to eight edits of each crate, those in crates/NAME/must-fail. The others are in
+# The gate tries some five edits of each crate, those in crates/NAME/must-fail. The others are in
 # crates/NAME/more-edits, in the same form. This script tries these, of the named crates or of all, in a copy of the
 # repository: the prover has to refuse each.
 #
 # It prints what `rt must-fail` prints. The last line is `N edits refused`, with status 0, or names what was not, with
-# status 1. An edit takes some 40 seconds of a processor, and a crate that wasn't checked here before as long as its
-# first check.
+# status 1. The first edit of a crate takes as long as its first check, each further one half a minute to two minutes of
+# a processor.
 set -euo pipefail
 here=$(cd "$(dirname "$0")/.." && pwd)
 room=$(mktemp -d)
