@@ -48,6 +48,3 @@ pub use none::{NoChildren, NoTicket};
 pub use order::{ChildFault, Finish, Input, Order, Placed, Program};
 pub use runner::{Progress, Runner, Slot};
 pub use texts::{Content, Scheme, Texts};
-
-#[cfg(test)]
-mod tests;

@@ -57,6 +57,3 @@ pub use command::{Command, Creation};
 pub use commands::Commands;
 pub use laws::{line_by_line, only_line_events, word_by_word};
 pub use reply::{Answer, print_reply};
-
-#[cfg(test)]
-mod tests;

@@ -74,6 +74,3 @@ pub use fault::CodecFault;
 pub use laws::{effects_have_their_size, no_proper_prefix, one_event};
 pub use reading::decode;
 pub use writing::{encode, encode_onto};
-
-#[cfg(test)]
-mod tests;

@@ -41,6 +41,3 @@ pub use files::ChildFile;
 pub use options::Options;
 pub use place::Place;
 pub use variables::environment;
-
-#[cfg(test)]
-mod tests;

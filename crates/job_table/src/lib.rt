@@ -60,10 +60,3 @@ mod table;
 
 pub use laws::{ended_jobs_stay, legal_tables_stay_legal, reopening};
 pub use table::{PrepareFault, Table};
-
-#[cfg(test)]
-mod test_answers;
-#[cfg(test)]
-mod test_words;
-#[cfg(test)]
-mod tests;

@@ -49,6 +49,3 @@ mod reading;
 pub use chain::Chain;
 pub use convs::Convs;
 pub use laws::{least_law, order_law};
-
-#[cfg(test)]
-mod tests;

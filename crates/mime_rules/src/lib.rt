@@ -52,6 +52,3 @@ mod types;
 
 pub use laws::{best_law, order_law};
 pub use types::Types;
-
-#[cfg(test)]
-mod tests;

@@ -62,12 +62,3 @@ pub use gate_journal::JournalFault;
 pub use law::areas_law;
 pub use making::make;
 pub use opening::Opened;
-
-#[cfg(test)]
-mod areas_tests;
-#[cfg(test)]
-mod checkpoint_tests;
-#[cfg(test)]
-mod making_tests;
-#[cfg(test)]
-mod opening_tests;

@@ -99,16 +99,3 @@ pub use making::make;
 pub use replaying::replay;
 pub use spool::{ApplyFault, Spool};
 pub use spool_areas::{MakeFault, OpenError, OpenFault, ReadFault};
-
-#[cfg(test)]
-mod apply_tests;
-#[cfg(test)]
-mod drive_tests;
-#[cfg(test)]
-mod open_tests;
-#[cfg(test)]
-mod reopen_tests;
-#[cfg(test)]
-mod samples;
-#[cfg(test)]
-mod test_words;

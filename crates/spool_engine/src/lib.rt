@@ -57,6 +57,3 @@ mod writing;
 pub use engine::Engine;
 pub use fault::RunFault;
 pub use laws::crashes_between_replies;
-
-#[cfg(test)]
-mod tests;

@@ -56,6 +56,3 @@ pub use refusal::Refusal;
 pub use rows::{JobRow, QueueRow, is_busy};
 pub use text::{Text, TextFault, TextKind};
 pub use warning::{Warning, WarningKind};
-
-#[cfg(test)]
-mod tests;

@@ -57,6 +57,3 @@ mod texts;
 
 pub use laws::{any_pieces, effects_fit};
 pub use lines::{Lines, Report};
-
-#[cfg(test)]
-mod tests;

@@ -1,0 +1,5 @@
+//! The tests of `command_lines`.
+#![tactic(auto)]
+
+#[cfg(test)]
+mod tests;

@@ -1,0 +1,5 @@
+//! The tests of `event_codec`.
+#![tactic(auto)]
+
+#[cfg(test)]
+mod tests;

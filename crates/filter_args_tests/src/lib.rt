@@ -1,0 +1,5 @@
+//! The tests of `filter_args`.
+#![tactic(auto)]
+
+#[cfg(test)]
+mod tests;

@@ -1,0 +1,9 @@
+//! The tests of `job_table`.
+#![tactic(auto)]
+
+#[cfg(test)]
+mod test_answers;
+#[cfg(test)]
+mod test_words;
+#[cfg(test)]
+mod tests;

@@ -1,0 +1,5 @@
+//! The tests of `mime_costs`.
+#![tactic(auto)]
+
+#[cfg(test)]
+mod tests;

@@ -1,0 +1,5 @@
+//! The tests of `mime_rules`.
+#![tactic(auto)]
+
+#[cfg(test)]
+mod tests;

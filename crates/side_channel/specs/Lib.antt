@@ -1,0 +1,6 @@
+pub mod Packets
+pub mod Answers
+pub mod Sessions
+pub mod Streams
+pub mod Seen
+pub mod Requests

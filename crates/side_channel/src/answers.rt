@@ -1,0 +1,44 @@
+//! What a device answers.
+ghost use Rattle.std.specs.Prelude.{◌≡◌};
+ghost use Rattle.side_channel.specs.Answers.{answer_of, row_of};
+ghost use Rattle.side_channel.specs.Seen.{reply_of, content_of};
+
+use crate::codes::{Command, Status};
+use crate::devices::Device;
+use crate::packets::Packet;
+use crate::replies::{Answer, AnswerBody};
+use crate::streams::MOST_DATA;
+
+/// The answer to a request. It takes no memory: a device's id is borrowed.
+pub fn answer<'a>(device: &'a Device, packet: &Packet) -> Answer<'a>
+    ensures { reply_of result ≡ answer_of device.now packet.now }
+{
+    let (status, body) = if usize::from(packet.length) <= MOST_DATA {
+        row(device, Command::from_byte(packet.command))
+    } else {
+        (Status::TooBig, AnswerBody::Empty)
+    };
+    Answer {
+        command: packet.command,
+        status,
+        body,
+    }
+}
+
+// The status and the data of the answer to a command, or to a number that is none.
+fn row(device: &Device, command: Option<Command>) -> (Status, AnswerBody<'_>)
+    ensures { (result.0, content_of result.1) ≡ row_of device.now command }
+{
+    let Some(command) = command else {
+        return (Status::BadMessage, AnswerBody::Empty);
+    };
+    match command {
+        Command::None => (Status::BadMessage, AnswerBody::Empty),
+        Command::SoftReset | Command::DrainOutput => (Status::Ok, AnswerBody::Empty),
+        Command::GetBidi => (Status::Ok, AnswerBody::One(u8::from(device.bidi))),
+        Command::GetDeviceId => (Status::Ok, AnswerBody::Id(&device.id)),
+        Command::GetState => (Status::Ok, AnswerBody::One(device.state)),
+        Command::SnmpGet | Command::SnmpGetNext => (Status::NotImplemented, AnswerBody::Empty),
+        Command::GetConnected => (Status::Ok, AnswerBody::One(u8::from(device.connected))),
+    }
+}

@@ -1,0 +1,43 @@
+//! An answer to a request.
+ghost use Rattle.side_channel.specs.Answers.{reply_bytes};
+ghost use Rattle.side_channel.specs.Streams.{WritesPacket};
+
+use crate::codes::Status;
+use crate::devices::DeviceId;
+use crate::endings::SideFault;
+use crate::packets::write_packet;
+use std::io::Write;
+
+/// The data of an answer.
+#[derive(Clone, Copy, Debug)]
+pub enum AnswerBody<'a> {
+    Empty,
+    One(u8),
+    /// The device's id.
+    Id(&'a DeviceId),
+}
+
+/// An answer, which repeats the command of its request.
+#[derive(Clone, Copy, Debug)]
+pub struct Answer<'a> {
+    pub command: u8,
+    pub status: Status,
+    pub body: AnswerBody<'a>,
+}
+
+impl Answer<'_> {
+    ghost use Rattle.side_channel.specs.Seen.{reply_of};
+
+    /// Writes the answer as a packet, at once where the writer takes it so.
+    pub fn write<W: Write>(&self, writer: &mut W) -> Result<(), SideFault>
+        ensures { WritesPacket (W.contents writer.old) (W.contents writer.new)
+            (reply_bytes (reply_of self.now)) result }
+    {
+        let status = self.status.byte();
+        match self.body {
+            AnswerBody::Empty => write_packet(writer, self.command, status, &[]),
+            AnswerBody::One(byte) => write_packet(writer, self.command, status, &[byte]),
+            AnswerBody::Id(id) => write_packet(writer, self.command, status, id.as_slice()),
+        }
+    }
+}

@@ -1,0 +1,82 @@
+ghost use Rattle.std.specs.Prelude.{◌≡◌, ◌<◌, ◌≤◌, IfOk};
+
+use spool_areas::*;
+use spool_disk::{FuseDisk, MemDisk};
+use std::alloc::Global;
+use std::test::*;
+
+// The calls of a device that opening an empty spool takes: a sync, two headers and one gate.
+const CALLS_OF_OPEN: u64 = 4;
+
+// An empty spool whose areas have room for one record of one byte.
+fn least_spool(alloc: Global) -> Result<MemDisk, Fail> {
+    let mut disk = MemDisk::new(alloc, 46)?;
+    make(&mut disk).ok().ok_or("make")?;
+    Ok(disk)
+}
+
+// An empty spool of areas of 99 bytes, whose device fails after so many calls from its opening on. The closed gate and
+// the bytes from there on tell that the first area is the current one.
+fn failing_areas(alloc: Global, calls: u64) -> Result<Areas<FuseDisk<MemDisk>>, Fail>
+    requires { calls < 1000 }
+    ensures { IfOk result (λ areas. (areas.base ≡ 0) × (99 ≤ areas.end)) }
+{
+    let mut disk = MemDisk::new(alloc, 198)?;
+    make(&mut disk).ok().ok_or("make")?;
+    let opened = Areas::open(alloc, FuseDisk::new(disk, CALLS_OF_OPEN + calls))
+        .ok()
+        .ok_or("open")?;
+    if opened.gate == 16 && opened.room == 83 {
+        Ok(opened.areas)
+    } else {
+        Err(Fail::from("another area"))
+    }
+}
+
+#[test]
+fn kept_room_holds_one_record_of_one_byte(rt: HostRuntime) -> Result<(), Fail> {
+    let disk = least_spool(rt.alloc())?;
+    let mut areas = Areas::open(rt.alloc(), disk).ok().ok_or("open")?.areas;
+    let mut reopen = [0, 0, 0, 0, 0x0F, 0];
+    assert_eq!(rt; areas.append(&mut reopen), Err(JournalFault::Full));
+    assert_eq!(rt; areas.append_kept(&mut reopen), Ok(21));
+    assert_eq!(rt; areas.append_kept(&mut reopen), Err(JournalFault::Full));
+    assert_eq!(rt; areas.is_dead(), false);
+    assert_eq!(rt;
+        &areas.into_disk().bytes()[16..23],
+        [0xA5, 0, 0, 0, 1, 0x0F, 0].as_slice()
+    );
+    Ok(())
+}
+
+#[test]
+fn reads_what_was_appended(rt: HostRuntime) -> Result<(), Fail> {
+    let mut areas = failing_areas(rt.alloc(), 5)?;
+    assert_eq!(rt; areas.append(&mut [0, 0, 0, 0, 7, 8, 0]), Ok(21));
+    let mut got = [0; 2];
+    assert_eq!(rt; areas.read_extent(21, &mut got), Ok(()));
+    assert_eq!(rt; got, [7, 8]);
+    Ok(())
+}
+
+#[test]
+fn failed_append_ends_it(rt: HostRuntime) -> Result<(), Fail> {
+    let mut areas = failing_areas(rt.alloc(), 0)?;
+    let mut frame = [0; 6];
+    assert_eq!(rt; areas.append(&mut frame), Err(JournalFault::Disk));
+    assert_eq!(rt; areas.append(&mut frame), Err(JournalFault::Dead));
+    assert_eq!(rt; areas.append_kept(&mut frame), Err(JournalFault::Dead));
+    assert_eq!(rt; areas.read_extent(21, &mut frame), Err(ReadFault::Dead));
+    assert_eq!(rt; areas.is_dead(), true);
+    Ok(())
+}
+
+#[test]
+fn failed_read_ends_it(rt: HostRuntime) -> Result<(), Fail> {
+    let mut areas = failing_areas(rt.alloc(), 0)?;
+    let mut frame = [0; 6];
+    assert_eq!(rt; areas.read_extent(21, &mut frame), Err(ReadFault::Disk));
+    assert_eq!(rt; areas.append(&mut frame), Err(JournalFault::Dead));
+    assert_eq!(rt; areas.is_dead(), true);
+    Ok(())
+}

@@ -1,0 +1,236 @@
+// The scripts and their replies are cases of the program `spool_scripts`. Here stands what no script shows: devices,
+// readers and writers that fail.
+use spool_engine::{Engine, RunFault};
+use mime_costs::Convs;
+use mime_rules::Types;
+use spool_core::{OpenFault, Spool, make};
+use spool_disk::{Disk, FuseDisk, MemDisk};
+use spool_types::{
+    AttemptNumber, Effect, Effects, Event, Exit, JobId, Reason, StageEnd, StageNumber, Words,
+};
+use std::alloc::{AllocError, Global};
+use std::io;
+use std::io::{ErrorKind, Read, Write};
+use std::test::Fail;
+
+// How many bytes a disk has.
+const DISK: usize = 65_536;
+
+// A disk that was made a spool.
+fn spool_disk(alloc: Global) -> Result<MemDisk, Fail> {
+    let mut disk = MemDisk::new(alloc, DISK)?;
+    make(&mut disk)?;
+    Ok(disk)
+}
+
+// An engine over a spool, without rules of types and without conversions.
+fn plain_engine<D: Disk + Drop>(alloc: Global, spool: Spool<D>) -> Result<Engine<D>, AllocError> {
+    let (types, _) = Types::read(alloc, "")?;
+    let (convs, _) = Convs::read(alloc, "")?;
+    Ok(Engine::new(alloc, spool, types, convs))
+}
+
+// The same over the spool of a disk.
+fn engine_over<D: Disk + Drop>(alloc: Global, disk: D) -> Result<Engine<D>, OpenFault> {
+    match Spool::open(alloc, disk) {
+        Ok(spool) => plain_engine(alloc, spool).map_err(|_| OpenFault::Memory),
+        Err(error) => Err(error.fault),
+    }
+}
+
+// What an engine replies where the disk fails after so many calls, if it can be opened.
+fn replies_until(alloc: Global, calls: u64) -> Result<Option<Vec<u8>>, Fail> {
+    let script = "queue a s:/ a/b abort-job\nqueue b s:/ a/b abort-job\nclose 1 x\n\
+create a ann t 1 50 c={x=1}\njobs\n";
+    let mut engine = match engine_over(alloc, FuseDisk::new(spool_disk(alloc)?, calls)) {
+        Ok(engine) => engine,
+        Err(_) => return Ok(None),
+    };
+    let mut written = Vec::new(alloc);
+    engine.run(&mut script.as_bytes(), &mut written)?;
+    Ok(Some(written))
+}
+
+const AT_FIRST: &str = "error disk\nerror dead\nerror dead\nerror options\nok 0\n";
+
+const THEN: &str = "ok\nerror disk\nerror dead\nerror options\nok 0\n";
+
+const NOT_AT_ALL: &str = "ok\nok\nerror 5 NoJob\nerror options\nok 0\n";
+
+#[test]
+fn a_disk_that_fails_is_dead_from_then_on(rt: HostRuntime) -> Result<(), Fail> {
+    let alloc = rt.alloc();
+    let mut seen = [false; 3];
+    for calls in 0..64 {
+        if let Some(text) = replies_until(alloc, calls)? {
+            seen[0] |= text.as_slice() == AT_FIRST.as_bytes();
+            seen[1] |= text.as_slice() == THEN.as_bytes();
+            seen[2] |= text.as_slice() == NOT_AT_ALL.as_bytes();
+        }
+    }
+    assert_eq!(rt; seen, [true; 3]);
+    Ok(())
+}
+
+#[test]
+fn a_fault_of_the_disk_is_told_to_the_caller(rt: HostRuntime) -> Result<(), Fail> {
+    let alloc = rt.alloc();
+    let mut told = false;
+    for calls in 0..64 {
+        let disk = FuseDisk::new(spool_disk(alloc)?, calls);
+        if let Ok(mut engine) = engine_over(alloc, disk) {
+            let mut written = Vec::new(alloc);
+            engine.run(&mut "clock 1\n".as_bytes(), &mut written)?;
+            let failed = written.as_slice() == b"error disk\n".as_slice();
+            assert_eq!(rt; engine.met_fault(), failed, "at {calls}");
+            told |= failed;
+        }
+    }
+    assert!(rt; told);
+    Ok(())
+}
+
+#[test]
+fn a_job_keeps_its_options_as_they_are_printed(rt: HostRuntime) -> Result<(), Fail> {
+    let alloc = rt.alloc();
+    let mut engine = engine_over(alloc, spool_disk(alloc)?)?;
+    let script = "queue lab s:/ a/b abort-job\n\
+create lab ann t 1 50 \"media=A4 nocollate duplex note='a b'\"\n";
+    let mut written = Vec::new(alloc);
+    engine.run(&mut script.as_bytes(), &mut written)?;
+    assert_eq!(rt; written.as_slice(), b"ok\nok job 1\n".as_slice());
+    let spool = engine.into_parts();
+    let number = JobId::new(1).ok_or("no number")?;
+    let job = spool.table().job(number).ok_or("no job")?;
+    assert_eq!(rt;
+        job.options.as_str(),
+        "media=A4 collate=false duplex=true note=a\\ b"
+    );
+    Ok(())
+}
+
+// The end of the first attempt of job 1, whose backend says `STATE: +toner-low,media-empty`.
+fn printed(alloc: Global) -> Result<Event, Fail> {
+    let mut words = Vec::new(alloc);
+    for word in ["toner-low", "media-empty"] {
+        words.push(Reason::read(alloc, word)?)?;
+    }
+    let words = Words::new(words).ok().ok_or("too many words")?;
+    let effects = vec![in alloc; Effect::AddReasons(words)]?;
+    Ok(Event::Stage(StageEnd {
+        job: JobId::new(1).ok_or("no number")?,
+        attempt: AttemptNumber::new(1).ok_or("no attempt")?,
+        stage: StageNumber::new(1).ok_or("no stage")?,
+        exit: Exit::Code(0),
+        dropped: 0,
+        effects: Effects::new(effects).ok().ok_or("too many effects")?,
+    }))
+}
+
+#[test]
+fn a_queue_lists_what_its_printer_lacks(rt: HostRuntime) -> Result<(), Fail> {
+    let alloc = rt.alloc();
+    let mut engine = engine_over(alloc, spool_disk(alloc)?)?;
+    let script = "queue lab s:/ application/octet-stream abort-job\n\
+create lab ann t 1 50 \"\"\nclose 1 x\n";
+    engine.run(&mut script.as_bytes(), &mut Vec::new(alloc))?;
+    let mut spool = engine.into_parts();
+    let job = JobId::new(1).ok_or("no number")?;
+    assert!(rt; spool.apply(Event::Start(job)).is_ok());
+    assert!(rt; spool.apply(printed(alloc)?).is_ok());
+    let mut engine = plain_engine(alloc, spool)?;
+    let mut written = Vec::new(alloc);
+    engine.run(&mut "queues\n".as_bytes(), &mut written)?;
+    let listing = "queue lab 3 accepting application/octet-stream abort-job 30 5 \
+media-empty,toner-low \"\"\nok 1\n";
+    assert_eq!(rt; str::from_utf8(&written)?, listing);
+    Ok(())
+}
+
+// A reader that is interrupted, gives some bytes, and fails.
+#[derive(Drop)]
+struct Failing<'a> {
+    rest: &'a [u8],
+    interrupted: bool,
+}
+
+impl Read for Failing<'_> {
+    fn read(&mut self, buf: &mut [u8]) -> io::Result<usize> {
+        if !self.interrupted {
+            self.interrupted = true;
+            return Err(io::Error::from(ErrorKind::Interrupted));
+        }
+        let count = self.rest.len().min(buf.len());
+        if count == 0 {
+            return Err(io::Error::from(ErrorKind::Other));
+        }
+        buf[..count].copy_from_slice(&self.rest[..count]);
+        self.rest = &self.rest[count..];
+        Ok(count)
+    }
+}
+
+#[test]
+fn a_reader_that_fails_ends_the_run(rt: HostRuntime) -> Result<(), Fail> {
+    let alloc = rt.alloc();
+    let mut engine = engine_over(alloc, spool_disk(alloc)?)?;
+    let mut written = Vec::new(alloc);
+    let mut reader = Failing {
+        rest: b"jobs\njobs",
+        interrupted: false,
+    };
+    assert_eq!(rt; engine.run(&mut reader, &mut written), Err(RunFault::Read));
+    assert_eq!(rt; written.as_slice(), b"ok 0\n".as_slice());
+    Ok(())
+}
+
+// A writer with room for so many bytes, after which it fails or takes none.
+#[derive(Drop)]
+struct Full {
+    bytes: Vec<u8>,
+    room: usize,
+    fails: bool,
+}
+
+impl Write for Full {
+    fn write(&mut self, buf: &[u8]) -> io::Result<usize> {
+        if self.room == 0 && self.fails {
+            return Err(io::Error::from(ErrorKind::Other));
+        }
+        let count = self.room.min(buf.len());
+        self.bytes.extend_from_slice(&buf[..count])?;
+        self.room -= count;
+        Ok(count)
+    }
+
+    fn flush(&mut self) -> io::Result<()> {
+        Ok(())
+    }
+}
+
+#[test]
+fn a_writer_that_fails_ends_the_run(rt: HostRuntime) -> Result<(), Fail> {
+    let alloc = rt.alloc();
+    let script = "queue lab s:/ a/b abort-job\njobs\nqueue den s:/ a/b abort-job\n";
+    for fails in [false, true] {
+        let mut engine = engine_over(alloc, spool_disk(alloc)?)?;
+        let mut writer = Full {
+            bytes: Vec::new(alloc),
+            room: 4,
+            fails,
+        };
+        let fault = engine.run(&mut script.as_bytes(), &mut writer);
+        assert_eq!(rt; fault, Err(RunFault::Write));
+        assert_eq!(rt; writer.bytes.as_slice(), b"ok\no".as_slice());
+
+        // Another engine goes on from the spool that is left.
+        let mut next = plain_engine(alloc, engine.into_parts())?;
+        let mut more = Vec::new(alloc);
+        next.run(&mut script.as_bytes(), &mut more)?;
+        assert_eq!(rt;
+            more.as_slice(),
+            b"error 2 QueueExists\nok 0\nok\n".as_slice()
+        );
+    }
+    Ok(())
+}

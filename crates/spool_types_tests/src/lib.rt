@@ -1,0 +1,5 @@
+//! The tests of `spool_types`.
+#![tactic(auto)]
+
+#[cfg(test)]
+mod tests;

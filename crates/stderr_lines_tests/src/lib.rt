@@ -1,0 +1,5 @@
+//! The tests of `stderr_lines`.
+#![tactic(auto)]
+
+#[cfg(test)]
+mod tests;
