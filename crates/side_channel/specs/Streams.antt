@@ -2,6 +2,7 @@
 use Rattle.std.specs.Prelude.{◌≡◌, ℕ, ◌<◌, List, [], ◌++◌, length, take, ⊤}
 use Rattle.std.specs.Prelude.{Option, None, Some, Result, Ok, Err}
 use Rattle.std.specs.Io.KnownBytes.{Appends, Consumes, IsAtEnd}
+use Rattle.whole_writes.specs.Writes.{WroteSome}
 use Rattle.side_channel.specs.Packets.{Message, IsShort, kept, front_of, cut, whole}
 use Rattle.side_channel.specs.Sessions.{Session, session}
 use Rattle.side_channel.specs.declared.devices.Device.{Device}
@@ -12,12 +13,6 @@ use Rattle.side_channel.specs.declared.endings.SideFault.TheVariants.{Read, Writ
 -- a prefix of the bytes was written
 pub record WroteFront (old new : Option (List ℕ)) (bytes : List ℕ) : Type 0 where
   pub count : ℕ
-  pub front : Appends old new (take count bytes)
-
--- a prefix of the bytes was written, and not all
-pub record WroteSome (old new : Option (List ℕ)) (bytes : List ℕ) : Type 0 where
-  pub count : ℕ
-  pub short : count < length bytes
   pub front : Appends old new (take count bytes)
 
 -- these bytes, which are a packet whatever follows them, were read

@@ -6,10 +6,11 @@ ghost use Rattle.side_channel.specs.Packets.{is_end, kept, most_data, spelling};
 ghost use Rattle.side_channel.specs.Streams.{ReadsPacket, WritesPacket, ReadFewer, TakesData, SkipsData, FailsData};
 
 use crate::endings::SideFault;
-use crate::streams::{MOST_DATA, fill, write_whole};
+use crate::streams::{MOST_DATA, fill};
 use std::alloc::{AllocError, Global};
 use std::io::{Read, Write};
 use std::marker::Model;
+use whole_writes::write_whole;
 
 /// A packet. Data above 2,048 bytes are not kept: the body is empty then, and otherwise has the length that is told.
 #[derive(Debug, Drop)]
@@ -174,7 +175,10 @@ pub fn write_packet<W: Write>(
 {
     let mut text = [0u8; MOST_PACKET];
     let count = put_packet(&mut text, command, status, content);
-    write_whole(writer, &text[..count])
+    match write_whole(writer, &text[..count]) {
+        Ok(()) => Ok(()),
+        Err(_) => Err(SideFault::Write),
+    }
 }
 
 // How many bytes a packet has at most that is written.

@@ -1,13 +1,13 @@
-//! Whole pieces of a reader and a writer. A call that was interrupted is made again.
+//! Whole pieces of a reader. A read that was interrupted is made again.
 ghost use Rattle.std.specs.Prelude.{◌≡◌, ℕ, ◌<◌, ◌≤◌, ◌+◌, List, length, take};
 ghost use Rattle.std.specs.Prelude.{IfOk, OnOk, OnErr, IfErr};
-ghost use Rattle.std.specs.Io.KnownBytes.{Appends, Consumes, IsAtEnd};
-ghost use Rattle.side_channel.specs.Streams.{WroteSome, ReadFewer};
+ghost use Rattle.std.specs.Io.KnownBytes.{Consumes, IsAtEnd};
+ghost use Rattle.side_channel.specs.Streams.{ReadFewer};
 ghost use Rattle.side_channel.specs.Packets.{kept, most_data};
 
 use crate::endings::SideFault;
 use std::alloc::Global;
-use std::io::{ErrorKind, Read, Write};
+use std::io::{ErrorKind, Read};
 
 /// How many bytes of data a packet keeps at most.
 pub const MOST_DATA: usize = 2048;
@@ -40,32 +40,4 @@ pub fn fill<R: Read>(reader: &mut R, buf: &mut [u8], reads: &mut u32) -> Result<
         }
     }
     Ok(at)
-}
-
-/// Writes all the bytes, or after a fault a prefix of them.
-pub fn write_whole<W: Write>(writer: &mut W, bytes: &[u8]) -> Result<(), SideFault>
-    ensures ok { OnOk result (Appends (W.contents writer.old) (W.contents writer.new) bytes.now) }
-    ensures err { IfErr result (λ fault. (fault ≡ SideFault.Write) ×
-        WroteSome (W.contents writer.old) (W.contents writer.new) bytes.now) }
-{
-    let mut at = 0;
-    'writes: for _ in 0..u64::MAX {
-        if bytes.len() <= at {
-            return Ok(());
-        }
-        match writer.write(&bytes[at..]) {
-            Ok(0) => return Err(SideFault::Write),
-            Ok(n) => at += n,
-            Err(e) => {
-                if e.kind() != ErrorKind::Interrupted {
-                    return Err(SideFault::Write);
-                }
-            }
-        }
-    }
-    if bytes.len() <= at {
-        Ok(())
-    } else {
-        Err(SideFault::Write)
-    }
 }

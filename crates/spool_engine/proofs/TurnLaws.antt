@@ -27,7 +27,8 @@ use Rattle.spool_core.specs.declared.spool.apply_fault.ApplyFault.{ApplyFault}
 use Rattle.spool_core.specs.declared.spool.apply_fault.ApplyFault.TheVariants.{Dead, Refused, Memory, Full, Disk}
 use Rattle.spool_engine.specs.Mime.{Mime}
 use Rattle.spool_engine.specs.Script.{Meaning, says, asks, meaning, creating, job_options, job_of_creation, event_in, reply_by, after_by, reply_of, after_command, step_line, step_state, reply_line, script_text, script_events, event_then}
-use Rattle.spool_engine.specs.Runs.{Setting, Outcome, Turn, served, no_memory, full, disk, dead, unread, IsServed, IsTaken, IsStep, IsTurn, IsOutcome, MayBeRead, IsKept, HasBeforeOrAfterCommand, AreTurns, last_standing, texts_of, commands_in, AllServed, Wrote, WroteSome, Lead, Serves, Drains, DrainsEnd}
+use Rattle.whole_writes.specs.Writes.{WroteSome}
+use Rattle.spool_engine.specs.Runs.{Setting, Outcome, Turn, served, no_memory, full, disk, dead, unread, IsServed, IsTaken, IsStep, IsTurn, IsOutcome, MayBeRead, IsKept, HasBeforeOrAfterCommand, AreTurns, last_standing, texts_of, commands_in, AllServed, Wrote, Lead, Serves, Drains, DrainsEnd}
 use Rattle.spool_engine.specs.Answers.{answer_line, IsApplied, Takes}
 use Rattle.spool_engine.specs.declared.fault.RunFault.{RunFault}
 use Rattle.spool_engine.specs.declared.fault.RunFault.TheVariants.{Read, Write, Memory as Wanted}

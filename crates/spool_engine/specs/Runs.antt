@@ -141,12 +141,6 @@ abbrev pub IsAlong : {D : Type 0} → Mime → Standing D → List (Turn D) → 
 IsAlong m s [] image = HasTable s.state image
 IsAlong m s (t ∷ ts) image = HasTable s.state image ⊎ (((t.outcome ≡ disk) × HasTable (after_command m s.state t.command) image) ⊎ IsAlong m t.next ts image)
 
--- a front of the bytes, and not all
-pub record WroteSome (old new : Option (List ℕ)) (text : List ℕ) : Type 0 where
-  pub count : ℕ
-  pub short : count < length text
-  pub front : Appends old new (take count text)
-
 -- the replies but for the last, and of the last a front and not all
 pub record WroteUpTo {D : Type 0} (old new : Option (List ℕ)) (turns : List (Turn D)) : Type 0 where
   pub told : List (Turn D)

@@ -17,7 +17,6 @@ use crate::answers::{answer_text, fault_text};
 use crate::fault::RunFault;
 use crate::mime::Mime;
 use crate::options::job_options;
-use crate::writing::write_whole;
 use command_lines::{Answer, Command, Commands, Creation, print_reply};
 use device_uri::{DeviceUri, UriFault};
 use job_table::Table;
@@ -30,6 +29,7 @@ use spool_types::{
 use std::alloc::{AllocError, Global};
 use std::io::{ErrorKind, Read, Write};
 use std::marker::Model;
+use whole_writes::write_whole;
 
 // How many bytes are asked of the reader at once.
 const PIECE: usize = 16_384;

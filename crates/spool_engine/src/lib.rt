@@ -52,7 +52,6 @@ mod fault;
 mod laws;
 mod mime;
 mod options;
-mod writing;
 
 pub use engine::Engine;
 pub use fault::RunFault;

@@ -1,7 +1,7 @@
 -- a turn, by how its text was written
 use Rattle.std.proofs.Common.{◌∙◌, subst}
 use Rattle.std.specs.Io.KnownBytes.{Appends}
-use Rattle.spool_engine.specs.Runs.{WroteSome}
+use Rattle.whole_writes.specs.Writes.{WroteSome}
 use Rattle.spool_engine.proofs.TurnLaws.{wrote_one, wrote_part, wrote_none}
 use Rattle.spool_engine.proofs.executor.Executor.answer.Goals as goal
 

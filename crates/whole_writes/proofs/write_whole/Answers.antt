@@ -3,8 +3,8 @@ use Rattle.std.proofs.Common.{ℕ, List, Option, None, Some, length-drop}
 use Rattle.std.proofs.lemmas.List.{take-append-drop, take-take, drop-take, take_rest}
 use Rattle.std.specs.Io.KnownBytes.{Appends, Keeps}
 use Rattle.std.proofs.KnownBytes.{Appends-trans}
-use Rattle.side_channel.proofs.streams.write_whole.Goals as goal
-use Rattle.side_channel.proofs.streams.write_whole.Goals.{in-Ok, in-Err+else-ne}
+use Rattle.whole_writes.proofs.write_whole.Goals as goal
+use Rattle.whole_writes.proofs.write_whole.Goals.{in-Ok, in-Err+else-ne}
 
 -- what is written next comes behind what was
 grown : (bytes rest : List ℕ) (at n : ℕ) → rest ≡ drop at bytes → take at bytes ++ take n rest ≡ take (at + n) bytes
