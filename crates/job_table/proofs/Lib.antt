@@ -10,3 +10,4 @@ pub mod Legal
 pub mod Ended
 pub mod Reopened
 pub mod Choice
+pub mod Next

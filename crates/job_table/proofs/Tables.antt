@@ -58,6 +58,13 @@ module _ (ys : List QueueRow) (h : IsTrue (finite.is_sorted (slice_cmp nat_cmp) 
   pub values_queues : finite.values (queues_of ys) ≡ map (λ r. r) ys
   values_queues = rows.values_map (slice_cmp nat_cmp) nat_list_cmp_total (λ r. r.name) (λ r. r) ys h
 
+  pub keys_queues : finite.keys (queues_of ys) ≡ map (λ r. r.name) ys
+  keys_queues = ap (map (λ e. e.0)) (rows.entries_map (slice_cmp nat_cmp) nat_list_cmp_total (λ r. r.name) (λ r. r) ys h) ∙ firsts ys
+    where
+      firsts : (zs : List QueueRow) → map (λ e. e.0) (map queue_entry zs) ≡ map (λ r. r.name) zs
+      firsts [] = refl
+      firsts (z ∷ zs) = ap (λ ks. z.name ∷ ks) (firsts zs)
+
 module _ (ys : List JobRow) (h : IsTrue (finite.is_sorted nat_cmp (map job_entry ys))) where
   pub get_job : (k : ℕ) (i : ℕ) (d : JobRow) → IsJobPlace ys k i → finite.get (jobs_of ys) k ≡ Some (job_of (get_or ys i d))
   get_job = rows.get_place nat_cmp nat_cmp_total (λ r. r.id) job_of ys h

@@ -23,7 +23,7 @@
 //!   such cause (`refusal_of`), and changes no row. `commit` of the event just prepared gives the state and the reply of
 //!   the step (`step`). Each reader gives exactly what the state has.
 //! - *ExactChoice* for a table: [`Table::next`] names the job of a queue that is to be started next (`IsNextJob`), and
-//!   none exactly where no job of the queue is eligible. A Start of any other waiting job is refused as NotNext
+//!   none exactly where no job of the queue is eligible (`next_of`). A Start of any other waiting job is refused as NotNext
 //!   (`is_next`). [`Table::is_idle`] tells whether no job is processing (`HasNoProcessing`).
 //! - *Reopening* ([`reopening`]): the event Reopen applies to each processing job the error policy of its queue, and
 //!   changes nothing else but that a queue stops where the policy says so. No job is processing after it, and where none
@@ -59,4 +59,4 @@ mod laws;
 mod table;
 
 pub use laws::{ended_jobs_stay, legal_tables_stay_legal, reopening};
-pub use table::{PrepareFault, Table};
+pub use table::{PrepareFault, Table, is_in_stage};

@@ -1,5 +1,5 @@
-use job_table::Table;
 use crate::test_answers::{check_rows, said};
+use job_table::Table;
 use std::test::Fail;
 
 #[test]

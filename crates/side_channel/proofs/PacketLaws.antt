@@ -37,14 +37,6 @@ front_of-head (a ∷ b ∷ c ∷ []) rest four = absurd (omega arith)
 front_of-head (a ∷ b ∷ c ∷ d ∷ []) rest four = refl
 front_of-head (a ∷ b ∷ c ∷ d ∷ e ∷ r) rest four = absurd (omega arith)
 
--- fewer bytes than four are no packet
-pub front_of-few : (h : List ℕ) → length h < 4 → IsShort (front_of h)
-front_of-few [] few = tt
-front_of-few (a ∷ []) few = tt
-front_of-few (a ∷ b ∷ []) few = tt
-front_of-few (a ∷ b ∷ c ∷ []) few = tt
-front_of-few (a ∷ b ∷ c ∷ d ∷ r) few = absurd (omega arith)
-
 pub front_of-some : (h : List ℕ) → 0 < length h → length h < 4 → front_of h ≡ cut
 front_of-some [] some few = absurd (omega arith)
 front_of-some (a ∷ []) some few = refl

@@ -1,10 +1,10 @@
 // The scripts and their replies are cases of the program `spool_scripts`. Here stands what no script shows: devices,
 // readers and writers that fail.
-use spool_engine::{Engine, RunFault};
 use mime_costs::Convs;
 use mime_rules::Types;
 use spool_core::{OpenFault, Spool, make};
 use spool_disk::{Disk, FuseDisk, MemDisk};
+use spool_engine::{Engine, RunFault};
 use spool_types::{
     AttemptNumber, Effect, Effects, Event, Exit, JobId, Reason, StageEnd, StageNumber, Words,
 };

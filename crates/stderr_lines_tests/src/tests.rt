@@ -1,9 +1,9 @@
 ghost use Rattle.std.specs.Prelude.{◌<◌};
 
-use stderr_lines::*;
 use spool_types::Effect;
 use std::alloc::{AllocError, Global};
 use std::test::Fail;
+use stderr_lines::*;
 
 // The report of a text that is fed in pieces of so many bytes: its effects, each before a line feed, and how many others
 // there are.

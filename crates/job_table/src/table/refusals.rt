@@ -2,14 +2,14 @@
 ghost use Rattle.std.specs.Prelude.{◌≡◌, Bool, true, false, not, List, [], ◌∷◌, Some, IfOk, IfErr};
 ghost use Rattle.spool_types.specs.declared.event.Closing.{Closing};
 ghost use Rattle.spool_types.specs.declared.refusal.Refusal.{Refusal};
-ghost use Rattle.job_table.specs.Attempts.{is_in_stage};
 ghost use Rattle.spool_types.specs.Phases.{has_ended, is_incoming, is_processing, is_waiting};
 ghost use Rattle.spool_types.specs.State.{job_of, job_at};
 ghost use Rattle.job_table.specs.Step.{about_job, about_queue, first_cause, refusal_of, where_it};
 
 use super::Table;
+use super::attempts::is_in_stage;
 use spool_types::{
-    Event, JobId, JobRow, LONGEST_DOCUMENT, MOST_QUEUES, Moment, NewJob, NewQueue, Phase, Piece,
+    Event, JobId, JobRow, LONGEST_DOCUMENT, MOST_QUEUES, Moment, NewJob, NewQueue, Piece,
     QueueName, QueueNotes, Refusal, StageEnd,
 };
 
@@ -149,7 +149,7 @@ impl Table {
         ensures { result ≡ refusal_of self.now.state (Event.Stage end.now) }
     {
         match self.processing_job(end.job) {
-            Ok(row) if !is_in_stage(row.phase, end) => Some(Refusal::WrongStage),
+            Ok(row) if !is_in_stage(row.phase, end.attempt, end.stage) => Some(Refusal::WrongStage),
             Ok(_) => None,
             Err(refusal) => Some(refusal),
         }
@@ -228,17 +228,5 @@ impl Table {
             Some(row) if row.phase.has_ended() => Err(Refusal::JobEnded),
             Some(row) => Ok(row),
         }
-    }
-}
-
-// Whether the stage that ended is the one that runs.
-fn is_in_stage(phase: Phase, end: &StageEnd) -> bool
-    ensures { result ≡ is_in_stage end.now.attempt end.now.stage phase }
-{
-    match phase {
-        Phase::Processing { attempt, stage, .. } => {
-            attempt == end.attempt.get() && u32::from(stage) == end.stage.get()
-        }
-        _ => false,
     }
 }

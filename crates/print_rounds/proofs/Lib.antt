@@ -1,0 +1,16 @@
+pub mod EndLaws
+pub mod MadeLaws
+pub mod LaunchLaws
+pub mod ReportLaws
+pub mod StartLaws
+pub mod PlayLaws
+pub mod TraceLaws
+pub mod StageLaws
+pub mod BusyLaws
+pub mod FreeLaws
+pub mod TableLaws
+pub mod AcceptLaws
+pub mod CurrentLaws
+pub mod ToldLaws
+pub mod RoundLaws
+pub mod PrepareLaws

@@ -1,0 +1,25 @@
+use Rattle.std.proofs.Common.{◌+◌, [], ◌∷◌, ◌++◌, arith, refl, sym, ap, ◌∙◌}
+use Rattle.std.specs.Option.{option_or}
+use Rattle.print_rounds.specs.Counts.{ending_fault, report_fault, told_by, told_in}
+use Rattle.print_rounds.specs.Courses.{Ending, course}
+use Rattle.print_rounds.proofs.TraceLaws.{more_ends, one_count, one_fault, one_further}
+use Rattle.print_rounds.proofs.ends.end_stages.Goals as goal
+
+pub loop-job-preserved : goal.loop-job-preserved
+loop-job-preserved g c =
+    let before = course c.args.spool.now c.args.runner.now (g.C.Children.tells c.args.children.now) in
+    let now = course c.loop-job.spool c.loop-job.runner (g.C.Children.tells c.loop-job.children) in
+    let next = course c.end_stage-report.new.spool c.end_stage-report.new.runner (g.C.Children.tells c.end_stage-report.new.children) in
+    let (es, ends, jobs, count, fault) = c.loop-job.invariant.ends in
+    let (kept, is) = c.end_stage-report.ensures in
+    let end : Ending g.row.D.Denot = record { job = c.job-item.result; kept = kept; report = c.end_stage-report.result; next = next } in
+    record {
+      ends = (
+        es ++ end ∷ [],
+        more_ends g.D.Disk.device before now es end ends is,
+        one_further (λ (e : Ending g.row.D.Denot). e.job) es end c.args.jobs.now c.loop-job.job-index c.job-item.result jobs c.loop-job-test.true c.job-item.is refl,
+        ap (λ n. n + c.told-told.result) count ∙ ap (λ n. told_in es + n) c.told-told.ensures.value ∙ sym (one_count (λ (e : Ending g.row.D.Denot). told_by e.report) es end),
+        c.or-fault.ensures ∙ ap (λ f. option_or f c.fault.result) fault ∙ ap (option_or (ending_fault es)) c.fault.ensures ∙ sym (one_fault (λ (e : Ending g.row.D.Denot). report_fault e.report) es end),
+      );
+      few = omega (arith, c.loop-job.invariant.few, c.told-told.ensures.at_most);
+    }

@@ -1,0 +1,52 @@
+-- Which jobs are processing, queue by queue, and whether the stage of one is to be started.
+use Rattle.std.specs.Prelude.{ℕ, Bool, true, false, cond, ◌&&◌, ◌==◌, List, [], ◌∷◌, Option, None, Some}
+use Rattle.std.specs.Option.{option_map}
+use Rattle.std.specs.List.{find}
+use Rattle.std.specs.FinMap as map
+use Rattle.spool_types.specs.declared.phase.Phase.{Phase}
+use Rattle.spool_types.specs.declared.phase.Phase.TheVariants.{Incoming, Waiting, Processing, Completed, Canceled, Aborted}
+use Rattle.spool_types.specs.Busy.{is_of}
+use Rattle.spool_types.specs.Phases.{is_processing}
+use Rattle.spool_types.specs.State.{State, Job}
+use Rattle.child_pipeline.specs.Slots.{Slots, begun_in, is_ready}
+use Rattle.child_pipeline.specs.declared.runner.Slot.{Slot}
+
+-- the job of the queue that is processing, if one is
+abbrev pub busy_of : State → List ℕ → Option ℕ
+busy_of s name = option_map (λ (r : Job). r.id) (find (λ r. is_of name r && is_processing r.phase) (map.values s.jobs))
+
+abbrev pub with_busy : Option ℕ → List ℕ → List ℕ
+with_busy None js = js
+with_busy (Some j) js = j ∷ js
+
+-- the processing jobs of these queues, in their order
+abbrev pub busy_jobs : State → List (List ℕ) → List ℕ
+busy_jobs s [] = []
+busy_jobs s (name ∷ names) = with_busy (busy_of s name) (busy_jobs s names)
+
+-- a slot at the first stage, and none at a later one: that one had a slot with the output of the stage before
+abbrev pub new_slots : Slots → Job → ℕ → Option Slots
+new_slots slots r stage = cond (stage == 1) (Some (begun_in slots r.id r.phase)) None
+
+-- whether a slot of this stage is to be started; none where it is of another stage, or isn't there
+abbrev pub readiness : ℕ → ℕ → Option (Slot ℕ) → Option Bool
+readiness attempt stage None = None
+readiness attempt stage (Some slot) = cond (slot.attempt == attempt && slot.stage == stage) (Some (is_ready slot.progress)) None
+
+-- the slot of this stage: it is there, or of another stage and goes, or it is made
+abbrev pub slots_by : Slots → Job → ℕ → Option Bool → Option Slots
+slots_by slots r stage None = new_slots slots r stage
+slots_by slots r stage (Some true) = Some slots
+slots_by slots r stage (Some false) = None
+
+-- The slots where the job's stage is to be started, with its own; none where it isn't to be: its child's finish was kept.
+abbrev pub slots_in : Slots → Job → Phase → Option Slots
+slots_in slots r (Processing attempt stage stages) = slots_by slots r stage (readiness attempt stage (map.get slots r.id))
+slots_in slots r (Incoming hold) = None
+slots_in slots r (Waiting hold not_before first) = None
+slots_in slots r Completed = None
+slots_in slots r Canceled = None
+slots_in slots r (Aborted reason) = None
+
+abbrev pub slots_for : Slots → Job → Option Slots
+slots_for slots r = slots_in slots r r.phase

@@ -1,0 +1,115 @@
+-- What the steps of a round come to: the children that were started, the ends that were told, the events that were
+-- acknowledged, and the faults.
+use Rattle.std.specs.Prelude.{ℕ, cond, List, [], ◌∷◌, ◌++◌, Option, None, Some, Result, Ok, Err}
+use Rattle.std.specs.List.{flat_map, sum_by}
+use Rattle.std.specs.Option.{option_or}
+use Rattle.spool_types.specs.declared.event.Event.{Event}
+use Rattle.spool_types.specs.declared.event.Event.TheVariants.{Start, Stage}
+use Rattle.job_table.specs.Attempts.{next_of}
+use Rattle.spool_core.specs.Standing.{Standing}
+use Rattle.spool_core.specs.declared.spool.apply_fault.ApplyFault.{ApplyFault}
+use Rattle.spool_core.specs.declared.spool.apply_fault.ApplyFault.TheVariants as faults
+use Rattle.child_pipeline.specs.Slots.{end_in}
+use Rattle.print_rounds.specs.Courses.{Answer, Starting, Launching, Ending}
+use Rattle.print_rounds.specs.declared.outcome.Launch.{Launch}
+use Rattle.print_rounds.specs.declared.outcome.Launch.TheVariants as launches
+use Rattle.print_rounds.specs.declared.outcome.Report.{Report}
+use Rattle.print_rounds.specs.declared.outcome.Report.TheVariants as reports
+use Rattle.print_rounds.specs.declared.outcome.Round.{Round}
+use Rattle.print_rounds.specs.declared.outcome.RoundFault.{RoundFault}
+use Rattle.print_rounds.specs.declared.outcome.RoundFault.TheVariants as ends
+
+-- ## Faults
+
+-- a refusal is none: the table is asked first, so that none comes
+abbrev pub fault_of : ApplyFault → Option RoundFault
+fault_of faults.Dead = Some ends.Dead
+fault_of (faults.Refused refusal) = None
+fault_of faults.Memory = Some ends.Memory
+fault_of faults.Full = Some ends.Full
+fault_of faults.Disk = Some ends.Disk
+
+abbrev pub answer_fault : Answer → Option RoundFault
+answer_fault (Ok reply) = None
+answer_fault (Err fault) = fault_of fault
+
+abbrev pub start_fault : Option Answer → Option RoundFault
+start_fault None = None
+start_fault (Some answer) = answer_fault answer
+
+abbrev pub launch_fault : Launch → Option RoundFault
+launch_fault launches.Unlaunched = None
+launch_fault (launches.Launched started) = None
+launch_fault launches.NoMemory = Some ends.Memory
+
+abbrev pub report_fault : Report → Option RoundFault
+report_fault reports.Silent = None
+report_fault reports.NoMemory = Some ends.Memory
+report_fault (reports.Answered answer) = answer_fault answer
+
+-- the first fault of some steps
+abbrev pub first_fault : {X : Type 0} → (X → Option RoundFault) → List X → Option RoundFault
+first_fault f [] = None
+first_fault f (x ∷ xs) = option_or (f x) (first_fault f xs)
+
+abbrev pub starting_fault : {D : Type 0} → List (Starting D) → Option RoundFault
+starting_fault ts = first_fault (λ t. start_fault t.answer) ts
+
+abbrev pub launching_fault : List Launching → Option RoundFault
+launching_fault ts = first_fault (λ t. launch_fault t.launch) ts
+
+abbrev pub ending_fault : {D : Type 0} → List (Ending D) → Option RoundFault
+ending_fault es = first_fault (λ e. report_fault e.report) es
+
+-- ## Counts
+
+abbrev pub started_by : Launch → ℕ
+started_by launches.Unlaunched = 0
+started_by (launches.Launched started) = cond started 1 0
+started_by launches.NoMemory = 0
+
+abbrev pub told_by : Report → ℕ
+told_by reports.Silent = 0
+told_by reports.NoMemory = 0
+told_by (reports.Answered (Ok reply)) = 1
+told_by (reports.Answered (Err fault)) = 0
+
+abbrev pub started_in : List Launching → ℕ
+started_in ts = sum_by (λ t. started_by t.launch) ts
+
+abbrev pub told_in : {D : Type 0} → List (Ending D) → ℕ
+told_in es = sum_by (λ e. told_by e.report) es
+
+abbrev pub counts_of : {D : Type 0} → List Launching → List (Ending D) → Round
+counts_of launchings endings = record { started = started_in launchings; finished = told_in endings }
+
+abbrev pub stages_fault : {D : Type 0} → List Launching → List (Ending D) → Option RoundFault
+stages_fault launchings endings = option_or (launching_fault launchings) (ending_fault endings)
+
+-- the counts, or the first fault
+abbrev pub result_of : Round → Option RoundFault → Result Round RoundFault
+result_of round None = Ok round
+result_of round (Some fault) = Err fault
+
+-- ## Events
+
+abbrev pub start_events : Option ℕ → Option Answer → List Event
+start_events None answer = []
+start_events (Some j) None = []
+start_events (Some j) (Some (Ok reply)) = Start j ∷ []
+start_events (Some j) (Some (Err fault)) = []
+
+-- the events that were acknowledged among the starts
+abbrev pub starting_events : {D : Type 0} → Standing D → List (Starting D) → List Event
+starting_events s [] = []
+starting_events s (t ∷ ts) = start_events (next_of s.state t.queue) t.answer ++ starting_events t.next ts
+
+abbrev pub report_events : Event → Report → List Event
+report_events e reports.Silent = []
+report_events e reports.NoMemory = []
+report_events e (reports.Answered (Ok reply)) = e ∷ []
+report_events e (reports.Answered (Err fault)) = []
+
+-- the events that were acknowledged among the ends
+abbrev pub ending_events : {D : Type 0} → List (Ending D) → List Event
+ending_events es = flat_map (λ e. report_events (Stage (end_in e.kept.slots e.job)) e.report) es

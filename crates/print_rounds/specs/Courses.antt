@@ -1,0 +1,135 @@
+-- What a round did, step by step, also where something failed.
+use Rattle.std.specs.Prelude.{◌≡◌, ◌⊎◌, ℕ, Bool, ◌&&◌, nat_lt, true, false, List, [], ◌∷◌, map, Option, None, Some, Result, Ok, Err, if◌then◌else◌}
+use Rattle.std.specs.FinMap as finite
+use Rattle.spool_disk.specs.Disk.{DiskView}
+use Rattle.spool_types.specs.declared.event.Event.TheVariants.{Start, Stage}
+use Rattle.spool_types.specs.declared.event.Reply.{Reply}
+use Rattle.spool_types.specs.declared.event.Reply.TheVariants as replies
+use Rattle.spool_types.specs.declared.rows.QueueRow.{QueueRow}
+use Rattle.spool_types.specs.Phases.{is_processing}
+use Rattle.spool_types.specs.State.{State, Job, job_at, queue_at}
+use Rattle.job_table.specs.Attempts.{next_of}
+use Rattle.job_table.specs.Step.{refusal_of}
+use Rattle.spool_core.specs.Standing.{Standing, IsAnswer}
+use Rattle.spool_core.specs.declared.spool.apply_fault.ApplyFault.{ApplyFault}
+use Rattle.filter_args.specs.declared.place.Place.{Place}
+use Rattle.child_pipeline.specs.Told.{Told}
+use Rattle.child_pipeline.specs.Slots.{Slots, StartsStage, FinishesStage, order_in, end_in, advanced_in, slot_in, is_ready}
+use Rattle.child_pipeline.specs.declared.runner.Slot.{Slot}
+use Rattle.print_rounds.specs.Choice.{slots_for}
+use Rattle.print_rounds.specs.declared.outcome.Launch.{Launch}
+use Rattle.print_rounds.specs.declared.outcome.Launch.TheVariants.{Unlaunched, Launched, NoMemory}
+use Rattle.print_rounds.specs.declared.outcome.Report.{Report}
+use Rattle.print_rounds.specs.declared.outcome.Report.TheVariants as reports
+
+-- a round under way: the spool, the slots, and what the children tell
+pub record Course (D : Type 0) : Type 0 where
+  pub spool : Standing D
+  pub slots : Slots
+  pub told : Option Told
+
+abbrev pub course : {D : Type 0} → Standing D → Slots → Option Told → Course D
+course spool slots told = record { spool = spool; slots = slots; told = told }
+
+-- what came of an event
+abbrev pub Answer : Type 0
+Answer = Result Reply ApplyFault
+
+-- First, each queue's next job is started. A queue without one has no answer, and no start is refused.
+pub record Starting (D : Type 0) : Type 0 where
+  pub queue : List ℕ
+  pub answer : Option Answer
+  pub next : Standing D
+
+abbrev pub IsStartingOf : {D : Type 0} → DiskView D → Standing D → Option ℕ → Option Answer → Standing D → Type 0
+IsStartingOf device old None answer new = (answer ≡ None) × (new ≡ old)
+IsStartingOf device old (Some j) None new = ⊥
+IsStartingOf device old (Some j) (Some a) new = (refusal_of old.state (Start j) ≡ None) × IsAnswer device old (Start j) a new
+
+abbrev pub IsStarting : {D : Type 0} → DiskView D → Standing D → Starting D → Type 0
+IsStarting device old t = IsStartingOf device old (next_of old.state t.queue) t.answer t.next
+
+abbrev pub AreStartings : {D : Type 0} → DiskView D → Standing D → List (Starting D) → Standing D → Type 0
+AreStartings device old [] new = new ≡ old
+AreStartings device old (t ∷ ts) new = IsStarting device old t × AreStartings device t.next ts new
+
+-- Second, one stage of each processing job is started.
+pub record Launching : Type 0 where
+  pub job : ℕ
+  pub launch : Launch
+  pub slots : Slots
+  pub told : Option Told
+
+-- a job and its queue, whose stage is to be started, with the slots for it
+pub record IsToStart (s : State) (slots : Slots) (j : ℕ) (r : Job) (q : QueueRow) (own : Slots) : Type 0 where
+  pub row : job_at s j ≡ Some r
+  pub queue : queue_at s r.queue ≡ Some q
+  pub due : slots_for slots r ≡ Some own
+
+-- its stage isn't to be started
+abbrev pub IsToRest : State → Slots → ℕ → Type 0
+IsToRest s slots j = (r : Job) (q : QueueRow) (own : Slots) → ¬ (IsToStart s slots j r q own)
+
+abbrev pub IsLaunch : Place → State → Slots → Option Told → ℕ → Launch → Slots → Option Told → Type 0
+IsLaunch place s slots told j Unlaunched new told' = IsToRest s slots j × (new ≡ slots) × (told' ≡ told)
+IsLaunch place s slots told j (Launched started) new told' =
+    (r : Job) × (q : QueueRow) × (own : Slots) × IsToStart s slots j r q own × StartsStage told (order_in place own r q r.document) started own r.id new told'
+IsLaunch place s slots told j NoMemory new told' =
+    (r : Job) × (q : QueueRow) × (own : Slots) × IsToStart s slots j r q own × ((new ≡ slots) ⊎ (new ≡ own)) × (told' ≡ told)
+
+abbrev pub AreLaunchings : Place → State → Slots → Option Told → List Launching → Slots → Option Told → Type 0
+AreLaunchings place s slots told [] new told' = (new ≡ slots) × (told' ≡ told)
+AreLaunchings place s slots told (t ∷ ts) new told' = IsLaunch place s slots told t.job t.launch t.slots t.told × AreLaunchings place s t.slots t.told ts new told'
+
+-- Third, each child is finished, its finish kept, and the event of its end applied. What is between is `kept`.
+pub record Ending (D : Type 0) : Type 0 where
+  pub job : ℕ
+  pub kept : Course D
+  pub report : Report
+  pub next : Course D
+
+-- the job has no child to be finished and no finish that was kept
+abbrev pub is_silent : Option (Slot ℕ) → Bool
+is_silent None = true
+is_silent (Some slot) = is_ready slot.progress
+
+-- an attempt that goes on to its next stage keeps its output; any other frees the slot
+abbrev pub moved_by : Slots → ℕ → Reply → Slots
+moved_by slots j replies.Done = finite.remove slots j
+moved_by slots j (replies.Number n) = finite.remove slots j
+moved_by slots j (replies.Size n) = finite.remove slots j
+moved_by slots j (replies.Phase p) = (if is_processing p && nat_lt (slot_in slots j).stage 16 then advanced_in slots j else finite.remove slots j)
+
+-- where the event wasn't applied, the slot keeps the finish
+abbrev pub moved : Slots → ℕ → Answer → Slots
+moved slots j (Ok reply) = moved_by slots j reply
+moved slots j (Err fault) = slots
+
+abbrev pub IsReport : {D : Type 0} → DiskView D → Course D → ℕ → Report → Course D → Type 0
+IsReport device old j reports.Silent new = ⊥
+IsReport device old j reports.NoMemory new = new ≡ old
+IsReport device old j (reports.Answered a) new =
+    IsAnswer device old.spool (Stage (end_in old.slots j)) a new.spool × (new.slots ≡ moved old.slots j a) × (new.told ≡ old.told)
+
+abbrev pub IsEndingOf : {D : Type 0} → DiskView D → Course D → Bool → Ending D → Type 0
+IsEndingOf device old true t = (t.report ≡ reports.Silent) × (t.kept ≡ old) × (t.next ≡ old)
+IsEndingOf device old false t =
+    FinishesStage old.told old.slots t.job t.kept.slots t.kept.told × (t.kept.spool ≡ old.spool) × IsReport device t.kept t.job t.report t.next
+
+abbrev pub IsEnding : {D : Type 0} → DiskView D → Course D → Ending D → Type 0
+IsEnding device old t = IsEndingOf device old (is_silent (finite.get old.slots t.job)) t
+
+abbrev pub AreEndings : {D : Type 0} → DiskView D → Course D → List (Ending D) → Course D → Type 0
+AreEndings device old [] new = new ≡ old
+AreEndings device old (t ∷ ts) new = IsEnding device old t × AreEndings device t.next ts new
+
+-- one stage of each of these jobs: all are started, then each is finished
+pub record IsRunOfStages {D : Type 0} (device : DiskView D) (place : Place) (old : Course D) (jobs : List ℕ) (new : Course D) : Type 0 where
+  pub slots : Slots
+  pub told : Option Told
+  pub launchings : List Launching
+  pub endings : List (Ending D)
+  pub starts : AreLaunchings place old.spool.state old.slots old.told launchings slots told
+  pub started : map (λ t. t.job) launchings ≡ jobs
+  pub ends : AreEndings device (course old.spool slots told) endings new
+  pub ended : map (λ e. e.job) endings ≡ jobs

@@ -1,0 +1,66 @@
+-- Where nothing failed, the steps are those of Script.
+use Rattle.std.specs.Prelude.{◌≡◌, ℕ, List, [], ◌∷◌, ◌++◌, Option, None, Some, Ok, Err}
+use Rattle.spool_disk.specs.Disk.{DiskView}
+use Rattle.spool_types.specs.declared.event.Event.{Event}
+use Rattle.filter_args.specs.declared.place.Place.{Place}
+use Rattle.child_pipeline.specs.Slots.{Slots}
+use Rattle.child_pipeline.specs.Told.{Told}
+use Rattle.spool_core.specs.Standing.{Standing}
+use Rattle.print_rounds.specs.Courses.{Course, Answer, Starting, Launching, Ending, IsRunOfStages}
+use Rattle.print_rounds.specs.Counts.{started_in, told_in, ending_events, starting_events}
+use Rattle.print_rounds.specs.Script.{Play, play_from, play_stages, plays, play_start}
+use Rattle.print_rounds.specs.declared.outcome.Launch.{Launch}
+use Rattle.print_rounds.specs.declared.outcome.Launch.TheVariants.{Unlaunched, Launched, NoMemory}
+use Rattle.print_rounds.specs.declared.outcome.Report.{Report}
+use Rattle.print_rounds.specs.declared.outcome.Report.TheVariants as reports
+
+-- the job of a queue was started, or there was none to be
+abbrev pub IsBegun : Option Answer → Type 0
+IsBegun None = Unit {0}
+IsBegun (Some (Ok reply)) = Unit {0}
+IsBegun (Some (Err fault)) = ⊥
+
+abbrev pub AllBegun : {D : Type 0} → List (Starting D) → Type 0
+AllBegun [] = Unit {0}
+AllBegun (t ∷ ts) = IsBegun t.answer × AllBegun ts
+
+-- these starts, where nothing failed in them, are Script's
+abbrev pub AreExactStarts : {D : Type 0} → Standing D → List (List ℕ) → Standing D → List (Starting D) → Type 0
+AreExactStarts old queues new ts =
+    (slots : Slots) (told : Told) → AllBegun ts → plays play_start (play_from old.state slots told) queues ≡ record (play_from new.state slots told) { events = starting_events old ts }
+
+-- there was memory
+abbrev pub IsServed : Launch → Type 0
+IsServed Unlaunched = Unit {0}
+IsServed (Launched started) = Unit {0}
+IsServed NoMemory = ⊥
+
+abbrev pub AllServed : List Launching → Type 0
+AllServed [] = Unit {0}
+AllServed (l ∷ ls) = IsServed l.launch × AllServed ls
+
+-- the event, where there is one, was acknowledged
+abbrev pub IsTold : Report → Type 0
+IsTold reports.Silent = Unit {0}
+IsTold reports.NoMemory = ⊥
+IsTold (reports.Answered (Ok reply)) = Unit {0}
+IsTold (reports.Answered (Err fault)) = ⊥
+
+abbrev pub AllTold : {D : Type 0} → List (Ending D) → Type 0
+AllTold [] = Unit {0}
+AllTold (e ∷ es) = IsTold e.report × AllTold es
+
+-- the table, the slots, what is told, the events behind earlier ones, and the counts are those of a play
+pub record IsPlayed {D : Type 0} (device : DiskView D) (place : Place) (old : Course D) (jobs : List ℕ) (new : Course D) (runs : IsRunOfStages device place old jobs new) (before : List Event) (p : Play) : Type 0 where
+  pub state : new.spool.state ≡ p.state
+  pub slots : new.slots ≡ p.slots
+  pub told : new.told ≡ Some p.told
+  pub events : before ++ ending_events runs.endings ≡ p.events
+  pub started : started_in runs.launchings ≡ p.started
+  pub ended : told_in runs.endings ≡ p.ended
+
+-- these steps, where nothing failed in them and the children tell, are Script's
+abbrev pub AreExact : {D : Type 0} (device : DiskView D) (place : Place) (old : Course D) (jobs : List ℕ) (new : Course D) → IsRunOfStages device place old jobs new → Type 0
+AreExact device place old jobs new runs =
+    (t : Told) (before : List Event) → old.told ≡ Some t → t.running ≡ [] → AllServed runs.launchings → AllTold runs.endings
+    → IsPlayed device place old jobs new runs before (play_stages place (record (play_from old.spool.state old.slots t) { events = before }) jobs)

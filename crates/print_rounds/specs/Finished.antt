@@ -1,0 +1,81 @@
+-- Every child that a round starts is finished in it, once, and every start comes before the first finish.
+use Rattle.std.specs.Prelude.{◌≡◌, ℕ, ◌+◌, false, List, [], ◌∷◌, ◌++◌, length, Option, None, Some}
+use Rattle.std.specs.FinMap as finite
+use Rattle.child_pipeline.specs.Told.{Told, is_in, after_start, after_finish}
+use Rattle.child_pipeline.specs.Slots.{Slots, IsTicketless}
+use Rattle.child_pipeline.specs.declared.order.Order.{Order}
+use Rattle.child_pipeline.specs.declared.order.Placed.{Placed}
+use Rattle.child_pipeline.specs.declared.runner.Progress.{Progress}
+use Rattle.child_pipeline.specs.declared.runner.Progress.TheVariants.{Ready, Running, Ended}
+use Rattle.child_pipeline.specs.declared.runner.Slot.{Slot}
+
+-- each stands once in the list
+abbrev pub AreDistinct : List ℕ → Type 0
+AreDistinct [] = Unit {0}
+AreDistinct (j ∷ js) = (is_in j js ≡ false) × AreDistinct js
+
+-- the number of the child that is running, before these
+abbrev pub with_number : Progress ℕ → List ℕ → List ℕ
+with_number (Ready input) ns = ns
+with_number (Running n) ns = n ∷ ns
+with_number (Ended finish) ns = ns
+
+abbrev pub with_slot : Option (Slot ℕ) → List ℕ → List ℕ
+with_slot None ns = ns
+with_slot (Some slot) ns = with_number slot.progress ns
+
+-- the children of these jobs that are running
+abbrev pub running_in : Slots → List ℕ → List ℕ
+running_in slots [] = []
+running_in slots (j ∷ js) = with_slot (finite.get slots j) (running_in slots js)
+
+-- no child of these jobs is running
+abbrev pub AllRest : Slots → List ℕ → Type 0
+AllRest slots [] = Unit {0}
+AllRest slots (j ∷ js) = IsTicketless (finite.get slots j) × AllRest slots js
+
+-- no child is running
+abbrev pub HasNoneRunning : Slots → Type 0
+HasNoneRunning slots = (j : ℕ) → IsTicketless (finite.get slots j)
+
+-- what is told after starts of these orders, and after finishes of the children of these numbers
+abbrev pub after_starts : Told → List Order → Told
+after_starts t [] = t
+after_starts t (order ∷ orders) = after_starts (after_start t order) orders
+
+abbrev pub after_finishes : Told → List ℕ → Told
+after_finishes t [] = t
+after_finishes t (n ∷ ns) = after_finishes (after_finish t n) ns
+
+-- each of these orders was given when this number of children had been finished
+abbrev pub AreBefore : ℕ → List Placed → Type 0
+AreBefore finished [] = Unit {0}
+AreBefore finished (p ∷ ps) = (p.before ≡ finished) × AreBefore finished ps
+
+-- There were only starts. The new orders were all given before the first finish, and the children that were started are
+-- the ones that are running.
+pub record AreStarted (old : Told) (slots : Slots) (js : List ℕ) (new : Told) : Type 0 where
+  pub asked : List Order
+  pub only : new ≡ after_starts old asked
+  pub orders : List Placed
+  pub added : new.orders ≡ old.orders ++ orders
+  pub before : AreBefore old.finished orders
+  pub finished : new.finished ≡ old.finished
+  pub running : new.running ≡ old.running ++ running_in slots js
+
+-- There were only finishes: each child that was running has been finished, and no other.
+pub record AreFinished (old : Told) (slots : Slots) (js : List ℕ) (new : Told) : Type 0 where
+  pub only : new ≡ after_finishes old (running_in slots js)
+  pub orders : new.orders ≡ old.orders
+  pub running : new.running ≡ []
+  pub finished : new.finished ≡ old.finished + length (running_in slots js)
+
+-- Every child that was started has been finished once, none else, and every start came before the first finish.
+pub record EachFinishedOnce (old : Told) (told : Option Told) (js : List ℕ) : Type 0 where
+  -- what was told, and the slots, between the last start and the first finish
+  pub between : Told
+  pub slots : Slots
+  pub started : AreStarted old slots js between
+  pub now : Told
+  pub tells : told ≡ Some now
+  pub finished : AreFinished between slots js now

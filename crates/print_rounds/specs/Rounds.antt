@@ -1,0 +1,76 @@
+-- A whole round: its steps, its answer, and what it is where nothing failed.
+use Rattle.std.specs.Prelude.{◌≡◌, ◌⊎◌, ℕ, Bool, true, false, List, [], ◌++◌, map, Option, None, Some, Result, Err}
+use Rattle.std.specs.FinMap as finite
+use Rattle.std.specs.Option.{option_or}
+use Rattle.spool_disk.specs.Disk.{DiskView}
+use Rattle.spool_types.specs.declared.event.Event.{Event}
+use Rattle.job_table.specs.Fold.{after_all}
+use Rattle.spool_core.specs.Standing.{Standing}
+use Rattle.filter_args.specs.declared.place.Place.{Place}
+use Rattle.child_pipeline.specs.Slots.{Slots}
+use Rattle.child_pipeline.specs.Told.{Told}
+use Rattle.print_rounds.specs.Choice.{busy_jobs}
+use Rattle.print_rounds.specs.Courses.{Course, course, Starting, AreStartings, Launching, Ending, AreLaunchings, AreEndings}
+use Rattle.print_rounds.specs.Counts.{starting_fault, stages_fault, counts_of, started_in, told_in, result_of, starting_events, ending_events}
+use Rattle.print_rounds.specs.Script.{Play, current_slots, round_of}
+use Rattle.print_rounds.specs.declared.outcome.Round.{Round}
+use Rattle.print_rounds.specs.declared.outcome.RoundFault.{RoundFault}
+use Rattle.print_rounds.specs.declared.outcome.RoundFault.TheVariants as ends
+
+-- the steps of a round: the slots that aren't current are freed, the next jobs started, and unless the device has failed
+-- by then a stage of each processing job is run
+pub record RoundSteps (D : Type 0) : Type 0 where
+  pub startings : List (Starting D)
+  pub mid : Standing D
+  pub launchings : List Launching
+  pub slots : Slots
+  pub told : Option Told
+  pub endings : List (Ending D)
+
+-- the jobs of which a stage is run: after a fault of the device none, else each that is processing, in queue order
+abbrev pub jobs_run : {D : Type 0} → Standing D → Bool → List ℕ
+jobs_run s true = []
+jobs_run s false = busy_jobs s.state (finite.keys s.state.queues)
+
+pub record IsRound {D : Type 0} (device : DiskView D) (place : Place) (old : Course D) (steps : RoundSteps D) (new : Course D) : Type 0 where
+  pub starts : AreStartings device old.spool steps.startings steps.mid
+  pub queues : map (λ t. t.queue) steps.startings ≡ finite.keys old.spool.state.queues
+  pub launches : AreLaunchings place steps.mid.state (current_slots old.spool.state old.slots) old.told steps.launchings steps.slots steps.told
+  pub launched : map (λ t. t.job) steps.launchings ≡ jobs_run steps.mid steps.mid.dead
+  pub ends : AreEndings device (course steps.mid steps.slots steps.told) steps.endings new
+  pub ended : map (λ e. e.job) steps.endings ≡ jobs_run steps.mid steps.mid.dead
+
+-- the first fault in time
+abbrev pub fault_in : {D : Type 0} → RoundSteps D → Option RoundFault
+fault_in steps = option_or (starting_fault steps.startings) (stages_fault steps.launchings steps.endings)
+
+-- the events acknowledged in a round
+abbrev pub events_in : {D : Type 0} → Course D → RoundSteps D → List Event
+events_in old steps = starting_events old.spool steps.startings ++ ending_events steps.endings
+
+-- The round is Script's; children that tell go on to tell.
+pub record IsScriptRound {D : Type 0} (old : Course D) (steps : RoundSteps D) (new : Course D) (p : Play) : Type 0 where
+  pub state : new.spool.state ≡ p.state
+  pub slots : new.slots ≡ p.slots
+  pub told : new.told ≡ Some p.told
+  pub events : events_in old steps ≡ p.events
+  pub started : started_in steps.launchings ≡ p.started
+  pub ended : told_in steps.endings ≡ p.ended
+
+pub record IsRoundOf {D : Type 0} (device : DiskView D) (place : Place) (old new : Course D) (result : Result Round RoundFault) : Type 0 where
+  pub steps : RoundSteps D
+  pub made : IsRound device place old steps new
+  pub answer : result ≡ result_of (counts_of steps.launchings steps.endings) (fault_in steps)
+  -- the table is that of the events acknowledged in it
+  pub table : new.spool.state ≡ after_all old.spool.state (events_in old steps)
+  -- where nothing failed, and the children tell, it is Script's
+  pub exact : fault_in steps ≡ None → (t : Told) → old.told ≡ Some t → t.running ≡ [] → IsScriptRound old steps new (round_of place old.spool.state old.slots t)
+
+-- without memory for the list of the jobs nothing is done
+abbrev pub IsUnbegun : {D : Type 0} → Course D → Course D → Result Round RoundFault → Type 0
+IsUnbegun old new result = (result ≡ Err ends.Memory) × (new ≡ old)
+
+-- a spool that has met a fault of the device does nothing
+abbrev pub IsRoundBy : {D : Type 0} → DiskView D → Place → Course D → Bool → Course D → Result Round RoundFault → Type 0
+IsRoundBy device place old true new result = (result ≡ Err ends.Dead) × (new ≡ old)
+IsRoundBy device place old false new result = IsUnbegun old new result ⊎ IsRoundOf device place old new result

@@ -1,0 +1,133 @@
+//! The third part of a round: each child is finished, and the event of its end applied.
+ghost use Rattle.std.specs.Prelude.{◌≡◌, List, ℕ, map, nat_lt};
+ghost use Rattle.std.specs.FinMap as finite;
+ghost use Rattle.child_pipeline.specs.Slots.{IsEnded, slot_in};
+ghost use Rattle.spool_core.specs.Standing.{IsAnswer};
+ghost use Rattle.print_rounds.specs.Counts.{ending_fault, told_in};
+ghost use Rattle.print_rounds.specs.Courses.{Course, course, Ending, IsEnding, AreEndings, is_silent, moved, moved_by};
+
+use crate::outcome::{Report, RoundFault};
+use child_pipeline::{Children, Runner};
+use spool_core::{ApplyFault, Spool};
+use spool_disk::Disk;
+use spool_types::{Event, JobId, Reply, StageEnd};
+
+// How many ends were told, and the first fault.
+#[derive(Clone, Copy, Debug)]
+pub(crate) struct Ends {
+    pub(crate) told: usize,
+    pub(crate) fault: Option<RoundFault>,
+}
+
+// Whether a job has no child to be finished and no finish that was kept.
+fn is_silent<C: Children>(runner: &Runner<C>, job: JobId) -> bool
+    ensures { result ≡ is_silent (finite.get runner.now job) }
+{
+    !runner.is_reporting(job)
+}
+
+// Whether the stage of a job, which has ended, isn't the last that there can be.
+fn is_early<C: Children>(runner: &Runner<C>, job: JobId) -> bool
+    requires { IsEnded (finite.get runner.now job) }
+    ensures { result ≡ nat_lt (slot_in runner.now job).stage 16 }
+{
+    runner.has_next(job)
+}
+
+// Moves the slot of a job to its next stage, or frees it.
+fn move_on<C: Children>(runner: &mut Runner<C>, job: JobId, reply: Reply)
+    requires { IsEnded (finite.get runner.old job) }
+    ensures { runner.new ≡ moved_by runner.old job reply }
+{
+    let goes_on = match reply {
+        Reply::Phase(phase) => phase.is_processing() && is_early(runner, job),
+        _ => false,
+    };
+    if goes_on {
+        runner.advance(job);
+    } else {
+        runner.release(job);
+    }
+}
+
+fn stage(end: StageEnd) -> Event
+    ensures { result ≡ Event.Stage end }
+{
+    Event::Stage(end)
+}
+
+// Applies the event of a stage's end.
+fn apply_end<D: Disk>(spool: &mut Spool<D>, end: StageEnd) -> Result<Reply, ApplyFault>
+    ensures { IsAnswer D.device spool.old (Event.Stage end) result spool.new }
+{
+    spool.apply(stage(end))
+}
+
+// Moves on the slot of a job whose end was answered so.
+fn settle<C: Children>(runner: &mut Runner<C>, job: JobId, answer: &Result<Reply, ApplyFault>)
+    requires { IsEnded (finite.get runner.old job) }
+    ensures { runner.new ≡ moved runner.old job answer.now }
+{
+    if let Ok(reply) = answer {
+        move_on(runner, job, *reply);
+    }
+}
+
+// Applies the event of a stage's end, and moves on the slot of its job.
+fn report<D: Disk, C: Children>(
+    spool: &mut Spool<D>,
+    runner: &mut Runner<C>,
+    end: StageEnd,
+) -> Result<Reply, ApplyFault>
+    requires { IsEnded (finite.get runner.old end.job) }
+    ensures answer { IsAnswer D.device spool.old (Event.Stage end) result spool.new }
+    ensures slots { runner.new ≡ moved runner.old end.job result }
+{
+    let job = end.job;
+    let answer = apply_end(spool, end);
+    settle(runner, job, &answer);
+    answer
+}
+
+// Finishes the child of a job, and applies the event of its end.
+fn end_stage<D: Disk, C: Children>(
+    spool: &mut Spool<D>,
+    runner: &mut Runner<C>,
+    children: &mut C,
+    job: JobId,
+) -> Report
+    ensures { (kept : Course D) × IsEnding D.device (course spool.old runner.old (C.tells children.old))
+        (record { job = job; kept = kept; report = result; next = course spool.new runner.new (C.tells children.new) }) }
+{
+    if is_silent(runner, job) {
+        return Report::Silent;
+    }
+    match runner.finish_stage(children, job) {
+        Ok(end) => {
+            let answer = report(spool, runner, end);
+            Report::Answered(answer)
+        }
+        Err(_) => Report::NoMemory,
+    }
+}
+
+// Finishes the children of these jobs, in turn, and applies the events of their ends.
+pub(crate) fn end_stages<D: Disk, C: Children>(
+    spool: &mut Spool<D>,
+    runner: &mut Runner<C>,
+    children: &mut C,
+    jobs: &[JobId],
+) -> Ends
+    ensures { (es : List (Ending D)) × AreEndings D.device (course spool.old runner.old (C.tells children.old)) es
+        (course spool.new runner.new (C.tells children.new)) × (map (λ e. e.job) es ≡ jobs.now)
+        × (result.told ≡ told_in es) × (result.fault ≡ ending_fault es) }
+{
+    let mut told = 0;
+    let mut fault = None;
+    for job in jobs {
+        let report = end_stage(spool, runner, children, *job);
+        told += report.told();
+        fault = fault.or(report.fault());
+    }
+    Ends { told, fault }
+}

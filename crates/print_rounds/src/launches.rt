@@ -1,0 +1,223 @@
+//! The second part of a round: one stage of each processing job is started.
+ghost use Rattle.std.specs.Prelude.{◌≡◌, List, ℕ, false, length, map, None, Some, IfOk, IsSome, OnErr};
+ghost use Rattle.std.specs.FinMap as finite;
+ghost use Rattle.spool_types.specs.State.{Job, job_of, job_at, queue_at};
+ghost use Rattle.spool_types.specs.declared.rows.QueueRow.{QueueRow as QueueOf};
+ghost use Rattle.job_table.specs.Legal.{Fits};
+ghost use Rattle.spool_core.specs.Standing.{document_at};
+ghost use Rattle.child_pipeline.specs.Slots.{IsDue, IsTicketless, input_in, slot_in};
+ghost use Rattle.print_rounds.specs.Choice.{readiness};
+ghost use Rattle.print_rounds.specs.Counts.{launching_fault, started_in};
+ghost use Rattle.print_rounds.specs.Courses.{Launching, IsLaunch, AreLaunchings};
+ghost use Rattle.print_rounds.specs.Launches.{IsMade, IsUnmade, IsPrepared, IsUnprepared, IsStarted, has_output};
+ghost use Rattle.print_rounds.specs.Finished.{AreDistinct, AllRest};
+
+use crate::outcome::{Launch, RoundFault};
+use child_pipeline::{Children, Content, Progress, Runner};
+use filter_args::Place;
+use job_table::Table;
+use spool_core::Spool;
+use spool_disk::Disk;
+use spool_types::{JobId, JobRow, Phase};
+use std::alloc::{AllocError, Global};
+
+// How many children were started, and the first fault.
+#[derive(Clone, Copy, Debug)]
+pub(crate) struct Launches {
+    pub(crate) started: usize,
+    pub(crate) fault: Option<RoundFault>,
+}
+
+// Whether a job has a slot for this stage, and whether it is to be started.
+fn slot_at<C: Children>(runner: &Runner<C>, job: JobId, attempt: u32, stage: u8) -> Option<bool>
+    ensures { result ≡ readiness attempt stage (finite.get runner.now job) }
+{
+    let slot = runner.slot(job)?;
+    if slot.attempt.get() != attempt || slot.stage.get() != u32::from(stage) {
+        return None;
+    }
+    match slot.progress {
+        Progress::Ready(_) => Some(true),
+        _ => Some(false),
+    }
+}
+
+// Sees that a job whose stage is to be started has a slot for it, and tells whether it is to be.
+fn make_due<C: Children>(runner: &mut Runner<C>, row: &JobRow) -> Result<bool, AllocError>
+    requires fits { Fits (job_of row.now) row.now.phase }
+    requires rests { IsTicketless (finite.get runner.old row.now.id) }
+    ensures ok { IfOk result (λ due. IsMade runner.old (job_of row.now) due runner.new) }
+    ensures err { OnErr result (IsUnmade runner.old (job_of row.now) runner.new) }
+{
+    let Phase::Processing { attempt, stage, .. } = row.phase else {
+        return Ok(false);
+    };
+    match slot_at(runner, row.id, attempt, stage) {
+        Some(due) => Ok(due),
+        None => {
+            if stage != 1 {
+                return Ok(false);
+            }
+            match runner.begin(row) {
+                Ok(()) => Ok(true),
+                Err(fault) => Err(fault),
+            }
+        }
+    }
+}
+
+// The same for the job of this number.
+fn prepare<C: Children>(
+    table: &Table,
+    runner: &mut Runner<C>,
+    job: JobId,
+) -> Result<bool, AllocError>
+    requires { IsTicketless (finite.get runner.old job) }
+    ensures ok { IfOk result (λ due. IsPrepared table.now.state runner.old job due runner.new) }
+    ensures err { OnErr result (IsUnprepared table.now.state runner.old job runner.new) }
+{
+    let _legal = table.jobs();
+    let Some(row) = table.job(job) else {
+        return Ok(false);
+    };
+    let Some(_queue) = table.queue(&row.queue) else {
+        return Ok(false);
+    };
+    make_due(runner, row)
+}
+
+// Whether the stage of a job has the output of the one before it.
+fn has_output<C: Children>(runner: &Runner<C>, job: JobId) -> bool
+    ensures { result ≡ has_output (slot_in runner.now job).progress }
+{
+    match runner.slot(job) {
+        Some(slot) => matches!(slot.progress, Progress::Ready(Some(_))),
+        None => false,
+    }
+}
+
+fn document_len(table: &Table, job: JobId) -> usize
+    ensures { result ≡ length (document_at table.now.state job) }
+{
+    match table.job(job) {
+        Some(row) => row.document.len(),
+        None => 0,
+    }
+}
+
+fn read_document<D: Disk>(
+    alloc: Global,
+    spool: &mut Spool<D>,
+    job: JobId,
+) -> Result<Content, AllocError>
+    requires alive { spool.old.dead ≡ false }
+    requires there { IsSome (job_at spool.old.state job) }
+    ensures same { spool.new ≡ spool.old }
+    ensures value { IfOk result (λ document. document ≡ document_at spool.old.state job) }
+{
+    let len = document_len(spool.table(), job);
+    let mut bytes = match Vec::from_elem(alloc, 0, len) {
+        Ok(bytes) => bytes,
+        Err(fault) => return Err(fault),
+    };
+    match spool.read_document(job, 0, &mut bytes) {
+        Ok(()) => Ok(Content::new(bytes)),
+        Err(_) => unreachable!(),
+    }
+}
+
+// The document, where the stage of a job is handed it.
+fn document<D: Disk, C: Children>(
+    alloc: Global,
+    spool: &mut Spool<D>,
+    runner: &Runner<C>,
+    job: JobId,
+) -> Result<Content, AllocError>
+    requires alive { spool.old.dead ≡ false }
+    requires there { IsSome (job_at spool.old.state job) }
+    ensures same { spool.new ≡ spool.old }
+    ensures value { IfOk result (λ document. input_in (slot_in runner.now job).progress document ≡ input_in (slot_in runner.now job).progress (document_at spool.old.state job)) }
+{
+    if has_output(runner, job) {
+        return Ok(Content::empty(alloc));
+    }
+    read_document(alloc, spool, job)
+}
+
+// Starts the child of the stage that a job is in.
+fn start<C: Children>(
+    place: &Place,
+    table: &Table,
+    runner: &mut Runner<C>,
+    children: &mut C,
+    job: JobId,
+    document: Content,
+) -> Launch
+    requires { (r : Job) × (q : QueueOf) × (job_at table.now.state job ≡ Some r) × (queue_at table.now.state r.queue ≡ Some q) × IsDue (finite.get runner.old job) r.phase }
+    ensures { (r : Job) (q : QueueOf) → job_at table.now.state job ≡ Some r → queue_at table.now.state r.queue ≡ Some q →
+        IsStarted place.now (C.tells children.old) runner.old r q document result runner.new (C.tells children.new) }
+{
+    let _legal = table.jobs();
+    let Some(row) = table.job(job) else {
+        unreachable!()
+    };
+    let Some(queue) = table.queue(&row.queue) else {
+        unreachable!()
+    };
+    match runner.start_stage(children, place, row, queue, document) {
+        Ok(started) => Launch::Launched(started),
+        Err(_) => Launch::NoMemory,
+    }
+}
+
+// Starts the stage of a job.
+fn launch<D: Disk, C: Children>(
+    alloc: Global,
+    place: &Place,
+    spool: &mut Spool<D>,
+    runner: &mut Runner<C>,
+    children: &mut C,
+    job: JobId,
+) -> Launch
+    requires alive { spool.old.dead ≡ false }
+    requires rests { IsTicketless (finite.get runner.old job) }
+    ensures same { spool.new ≡ spool.old }
+    ensures launch { IsLaunch place.now spool.old.state runner.old (C.tells children.old) job result runner.new (C.tells children.new) }
+{
+    match prepare(spool.table(), runner, job) {
+        Ok(true) => {}
+        Ok(false) => return Launch::Unlaunched,
+        Err(_) => return Launch::NoMemory,
+    }
+    match document(alloc, spool, runner, job) {
+        Ok(document) => start(place, spool.table(), runner, children, job, document),
+        Err(_) => Launch::NoMemory,
+    }
+}
+
+// Starts the stages of these jobs, in turn.
+pub(crate) fn launch_all<D: Disk, C: Children>(
+    alloc: Global,
+    place: &Place,
+    spool: &mut Spool<D>,
+    runner: &mut Runner<C>,
+    children: &mut C,
+    jobs: &[JobId],
+) -> Launches
+    requires alive { spool.old.dead ≡ false }
+    requires distinct { AreDistinct jobs.now }
+    requires rest { AllRest runner.old jobs.now }
+    ensures same { spool.new ≡ spool.old }
+    ensures launches { (ts : List Launching) × AreLaunchings place.now spool.old.state runner.old (C.tells children.old) ts runner.new (C.tells children.new) × (map (λ t. t.job) ts ≡ jobs.now)
+        × (result.started ≡ started_in ts) × (result.fault ≡ launching_fault ts) }
+{
+    let _legal = spool.table().jobs();
+    let mut started = 0;
+    let mut fault = None;
+    for job in jobs {
+        let launch = launch(alloc, place, spool, runner, children, *job);
+        started += launch.started();
+        fault = fault.or(launch.fault());
+    }
+    Launches { started, fault }
+}

@@ -1,0 +1,51 @@
+//! Rounds: in each, the next job of every queue is started, and one stage of every job that is processing is run by a child.
+//!
+//! A [`round`] works on a spool, which holds the table (`Spool`), on the slots of the stages (`Runner`) and on what runs the
+//! children (`Children`). It goes this way, and `specs/` says each step, also where something fails:
+//!
+//! 1. Each slot whose job isn't in that stage of that attempt any more is freed (`current_slots`).
+//! 2. The next job of each queue is started, in ascending order of the queues' names ([`start_jobs`]).
+//! 3. A stage of each processing job is started, queue by queue ([`run_stages`]). Its slot and its order are made first, and
+//!    its document is read. A child that can't be started ends its stage with NoStart.
+//! 4. Once all are started each child is finished, in the same order, and the event of its end applied. An acknowledged end
+//!    moves the slot on to the next stage or frees it. Any other leaves the finish in the slot, and the next round applies its
+//!    event again without a second child.
+//!
+//! # Promises
+//!
+//! - *The steps* (`IsRoundOf`): what was done and in which order, each event with the answer of the spool, its cause and what
+//!   it left. The answer is the counts, or the first fault (`answer`), and the table is that of the acknowledged events
+//!   (`table`).
+//! - *ExactScript* for one round: where nothing failed and the children tell, the table, the slots, what is told, the events
+//!   and the counts are those of the definition (`round_of`, `exact`). For its two halves [`start_jobs`] and [`run_stages`]
+//!   say the same (`AreExactStarts`, `AreExact`).
+//! - *EachFinishedOnce* (`finished`): whatever failed, each child that was started is finished once, none else, and every
+//!   start came before the first finish. After a round no child runs (`rest`), which the next one asks for.
+//! - *RightInput*: each start's order is exactly `order_in` of the job's slot, with the document of its row in a first stage
+//!   and the output in the slot in a later one (`Launched`). A later stage that has no slot isn't started.
+//!
+//! # Faults and what they leave
+//!
+//! [`RoundFault`] is the first fault of a round. After `Dead` nothing was done. `Memory` and `Full` are of one queue or job and
+//! don't stop the others; what they hindered is done by the next round. After `Disk` no event is applied and nothing more is
+//! started, and all children that were started are still finished; the spool has to be opened again.
+//!
+//! # Cost
+//!
+//! A round visits the slots once, and for each queue the rows of the jobs twice. It takes memory for the list of the jobs
+//! before all else, and then for each order and each event.
+#![tactic(auto)]
+
+mod busy;
+mod ends;
+mod launches;
+mod outcome;
+mod rounds;
+mod slots;
+mod stages;
+mod starts;
+
+pub use outcome::{Launch, Report, Round, RoundFault};
+pub use rounds::round;
+pub use stages::run_stages;
+pub use starts::start_jobs;

@@ -1,0 +1,60 @@
+//! A whole round.
+ghost use Rattle.std.specs.Prelude.{◌≡◌, List, ℕ, Some, []};
+ghost use Rattle.child_pipeline.specs.Told.{Told};
+ghost use Rattle.print_rounds.specs.Courses.{course};
+ghost use Rattle.print_rounds.specs.Finished.{EachFinishedOnce, HasNoneRunning};
+ghost use Rattle.print_rounds.specs.Rounds.{IsRoundBy};
+
+use crate::busy::list_busy;
+use crate::outcome::{Round, RoundFault};
+use crate::slots::free_old;
+use crate::stages::run_stages;
+use crate::starts::start_jobs;
+use child_pipeline::{Children, Runner};
+use filter_args::Place;
+use job_table::legal_tables_stay_legal;
+use spool_core::Spool;
+use spool_disk::Disk;
+use std::alloc::Global;
+
+/// One round: it frees the slots whose jobs aren't in their stages any more, starts the next job of each queue, starts a
+/// stage of each processing job, and finishes each child and applies the event of its end. It answers how many children
+/// it started and how many ends it told, or its first fault.
+pub fn round<D: Disk, C: Children>(
+    alloc: Global,
+    place: &Place,
+    spool: &mut Spool<D>,
+    runner: &mut Runner<C>,
+    children: &mut C,
+) -> Result<Round, RoundFault>
+    requires { HasNoneRunning runner.old }
+
+    // What was done, step by step, and its answer. Where nothing failed and the children tell, it is what Script says.
+    ensures round { IsRoundBy D.device place.now (course spool.old runner.old (C.tells children.old)) spool.old.dead (course spool.new runner.new (C.tells children.new)) result }
+
+    // Whatever failed, each child that was started is finished once, and every start came before the first finish.
+    ensures finished { (t : Told) → C.tells children.old ≡ Some t → t.running ≡ [] → (js : List ℕ) × EachFinishedOnce t (C.tells children.new) js }
+    ensures rest { HasNoneRunning runner.new }
+{
+    if spool.is_dead() {
+        return Err(RoundFault::Dead);
+    }
+    // The table is legal, and stays so.
+    let _legal = spool.table().jobs();
+    legal_tables_stay_legal();
+    let mut jobs = match Vec::with_capacity(alloc, spool.table().queues().len()) {
+        Ok(jobs) => jobs,
+        Err(_) => return Err(RoundFault::Memory),
+    };
+    free_old(spool.table(), runner);
+    let fault = start_jobs(spool);
+    if spool.is_dead() {
+        return Round::NONE.unless(fault);
+    }
+    list_busy(spool.table(), &mut jobs);
+    let stages = run_stages(alloc, place, spool, runner, children, &jobs);
+    match fault {
+        None => stages,
+        Some(fault) => Err(fault),
+    }
+}

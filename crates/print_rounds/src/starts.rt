@@ -1,0 +1,59 @@
+//! The first part of a round: the next job of every queue is started.
+ghost use Rattle.std.specs.Prelude.{◌≡◌, ◌<◌, List, ℕ, IfSome, None, length, map, slice_index_or};
+ghost use Rattle.std.specs.FinMap as finite;
+ghost use Rattle.job_table.specs.Attempts.{next_of};
+ghost use Rattle.job_table.specs.Step.{refusal_of};
+ghost use Rattle.print_rounds.specs.Counts.{start_fault, starting_fault};
+ghost use Rattle.print_rounds.specs.Courses.{Starting, AreStartings, IsStarting};
+ghost use Rattle.print_rounds.specs.Faultless.{AreExactStarts};
+
+use crate::outcome::{RoundFault, answer_fault};
+use job_table::Table;
+use spool_core::{ApplyFault, Spool};
+use spool_disk::Disk;
+use spool_types::{Event, JobId, Reply};
+
+// The next job of the queue at this place.
+fn next_at(table: &Table, at: usize) -> Option<JobId>
+    requires { at < length (finite.keys table.now.state.queues) }
+    ensures next { (name : List ℕ) × (name ≡ slice_index_or (finite.keys table.now.state.queues) at name) × (result ≡ next_of table.now.state name) }
+    ensures startable { IfSome result (λ j. refusal_of table.now.state (Event.Start j) ≡ None) }
+{
+    table.next(&table.queues()[at].name)
+}
+
+// Starts the next job of the queue at this place.
+fn start_next<D: Disk>(spool: &mut Spool<D>, at: usize) -> Option<Result<Reply, ApplyFault>>
+    requires { at < length (finite.keys spool.old.state.queues) }
+    ensures { (name : List ℕ) × (name ≡ slice_index_or (finite.keys spool.old.state.queues) at name)
+        × IsStarting D.device spool.old (record { queue = name; answer = result; next = spool.new }) }
+{
+    match next_at(spool.table(), at) {
+        Some(job) => Some(spool.apply(Event::Start(job))),
+        None => None,
+    }
+}
+
+// The fault that the answer to a start tells, if there was one.
+fn start_fault(answer: &Option<Result<Reply, ApplyFault>>) -> Option<RoundFault>
+    ensures { result ≡ start_fault answer.now }
+{
+    match answer {
+        Some(answer) => answer_fault(answer),
+        None => None,
+    }
+}
+
+/// Starts the next job of each queue, in ascending order of name, and tells the first fault. A fault of one queue doesn't
+/// stop the others; after one of the device each further answer is `Dead`, and no device is called.
+pub fn start_jobs<D: Disk>(spool: &mut Spool<D>) -> Option<RoundFault>
+    ensures { (ts : List (Starting D)) × AreStartings D.device spool.old ts spool.new × (map (λ t. t.queue) ts ≡ finite.keys spool.old.state.queues)
+        × (result ≡ starting_fault ts) × AreExactStarts spool.old (finite.keys spool.old.state.queues) spool.new ts }
+{
+    let mut fault = None;
+    for at in 0..spool.table().queues().len() {
+        let answer = start_next(spool, at);
+        fault = fault.or(start_fault(&answer));
+    }
+    fault
+}

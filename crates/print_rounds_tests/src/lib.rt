@@ -1,0 +1,5 @@
+//! The tests of `print_rounds`.
+#![tactic(auto)]
+
+#[cfg(test)]
+mod tests;
