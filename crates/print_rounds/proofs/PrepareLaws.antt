@@ -10,11 +10,9 @@ use Rattle.child_pipeline.specs.Orders.{order_of}
 use Rattle.child_pipeline.specs.Slots.{Slots, StartsStage, IsDue, order_in, input_in, slot_in}
 use Rattle.child_pipeline.specs.Told.{Told}
 use Rattle.child_pipeline.specs.declared.order.Order.{Order}
-use Rattle.child_pipeline.specs.declared.runner.Progress.{Progress}
-use Rattle.child_pipeline.specs.declared.runner.Progress.TheVariants.{Ready, Running, Ended}
 use Rattle.print_rounds.specs.Choice.{slots_for}
 use Rattle.print_rounds.specs.Courses.{IsToStart, IsToRest, IsLaunch}
-use Rattle.print_rounds.specs.Launches.{IsMade, IsUnmade, IsPrepared, IsUnprepared, IsStarted, has_output}
+use Rattle.print_rounds.specs.Launches.{IsMade, IsUnmade, IsPrepared, IsUnprepared, IsStarted}
 use Rattle.print_rounds.specs.declared.outcome.Launch.{Launch}
 use Rattle.print_rounds.specs.declared.outcome.Launch.TheVariants.{Unlaunched, Launched, NoMemory}
 use Rattle.print_rounds.proofs.LaunchLaws.{some_of}

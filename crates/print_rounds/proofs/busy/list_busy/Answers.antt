@@ -1,8 +1,7 @@
-use Rattle.std.proofs.Common.{◌≡◌, ◌≤◌, ◌<◌, ◌+◌, [], ◌∷◌, length, map, take, vec_len, ◌++◌, arith, Some, None, sym, subst, ap, ◌∙◌, append-nil}
+use Rattle.std.proofs.Common.{◌≡◌, ◌≤◌, ◌<◌, ◌+◌, [], length, take, vec_len, ◌++◌, arith, sym, subst, ap, ◌∙◌, append-nil}
 use Rattle.std.specs.Prelude.{vec_capacity}
 use Rattle.std.specs.FinMap as finite
 use Rattle.std.proofs.lemmas.List.{take_all}
-use Rattle.spool_types.specs.State.{job_of}
 use Rattle.print_rounds.specs.Choice.{busy_jobs, with_busy}
 use Rattle.print_rounds.specs.Finished.{AreDistinct}
 use Rattle.print_rounds.proofs.BusyLaws.{all_distinct, busy_further}

@@ -1,5 +1,5 @@
 -- the parts together
-use Rattle.std.proofs.Common.{◌≡◌, ◌≤◌, [], false, true, length, Some, None, Err, sym, ap, subst, ◌∙◌}
+use Rattle.std.proofs.Common.{◌≤◌, [], length, Err, sym, ap, subst, ◌∙◌}
 use Rattle.std.specs.Prelude.{vec_capacity}
 use Rattle.std.specs.FinMap as finite
 use Rattle.spool_types.specs.State.{State}

@@ -1,6 +1,5 @@
-use Rattle.std.proofs.Common.{rules, tests, ◌≡◌, Bool, true, false, Option, Some, None, sym, subst, ap, ◌∙◌}
-use Rattle.std.specs.FinMap as finite
-use Rattle.child_pipeline.specs.Slots.{Slots, IsNextJob}
+use Rattle.std.proofs.Common.{rules, tests, ◌≡◌, true, false, Some, sym, subst, ◌∙◌}
+use Rattle.child_pipeline.specs.Slots.{IsNextJob}
 use Rattle.print_rounds.proofs.FreeLaws.{IsFreedTo, stays, goes, all_freed}
 use Rattle.print_rounds.proofs.slots.free_old.Goals as goal
 use Rattle.print_rounds.proofs.slots.free_old.Goals.{then-not-is_current, else-not-is_current}

@@ -1,5 +1,4 @@
 -- the slots up to the job last visited are left or freed
-use Rattle.std.proofs.Common.{◌-◌}
 use Rattle.print_rounds.proofs.FreeLaws.{IsFreedTo, jobs_ahead}
 use Rattle.print_rounds.proofs.slots.free_old.Given as goal
 
