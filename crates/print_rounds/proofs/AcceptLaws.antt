@@ -41,7 +41,7 @@ module _ {D : Type 0} (device : DiskView D) where
   one_begun old (Some j) None new is e = tt
   one_begun old (Some j) (Some (Ok reply)) new is e = tt
   one_begun old (Some j) (Some (Err faults.Dead)) new is e = absurd (cc)
-  one_begun old (Some j) (Some (Err (faults.Refused refusal))) new (accepted, (alive, refused, same)) e = unrefused old.state (Start j) refusal accepted refused
+  one_begun old (Some j) (Some (Err (faults.Refused refusal))) new (accepted, is) e = unrefused old.state (Start j) refusal accepted is.cause.1
   one_begun old (Some j) (Some (Err faults.Memory)) new is e = absurd (cc)
   one_begun old (Some j) (Some (Err faults.Full)) new is e = absurd (cc)
   one_begun old (Some j) (Some (Err faults.Disk)) new is e = absurd (cc)

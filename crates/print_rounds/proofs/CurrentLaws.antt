@@ -16,7 +16,6 @@ use Rattle.job_table.specs.Attempts.{is_in_stage, is_next, next_of, started}
 use Rattle.job_table.specs.Changes.{change_found}
 use Rattle.job_table.specs.Step.{first_cause, passes, refusal_of}
 use Rattle.spool_core.specs.Standing.{Standing}
-use Rattle.spool_core.specs.declared.spool.apply_fault.ApplyFault.TheVariants as faults
 use Rattle.filter_args.specs.declared.place.Place.{Place}
 use Rattle.child_pipeline.specs.Slots.{Slots, slot_in, begun, begun_in, with_progress, progress_after, IsDue, IsCurrent}
 use Rattle.child_pipeline.specs.Told.{Told}
@@ -30,7 +29,7 @@ use Rattle.print_rounds.proofs.EndLaws.{get_own, get_other, SameBut}
 use Rattle.print_rounds.proofs.FreeLaws.{get_current}
 use Rattle.print_rounds.proofs.LaunchLaws.{HasNumbers, due_own, some_of}
 use Rattle.print_rounds.proofs.MadeLaws.{ready_due, made_due, made_ready}
-use Rattle.print_rounds.proofs.ReportLaws.{done_state}
+use Rattle.print_rounds.proofs.ReportLaws.{done_state, fault_state}
 
 -- the slot, if there is one, is that of the row
 abbrev pub Suits : Option Job → Option (Slot ℕ) → Type 0
@@ -109,14 +108,10 @@ module _ {D : Type 0} (device : DiskView D) where
   start_suits : (old : Standing D) (o : Option ℕ) (answer : Option Answer) (new : Standing D) (slots : Slots) → IsStartingOf device old o answer new → AllSuit old.state slots → AllSuit new.state slots
   start_suits old None answer new slots (none, same) suits = same_suits old new slots (ap (λ (x : Standing D). x.state) same) suits
   start_suits old (Some j) None new slots is suits = absurd is
-  start_suits old (Some j) (Some (Ok reply)) new slots (accepted, done) suits =
-      subst (λ s. AllSuit s slots) (done_state old.state (Start j) (refusal_of old.state (Start j)) new.state reply refl accepted done.step).0
+  start_suits old (Some j) (Some (Ok reply)) new slots (accepted, is) suits =
+      subst (λ s. AllSuit s slots) (done_state old.state (Start j) (refusal_of old.state (Start j)) new.state reply refl accepted is.cause.step).0
       (change_suits old.state slots j (job_at old.state j) refl (λ r there. started_waits old.state j r there accepted) suits)
-  start_suits old (Some j) (Some (Err faults.Dead)) new slots (accepted, (dead, same)) suits = same_suits old new slots (ap (λ (x : Standing D). x.state) same) suits
-  start_suits old (Some j) (Some (Err (faults.Refused refusal))) new slots (accepted, (alive, refused, same)) suits = same_suits old new slots (ap (λ (x : Standing D). x.state) same) suits
-  start_suits old (Some j) (Some (Err faults.Memory)) new slots (accepted, (alive, free, same)) suits = same_suits old new slots (ap (λ (x : Standing D). x.state) same) suits
-  start_suits old (Some j) (Some (Err faults.Full)) new slots (accepted, (full, same)) suits = same_suits old new slots (ap (λ (x : Standing D). x.state) same) suits
-  start_suits old (Some j) (Some (Err faults.Disk)) new slots (accepted, failed) suits = same_suits old new slots failed.state suits
+  start_suits old (Some j) (Some (Err fault)) new slots (accepted, is) suits = same_suits old new slots (fault_state device old (Start j) fault new is.cause) suits
 
   -- the starts leave the slots current
   pub starts_suit : (old : Standing D) (ts : List (Starting D)) (new : Standing D) (slots : Slots) → AreStartings device old ts new → AllSuit old.state slots → AllSuit new.state slots

@@ -8,7 +8,8 @@ pub mod TraceLaws
 pub mod StageLaws
 pub mod BusyLaws
 pub mod FreeLaws
-pub mod TableLaws
+pub mod PrefixLaws
+pub mod PartLaws
 pub mod AcceptLaws
 pub mod CurrentLaws
 pub mod ToldLaws

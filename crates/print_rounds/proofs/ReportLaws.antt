@@ -8,7 +8,9 @@ use Rattle.spool_types.specs.declared.event.Reply.{Reply}
 use Rattle.spool_types.specs.declared.refusal.Refusal.{Refusal}
 use Rattle.spool_types.specs.State.{State}
 use Rattle.job_table.specs.Step.{after, reply_to, step, refusal_of, answered}
-use Rattle.spool_core.specs.Standing.{Standing}
+use Rattle.spool_core.specs.Standing.{Standing, IsAnswer}
+use Rattle.spool_core.specs.declared.spool.apply_fault.ApplyFault.{ApplyFault}
+use Rattle.spool_core.specs.declared.spool.apply_fault.ApplyFault.TheVariants as faults
 use Rattle.child_pipeline.specs.Told.{Told, is_in, after_finish}
 use Rattle.child_pipeline.specs.Slots.{slot_in, begun, put_progress, end_in, FinishesFrom, Waits, is_ready}
 use Rattle.child_pipeline.specs.declared.runner.Progress.{Progress}
@@ -34,15 +36,23 @@ done_state s e o new reply is none stepped =
     pair_of (Err r) = (s, reply)
 
 module _ {D : Type 0} (device : DiskView D) where
+  -- an event that isn't acknowledged leaves the table
+  pub fault_state : (old : Standing D) (e : Event) (fault : ApplyFault) (new : Standing D) → IsAnswer device old e (Err fault) new → new.state ≡ old.state
+  fault_state old e faults.Dead new (dead, same) = ap (λ (x : Standing D). x.state) same
+  fault_state old e (faults.Refused refusal) new (alive, refused, same) = ap (λ (x : Standing D). x.state) same
+  fault_state old e faults.Memory new (alive, accepted, same) = ap (λ (x : Standing D). x.state) same
+  fault_state old e faults.Full new (full, same) = ap (λ (x : Standing D). x.state) same
+  fault_state old e faults.Disk new failed = failed.state
+
   told_play : (p : Play) (mid next : Course D) (j : ℕ) (report : Report) → IsReport device mid j report next → IsTold report → mid.spool.state ≡ p.state → mid.slots ≡ p.slots → reported p j ≡ record p { state = next.spool.state; slots = next.slots; events = p.events ++ report_events (Stage (end_in mid.slots j)) report; ended = p.ended + told_by report }
   told_play p mid next j reports.Silent report told state slots = absurd report
   told_play p mid next j reports.NoMemory report told state slots = absurd told
   told_play p mid next j (reports.Answered (Err fault)) report told state slots = absurd told
-  told_play p mid next j (reports.Answered (Ok reply)) (done, moves, same) told state slots =
+  told_play p mid next j (reports.Answered (Ok reply)) (is, moves, same) told state slots =
       let e : Event = Stage (end_in p.slots j) in
       let at : end_in mid.slots j ≡ end_in p.slots j = ap (λ m. end_in m j) slots in
-      let accepted : refusal_of p.state e ≡ None = sym (ap (λ s. refusal_of s e) state) ∙ sym (ap (λ k. refusal_of mid.spool.state (Stage k)) at) ∙ done.fits.accepted in
-      let stepped : step p.state e ≡ Ok (next.spool.state, reply) = sym (ap (λ s. step s e) state) ∙ sym (ap (λ k. step mid.spool.state (Stage k)) at) ∙ done.step in
+      let accepted : refusal_of p.state e ≡ None = sym (ap (λ s. refusal_of s e) state) ∙ sym (ap (λ k. refusal_of mid.spool.state (Stage k)) at) ∙ is.cause.fits.accepted in
+      let stepped : step p.state e ≡ Ok (next.spool.state, reply) = sym (ap (λ s. step s e) state) ∙ sym (ap (λ k. step mid.spool.state (Stage k)) at) ∙ is.cause.step in
       let (state_is, reply_is) = done_state p.state e (refusal_of p.state e) next.spool.state reply refl accepted stepped in
       let slots_are : moved_by p.slots j (reply_to p.state e) ≡ next.slots = ap (λ r. moved_by p.slots j r) reply_is ∙ sym (ap (λ m. moved_by m j reply) slots) ∙ sym moves in
       ap (λ s. record p { state = s; slots = moved_by p.slots j (reply_to p.state e); events = p.events ++ e ∷ []; ended = p.ended + 1 }) state_is

@@ -1,8 +1,8 @@
 -- A whole round, from its parts.
-use Rattle.std.proofs.Common.{◌≡◌, inr, ℕ, true, false, List, [], ◌∷◌, map, Option, Some, None, Result, Ok, Err, refl, sym, ap, subst, ◌∙◌, append-nil, add-zero}
+use Rattle.std.proofs.Common.{◌≡◌, inr, ℕ, true, false, List, [], ◌∷◌, ◌++◌, map, Option, Some, None, Result, Ok, Err, refl, sym, ap, subst, ◌∙◌, append-nil, add-zero}
 use Rattle.std.specs.Option.{option_or}
 use Rattle.std.specs.FinMap as finite
-use Rattle.spool_disk.specs.Disk.{DiskView}
+use Rattle.spool_disk.specs.Disk.{DiskView, IsLawful}
 use Rattle.spool_types.specs.declared.event.Event.{Event}
 use Rattle.spool_types.specs.State.{State}
 use Rattle.job_table.specs.Attempts.{next_of}
@@ -13,8 +13,8 @@ use Rattle.filter_args.specs.declared.place.Place.{Place}
 use Rattle.child_pipeline.specs.Slots.{Slots}
 use Rattle.child_pipeline.specs.Told.{Told}
 use Rattle.print_rounds.specs.Choice.{busy_jobs}
-use Rattle.print_rounds.specs.Counts.{starting_fault, stages_fault, launching_fault, ending_fault, counts_of, result_of, starting_events, ending_events}
-use Rattle.print_rounds.specs.Courses.{Course, course, Answer, Starting, AreStartings, IsStartingOf, IsRunOfStages}
+use Rattle.print_rounds.specs.Counts.{starting_fault, stages_fault, launching_fault, ending_fault, counts_of, result_of, starting_events, ending_events, starting_tried, ending_tried}
+use Rattle.print_rounds.specs.Courses.{Course, course, Answer, Starting, AreStartings, IsStartingOf, Ending, AreEndings, IsRunOfStages}
 use Rattle.print_rounds.specs.Faultless.{IsBegun, AllBegun, AreExact, AreExactStarts}
 use Rattle.print_rounds.specs.Finished.{AreDistinct, EachFinishedOnce}
 use Rattle.print_rounds.specs.Rounds.{IsRoundBy, IsRoundOf, IsScriptRound, jobs_run}
@@ -25,7 +25,7 @@ use Rattle.print_rounds.proofs.AcceptLaws.{all_begun, all_served, or_first, or_s
 use Rattle.print_rounds.proofs.CurrentLaws.{AllSuit, current_suit, starts_suit, launches_suit}
 use Rattle.print_rounds.proofs.LaunchLaws.{HasNumbers}
 use Rattle.print_rounds.proofs.StartLaws.{starts_keys}
-use Rattle.print_rounds.proofs.TableLaws.{starts_table, ends_table, both_tables}
+use Rattle.print_rounds.proofs.PartLaws.{IsKept, IsPart, starts_part, ends_part, both_parts, part_crash}
 use Rattle.print_rounds.proofs.ToldLaws.{all_told, suit_in}
 
 -- where no child is asked for, none is to be finished
@@ -54,7 +54,7 @@ module _ {D : Type 0} (device : DiskView D) where
   one_alive : (old : Standing D) (o : Option ℕ) (answer : Option Answer) (new : Standing D) → IsStartingOf device old o answer new → IsBegun answer → old.dead ≡ false → new.dead ≡ false
   one_alive old None answer new (none, same) begun alive = ap (λ (x : Standing D). x.dead) same ∙ alive
   one_alive old (Some j) None new is begun alive = absurd is
-  one_alive old (Some j) (Some (Ok reply)) new (accepted, done) begun alive = done.alive
+  one_alive old (Some j) (Some (Ok reply)) new (accepted, is) begun alive = is.cause.alive
   one_alive old (Some j) (Some (Err fault)) new is begun alive = absurd begun
 
   -- where each start was acknowledged the device hasn't failed
@@ -62,7 +62,16 @@ module _ {D : Type 0} (device : DiskView D) where
   starts_alive old [] new same begun alive = ap (λ (x : Standing D). x.dead) same ∙ alive
   starts_alive old (t ∷ ts) new (start, starts) (first, others) alive = starts_alive t.next ts new starts others (one_alive old (next_of old.state t.queue) t.answer t.next start first alive)
 
-  module _ (place : Place) (old : Course D) (mid : Standing D) (ts : List (Starting D)) (starts : AreStartings device old.spool ts mid) (queues : map (λ t. t.queue) ts ≡ finite.keys old.spool.state.queues) where
+  -- the starts, and the ends after them
+  round_part : (old mid : Standing D) (ts : List (Starting D)) → AreStartings device old ts mid → (slots : Slots) (told : Option Told) (es : List (Ending D)) (new : Course D) → AreEndings device (course mid slots told) es new → IsPart device old (starting_tried old ts ++ ending_tried es) (starting_events old ts ++ ending_events es) new.spool
+  round_part old mid ts starts slots told es new ends =
+      both_parts device old mid new.spool (starting_tried old ts) (ending_tried es) (starting_events old ts) (ending_events es) (starts_part device old ts mid starts) (ends_part device (course mid slots told) es new ends)
+
+  -- the starts, and a run of stages after them
+  pub run_part : {mid : Standing D} {slots : Slots} {told : Option Told} {js : List ℕ} {new : Course D} (place : Place) (old : Standing D) (ts : List (Starting D)) → AreStartings device old ts mid → (runs : IsRunOfStages device place (course mid slots told) js new) → IsPart device old (starting_tried old ts ++ ending_tried runs.endings) (starting_events old ts ++ ending_events runs.endings) new.spool
+  run_part {mid} {slots} {told} {js} {new} place old ts starts runs = round_part old mid ts starts runs.slots runs.told runs.endings new runs.ends
+
+  module _ (lawful : IsLawful device) (place : Place) (old : Course D) (kept : IsKept device old.spool) (mid : Standing D) (ts : List (Starting D)) (starts : AreStartings device old.spool ts mid) (queues : map (λ t. t.queue) ts ≡ finite.keys old.spool.state.queues) where
     -- the device failed at a start
     pub dead_round : old.spool.dead ≡ false → mid.dead ≡ true → (result : Result Round RoundFault) → result ≡ result_of (record { started = 0; finished = 0 }) (starting_fault ts) → IsRoundOf device place old (course mid (current_slots old.spool.state old.slots) old.told) result
     dead_round alive dead result answer = record {
@@ -76,11 +85,16 @@ module _ {D : Type 0} (device : DiskView D) where
         ended = sym (ap (jobs_run mid) dead);
       };
       answer = answer ∙ ap (result_of (record { started = 0; finished = 0 })) (sym (or_none (starting_fault ts)));
-      table = starts_table device old.spool ts mid starts ∙ ap (after_all old.spool.state) (sym (append-nil (starting_events old.spool ts)));
+      table = part.table;
+      any_moment = part_crash device lawful old.spool mid (starting_tried old.spool ts ++ []) (starting_events old.spool ts ++ []) kept part;
+      all_acknowledged = part.acknowledged;
       exact = λ none t tells quiet.
           let lives : mid.dead ≡ false = starts_alive old.spool ts mid starts (all_begun device old.spool ts mid starts (or_first (starting_fault ts) None none)) alive in
           absurd (cc);
     }
+      where
+        part : IsPart device old.spool (starting_tried old.spool ts ++ []) (starting_events old.spool ts ++ []) mid
+        part = round_part old.spool mid ts starts (current_slots old.spool.state old.slots) old.told [] (course mid (current_slots old.spool.state old.slots) old.told) refl
 
     -- a stage of each processing job was run
     module _ (js : List ℕ) (new : Course D) (runs : IsRunOfStages device place (course mid (current_slots old.spool.state old.slots) old.told) js new) (jobs : js ≡ busy_jobs mid.state (finite.keys mid.state.queues)) where
@@ -88,7 +102,7 @@ module _ {D : Type 0} (device : DiskView D) where
       live_exact : IsLegal old.spool.state → ((s : State) (events : List Event) → IsLegal s → IsLegal (after_all s events)) → AreExactStarts old.spool (finite.keys old.spool.state.queues) mid ts → AreExact device place (course mid (current_slots old.spool.state old.slots) old.told) js new runs → AreDistinct js → starting_fault ts ≡ None → launching_fault runs.launchings ≡ None → ending_fault runs.endings ≡ None → (t : Told) → old.told ≡ Some t → t.running ≡ []
           → IsScriptRound old (record { startings = ts; mid = mid; launchings = runs.launchings; slots = runs.slots; told = runs.told; endings = runs.endings }) new (round_of place old.spool.state old.slots t)
       live_exact legal stays exact_starts exact distinct no_start no_launch no_end t tells quiet =
-          let legal_mid : IsLegal mid.state = subst IsLegal (sym (starts_table device old.spool ts mid starts)) (stays old.spool.state (starting_events old.spool ts) legal) in
+          let legal_mid : IsLegal mid.state = subst IsLegal (sym (starts_part device old.spool ts mid starts).table) (stays old.spool.state (starting_events old.spool ts) legal) in
           let numbers : HasNumbers mid.state = λ j r there. (legal_mid.jobs j r there).id in
           let suits : AllSuit mid.state runs.slots = launches_suit place mid.state numbers (current_slots old.spool.state old.slots) old.told runs.launchings runs.slots runs.told runs.starts
           (starts_suit device old.spool ts mid (current_slots old.spool.state old.slots) starts (current_suit old.spool.state old.slots)) in
@@ -122,12 +136,17 @@ module _ {D : Type 0} (device : DiskView D) where
           ended = runs.ended ∙ jobs ∙ sym (ap (jobs_run mid) alive);
         };
         answer = answer;
-        table = both_tables old.spool.state mid.state new.spool.state (starting_events old.spool ts) (ending_events runs.endings) (starts_table device old.spool ts mid starts) (ends_table device (course mid runs.slots runs.told) runs.endings new runs.ends);
+        table = part.table;
+        any_moment = part_crash device lawful old.spool new.spool (starting_tried old.spool ts ++ ending_tried runs.endings) (starting_events old.spool ts ++ ending_events runs.endings) kept part;
+        all_acknowledged = part.acknowledged;
         exact = λ none t tells quiet.
             let later = or_second (starting_fault ts) (stages_fault runs.launchings runs.endings) none in
             live_exact legal stays exact_starts exact distinct (or_first (starting_fault ts) (stages_fault runs.launchings runs.endings) none)
             (or_first (launching_fault runs.launchings) (ending_fault runs.endings) later) (or_second (launching_fault runs.launchings) (ending_fault runs.endings) later) t tells quiet;
       }
+        where
+          part : IsPart device old.spool (starting_tried old.spool ts ++ ending_tried runs.endings) (starting_events old.spool ts ++ ending_events runs.endings) new.spool
+          part = run_part place old.spool ts starts runs
 
     -- the same over slots that are the current ones, whatever was answered of the starts
     pub whole_round : old.spool.dead ≡ false → mid.dead ≡ false → IsLegal old.spool.state → ((s : State) (events : List Event) → IsLegal s → IsLegal (after_all s events)) → AreExactStarts old.spool (finite.keys old.spool.state.queues) mid ts

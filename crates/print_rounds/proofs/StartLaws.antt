@@ -11,12 +11,11 @@ use Rattle.job_table.specs.Changes.{change_found}
 use Rattle.job_table.specs.Attempts.{next_of, started}
 use Rattle.job_table.specs.Step.{refusal_of}
 use Rattle.spool_core.specs.Standing.{Standing}
-use Rattle.spool_core.specs.declared.spool.apply_fault.ApplyFault.TheVariants as faults
 use Rattle.print_rounds.specs.Counts.{start_events, starting_events}
 use Rattle.print_rounds.specs.Courses.{Answer, Starting, IsStarting, IsStartingOf, AreStartings}
 use Rattle.print_rounds.specs.Faultless.{IsBegun, AllBegun}
 use Rattle.print_rounds.specs.Script.{Play, plays, play_start, start_of}
-use Rattle.print_rounds.proofs.ReportLaws.{done_state}
+use Rattle.print_rounds.proofs.ReportLaws.{done_state, fault_state}
 
 module _ {D : Type 0} (device : DiskView D) where
   one_start : (p : Play) (old : Standing D) (o : Option ℕ) (answer : Option Answer) (new : Standing D) → IsStartingOf device old o answer new → IsBegun answer → start_of (record p { state = old.state }) o ≡ record p { state = new.state; events = p.events ++ start_events o answer }
@@ -25,8 +24,8 @@ module _ {D : Type 0} (device : DiskView D) where
       ∙ ap (λ es. record p { state = new.state; events = es }) (sym (append-nil p.events))
   one_start p old (Some j) None new is begun = absurd is
   one_start p old (Some j) (Some (Err fault)) new is begun = absurd begun
-  one_start p old (Some j) (Some (Ok reply)) new (accepted, done) begun =
-      ap (λ s. record p { state = s; events = p.events ++ Start j ∷ [] }) (done_state old.state (Start j) (refusal_of old.state (Start j)) new.state reply refl accepted done.step).0
+  one_start p old (Some j) (Some (Ok reply)) new (accepted, is) begun =
+      ap (λ s. record p { state = s; events = p.events ++ Start j ∷ [] }) (done_state old.state (Start j) (refusal_of old.state (Start j)) new.state reply refl accepted is.cause.step).0
 
   pub starts_played : (old : Standing D) (ts : List (Starting D)) (new : Standing D) → AreStartings device old ts new → (p : Play) → AllBegun ts → plays play_start (record p { state = old.state }) (map (λ t. t.queue) ts) ≡ record p { state = new.state; events = p.events ++ starting_events old ts }
   starts_played old [] new same p begun =
@@ -47,14 +46,10 @@ module _ {D : Type 0} (device : DiskView D) where
   one_keys : (old : Standing D) (o : Option ℕ) (answer : Option Answer) (new : Standing D) → IsStartingOf device old o answer new → finite.keys new.state.queues ≡ finite.keys old.state.queues
   one_keys old None answer new (none, same) = ap (λ (s : Standing D). finite.keys s.state.queues) same
   one_keys old (Some j) None new is = absurd is
-  one_keys old (Some j) (Some (Ok reply)) new (accepted, done) =
-      ap (λ (s : State). finite.keys s.queues) (sym (done_state old.state (Start j) (refusal_of old.state (Start j)) new.state reply refl accepted done.step).0)
+  one_keys old (Some j) (Some (Ok reply)) new (accepted, is) =
+      ap (λ (s : State). finite.keys s.queues) (sym (done_state old.state (Start j) (refusal_of old.state (Start j)) new.state reply refl accepted is.cause.step).0)
       ∙ started_keys old.state j (job_at old.state j)
-  one_keys old (Some j) (Some (Err faults.Dead)) new (accepted, (dead, same)) = ap (λ (s : Standing D). finite.keys s.state.queues) same
-  one_keys old (Some j) (Some (Err (faults.Refused refusal))) new (accepted, (alive, refused, same)) = ap (λ (s : Standing D). finite.keys s.state.queues) same
-  one_keys old (Some j) (Some (Err faults.Memory)) new (accepted, (alive, free, same)) = ap (λ (s : Standing D). finite.keys s.state.queues) same
-  one_keys old (Some j) (Some (Err faults.Full)) new (accepted, (full, same)) = ap (λ (s : Standing D). finite.keys s.state.queues) same
-  one_keys old (Some j) (Some (Err faults.Disk)) new (accepted, failed) = ap (λ (s : State). finite.keys s.queues) failed.state
+  one_keys old (Some j) (Some (Err fault)) new (accepted, is) = ap (λ (s : State). finite.keys s.queues) (fault_state device old (Start j) fault new is.cause)
 
   -- the starts change no queue
   pub starts_keys : (old : Standing D) (ts : List (Starting D)) (new : Standing D) → AreStartings device old ts new → finite.keys new.state.queues ≡ finite.keys old.state.queues

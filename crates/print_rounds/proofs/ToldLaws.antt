@@ -39,8 +39,8 @@ use Rattle.print_rounds.proofs.AcceptLaws.{or_first, or_second, unrefused}
 use Rattle.print_rounds.proofs.CurrentLaws.{Suits, AllSuit}
 use Rattle.print_rounds.proofs.EndLaws.{get_own, end_rests, not_first, not_second}
 use Rattle.print_rounds.proofs.LaunchLaws.{HasNumbers}
-use Rattle.print_rounds.proofs.ReportLaws.{done_state}
-use Rattle.print_rounds.proofs.TableLaws.{end_table}
+use Rattle.print_rounds.proofs.ReportLaws.{done_state, fault_state}
+use Rattle.print_rounds.proofs.PartLaws.{end_part}
 
 -- ## The end of a stage changes the row of its job alone
 
@@ -126,7 +126,7 @@ module _ {D : Type 0} (device : DiskView D) where
           let answer = subst (λ r. IsReport device e.kept e.job r e.next) told report in
           let accepted = stage_accepted old.spool.state (end_in e.kept.slots e.job) slot current attempt stage in
           unrefused e.kept.spool.state (Stage (end_in e.kept.slots e.job)) refusal
-          (ap (λ (x : Standing D). refusal_of x.state (Stage (end_in e.kept.slots e.job))) same ∙ accepted) answer.0.1
+          (ap (λ (x : Standing D). refusal_of x.state (Stage (end_in e.kept.slots e.job))) same ∙ accepted) answer.0.cause.1
 
       by_progress : (slot : Slot ℕ) (p : Progress ℕ) → finite.get old.slots e.job ≡ Some slot → slot.progress ≡ p → IsEndingOf device old (is_ready p) e → ⊥
       by_progress slot (Ready input) there is ending = apart e.report (Err (faults.Refused refusal)) ending.0 told
@@ -163,16 +163,12 @@ module _ {D : Type 0} (device : DiskView D) where
   answer_rows : (old : Standing D) (numbers : HasNumbers old.state) (end : StageEnd) (a : Answer) (new : Standing D) → IsAnswer device old (Stage end) a new → (k : ℕ) → (k == end.job) ≡ false → job_at new.state k ≡ job_at old.state k
   answer_rows old numbers end (Ok reply) new done k other =
       ap (λ s. job_at s k) (sym (done_state old.state (Stage end) (refusal_of old.state (Stage end)) new.state reply refl done.fits.accepted done.step).0) ∙ stage_rows old.state numbers end k other
-  answer_rows old numbers end (Err faults.Dead) new (dead, same) k other = ap (λ (x : Standing D). job_at x.state k) same
-  answer_rows old numbers end (Err (faults.Refused refusal)) new (alive, refused, same) k other = ap (λ (x : Standing D). job_at x.state k) same
-  answer_rows old numbers end (Err faults.Memory) new (alive, accepted, same) k other = ap (λ (x : Standing D). job_at x.state k) same
-  answer_rows old numbers end (Err faults.Full) new (full, same) k other = ap (λ (x : Standing D). job_at x.state k) same
-  answer_rows old numbers end (Err faults.Disk) new failed k other = ap (λ s. job_at s k) failed.state
+  answer_rows old numbers end (Err fault) new is k other = ap (λ s. job_at s k) (fault_state device old (Stage end) fault new is)
 
   report_rows : (old : Course D) (numbers : HasNumbers old.spool.state) (j : ℕ) (r : Report) (new : Course D) → IsReport device old j r new → (k : ℕ) → (k == j) ≡ false → job_at new.spool.state k ≡ job_at old.spool.state k
   report_rows old numbers j reports.Silent new none k other = absurd none
   report_rows old numbers j reports.NoMemory new same k other = ap (λ (c : Course D). job_at c.spool.state k) same
-  report_rows old numbers j (reports.Answered a) new report k other = answer_rows old.spool numbers (end_in old.slots j) a new.spool report.0 k other
+  report_rows old numbers j (reports.Answered a) new report k other = answer_rows old.spool numbers (end_in old.slots j) a new.spool report.0.cause k other
 
   end_rows : (old : Course D) → HasNumbers old.spool.state → (e : Ending D) → IsEnding device old e → (k : ℕ) → (k == e.job) ≡ false → job_at e.next.spool.state k ≡ job_at old.spool.state k
   end_rows old numbers e ends k other = by_silence (is_silent (finite.get old.slots e.job)) ends
@@ -205,7 +201,7 @@ module _ {D : Type 0} (device : DiskView D) where
   all_told stays old [] new same legal suits distinct none = tt
   all_told stays old (e ∷ es) new ends legal suits distinct none =
       let numbers : HasNumbers old.spool.state = λ j r there. (legal.jobs j r there).id in
-      let legal' : IsLegal e.next.spool.state = subst IsLegal (sym (end_table device old e ends.0)) (stays old.spool.state (report_events (Stage (end_in e.kept.slots e.job)) e.report) legal) in (
+      let legal' : IsLegal e.next.spool.state = subst IsLegal (sym (end_part device old e ends.0).table) (stays old.spool.state (report_events (Stage (end_in e.kept.slots e.job)) e.report) legal) in (
         one_told old e ends.0 suits.0 e.report refl (or_first (report_fault e.report) (ending_fault es) none),
         all_told stays e.next es new ends.1 legal'
             (still_suit old e.next e.job (end_rests device old e ends.0).0 (end_rows old numbers e ends.0) (map (λ e. e.job) es) distinct.0 suits.1)

@@ -1,5 +1,5 @@
 -- What the steps of a round come to: the children that were started, the ends that were told, the events that were
--- acknowledged, and the faults.
+-- acknowledged or tried, and the faults.
 use Rattle.std.specs.Prelude.{ℕ, cond, List, [], ◌∷◌, ◌++◌, Option, None, Some, Result, Ok, Err}
 use Rattle.std.specs.List.{flat_map, sum_by}
 use Rattle.std.specs.Option.{option_or}
@@ -93,11 +93,14 @@ result_of round (Some fault) = Err fault
 
 -- ## Events
 
+abbrev pub acknowledged_by : Event → Answer → List Event
+acknowledged_by e (Ok reply) = e ∷ []
+acknowledged_by e (Err fault) = []
+
 abbrev pub start_events : Option ℕ → Option Answer → List Event
 start_events None answer = []
 start_events (Some j) None = []
-start_events (Some j) (Some (Ok reply)) = Start j ∷ []
-start_events (Some j) (Some (Err fault)) = []
+start_events (Some j) (Some a) = acknowledged_by (Start j) a
 
 -- the events that were acknowledged among the starts
 abbrev pub starting_events : {D : Type 0} → Standing D → List (Starting D) → List Event
@@ -107,9 +110,36 @@ starting_events s (t ∷ ts) = start_events (next_of s.state t.queue) t.answer +
 abbrev pub report_events : Event → Report → List Event
 report_events e reports.Silent = []
 report_events e reports.NoMemory = []
-report_events e (reports.Answered (Ok reply)) = e ∷ []
-report_events e (reports.Answered (Err fault)) = []
+report_events e (reports.Answered a) = acknowledged_by e a
 
 -- the events that were acknowledged among the ends
 abbrev pub ending_events : {D : Type 0} → List (Ending D) → List Event
 ending_events es = flat_map (λ e. report_events (Stage (end_in e.kept.slots e.job)) e.report) es
+
+-- An event is tried where it is acknowledged, or the device fails at it. After that none is.
+abbrev pub tried_by : Event → Answer → List Event
+tried_by e (Ok reply) = e ∷ []
+tried_by e (Err faults.Dead) = []
+tried_by e (Err (faults.Refused refusal)) = []
+tried_by e (Err faults.Memory) = []
+tried_by e (Err faults.Full) = []
+tried_by e (Err faults.Disk) = e ∷ []
+
+abbrev pub start_tried : Option ℕ → Option Answer → List Event
+start_tried None answer = []
+start_tried (Some j) None = []
+start_tried (Some j) (Some a) = tried_by (Start j) a
+
+-- the events that were tried among the starts
+abbrev pub starting_tried : {D : Type 0} → Standing D → List (Starting D) → List Event
+starting_tried s [] = []
+starting_tried s (t ∷ ts) = start_tried (next_of s.state t.queue) t.answer ++ starting_tried t.next ts
+
+abbrev pub report_tried : Event → Report → List Event
+report_tried e reports.Silent = []
+report_tried e reports.NoMemory = []
+report_tried e (reports.Answered a) = tried_by e a
+
+-- the events that were tried among the ends
+abbrev pub ending_tried : {D : Type 0} → List (Ending D) → List Event
+ending_tried es = flat_map (λ e. report_tried (Stage (end_in e.kept.slots e.job)) e.report) es

@@ -1,7 +1,8 @@
 -- What a round did, step by step, also where something failed.
-use Rattle.std.specs.Prelude.{◌≡◌, ◌⊎◌, ℕ, Bool, ◌&&◌, nat_lt, true, false, List, [], ◌∷◌, map, Option, None, Some, Result, Ok, Err, if◌then◌else◌}
+use Rattle.std.specs.Prelude.{◌≡◌, ◌≤◌, ◌↔◌, ◌⊎◌, ℕ, Bool, ◌&&◌, nat_lt, true, false, List, [], ◌∷◌, map, IsSome, Option, None, Some, Result, Ok, Err, if◌then◌else◌}
 use Rattle.std.specs.FinMap as finite
-use Rattle.spool_disk.specs.Disk.{DiskView}
+use Rattle.spool_disk.specs.Disk.{DiskView, LeavesOnly}
+use Rattle.spool_types.specs.declared.event.Event.{Event}
 use Rattle.spool_types.specs.declared.event.Event.TheVariants.{Start, Stage}
 use Rattle.spool_types.specs.declared.event.Reply.{Reply}
 use Rattle.spool_types.specs.declared.event.Reply.TheVariants as replies
@@ -10,6 +11,7 @@ use Rattle.spool_types.specs.Phases.{is_processing}
 use Rattle.spool_types.specs.State.{State, Job, job_at, queue_at}
 use Rattle.job_table.specs.Attempts.{next_of}
 use Rattle.job_table.specs.Step.{refusal_of}
+use Rattle.spool_core.specs.Image.{HasBeforeOrAfterEvent}
 use Rattle.spool_core.specs.Standing.{Standing, IsAnswer}
 use Rattle.spool_core.specs.declared.spool.apply_fault.ApplyFault.{ApplyFault}
 use Rattle.filter_args.specs.declared.place.Place.{Place}
@@ -35,6 +37,14 @@ course spool slots told = record { spool = spool; slots = slots; told = told }
 abbrev pub Answer : Type 0
 Answer = Result Reply ApplyFault
 
+-- An event that was answered so: the cause of the answer, and what it left. Unless the device had failed before, a crash at
+-- any moment of it leaves the table before the event or the one after it.
+pub record IsApplied {D : Type 0} (device : DiskView D) (old : Standing D) (e : Event) (a : Answer) (new : Standing D) : Type 0 where
+  pub cause : IsAnswer device old e a new
+  pub counted : device.failures old.disk ≤ device.failures new.disk
+  pub told : IsSome (device.bytes new.disk) ↔ IsSome (device.bytes old.disk)
+  pub crash : old.dead ≡ false → IsSome (device.bytes old.disk) → LeavesOnly device old.disk new.disk (HasBeforeOrAfterEvent old.state e)
+
 -- First, each queue's next job is started. A queue without one has no answer, and no start is refused.
 pub record Starting (D : Type 0) : Type 0 where
   pub queue : List ℕ
@@ -44,7 +54,7 @@ pub record Starting (D : Type 0) : Type 0 where
 abbrev pub IsStartingOf : {D : Type 0} → DiskView D → Standing D → Option ℕ → Option Answer → Standing D → Type 0
 IsStartingOf device old None answer new = (answer ≡ None) × (new ≡ old)
 IsStartingOf device old (Some j) None new = ⊥
-IsStartingOf device old (Some j) (Some a) new = (refusal_of old.state (Start j) ≡ None) × IsAnswer device old (Start j) a new
+IsStartingOf device old (Some j) (Some a) new = (refusal_of old.state (Start j) ≡ None) × IsApplied device old (Start j) a new
 
 abbrev pub IsStarting : {D : Type 0} → DiskView D → Standing D → Starting D → Type 0
 IsStarting device old t = IsStartingOf device old (next_of old.state t.queue) t.answer t.next
@@ -109,7 +119,7 @@ abbrev pub IsReport : {D : Type 0} → DiskView D → Course D → ℕ → Repor
 IsReport device old j reports.Silent new = ⊥
 IsReport device old j reports.NoMemory new = new ≡ old
 IsReport device old j (reports.Answered a) new =
-    IsAnswer device old.spool (Stage (end_in old.slots j)) a new.spool × (new.slots ≡ moved old.slots j a) × (new.told ≡ old.told)
+    IsApplied device old.spool (Stage (end_in old.slots j)) a new.spool × (new.slots ≡ moved old.slots j a) × (new.told ≡ old.told)
 
 abbrev pub IsEndingOf : {D : Type 0} → DiskView D → Course D → Bool → Ending D → Type 0
 IsEndingOf device old true t = (t.report ≡ reports.Silent) × (t.kept ≡ old) × (t.next ≡ old)

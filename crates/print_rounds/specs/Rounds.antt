@@ -1,17 +1,18 @@
--- A whole round: its steps, its answer, and what it is where nothing failed.
-use Rattle.std.specs.Prelude.{◌≡◌, ◌⊎◌, ℕ, Bool, true, false, List, [], ◌++◌, map, Option, None, Some, Result, Err}
+-- A whole round: its steps, its answer, what a crash leaves of it, and what it is where nothing failed.
+use Rattle.std.specs.Prelude.{◌≡◌, ◌⊎◌, ℕ, Bool, true, false, List, [], ◌++◌, length, map, IsSome, Option, None, Some, Result, Err}
 use Rattle.std.specs.FinMap as finite
 use Rattle.std.specs.Option.{option_or}
-use Rattle.spool_disk.specs.Disk.{DiskView}
+use Rattle.spool_disk.specs.Disk.{DiskView, LeavesOnly}
 use Rattle.spool_types.specs.declared.event.Event.{Event}
 use Rattle.job_table.specs.Fold.{after_all}
+use Rattle.spool_core.specs.Driving.{HasPrefixTable}
 use Rattle.spool_core.specs.Standing.{Standing}
 use Rattle.filter_args.specs.declared.place.Place.{Place}
 use Rattle.child_pipeline.specs.Slots.{Slots}
 use Rattle.child_pipeline.specs.Told.{Told}
 use Rattle.print_rounds.specs.Choice.{busy_jobs}
 use Rattle.print_rounds.specs.Courses.{Course, course, Starting, AreStartings, Launching, Ending, AreLaunchings, AreEndings}
-use Rattle.print_rounds.specs.Counts.{starting_fault, stages_fault, counts_of, started_in, told_in, result_of, starting_events, ending_events}
+use Rattle.print_rounds.specs.Counts.{starting_fault, stages_fault, counts_of, started_in, told_in, result_of, starting_events, ending_events, starting_tried, ending_tried}
 use Rattle.print_rounds.specs.Script.{Play, current_slots, round_of}
 use Rattle.print_rounds.specs.declared.outcome.Round.{Round}
 use Rattle.print_rounds.specs.declared.outcome.RoundFault.{RoundFault}
@@ -48,6 +49,10 @@ fault_in steps = option_or (starting_fault steps.startings) (stages_fault steps.
 abbrev pub events_in : {D : Type 0} → Course D → RoundSteps D → List Event
 events_in old steps = starting_events old.spool steps.startings ++ ending_events steps.endings
 
+-- the events tried in a round: the acknowledged ones and, behind them, the one at which the device failed, if it did
+abbrev pub tried_in : {D : Type 0} → Course D → RoundSteps D → List Event
+tried_in old steps = starting_tried old.spool steps.startings ++ ending_tried steps.endings
+
 -- The round is Script's; children that tell go on to tell.
 pub record IsScriptRound {D : Type 0} (old : Course D) (steps : RoundSteps D) (new : Course D) (p : Play) : Type 0 where
   pub state : new.spool.state ≡ p.state
@@ -63,6 +68,12 @@ pub record IsRoundOf {D : Type 0} (device : DiskView D) (place : Place) (old new
   pub answer : result ≡ result_of (counts_of steps.launchings steps.endings) (fault_in steps)
   -- the table is that of the events acknowledged in it
   pub table : new.spool.state ≡ after_all old.spool.state (events_in old steps)
+  -- Unless the device had failed before, a crash at any moment of the round leaves the table after the first of the events
+  -- that were tried, some or all.
+  pub any_moment : old.spool.dead ≡ false → IsSome (device.bytes old.spool.disk) →
+      LeavesOnly device old.spool.disk new.spool.disk (HasPrefixTable old.spool.state (tried_in old steps) 0 (length (tried_in old steps)))
+  -- while the device works every event that was tried was acknowledged
+  pub all_acknowledged : new.spool.dead ≡ false → tried_in old steps ≡ events_in old steps
   -- where nothing failed, and the children tell, it is Script's
   pub exact : fault_in steps ≡ None → (t : Told) → old.told ≡ Some t → t.running ≡ [] → IsScriptRound old steps new (round_of place old.spool.state old.slots t)
 

@@ -2,9 +2,8 @@
 ghost use Rattle.std.specs.Prelude.{◌≡◌, List, ℕ, map, nat_lt};
 ghost use Rattle.std.specs.FinMap as finite;
 ghost use Rattle.child_pipeline.specs.Slots.{IsEnded, slot_in};
-ghost use Rattle.spool_core.specs.Standing.{IsAnswer};
 ghost use Rattle.print_rounds.specs.Counts.{ending_fault, told_in};
-ghost use Rattle.print_rounds.specs.Courses.{Course, course, Ending, IsEnding, AreEndings, is_silent, moved, moved_by};
+ghost use Rattle.print_rounds.specs.Courses.{Course, course, Ending, IsApplied, IsEnding, AreEndings, is_silent, moved, moved_by};
 
 use crate::outcome::{Report, RoundFault};
 use child_pipeline::{Children, Runner};
@@ -58,7 +57,7 @@ fn stage(end: StageEnd) -> Event
 
 // Applies the event of a stage's end.
 fn apply_end<D: Disk>(spool: &mut Spool<D>, end: StageEnd) -> Result<Reply, ApplyFault>
-    ensures { IsAnswer D.device spool.old (Event.Stage end) result spool.new }
+    ensures { IsApplied D.device spool.old (Event.Stage end) result spool.new }
 {
     spool.apply(stage(end))
 }
@@ -80,7 +79,7 @@ fn report<D: Disk, C: Children>(
     end: StageEnd,
 ) -> Result<Reply, ApplyFault>
     requires { IsEnded (finite.get runner.old end.job) }
-    ensures answer { IsAnswer D.device spool.old (Event.Stage end) result spool.new }
+    ensures answer { IsApplied D.device spool.old (Event.Stage end) result spool.new }
     ensures slots { runner.new ≡ moved runner.old end.job result }
 {
     let job = end.job;

@@ -16,6 +16,10 @@
 //! - *The steps* (`IsRoundOf`): what was done and in which order, each event with the answer of the spool, its cause and what
 //!   it left. The answer is the counts, or the first fault (`answer`), and the table is that of the acknowledged events
 //!   (`table`).
+//! - *A crash in a round*: unless the device had failed before, a crash at any moment of it leaves the table after the first of
+//!   the events that were tried in it, some or all (`any_moment`). These are the acknowledged ones and, behind them, the one at
+//!   which the device failed, if it did (`tried_in`, `all_acknowledged`). The count of the device's failures doesn't fall
+//!   (`later`), and a disk that tells its bytes goes on to tell them (`told`).
 //! - *ExactScript* for one round: where nothing failed and the children tell, the table, the slots, what is told, the events
 //!   and the counts are those of the definition (`round_of`, `exact`). For its two halves [`start_jobs`] and [`run_stages`]
 //!   say the same (`AreExactStarts`, `AreExact`).

@@ -1,5 +1,5 @@
 //! A whole round.
-ghost use Rattle.std.specs.Prelude.{◌≡◌, List, ℕ, Some, []};
+ghost use Rattle.std.specs.Prelude.{◌≡◌, ◌≤◌, ◌↔◌, List, ℕ, IsSome, Some, []};
 ghost use Rattle.child_pipeline.specs.Told.{Told};
 ghost use Rattle.print_rounds.specs.Courses.{course};
 ghost use Rattle.print_rounds.specs.Finished.{EachFinishedOnce, HasNoneRunning};
@@ -29,8 +29,11 @@ pub fn round<D: Disk, C: Children>(
 ) -> Result<Round, RoundFault>
     requires { HasNoneRunning runner.old }
 
-    // What was done, step by step, and its answer. Where nothing failed and the children tell, it is what Script says.
+    // What was done, step by step, and its answer. A crash at any moment of it leaves the table after the first of its events.
+    // Where nothing failed and the children tell, it is what Script says.
     ensures round { IsRoundBy D.device place.now (course spool.old runner.old (C.tells children.old)) spool.old.dead (course spool.new runner.new (C.tells children.new)) result }
+    ensures later { D.device.failures spool.old.disk ≤ D.device.failures spool.new.disk }
+    ensures told { IsSome (D.device.bytes spool.new.disk) ↔ IsSome (D.device.bytes spool.old.disk) }
 
     // Whatever failed, each child that was started is finished once, and every start came before the first finish.
     ensures finished { (t : Told) → C.tells children.old ≡ Some t → t.running ≡ [] → (js : List ℕ) × EachFinishedOnce t (C.tells children.new) js }

@@ -12,7 +12,8 @@ use Rattle.print_rounds.specs.Script.{current_slots}
 use Rattle.print_rounds.proofs.BusyLaws.{all_rest}
 use Rattle.print_rounds.proofs.FreeLaws.{current_rests}
 use Rattle.print_rounds.proofs.StartLaws.{queue_count, starts_keys}
-use Rattle.print_rounds.proofs.RoundLaws.{none_asked, first_answer, later_answer, whole_round, failed_round}
+use Rattle.print_rounds.proofs.PartLaws.{starts_part}
+use Rattle.print_rounds.proofs.RoundLaws.{none_asked, first_answer, later_answer, run_part, whole_round, failed_round}
 use Rattle.print_rounds.proofs.rounds.round.Goals as goal
 
 pub returns-then-is_dead-clause-finished : goal.returns-then-is_dead-clause-finished
@@ -25,7 +26,7 @@ pub returns-then-is_dead-2-clause-round : goal.returns-then-is_dead-2-clause-rou
 returns-then-is_dead-2-clause-round g c =
     let old = course c.args.spool.now c.args.runner.now (g.C.Children.tells c.args.children.now) in
     let (ts, starts, queues, fault, exact) = c.start_jobs-fault.ensures in
-    failed_round g.D.Disk.device c.args.place.now old c.start_jobs-fault.new.spool ts starts queues
+    failed_round g.D.Disk.device g.met.D.Disk.lawful c.args.place.now old c.table.ensures.kept c.start_jobs-fault.new.spool ts starts queues
     (sym c.is_dead.ensures ∙ c.if-is_dead.false) (sym c.is_dead-2.ensures ∙ c.if-is_dead-2.true)
     c.free_old.new.runner (c.free_old.ensures ∙ ap (λ s. current_slots s c.args.runner.now) c.table-3.ensures.table)
     c.unless.result (c.unless.ensures ∙ ap (result_of (record { started = 0; finished = 0 })) fault)
@@ -51,7 +52,7 @@ returns-in-None-clause-round g c =
     let old = course c.args.spool.now c.args.runner.now (g.C.Children.tells c.args.children.now) in
     let new = course c.run_stages-stages.new.spool c.run_stages-stages.new.runner (g.C.Children.tells c.run_stages-stages.new.children) in
     let (ts, starts, queues, fault, exact) = c.start_jobs-fault.ensures in
-    whole_round g.D.Disk.device c.args.place.now old c.start_jobs-fault.new.spool ts starts queues
+    whole_round g.D.Disk.device g.met.D.Disk.lawful c.args.place.now old c.table.ensures.kept c.start_jobs-fault.new.spool ts starts queues
     (sym c.is_dead.ensures ∙ c.if-is_dead.false) (sym c.is_dead-2.ensures ∙ c.if-is_dead-2.false)
     (subst IsLegal c.table.ensures.table c.jobs-legal.ensures.legal) c.legal_tables_stay_legal.ensures.stays exact
     c.free_old.new.runner (c.free_old.ensures ∙ ap (λ s. current_slots s c.args.runner.now) c.table-3.ensures.table)
@@ -67,7 +68,7 @@ returns-clause-round g c =
     let old = course c.args.spool.now c.args.runner.now (g.C.Children.tells c.args.children.now) in
     let new = course c.run_stages-stages.new.spool c.run_stages-stages.new.runner (g.C.Children.tells c.run_stages-stages.new.children) in
     let (ts, starts, queues, fault, exact) = c.start_jobs-fault.ensures in
-    whole_round g.D.Disk.device c.args.place.now old c.start_jobs-fault.new.spool ts starts queues
+    whole_round g.D.Disk.device g.met.D.Disk.lawful c.args.place.now old c.table.ensures.kept c.start_jobs-fault.new.spool ts starts queues
     (sym c.is_dead.ensures ∙ c.if-is_dead.false) (sym c.is_dead-2.ensures ∙ c.if-is_dead-2.false)
     (subst IsLegal c.table.ensures.table c.jobs-legal.ensures.legal) c.legal_tables_stay_legal.ensures.stays exact
     c.free_old.new.runner (c.free_old.ensures ∙ ap (λ s. current_slots s c.args.runner.now) c.table-3.ensures.table)
@@ -77,3 +78,34 @@ returns-clause-round g c =
 
 pub returns-clause-rest : goal.returns-clause-rest
 returns-clause-rest g c = c.run_stages-stages.ensures.rest (subst HasNoneRunning (sym c.free_old.ensures) (current_rests c.table-3.result.now.state c.args.runner.now c.requires))
+
+-- what the starts leave, and with the ends what the whole leaves
+pub returns-then-is_dead-2-clause-later : goal.returns-then-is_dead-2-clause-later
+returns-then-is_dead-2-clause-later g c =
+    let (ts, starts, queues, fault, exact) = c.start_jobs-fault.ensures in
+    (starts_part g.D.Disk.device c.args.spool.now ts c.start_jobs-fault.new.spool starts).counted
+
+pub returns-then-is_dead-2-clause-told : goal.returns-then-is_dead-2-clause-told
+returns-then-is_dead-2-clause-told g c =
+    let (ts, starts, queues, fault, exact) = c.start_jobs-fault.ensures in
+    (starts_part g.D.Disk.device c.args.spool.now ts c.start_jobs-fault.new.spool starts).told
+
+pub returns-in-None-clause-later : goal.returns-in-None-clause-later
+returns-in-None-clause-later g c =
+    let (ts, starts, queues, fault, exact) = c.start_jobs-fault.ensures in
+    (run_part g.D.Disk.device c.args.place.now c.args.spool.now ts starts c.run_stages-stages.ensures.steps.0).counted
+
+pub returns-in-None-clause-told : goal.returns-in-None-clause-told
+returns-in-None-clause-told g c =
+    let (ts, starts, queues, fault, exact) = c.start_jobs-fault.ensures in
+    (run_part g.D.Disk.device c.args.place.now c.args.spool.now ts starts c.run_stages-stages.ensures.steps.0).told
+
+pub returns-clause-later : goal.returns-clause-later
+returns-clause-later g c =
+    let (ts, starts, queues, fault, exact) = c.start_jobs-fault.ensures in
+    (run_part g.D.Disk.device c.args.place.now c.args.spool.now ts starts c.run_stages-stages.ensures.steps.0).counted
+
+pub returns-clause-told : goal.returns-clause-told
+returns-clause-told g c =
+    let (ts, starts, queues, fault, exact) = c.start_jobs-fault.ensures in
+    (run_part g.D.Disk.device c.args.place.now c.args.spool.now ts starts c.run_stages-stages.ensures.steps.0).told

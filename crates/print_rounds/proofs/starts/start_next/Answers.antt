@@ -3,6 +3,7 @@ use Rattle.std.specs.FinMap as finite
 use Rattle.spool_types.specs.declared.event.Event.TheVariants.{Start}
 use Rattle.spool_types.specs.State.{State}
 use Rattle.job_table.specs.Step.{refusal_of}
+use Rattle.print_rounds.specs.Courses.{IsApplied}
 use Rattle.print_rounds.proofs.StartLaws.{starting_at}
 use Rattle.print_rounds.proofs.starts.start_next.Goals as goal
 
@@ -13,7 +14,8 @@ pub returns-in-Some : goal.returns-in-Some
 returns-in-Some g c =
     let (name, there, next) = c.in-Some.ensures.next in
     let accepted = ap (λ s. refusal_of s (Start c.in-Some.job)) (sym c.table.ensures.table) ∙ c.in-Some.ensures.startable in
-    starting_at g.D.Disk.device c.args.spool.now c.table.result.now.state c.table.ensures.table c.args.at name there (Some c.in-Some.job) next (Some c.apply.result) c.apply.new.self (accepted, c.apply.ensures.answer)
+    let applied : IsApplied g.D.Disk.device c.args.spool.now (Start c.in-Some.job) c.apply.result c.apply.new.self = record { cause = c.apply.ensures.answer; counted = c.apply.ensures.later; told = c.apply.ensures.told; crash = c.apply.ensures.any_moment } in
+    starting_at g.D.Disk.device c.args.spool.now c.table.result.now.state c.table.ensures.table c.args.at name there (Some c.in-Some.job) next (Some c.apply.result) c.apply.new.self (accepted, applied)
 
 pub returns-in-None : goal.returns-in-None
 returns-in-None g c =
