@@ -1,7 +1,11 @@
 //! What a text of commands says.
 use spool_types::{
-    Copies, Event, FileName, JobId, NewQueue, OptionText, Priority, QueueName, Title, UserName,
+    Copies, Event, FileName, JobId, NewQueue, OptionText, Priority, QueueName, Ranged, Title,
+    UserName,
 };
+
+/// How many rounds are run at the most.
+pub type Rounds = Ranged<1, 1000>;
 
 /// A job to be made, but for its number.
 #[derive(Debug, PartialEq, Eq, Drop)]
@@ -32,6 +36,10 @@ pub enum Command {
     Jobs,
     /// Lists the queues.
     Queues,
+    /// Runs one stage of each job that is processing, after the next job of each free queue was started.
+    Round,
+    /// Runs rounds until one has nothing to do, or these were run.
+    Drain(Rounds),
     /// A line that is no command, or bytes of a send that no line feed follows.
     Malformed,
 }

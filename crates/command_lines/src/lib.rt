@@ -53,7 +53,7 @@ mod numbers;
 mod reply;
 mod words;
 
-pub use command::{Command, Creation};
+pub use command::{Command, Creation, Rounds};
 pub use commands::Commands;
 pub use laws::{line_by_line, only_line_events, word_by_word};
 pub use reply::{Answer, print_reply};

@@ -6,9 +6,9 @@ ghost use Rattle.command_lines.specs.declared.command.Command.{Command};
 ghost use Rattle.command_lines.specs.declared.command.Kind.{Kind};
 ghost use Rattle.spool_types.specs.Values.{is_queue_name, is_uri, is_user_name, is_title, is_options, is_note, text_in, media_in};
 ghost use Rattle.line_words.specs.Seen.{bytes_of};
-ghost use Rattle.command_lines.specs.Grammar.{kind_of, is_remark, kind_in, line_of, one_word, one_word_line, queue_line, new_queue_of, info_line, info_of, create_line, creation_of, send_line, send_of, close_line, close_of, hold_line, jobs_line, queues_line, queue_in, copies_in, priority_in, policy_in};
+ghost use Rattle.command_lines.specs.Grammar.{kind_of, is_remark, kind_in, line_of, one_word, one_word_line, queue_line, new_queue_of, info_line, info_of, create_line, creation_of, send_line, send_of, close_line, close_of, hold_line, jobs_line, queues_line, round_line, drain_line, rounds_in, queue_in, copies_in, priority_in, policy_in};
 
-use crate::command::{Command, Creation, Kind};
+use crate::command::{Command, Creation, Kind, Rounds};
 use crate::numbers::{job_number, moment_number, ranged_number, short_number, small_number};
 use crate::words::words_of;
 use line_words::Word;
@@ -89,6 +89,12 @@ fn line_of_command(
     }
     if name == b"queues".as_slice() {
         return Ok(queues_line(words));
+    }
+    if name == b"round".as_slice() {
+        return Ok(round_line(words));
+    }
+    if name == b"drain".as_slice() {
+        return Ok(drain_line(words));
     }
     if name == b"queue".as_slice() {
         return queue_line(alloc, words);
@@ -381,6 +387,27 @@ fn queues_line(words: &[Word<'_>]) -> Option<Kind>
         [] => Some(Kind::Says(Command::Queues)),
         _ => None,
     }
+}
+
+// `round`
+fn round_line(words: &[Word<'_>]) -> Option<Kind>
+    ensures { result ≡ round_line (map bytes_of words.now) }
+{
+    match words {
+        [] => Some(Kind::Says(Command::Round)),
+        _ => None,
+    }
+}
+
+// `drain ROUNDS`
+fn drain_line(words: &[Word<'_>]) -> Option<Kind>
+    ensures { result ≡ drain_line (map bytes_of words.now) }
+{
+    let [count] = words else {
+        return None;
+    };
+    let most: Rounds = ranged_number(count.bytes())?;
+    Some(Kind::Says(Command::Drain(most)))
 }
 
 fn policy_of(word: &[u8]) -> Option<Policy>

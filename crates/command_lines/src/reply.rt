@@ -2,7 +2,7 @@
 ghost use Rattle.std.specs.Prelude.{◌≡◌, ◌++◌, IfOk, OnOk, codes, map};
 ghost use Rattle.std.specs.Fmt.{decimal};
 ghost use Rattle.spool_types.specs.State.{job_of};
-ghost use Rattle.command_lines.specs.Replies.{answer_text, quoted, job_line, job_head, job_sizes, jobs_text, queue_head, queue_rules, reasons_word, queue_text, queues_text, refusal_line, created_line, sent_line, closed_line};
+ghost use Rattle.command_lines.specs.Replies.{answer_text, quoted, job_line, job_head, job_sizes, jobs_text, queue_head, queue_rules, reasons_word, queue_text, queues_text, refusal_line, created_line, sent_line, closed_line, rounded_line, drained_line};
 
 use line_words::{is_backslash, is_quote};
 use spool_types::{JobId, JobRow, MediaType, Moment, QueueRow, Reason, Refusal, is_busy};
@@ -31,6 +31,13 @@ pub enum Answer<'a> {
         rows: &'a [QueueRow],
         jobs: &'a [JobRow],
     },
+    /// How many children a round started, and how many ends of stages were acknowledged in it.
+    Rounded {
+        started: usize,
+        finished: usize,
+    },
+    /// How many rounds were run.
+    Drained(u32),
     Refused(Refusal),
     /// The line isn't a command.
     Malformed,
@@ -58,6 +65,8 @@ pub fn print_reply(alloc: Global, answer: &Answer<'_>) -> Result<Vec<u8>, AllocE
         Answer::Closed { media, stages } => closed(alloc, media, *stages),
         Answer::Jobs { rows, now } => jobs(alloc, rows, *now),
         Answer::Queues { rows, jobs } => queues(alloc, rows, jobs),
+        Answer::Rounded { started, finished } => rounded(alloc, *started, *finished),
+        Answer::Drained(rounds) => drained(alloc, *rounds),
         Answer::Refused(refusal) => refused(alloc, *refusal),
         Answer::Malformed => Vec::from_slice(alloc, b"error syntax\n"),
         Answer::BadUri => Vec::from_slice(alloc, b"error uri\n"),
@@ -90,6 +99,18 @@ fn closed(alloc: Global, media: &MediaType, stages: Option<u8>) -> Result<Vec<u8
         Some(stages) => Ok(format!(in alloc; "ok type {media} stages {stages}\n")?.into_bytes()),
         None => Ok(format!(in alloc; "ok type {media} unprintable\n")?.into_bytes()),
     }
+}
+
+fn rounded(alloc: Global, started: usize, finished: usize) -> Result<Vec<u8>, AllocError>
+    ensures { IfOk result (λ text. text.items ≡ rounded_line started finished) }
+{
+    Ok(format!(in alloc; "ok started {started} finished {finished}\n")?.into_bytes())
+}
+
+fn drained(alloc: Global, rounds: u32) -> Result<Vec<u8>, AllocError>
+    ensures { IfOk result (λ text. text.items ≡ drained_line rounds) }
+{
+    Ok(format!(in alloc; "ok rounds {rounds}\n")?.into_bytes())
 }
 
 fn refused(alloc: Global, refusal: Refusal) -> Result<Vec<u8>, AllocError>

@@ -71,6 +71,8 @@ release 1\n\
 abandon 1\n\
 cancel 1\n\
 clock 7\n\
+round\n\
+drain 5\n\
 queues\n\
 jobs";
 
@@ -89,6 +91,8 @@ Apply(Release(JobId { number: 1 }))\n\
 Apply(Abandon(JobId { number: 1 }))\n\
 Apply(Cancel(JobId { number: 1 }))\n\
 Apply(Clock(Moment { seconds: 7 }))\n\
+Round\n\
+Drain(Ranged { number: 5 })\n\
 Queues\n\
 Jobs\n";
 
@@ -266,6 +270,17 @@ fn listings_take_no_words(rt: HostRuntime) -> Result<(), Fail> {
 }
 
 #[test]
+fn drains_have_1_to_1000_rounds(rt: HostRuntime) -> Result<(), Fail> {
+    let text = b"round\nround 1\ndrain\ndrain 0\ndrain 1\ndrain 1000\ndrain 1001\ndrain 1 1\n";
+    let lines = shown(rt.alloc(), text, 4096)?;
+    assert_eq!(rt;
+        lines.as_str(),
+        "Round\nMalformed\nMalformed\nMalformed\nDrain(Ranged { number: 1 })\nDrain(Ranged { number: 1000 })\nMalformed\nMalformed\n"
+    );
+    Ok(())
+}
+
+#[test]
 fn limits_of_a_creation(rt: HostRuntime) -> Result<(), Fail> {
     let text =
         b"create q u t 9999 100 o\ncreate q u t 10000 1 o\ncreate q u t 1 101 o\ncreate q u t 0 1 o\ncreate q \"\" t 1 1 o\n";
@@ -369,6 +384,14 @@ fn replies_are_printed_line_by_line(rt: HostRuntime) -> Result<(), Fail> {
         (Answer::Done, "ok\n"),
         (Answer::Created(job), "ok job 7\n"),
         (Answer::Sent(65_536), "ok bytes 65536\n"),
+        (
+            Answer::Rounded {
+                started: 0,
+                finished: 1,
+            },
+            "ok started 0 finished 1\n",
+        ),
+        (Answer::Drained(2), "ok rounds 2\n"),
         (
             Answer::Refused(Refusal::NoNumberLeft),
             "error 9 NoNumberLeft\n",

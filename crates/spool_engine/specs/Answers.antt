@@ -9,7 +9,7 @@ use Rattle.spool_core.specs.Image.{HasBeforeOrAfterEvent}
 use Rattle.spool_core.specs.Standing.{Standing, IsAnswer}
 use Rattle.spool_core.specs.declared.spool.apply_fault.ApplyFault.{ApplyFault}
 use Rattle.spool_core.specs.declared.spool.apply_fault.ApplyFault.TheVariants.{Dead, Refused, Memory, Full, Disk}
-use Rattle.spool_engine.specs.Runs.{Setting, Turn, IsTurn, IsKept}
+use Rattle.spool_engine.specs.EventTurns.{Setting, EventTurn, IsEventTurn, IsKept}
 
 -- the line for a fault
 abbrev pub fault_line : ApplyFault → List ℕ
@@ -33,8 +33,8 @@ pub record IsApplied {D : Type 0} (device : DiskView D) (old : Standing D) (e : 
       LeavesOnly device old.disk new.disk (HasBeforeOrAfterEvent old.state e)
   pub kept : IsKept device new
 
--- a turn of this command, before its text is written
-pub record Takes {D : Type 0} (v : Setting D) (s : Standing D) (c : Command) (t : Turn D) (s' : Standing D) : Type 0 where
-  pub legal : IsTurn v s t
+-- a turn of this command on the spool, before its text is written
+pub record Takes {D : Type 0} (v : Setting D) (s : Standing D) (c : Command) (t : EventTurn D) (s' : Standing D) : Type 0 where
+  pub legal : IsEventTurn v s t
   pub command : t.command ≡ c
   pub next : t.next ≡ s'

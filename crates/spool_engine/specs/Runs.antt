@@ -1,129 +1,85 @@
 -- What a run did, turn by turn, also where something failed.
-use Rattle.std.specs.Prelude.{◌≡◌, ℕ, ◌<◌, ◌≤◌, ◌↔◌, ◌⊎◌, List, [], ◌∷◌, ◌++◌, codes, take, length, map, ⊤, true, false, IsTrue, IsSome, Option, None, Some, Result, Ok, Err, OnOk}
+use Rattle.std.specs.Prelude.{◌≡◌, ℕ, ◌<◌, ◌≤◌, ◌↔◌, ◌⊎◌, Bool, true, false, List, [], ◌∷◌, ◌++◌, take, length, map, ⊤, IsSome, Option, None, Some, Result, Ok, Err, OnOk}
 use Rattle.std.specs.List.{flat_map}
 use Rattle.std.specs.Result.{IsOk}
 use Rattle.std.specs.Io.KnownBytes.{Appends}
 use Rattle.spool_types.specs.declared.event.Event.{Event}
-use Rattle.spool_types.specs.declared.event.Reply.{Reply}
-use Rattle.spool_types.specs.declared.refusal.Refusal.{Refusal}
-use Rattle.spool_types.specs.State.{State}
-use Rattle.spool_types.specs.Values.{is_uri}
-use Rattle.filter_args.specs.Reading.{reading}
-use Rattle.job_table.specs.Step.{refusal_of, step}
 use Rattle.job_table.specs.Fold.{after_all}
-use Rattle.spool_disk.specs.Disk.{DiskView, LeavesOnly}
+use Rattle.filter_args.specs.declared.place.Place.{Place}
+use Rattle.spool_disk.specs.Disk.{LeavesOnly}
 use Rattle.command_lines.specs.Text.{commands_of}
 use Rattle.command_lines.specs.Pending.{Pending, Leads, to_come}
 use Rattle.command_lines.specs.declared.command.Command.{Command}
-use Rattle.command_lines.specs.declared.command.Command.TheVariants.{Queue, Create}
+use Rattle.command_lines.specs.declared.command.Command.TheVariants as commands
 use Rattle.spool_core.specs.Image.{HasTable}
-use Rattle.spool_core.specs.Standing.{Standing, IsDone, IsFull, IsFailed}
+use Rattle.child_pipeline.specs.Told.{Told}
+use Rattle.print_rounds.specs.Courses.{Course}
 use Rattle.spool_engine.specs.Mime.{Mime}
-use Rattle.spool_engine.specs.Script.{event_of, reply_of, after_command, replies_of, events_of}
+use Rattle.spool_engine.specs.EventTurns.{Setting, Outcome, served, EventTurn, IsOutcome, IsKept, HasSomeOf, tried_as}
+use Rattle.spool_engine.specs.Rounds.{Ran, AreRunBy, counts_in, results_of}
+use Rattle.spool_engine.specs.Script.{Scene, meaning, event_of, replies_of, events_of, scene_of}
 use Rattle.spool_engine.specs.declared.fault.RunFault.{RunFault}
 use Rattle.spool_engine.specs.declared.fault.RunFault.TheVariants.{Read, Write, Memory}
-
--- what a run stands on: a disk, and what documents are read by
-pub record Setting (D : Type 0) : Type 1 where
-  pub device : DiskView D
-  pub mime : Mime
-
-abbrev pub setting : {D : Type 0} → DiskView D → Mime → Setting D
-setting device mime = record { device = device; mime = mime }
 
 -- an engine as its callers see it
 pub record Engine (D : Type 0) : Type 0 where
   pub mime : Mime
-  pub spool : Standing D
+  pub place : Place
+  pub course : Course D
 
--- how a command went
-pub data Outcome : Type 0 where
-  served : Outcome
-  no_memory : Outcome
-  full : Outcome
-  disk : Outcome
-  dead : Outcome
-  -- no memory was found to read the URI of a queue, or the options of a job
-  unread : Outcome
+-- how a command went: as one that says something or has one event, or by rounds
+pub data How (D : Type 0) : Type 0 where
+  answered : Outcome → How D
+  ran : List (Ran D) → How D
 
--- a command, how it went, its reply and the spool after it
+-- a command, how it went, its reply, and what it leaves
 pub record Turn (D : Type 0) : Type 0 where
   pub command : Command
-  pub outcome : Outcome
+  pub how : How D
   pub text : List ℕ
-  pub next : Standing D
+  pub next : Course D
 
--- The spool took the event, by the table's answer to it: it is journalled and its room is taken, or it is refused and
--- nothing has changed. A dead spool takes none.
-abbrev pub IsTaken : {D : Type 0} → Standing D → Event → Result (State × Reply) Refusal → Standing D → Type 0
-IsTaken old e (Ok r) new = IsDone old e r.1 new
-IsTaken old e (Err refusal) new = (old.dead ≡ false) × (new ≡ old)
+-- as the spool sees it
+abbrev pub event_turn : {D : Type 0} → Turn D → Outcome → EventTurn D
+event_turn t outcome = record { command = t.command; outcome = outcome; text = t.text; next = t.next.spool }
 
--- the spool took the command's event; one that is no event changes nothing
-abbrev pub IsStep : {D : Type 0} → Standing D → Option Event → Standing D → Type 0
-IsStep old None new = new ≡ old
-IsStep old (Some e) new = IsTaken old e (step old.state e) new
+-- the slots are as they were, and so is what the children tell
+pub record IsHeld {D : Type 0} (old new : Course D) : Type 0 where
+  pub slots : new.slots ≡ old.slots
+  pub told : new.told ≡ old.told
 
--- the reply and the table are those of Script
-pub record IsServed {D : Type 0} (m : Mime) (s : Standing D) (t : Turn D) : Type 0 where
-  pub text : t.text ≡ reply_of m s.state t.command
-  pub state : t.next.state ≡ after_command m s.state t.command
-  pub step : IsStep s (event_of m s.state t.command) t.next
+-- a command that is no round runs no child
+abbrev pub IsHow : {D : Type 0} → Setting D → Course D → Turn D → How D → Type 0
+IsHow v s t (answered outcome) = IsOutcome v s.spool (event_turn t outcome) outcome × IsHeld s t.next
+IsHow v s t (ran rs) = AreRunBy v (meaning v.mime s.spool.state t.command) s rs t.next t.text
 
--- the command is an event that was answered by this line, and the cause of the line stands
-pub record Fails {D : Type 0} (m : Mime) (s : Standing D) (t : Turn D) (line : List ℕ) (Cause : Event → Type 0) : Type 0 where
-  pub event : Event
-  pub is : event_of m s.state t.command ≡ Some event
-  pub cause : Cause event
-  pub text : t.text ≡ line
+abbrev pub tried_by : {D : Type 0} → Option Event → How D → List Event
+tried_by asked (answered outcome) = tried_as asked outcome
+tried_by asked (ran rs) = flat_map (λ r. r.tried) rs
 
--- the text that is read before the spool is asked may be a good one: a URI within its limits, or options without a fault
-abbrev pub MayBeRead : Command → Type 0
-MayBeRead (Queue q) = is_uri q.uri ≡ true
-MayBeRead (Create c) = IsOk (reading c.options)
-MayBeRead c = ⊥
-
--- that text wasn't read, and nothing has changed
-pub record IsUnread {D : Type 0} (s : Standing D) (t : Turn D) : Type 0 where
-  pub may : MayBeRead t.command
-  pub text : t.text ≡ codes "error memory\n"
-  pub same : t.next ≡ s
-
--- Served, or an error's line and no row has changed. Each line but `error memory` comes only for its cause.
-abbrev pub IsOutcome : {D : Type 0} → Setting D → Standing D → Turn D → Outcome → Type 0
-IsOutcome v s t served = IsServed v.mime s t
-IsOutcome v s t no_memory = Fails v.mime s t (codes "error memory\n") (λ e. (s.dead ≡ false) × (refusal_of s.state e ≡ None) × (t.next ≡ s))
-IsOutcome v s t full = Fails v.mime s t (codes "error full\n") (λ e. IsFull s e × (t.next ≡ s))
-IsOutcome v s t disk = Fails v.mime s t (codes "error disk\n") (λ e. IsFailed v.device s e t.next)
-IsOutcome v s t unread = IsUnread s t
-IsOutcome v s t dead = Fails v.mime s t (codes "error dead\n") (λ e. IsTrue s.dead × (t.next ≡ s))
-
--- Until the device has failed a crash leaves the table, where the disk tells its bytes.
-abbrev pub IsKept : {D : Type 0} → DiskView D → Standing D → Type 0
-IsKept device s = s.dead ≡ false → IsSome (device.bytes s.disk) → (c : List ℕ) → device.image s.disk c → HasTable s.state c
-
--- the table before the command, or the one after it
-abbrev pub HasBeforeOrAfterCommand : Mime → State → Command → List ℕ → Type 0
-HasBeforeOrAfterCommand m s command image = HasTable s image ⊎ HasTable (after_command m s command) image
+-- the events that were tried in a turn
+abbrev pub tried_in : {D : Type 0} → Mime → Course D → Turn D → List Event
+tried_in m s t = tried_by (event_of m s.spool.state t.command) t.how
 
 -- A turn on the spool that it found. Unless the device had failed before, a crash at any moment of it leaves the table
--- before the command or the one after it. Unless it has failed by then, a crash after it leaves the table that is shown.
-pub record IsTurn {D : Type 0} (v : Setting D) (s : Standing D) (t : Turn D) : Type 0 where
-  pub outcome : IsOutcome v s t t.outcome
-  pub counted : v.device.failures s.disk ≤ v.device.failures t.next.disk
-  pub told : IsSome (v.device.bytes t.next.disk) ↔ IsSome (v.device.bytes s.disk)
-  pub crash : s.dead ≡ false → IsSome (v.device.bytes s.disk) →
-      LeavesOnly v.device s.disk t.next.disk (HasBeforeOrAfterCommand v.mime s.state t.command)
-  pub kept : IsKept v.device t.next
+-- after some of the events that were tried in it, the first of them: for a command of one event the table before it or
+-- the one after it. Unless the device has failed by then, a crash after the turn leaves the table that is shown.
+pub record IsTurn {D : Type 0} (v : Setting D) (s : Course D) (t : Turn D) : Type 0 where
+  pub how : IsHow v s t t.how
+  pub counted : v.device.failures s.spool.disk ≤ v.device.failures t.next.spool.disk
+  pub told : IsSome (v.device.bytes t.next.spool.disk) ↔ IsSome (v.device.bytes s.spool.disk)
+  pub crash : s.spool.dead ≡ false → IsSome (v.device.bytes s.spool.disk) →
+      LeavesOnly v.device s.spool.disk t.next.spool.disk (HasSomeOf s.spool.state (tried_in v.mime s t))
+  pub kept : IsKept v.device t.next.spool
 
--- each turn is one on the spool that it found
-abbrev pub AreTurns : {D : Type 0} → Setting D → Standing D → List (Turn D) → Type 0
+-- each turn is one on what it found
+abbrev pub AreTurns : {D : Type 0} → Setting D → Course D → List (Turn D) → Type 0
 AreTurns v s [] = Unit {0}
 AreTurns v s (t ∷ ts) = IsTurn v s t × AreTurns v t.next ts
 
-abbrev pub last_standing : {D : Type 0} → Standing D → List (Turn D) → Standing D
-last_standing s [] = s
-last_standing s (t ∷ ts) = last_standing t.next ts
+abbrev pub last_course : {D : Type 0} → Course D → List (Turn D) → Course D
+last_course s [] = s
+last_course s (t ∷ ts) = last_course t.next ts
 
 abbrev pub texts_of : {D : Type 0} → List (Turn D) → List ℕ
 texts_of ts = flat_map (λ t. t.text) ts
@@ -131,15 +87,20 @@ texts_of ts = flat_map (λ t. t.text) ts
 abbrev pub commands_in : {D : Type 0} → List (Turn D) → List Command
 commands_in ts = map (λ t. t.command) ts
 
+-- nothing failed in it
+abbrev pub IsWell : {D : Type 0} → How D → Type 0
+IsWell (answered outcome) = outcome ≡ served
+IsWell (ran rs) = IsOk (counts_in (results_of rs))
+
 -- nothing failed
 abbrev pub AllServed : {D : Type 0} → List (Turn D) → Type 0
 AllServed [] = Unit {0}
-AllServed (t ∷ ts) = (t.outcome ≡ served) × AllServed ts
+AllServed (t ∷ ts) = IsWell t.how × AllServed ts
 
 -- the table that some of these turns' events lead to, the first of them, in order
-abbrev pub IsAlong : {D : Type 0} → Mime → Standing D → List (Turn D) → List ℕ → Type 0
-IsAlong m s [] image = HasTable s.state image
-IsAlong m s (t ∷ ts) image = HasTable s.state image ⊎ (((t.outcome ≡ disk) × HasTable (after_command m s.state t.command) image) ⊎ IsAlong m t.next ts image)
+abbrev pub IsAlong : {D : Type 0} → Mime → Course D → List (Turn D) → List ℕ → Type 0
+IsAlong m s [] image = HasTable s.spool.state image
+IsAlong m s (t ∷ ts) image = HasSomeOf s.spool.state (tried_in m s t) image ⊎ IsAlong m t.next ts image
 
 -- the replies but for the last, and of the last a front and not all
 pub record WroteUpTo {D : Type 0} (old new : Option (List ℕ)) (turns : List (Turn D)) : Type 0 where
@@ -165,13 +126,19 @@ Wrote (Err Read) old new turns = Appends old new (texts_of turns)
 Wrote (Err Write) old new turns = WroteUpTo old new turns
 Wrote (Err Memory) old new turns = WroteBefore old new turns
 
--- turns that lead from one spool to another
-pub record Lead {D : Type 0} (v : Setting D) (s : Standing D) (turns : List (Turn D)) (s' : Standing D) : Type 0 where
+-- turns that lead from one to another
+pub record Lead {D : Type 0} (v : Setting D) (s : Course D) (turns : List (Turn D)) (s' : Course D) : Type 0 where
   pub legal : AreTurns v s turns
-  pub last : last_standing s turns ≡ s'
+  pub last : last_course s turns ≡ s'
+
+-- a turn of this command, before its text is written
+pub record TakesTurn {D : Type 0} (v : Setting D) (s : Course D) (c : Command) (t : Turn D) (s' : Course D) : Type 0 where
+  pub legal : IsTurn v s t
+  pub command : t.command ≡ c
+  pub next : t.next ≡ s'
 
 -- the one turn of a command
-pub record Serves {D : Type 0} (v : Setting D) (s : Standing D) (c : Command) (t : Turn D) (s' : Standing D) (result : Result (Unit {0}) RunFault) (old new : Option (List ℕ)) : Type 0 where
+pub record Serves {D : Type 0} (v : Setting D) (s : Course D) (c : Command) (t : Turn D) (s' : Course D) (result : Result (Unit {0}) RunFault) (old new : Option (List ℕ)) : Type 0 where
   pub legal : IsTurn v s t
   pub command : t.command ≡ c
   pub next : t.next ≡ s'
@@ -182,20 +149,20 @@ abbrev pub AreFirst : List Command → List Command → Type 0
 AreFirst cs all = (rest : List Command) × (all ≡ cs ++ rest)
 
 -- turns of the commands that were given on the way from one state of the reader of commands to another
-pub record Drains {D : Type 0} (v : Setting D) (s : Standing D) (p : Pending) (turns : List (Turn D)) (s' : Standing D) (p' : Pending) (result : Result (Unit {0}) RunFault) (old new : Option (List ℕ)) : Type 0 where
+pub record Drains {D : Type 0} (v : Setting D) (s : Course D) (p : Pending) (turns : List (Turn D)) (s' : Course D) (p' : Pending) (result : Result (Unit {0}) RunFault) (old new : Option (List ℕ)) : Type 0 where
   pub lead : Lead v s turns s'
   pub commands : Leads p (commands_in turns) p'
   pub wrote : Wrote result old new turns
 
 -- the same of a piece that was fed, or after a fault wasn't
-pub record DrainsPiece {D : Type 0} (v : Setting D) (piece : List ℕ) (s : Standing D) (p : Pending) (turns : List (Turn D)) (s' : Standing D) (p' : Pending) (result : Result (Unit {0}) RunFault) (old new : Option (List ℕ)) : Type 0 where
+pub record DrainsPiece {D : Type 0} (v : Setting D) (piece : List ℕ) (s : Course D) (p : Pending) (turns : List (Turn D)) (s' : Course D) (p' : Pending) (result : Result (Unit {0}) RunFault) (old new : Option (List ℕ)) : Type 0 where
   pub lead : Lead v s turns s'
   pub commands : (more : List ℕ) → AreFirst (commands_in turns) (to_come p (piece ++ more))
   pub on_ok : OnOk result ((more : List ℕ) → to_come p (piece ++ more) ≡ commands_in turns ++ to_come p' more)
   pub wrote : Wrote result old new turns
 
 -- the same where the text ends here, and these commands are still to come
-pub record DrainsEnd {D : Type 0} (v : Setting D) (s : Standing D) (p : Pending) (turns : List (Turn D)) (s' : Standing D) (rest : List Command) (result : Result (Unit {0}) RunFault) (old new : Option (List ℕ)) : Type 0 where
+pub record DrainsEnd {D : Type 0} (v : Setting D) (s : Course D) (p : Pending) (turns : List (Turn D)) (s' : Course D) (rest : List Command) (result : Result (Unit {0}) RunFault) (old new : Option (List ℕ)) : Type 0 where
   pub lead : Lead v s turns s'
   pub commands : to_come p [] ≡ commands_in turns ++ rest
   pub wrote : Wrote result old new turns
@@ -206,17 +173,43 @@ Tells None text = ⊤
 Tells (Some known) text = known ≡ text
 
 -- exactly the replies of Script were written, and the table is the fold of Script's events
-pub record IsScript (m : Mime) (s : State) (text : List ℕ) (s' : State) (old new : Option (List ℕ)) : Type 0 where
-  pub wrote : Appends old new (replies_of m s text)
-  pub table : s' ≡ after_all s (events_of m s text)
+pub record IsScript {D : Type 0} (v : Setting D) (x : Scene) (text : List ℕ) (s' : Course D) (old new : Option (List ℕ)) : Type 0 where
+  pub wrote : Appends old new (replies_of v.mime v.place x text)
+  pub table : s'.spool.state ≡ after_all x.state (events_of v.mime v.place x text)
+
+abbrev pub is_round : Command → Bool
+is_round commands.Round = true
+is_round (commands.Drain most) = true
+is_round c = false
+
+abbrev pub HasNoRounds : List Command → Type 0
+HasNoRounds [] = Unit {0}
+HasNoRounds (c ∷ cs) = (is_round c ≡ false) × HasNoRounds cs
+
+-- what stands, and these are what the children tell
+abbrev pub scene_with : {D : Type 0} → Course D → Told → Scene
+scene_with s told = record { state = s.spool.state; slots = s.slots; told = told }
+
+-- what stands is this, and the children tell their part of it
+pub record IsScene {D : Type 0} (s : Course D) (x : Scene) : Type 0 where
+  pub state : s.spool.state ≡ x.state
+  pub slots : s.slots ≡ x.slots
+  pub told : s.told ≡ Some x.told
+
+-- Where nothing failed a run is Script, of a text without rounds whatever the children are, and of any text where they
+-- tell and none is running. Their new orders are Script's then, and so is what is held.
+pub record IsExact {D : Type 0} (v : Setting D) (s : Course D) (text : List ℕ) (s' : Course D) (old new : Option (List ℕ)) : Type 0 where
+  pub plain : HasNoRounds (commands_of text) → (t : Told) → IsScript v (scene_with s t) text s' old new
+  pub telling : (t : Told) → s.told ≡ Some t → t.running ≡ [] →
+      IsScript v (scene_with s t) text s' old new × IsScene s' (scene_of v.mime v.place (scene_with s t) text)
 
 -- A run over a text: the commands of the text, or after a fault the first of them, each with its turn; and what was
 -- written.
-pub record IsRun {D : Type 0} (v : Setting D) (known : Option (List ℕ)) (s : Standing D) (text : List ℕ) (turns : List (Turn D)) (s' : Standing D) (result : Result (Unit {0}) RunFault) (old new : Option (List ℕ)) : Type 0 where
+pub record IsRun {D : Type 0} (v : Setting D) (known : Option (List ℕ)) (s : Course D) (text : List ℕ) (turns : List (Turn D)) (s' : Course D) (result : Result (Unit {0}) RunFault) (old new : Option (List ℕ)) : Type 0 where
   pub tells : Tells known text
-  pub begins : IsKept v.device s
+  pub begins : IsKept v.device s.spool
   pub lead : Lead v s turns s'
   pub first : AreFirst (commands_in turns) (commands_of text)
   pub all : OnOk result (commands_in turns ≡ commands_of text)
-  pub exact : OnOk result (AllServed turns → IsScript v.mime s.state text s'.state old new)
+  pub exact : OnOk result (AllServed turns → IsExact v s text s' old new)
   pub wrote : Wrote result old new turns

@@ -1,25 +1,32 @@
-//! The executor of commands: it serves each on the spool that it finds.
-ghost use Rattle.std.specs.Prelude.{◌≡◌, ℕ, List, Option, Some, Result, [], false, IfOk, OnOk};
+//! The executor of commands of one event, and of listings: it serves each on the spool that it finds.
+ghost use Rattle.std.specs.Prelude.{◌≡◌, List, Some, Result, [], IfOk};
 ghost use Rattle.std.specs.Option.{option_and_then, option_copied};
 ghost use Rattle.std.specs.FinMap as finite;
 ghost use Rattle.spool_types.specs.State.{job_at};
 ghost use Rattle.spool_types.specs.declared.event.Reply.{Reply};
 ghost use Rattle.command_lines.specs.Replies.{jobs_text, queues_text};
 ghost use Rattle.command_lines.specs.declared.command.Command.{Command};
+ghost use Rattle.filter_args.specs.declared.place.Place.{Place as PlaceOf};
+ghost use Rattle.print_rounds.specs.Courses.{course};
+ghost use Rattle.print_rounds.specs.Finished.{HasNoneRunning};
 ghost use Rattle.spool_core.specs.declared.spool.apply_fault.ApplyFault.{ApplyFault};
 ghost use Rattle.spool_engine.specs.Mime.{Mime as MimeDatabase};
 ghost use Rattle.spool_engine.specs.Script.{closing_line, closing_of, document_in, filters_to, queue_of_job, reply_line, stages_of};
 ghost use Rattle.spool_engine.specs.Script.{next_number};
-ghost use Rattle.spool_engine.specs.Runs.{setting, IsKept, Turn, Serves, IsRun, Drains, DrainsEnd, DrainsPiece};
+ghost use Rattle.spool_engine.specs.EventTurns.{setting, EventTurn, IsKept};
 ghost use Rattle.spool_engine.specs.Answers.{IsApplied, Takes, answer_line};
+ghost use Rattle.spool_engine.specs.Rounds.{IsRan};
+ghost use Rattle.spool_types.specs.declared.event.Event.{Event as EventOf};
 
 use crate::answers::{answer_text, fault_text};
-use crate::fault::RunFault;
 use crate::mime::Mime;
 use crate::options::job_options;
-use command_lines::{Answer, Command, Commands, Creation, print_reply};
+use child_pipeline::{Children, Runner};
+use command_lines::{Answer, Creation, print_reply};
 use device_uri::{DeviceUri, UriFault};
+use filter_args::Place;
 use job_table::Table;
+use print_rounds::{Round, RoundFault};
 use spool_core::{ApplyFault, Spool};
 use spool_disk::Disk;
 use spool_types::{
@@ -27,12 +34,7 @@ use spool_types::{
     Reply,
 };
 use std::alloc::{AllocError, Global};
-use std::io::{ErrorKind, Read, Write};
 use std::marker::Model;
-use whole_writes::write_whole;
-
-// How many bytes are asked of the reader at once.
-const PIECE: usize = 16_384;
 
 /// An executor over a spool, seen as what the spool shows.
 #[derive(Drop)]
@@ -43,7 +45,7 @@ pub(crate) struct Executor<D: Disk> {
 
 impl<D: Disk> Model for Executor<D> {
     ghost use Rattle.spool_core.specs.Standing.{Standing};
-    ghost use Rattle.spool_engine.specs.Runs.{IsKept};
+    ghost use Rattle.spool_engine.specs.EventTurns.{IsKept};
     ghost use Rattle.std.specs.Coded.{codes};
     ghost use Rattle.std.specs.FinMap as map;
 
@@ -97,8 +99,8 @@ impl<D: Disk> Executor<D> {
         self.spool.apply(event)
     }
 
-    // Applies an event, and makes the text of its reply, where that is told by the reply alone.
-    fn execute_event(&mut self, event: Event) -> Result<Vec<u8>, AllocError>
+    /// Applies an event, and makes the text of its reply, where that is told by the reply alone.
+    pub fn execute_event(&mut self, event: Event) -> Result<Vec<u8>, AllocError>
         ensures { (answer : Result Reply ApplyFault) ×
             IsApplied D.device self.old event answer self.new ×
             IfOk result (λ text. text.items ≡ answer_line reply_line answer) }
@@ -107,10 +109,10 @@ impl<D: Disk> Executor<D> {
         answer_text(self.alloc, answer)
     }
 
-    // Makes a queue, where its URI is that of a device, and the text of the reply.
-    fn add_queue(&mut self, queue: NewQueue) -> Result<Vec<u8>, AllocError>
-        ensures { (m : MimeDatabase) → (t : Turn D) ×
-            Takes (setting D.device m) self.old (Command.Queue queue) t self.new ×
+    /// Makes a queue, where its URI is that of a device, and the text of the reply.
+    pub fn add_queue(&mut self, queue: NewQueue) -> Result<Vec<u8>, AllocError>
+        ensures { (m : MimeDatabase) (p : PlaceOf) → (t : EventTurn D) ×
+            Takes (setting D.device m p) self.old (Command.Queue queue) t self.new ×
             IfOk result (λ text. text.items ≡ t.text) }
     {
         match DeviceUri::parse(self.alloc, queue.uri.as_str()) {
@@ -120,10 +122,10 @@ impl<D: Disk> Executor<D> {
         }
     }
 
-    // Makes a job, where its options are read and can be kept, and the text of the reply.
-    fn create(&mut self, creation: Creation) -> Result<Vec<u8>, AllocError>
-        ensures { (m : MimeDatabase) → (t : Turn D) ×
-            Takes (setting D.device m) self.old (Command.Create creation) t self.new ×
+    /// Makes a job, where its options are read and can be kept, and the text of the reply.
+    pub fn create(&mut self, creation: Creation) -> Result<Vec<u8>, AllocError>
+        ensures { (m : MimeDatabase) (p : PlaceOf) → (t : EventTurn D) ×
+            Takes (setting D.device m p) self.old (Command.Create creation) t self.new ×
             IfOk result (λ text. text.items ≡ t.text) }
     {
         match job_options(self.alloc, creation.options.as_str()) {
@@ -136,8 +138,8 @@ impl<D: Disk> Executor<D> {
         }
     }
 
-    // Closes a job, and makes the text of its reply. A document is read only where the job can be closed.
-    fn close(&mut self, mime: &Mime, job: JobId, name: &str) -> Result<Vec<u8>, AllocError>
+    /// Closes a job, and makes the text of its reply. A document is read only where the job can be closed.
+    pub fn close(&mut self, mime: &Mime, job: JobId, name: &str) -> Result<Vec<u8>, AllocError>
         ensures { (answer : Result Reply ApplyFault) ×
             IsApplied D.device
             self.old (Event.Close (closing_of mime.now self.old.state job name.now)) answer self.new ×
@@ -214,6 +216,25 @@ impl<D: Disk> Executor<D> {
         self.table().queue(&row.queue)
     }
 
+    /// Runs a round.
+    pub fn round<C: Children>(
+        &mut self,
+        place: &Place,
+        runner: &mut Runner<C>,
+        children: &mut C,
+    ) -> Result<Round, RoundFault>
+        requires { HasNoneRunning runner.old }
+        ensures round { (m : MimeDatabase) → (tried : List EventOf) × IsRan (setting D.device m place.now)
+            (course self.old runner.old (C.tells children.old))
+            (record { next = course self.new runner.new (C.tells children.new); result = result; tried = tried }) }
+        ensures rest { HasNoneRunning runner.new }
+    {
+        let ran = print_rounds::round(self.alloc, place, &mut self.spool, runner, children);
+        // A crash leaves this table, which is the executor's invariant.
+        let _table = self.spool.table();
+        ran
+    }
+
     fn next_number(&self) -> JobId
         ensures { result ≡ next_number self.now.state }
     {
@@ -221,26 +242,8 @@ impl<D: Disk> Executor<D> {
         JobId::new(next.min(JobId::GREATEST)).unwrap()
     }
 
-    // Serves a command, and makes the text of its reply.
-    fn execute(&mut self, mime: &Mime, command: Command) -> Result<Vec<u8>, AllocError>
-        ensures { (t : Turn D) ×
-            Takes (setting D.device mime.now) self.old command t self.new ×
-            IfOk result (λ text. text.items ≡ t.text) }
-    {
-        match command {
-            Command::Apply(event) => self.execute_event(event),
-            Command::Queue(queue) => self.add_queue(queue),
-            Command::Create(creation) => self.create(creation),
-            Command::Close { job, name } => self.close(mime, job, name.as_str()),
-            Command::OversizedSend => print_reply(self.alloc, &Answer::Refused(Refusal::TooLong)),
-            Command::Jobs => self.jobs(),
-            Command::Queues => self.queues(),
-            Command::Malformed => print_reply(self.alloc, &Answer::Malformed),
-        }
-    }
-
-    // The text that lists the jobs.
-    fn jobs(&self) -> Result<Vec<u8>, AllocError>
+    /// The text that lists the jobs.
+    pub fn jobs(&self) -> Result<Vec<u8>, AllocError>
         ensures text { IfOk result (λ text.
             text.items ≡ jobs_text self.now.state.moment (finite.values self.now.state.jobs)) }
         // Until the device has failed a crash leaves what is listed.
@@ -251,8 +254,8 @@ impl<D: Disk> Executor<D> {
         print_reply(self.alloc, &Answer::Jobs { rows, now })
     }
 
-    // The text that lists the queues.
-    fn queues(&self) -> Result<Vec<u8>, AllocError>
+    /// The text that lists the queues.
+    pub fn queues(&self) -> Result<Vec<u8>, AllocError>
         ensures text { IfOk result (λ text.
             text.items ≡ queues_text (finite.values self.now.state.jobs) (finite.values self.now.state.queues)) }
         // Until the device has failed a crash leaves what is listed.
@@ -266,119 +269,6 @@ impl<D: Disk> Executor<D> {
                 jobs: table.jobs(),
             },
         )
-    }
-
-    // Serves a command, and writes its reply.
-    fn answer<W: Write>(
-        &mut self,
-        mime: &Mime,
-        command: Command,
-        writer: &mut W,
-    ) -> Result<(), RunFault>
-        ensures { (t : Turn D) × Serves (setting D.device mime.now)
-            self.old command t self.new result (W.contents writer.old) (W.contents writer.new) }
-    {
-        match self.execute(mime, command) {
-            Ok(text) => match write_whole(writer, &text) {
-                Ok(()) => Ok(()),
-                Err(_) => Err(RunFault::Write),
-            },
-            Err(_) => Err(RunFault::Memory),
-        }
-    }
-
-    // Serves the commands that are whole.
-    fn drain<W: Write>(
-        &mut self,
-        mime: &Mime,
-        commands: &mut Commands,
-        writer: &mut W,
-    ) -> Result<(), RunFault>
-        ensures { (turns : List (Turn D)) × Drains (setting D.device mime.now)
-            self.old commands.old turns self.new commands.new result (W.contents writer.old) (W.contents writer.new) }
-    {
-        'commands: loop {
-            match commands.next() {
-                Ok(Some(command)) => match self.answer(mime, command, writer) {
-                    Ok(()) => {}
-                    Err(fault) => return Err(fault),
-                },
-                Ok(None) => return Ok(()),
-                Err(_) => return Err(RunFault::Memory),
-            }
-        }
-    }
-
-    // Serves the commands that are left where the text ends.
-    fn drain_end<W: Write>(
-        &mut self,
-        mime: &Mime,
-        commands: &mut Commands,
-        writer: &mut W,
-    ) -> Result<(), RunFault>
-        ensures { (turns : List (Turn D)) × (rest : List Command) ×
-            DrainsEnd (setting D.device mime.now)
-            self.old commands.old turns self.new rest result (W.contents writer.old) (W.contents writer.new) ×
-            OnOk result (rest ≡ []) }
-    {
-        'commands: loop {
-            match commands.finish() {
-                Ok(Some(command)) => match self.answer(mime, command, writer) {
-                    Ok(()) => {}
-                    Err(fault) => return Err(fault),
-                },
-                Ok(None) => return Ok(()),
-                Err(_) => return Err(RunFault::Memory),
-            }
-        }
-    }
-
-    // Takes a piece of the text, and serves the commands that are whole then.
-    fn take_piece<W: Write>(
-        &mut self,
-        mime: &Mime,
-        commands: &mut Commands,
-        piece: &[u8],
-        writer: &mut W,
-    ) -> Result<(), RunFault>
-        ensures { (turns : List (Turn D)) × DrainsPiece (setting D.device mime.now)
-            piece.now self.old commands.old turns self.new commands.new result (W.contents writer.old) (W.contents writer.new) }
-    {
-        match commands.feed(piece) {
-            Ok(()) => self.drain(mime, commands, writer),
-            Err(_) => Err(RunFault::Memory),
-        }
-    }
-
-    /// Serves the commands of a text, and writes the reply to each before the next is looked at. A read that was
-    /// interrupted is made again.
-    pub fn serve<R: Read, W: Write>(
-        &mut self,
-        mime: &Mime,
-        reader: &mut R,
-        writer: &mut W,
-    ) -> Result<(), RunFault>
-        ensures { (text : List ℕ) × (turns : List (Turn D)) ×
-            IsRun (setting D.device mime.now) (R.remaining reader.old)
-            self.old text turns self.new result (W.contents writer.old) (W.contents writer.new) }
-    {
-        let mut commands = Commands::new(self.alloc);
-        let mut piece = [0u8; PIECE];
-        'reads: for _ in 0..u32::MAX {
-            match reader.read(&mut piece) {
-                Ok(0) => return self.drain_end(mime, &mut commands, writer),
-                Ok(count) => match self.take_piece(mime, &mut commands, &piece[..count], writer) {
-                    Ok(()) => {}
-                    Err(fault) => return Err(fault),
-                },
-                Err(e) => {
-                    if e.kind() != ErrorKind::Interrupted {
-                        return Err(RunFault::Read);
-                    }
-                }
-            }
-        }
-        Err(RunFault::Read)
     }
 }
 

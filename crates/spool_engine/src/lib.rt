@@ -13,35 +13,47 @@
 //! A job keeps the printed form of its options. They are read before the spool is asked, as a queue's URI is: those with
 //! a fault, or too long when printed, are `error options`, also on a dead spool.
 //!
+//! A round starts the next job of each queue, then a stage of each job that is processing, and once all are started
+//! finishes each child and applies the event of its end (`print_rounds`). `drain` runs rounds until one starts and finishes
+//! nothing, which it counts, or as many as it may; a fault ends it.
+//!
 //! # Promises
 //!
-//! [`Engine::run`] carries them in one clause, `IsRun`:
+//! [`Engine::run`] carries them in one clause, `IsRun`, and [`Engine::round`] its part of them in `IsRan`:
 //!
 //! - *ExactScript* (`exact`): where it answers Ok and every command was served, the bytes that it wrote are the
-//!   replies of Script over these rules and conversions, and the table is the fold of Script's events. This speaks of
-//!   readers and writers that tell their bytes.
-//! - *HonestReplies* (`lead`, by `IsOutcome`): each command in turn has Script's reply on the table that it found, or
+//!   replies of Script over these rules and conversions, and the table is the fold of Script's events. Of children that
+//!   tell their answers, and of which none is running, the new orders are Script's too, and so is what is held for each
+//!   job. A text without rounds is served so whatever the children tell. This speaks of readers and writers that tell
+//!   their bytes.
+//! - *HonestReplies* (`lead`, by `IsHow`): each command in turn has Script's reply on the table that it found, or
 //!   an error's line, and has changed no row. `error full` comes only where the event's record doesn't fit, `error disk`
 //!   only where the device failed, and `error dead` only to events after that. `error memory` has a cause that no clause
 //!   sees. It comes only to an event that isn't refused, to a queue whose URI is within its limits, or to a job whose
-//!   options have no fault. After a fault of the run this holds of the first commands of the text (`first`).
+//!   options have no fault. A round, and each round of a drain, is told by its counts or by its first fault in time, and
+//!   the table is that of the events acknowledged in it. After a fault of the run this holds of the first commands of the
+//!   text (`first`).
+//! - *EachFinishedOnce* (`finished` of each round): whatever failed, each child that was started is finished once when the
+//!   round returns, and every start came before the first finish.
 //! - *Crashes* (`crash` and `kept` of each turn): unless the device had failed before, a crash at any moment of a turn
-//!   leaves the table before its command or the one after it. A crash after the turn leaves the table that is shown or,
-//!   after `error disk`, that table or the one with the event in hand. [`crashes_between_replies`] says of whole runs that
+//!   leaves the table before its command or the one after it, and of rounds the table after some of the events that were
+//!   tried in them, the first of them. A crash after the turn leaves the table that is shown or, after a fault of the
+//!   device, that table or the one with the event in hand. [`crashes_between_replies`] says of whole runs that
 //!   no turn is lost, as long as the device hasn't failed. This speaks of disks that tell their bytes.
 //! - What was written (`wrote`): all replies; after a fault of the writer a prefix of them and not all; where the text
 //!   of a reply found no memory, all but that reply.
 //!
 //! # Invariant
 //!
-//! Until the device has failed, a crash leaves the table that the engine shows (`IsKept`, of `Executor`, which serves the
-//! commands; the engine lends it the rules and conversions, which never change).
+//! Until the device has failed, a crash leaves the table that the engine shows (`IsKept`, of `Executor`, which applies the
+//! events). Between two calls no child is running (`HasNoneRunning`, of `Printer`, which serves the commands). The engine
+//! lends them the rules, the conversions and the place, which never change.
 //!
 //! # Faults
 //!
 //! [`RunFault`] says which: the reader's, the writer's, or out of memory for a piece, a command or the text of a
-//! reply. Events that were applied before it stay applied. Out of memory for an event, a full area and a failed
-//! device are no faults of the run: they are answered, and the run goes on. [`Engine::met_fault`] says whether the
+//! reply. Events that were applied before it stay applied. Out of memory for an event or a stage, a full area and a
+//! failed device are no faults of the run: they are answered, and the run goes on. [`Engine::met_fault`] says whether the
 //! device has failed.
 #![tactic(auto)]
 
@@ -52,6 +64,7 @@ mod fault;
 mod laws;
 mod mime;
 mod options;
+mod printer;
 
 pub use engine::Engine;
 pub use fault::RunFault;

@@ -2,4 +2,6 @@
 #![tactic(auto)]
 
 #[cfg(test)]
+mod round_tests;
+#[cfg(test)]
 mod tests;

@@ -1,5 +1,9 @@
 // The scripts and their replies are cases of the program `spool_scripts`. Here stands what no script shows: devices,
 // readers and writers that fail.
+ghost use Rattle.job_table.specs.Attempts.{HasNoProcessing};
+
+use child_pipeline::NoChildren;
+use filter_args::Place;
 use mime_costs::Convs;
 use mime_rules::Types;
 use spool_core::{OpenFault, Spool, make};
@@ -23,15 +27,31 @@ fn spool_disk(alloc: Global) -> Result<MemDisk, Fail> {
     Ok(disk)
 }
 
-// An engine over a spool, without rules of types and without conversions.
-fn plain_engine<D: Disk + Drop>(alloc: Global, spool: Spool<D>) -> Result<Engine<D>, AllocError> {
+// A place without a name: no child runs there.
+fn nowhere(alloc: Global) -> Place {
+    Place {
+        root: String::new(alloc),
+        lang: String::new(alloc),
+        path: String::new(alloc),
+        side: false,
+    }
+}
+
+// An engine over a spool, without children, rules of types and conversions.
+fn plain_engine<D: Disk + Drop>(
+    alloc: Global,
+    spool: Spool<D>,
+) -> Result<Engine<D, NoChildren>, AllocError>
+    requires { HasNoProcessing spool.state }
+{
     let (types, _) = Types::read(alloc, "")?;
     let (convs, _) = Convs::read(alloc, "")?;
-    Ok(Engine::new(alloc, spool, types, convs))
+    let place = nowhere(alloc);
+    Ok(Engine::new(alloc, spool, NoChildren, types, convs, place))
 }
 
 // The same over the spool of a disk.
-fn engine_over<D: Disk + Drop>(alloc: Global, disk: D) -> Result<Engine<D>, OpenFault> {
+fn engine_over<D: Disk + Drop>(alloc: Global, disk: D) -> Result<Engine<D, NoChildren>, OpenFault> {
     match Spool::open(alloc, disk) {
         Ok(spool) => plain_engine(alloc, spool).map_err(|_| OpenFault::Memory),
         Err(error) => Err(error.fault),
@@ -99,7 +119,7 @@ create lab ann t 1 50 \"media=A4 nocollate duplex note='a b'\"\n";
     let mut written = Vec::new(alloc);
     engine.run(&mut script.as_bytes(), &mut written)?;
     assert_eq!(rt; written.as_slice(), b"ok\nok job 1\n".as_slice());
-    let spool = engine.into_parts();
+    let (spool, _) = engine.into_parts();
     let number = JobId::new(1).ok_or("no number")?;
     let job = spool.table().job(number).ok_or("no job")?;
     assert_eq!(rt;
@@ -134,16 +154,38 @@ fn a_queue_lists_what_its_printer_lacks(rt: HostRuntime) -> Result<(), Fail> {
     let script = "queue lab s:/ application/octet-stream abort-job\n\
 create lab ann t 1 50 \"\"\nclose 1 x\n";
     engine.run(&mut script.as_bytes(), &mut Vec::new(alloc))?;
-    let mut spool = engine.into_parts();
+    let (mut spool, _) = engine.into_parts();
     let job = JobId::new(1).ok_or("no number")?;
     assert!(rt; spool.apply(Event::Start(job)).is_ok());
     assert!(rt; spool.apply(printed(alloc)?).is_ok());
-    let mut engine = plain_engine(alloc, spool)?;
+    let mut engine = engine_over(alloc, spool.into_disk())?;
     let mut written = Vec::new(alloc);
     engine.run(&mut "queues\n".as_bytes(), &mut written)?;
     let listing = "queue lab 3 accepting application/octet-stream abort-job 30 5 \
 media-empty,toner-low \"\"\nok 1\n";
     assert_eq!(rt; str::from_utf8(&written)?, listing);
+    Ok(())
+}
+
+// Where no child can be started the job's one stage ends in the first round.
+#[test]
+fn a_job_without_children_is_aborted(rt: HostRuntime) -> Result<(), Fail> {
+    let alloc = rt.alloc();
+    let job = "queue lab s:/ application/octet-stream abort-job\n\
+create lab ann t 1 50 \"\"\nclose 1 x\n";
+    let made = "ok\nok job 1\nok type application/octet-stream stages 1\n";
+    let aborted = "job 1 lab 8 backend-failed \"ann\" 0 0 \"t\"\nok 1\n";
+    for (rounds, told) in [
+        ("round\n", "ok started 0 finished 1\n"),
+        ("drain 5\n", "ok rounds 2\n"),
+    ] {
+        let mut engine = engine_over(alloc, spool_disk(alloc)?)?;
+        let script = format!(in alloc; "{job}{rounds}jobs\n")?;
+        let mut written = Vec::new(alloc);
+        engine.run(&mut script.as_bytes(), &mut written)?;
+        let wanted = format!(in alloc; "{made}{told}{aborted}")?;
+        assert_eq!(rt; str::from_utf8(&written)?, wanted.as_str());
+    }
     Ok(())
 }
 
@@ -223,8 +265,9 @@ fn a_writer_that_fails_ends_the_run(rt: HostRuntime) -> Result<(), Fail> {
         assert_eq!(rt; fault, Err(RunFault::Write));
         assert_eq!(rt; writer.bytes.as_slice(), b"ok\no".as_slice());
 
-        // Another engine goes on from the spool that is left.
-        let mut next = plain_engine(alloc, engine.into_parts())?;
+        // Another engine goes on from the disk that is left.
+        let (spool, _) = engine.into_parts();
+        let mut next = engine_over(alloc, spool.into_disk())?;
         let mut more = Vec::new(alloc);
         next.run(&mut script.as_bytes(), &mut more)?;
         assert_eq!(rt;

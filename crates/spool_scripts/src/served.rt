@@ -5,6 +5,8 @@ use crate::cut::next_part;
 use crate::fault::CaseFault;
 use crate::paced::{PacedReader, PacedWriter};
 use crate::ways::Way;
+use child_pipeline::NoChildren;
+use filter_args::Place;
 use mime_costs::Convs;
 use mime_rules::Types;
 use spool_core::{Spool, make};
@@ -44,7 +46,18 @@ fn serve(
     };
     let (types, _) = Types::read(alloc, case.types.as_str())?;
     let (convs, _) = Convs::read(alloc, case.convs.as_str())?;
-    let mut engine = Engine::new(alloc, spool, types, convs);
+    let mut engine = Engine::new(alloc, spool, NoChildren, types, convs, nowhere(alloc));
     engine.run(reader, writer)?;
-    Ok(engine.into_parts().into_disk())
+    let (spool, _) = engine.into_parts();
+    Ok(spool.into_disk())
+}
+
+// A place without names: no child runs there.
+fn nowhere(alloc: Global) -> Place {
+    Place {
+        root: String::new(alloc),
+        lang: String::new(alloc),
+        path: String::new(alloc),
+        side: false,
+    }
 }

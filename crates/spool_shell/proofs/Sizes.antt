@@ -1,5 +1,5 @@
 -- BYTES that a parse found passed the test of their option, and are read as a number.
-use Rattle.std.proofs.Common.{◌≡◌, ◌⊎◌, ◌∙◌, ◌<◌, ◌≤◌, ℕ, List, [], ◌∷◌, Option, Some, None, true, false, refl, sym, ap}
+use Rattle.std.proofs.Common.{◌≡◌, ◌⊎◌, ◌∙◌, ◌<◌, ℕ, List, [], ◌∷◌, Option, Some, None, true, false, refl, sym, ap}
 use Rattle.std.proofs.Common.{subst, inl, inr, arith, length, map, codes}
 use Rattle.std.specs.Prelude.{Ok, Err, Result, option_map, slice_get, unwrap_or}
 use Rattle.std.specs.List.{All, slice_index_or}

@@ -1,12 +1,19 @@
 -- How the program ends.
-use Rattle.std.specs.Prelude.{◌≡◌, ◌≢◌, ◌⊎◌, ℕ, List, Bool, true, false, Option, Some, Result, Ok, Err}
+use Rattle.std.specs.Prelude.{◌≡◌, ◌≢◌, ◌⊎◌, ℕ, List, [], Bool, true, false, Option, None, Some, Result, Ok, Err}
+use Rattle.std.specs.FinMap as finite
+use Rattle.std.specs.String.{string_bytes}
 use Rattle.clap.specs.Words.{kind_of}
 use Rattle.clap.specs.declared.error.kind.ErrorKind.{ErrorKind}
 use Rattle.clap.specs.declared.error.kind.ErrorKind.TheVariants.{DisplayHelp, DisplayVersion}
+use Rattle.filter_args.specs.declared.place.Place.{Place}
+use Rattle.print_rounds.specs.Courses.{Course, course}
+use Rattle.spool_disk.specs.Disk.{DiskView}
 use Rattle.spool_core.specs.Image.{IsFaultOf, IsReopenedFrom}
 use Rattle.spool_core.specs.Standing.{Standing}
 use Rattle.spool_core.specs.declared.OpenFault.{OpenFault}
-use Rattle.spool_engine.specs.Runs.{IsRun, Setting, Turn}
+use Rattle.spool_engine.specs.EventTurns.{setting}
+use Rattle.spool_engine.specs.Mime.{Mime}
+use Rattle.spool_engine.specs.Runs.{IsRun, Turn}
 use Rattle.spool_engine.specs.declared.fault.RunFault.{RunFault}
 use Rattle.spool_shell.specs.Faults.{of_opening, of_run}
 use Rattle.spool_shell.specs.declared.fault.ShellFault.{ShellFault}
@@ -23,22 +30,32 @@ ending_of (Ok done) false = Ok tt
 ending_of (Ok done) true = Err Disk
 ending_of (Err fault) dead = Err (of_run fault)
 
--- The spool has the table of the disk's bytes, and a run over it ended so.
-pub record HasRun {D : Type 0} (v : Setting D) (disk : D) (known : Option (List ℕ)) (result : Result (Unit {0}) ShellFault) (old new : Option (List ℕ)) : Type 0 where
+-- a place without names, where no child runs
+pub record IsNowhere (place : Place) : Type 0 where
+  pub root : string_bytes place.root ≡ []
+  pub lang : string_bytes place.lang ≡ []
+  pub path : string_bytes place.path ≡ []
+  pub side : place.side ≡ false
+
+-- The spool has the table of the disk's bytes, no slot is held, and a run over it, with children that tell nothing, ended
+-- so.
+pub record HasRun {D : Type 0} (device : DiskView D) (mime : Mime) (disk : D) (known : Option (List ℕ)) (result : Result (Unit {0}) ShellFault) (old new : Option (List ℕ)) : Type 0 where
   pub before : Standing D
-  pub after : Standing D
+  pub after : Course D
+  pub place : Place
   pub text : List ℕ
   pub turns : List (Turn D)
   pub ran : Result (Unit {0}) RunFault
-  pub opened : (r : List ℕ) → v.device.bytes disk ≡ Some r → IsReopenedFrom before.state r
+  pub opened : (r : List ℕ) → device.bytes disk ≡ Some r → IsReopenedFrom before.state r
   pub alive : before.dead ≡ false
-  pub run : IsRun v known before text turns after ran old new
-  pub ends : result ≡ ending_of ran after.dead
+  pub nowhere : IsNowhere place
+  pub run : IsRun (setting device mime place) known (course before finite.empty None) text turns after ran old new
+  pub ends : result ≡ ending_of ran after.spool.dead
 
 -- The disk wasn't opened, for a fault that its bytes have, if it is one of bytes. Nothing was read or written.
-pub record IsUnopened {D : Type 0} (v : Setting D) (disk : D) (known left : Option (List ℕ)) (result : Result (Unit {0}) ShellFault) (old new : Option (List ℕ)) : Type 0 where
+pub record IsUnopened {D : Type 0} (device : DiskView D) (disk : D) (known left : Option (List ℕ)) (result : Result (Unit {0}) ShellFault) (old new : Option (List ℕ)) : Type 0 where
   pub fault : OpenFault
-  pub cause : (r : List ℕ) → v.device.bytes disk ≡ Some r → IsFaultOf r fault
+  pub cause : (r : List ℕ) → device.bytes disk ≡ Some r → IsFaultOf r fault
   pub ends : result ≡ Err (of_opening fault)
   pub unread : left ≡ known
   pub unwritten : new ≡ old

@@ -49,8 +49,7 @@ ghost use Rattle.clap.specs.Words.{kind_of};
 ghost use Rattle.spool_disk.specs.Memory.{mem_bytes};
 ghost use Rattle.spool_types.specs.State.{nothing};
 ghost use Rattle.spool_core.specs.Image.{HasTable};
-ghost use Rattle.spool_engine.specs.Runs.{setting};
-ghost use Rattle.spool_shell.specs.Ending.{HasRun, IsRefusal, IsUnopened, IsWordsStatus, ending_of};
+ghost use Rattle.spool_shell.specs.Ending.{HasRun, IsNowhere, IsRefusal, IsUnopened, IsWordsStatus, ending_of};
 
 mod device;
 mod fault;
@@ -58,9 +57,11 @@ mod files;
 mod warnings;
 mod words;
 
+use child_pipeline::NoChildren;
 use device::SpoolFolder;
 use fault::ShellFault;
 use files::read_rules;
+use filter_args::Place;
 use log::{Level, Log, Logged};
 use mime_costs::Convs;
 use mime_rules::Types;
@@ -87,6 +88,18 @@ fn ending(ran: Result<(), RunFault>, failed: bool) -> Result<(), ShellFault>
     }
 }
 
+// A place without names: no child runs there.
+fn nowhere(alloc: Global) -> Place
+    ensures { IsNowhere result }
+{
+    Place {
+        root: String::new(alloc),
+        lang: String::new(alloc),
+        path: String::new(alloc),
+        side: false,
+    }
+}
+
 // Serves the commands over a spool on this disk.
 fn serve<D: Disk + Drop, R: Read, W: Write>(
     alloc: Global,
@@ -95,9 +108,9 @@ fn serve<D: Disk + Drop, R: Read, W: Write>(
     reader: &mut R,
     writer: &mut W,
 ) -> Result<(), ShellFault>
-    ensures { HasRun (setting D.device (record { types = rules.0; convs = rules.1 }))
+    ensures { HasRun D.device (record { types = rules.0; convs = rules.1 })
         disk (R.remaining reader.old) result (W.contents writer.old) (W.contents writer.new)
-        ⊎ IsUnopened (setting D.device (record { types = rules.0; convs = rules.1 }))
+        ⊎ IsUnopened D.device
         disk (R.remaining reader.old) (R.remaining reader.new) result (W.contents writer.old) (W.contents writer.new) }
 {
     let (types, convs) = rules;
@@ -105,7 +118,7 @@ fn serve<D: Disk + Drop, R: Read, W: Write>(
         Ok(spool) => spool,
         Err(OpenError { fault, .. }) => return Err(ShellFault::from(fault)),
     };
-    let mut engine = Engine::new(alloc, spool, types, convs);
+    let mut engine = Engine::new(alloc, spool, NoChildren, types, convs, nowhere(alloc));
     let ran = engine.run(reader, writer);
     ending(ran, engine.met_fault())
 }

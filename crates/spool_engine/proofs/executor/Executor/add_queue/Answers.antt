@@ -3,25 +3,25 @@ use Rattle.std.proofs.Common.{sym, ap, ◌∙◌, codes, Err}
 use Rattle.spool_types.specs.declared.event.Event.TheVariants.{AddQueue}
 use Rattle.device_uri.specs.Devices.{is_device_uri}
 use Rattle.command_lines.specs.declared.command.Command.TheVariants.{Queue}
-use Rattle.spool_engine.specs.Runs.{setting}
+use Rattle.spool_engine.specs.EventTurns.{setting}
 use Rattle.spool_engine.specs.Script.{reply_line}
-use Rattle.spool_engine.proofs.TurnLaws.{event_told, said_told, unread_told, queue_event, no_queue_event, kept_as}
+use Rattle.spool_engine.proofs.EventLaws.{event_told, said_told, unread_told, queue_event, no_queue_event, kept_as}
 use Rattle.spool_engine.proofs.executor.Executor.add_queue.Goals as goal
 
 pub returns-in-Ok : goal.returns-in-Ok
-returns-in-Ok g c = λ m.
+returns-in-Ok g c = λ m p.
     let s = c.args.self.now in
     let q = c.args.queue in
     let is = queue_event m s.state q (ap is_device_uri (sym c.as_str.ensures.value) ∙ c.in-Ok.ensures.device) in
-    event_told (λ v. v.items) c.execute_event.result (setting g.D.Disk.device m) s _ (Queue q) (AddQueue q) reply_line is c.execute_event.ensures
+    event_told (λ v. v.items) c.execute_event.result (setting g.D.Disk.device m p) s _ (Queue q) (AddQueue q) reply_line g.met.D.Disk.lawful.only_now is c.execute_event.ensures
 
 pub returns-in-Err-BadUri : goal.returns-in-Err-BadUri
-returns-in-Err-BadUri g c = λ m.
+returns-in-Err-BadUri g c = λ m p.
     let s = c.args.self.now in
     let q = c.args.queue in
     let is = no_queue_event m s.state q (ap is_device_uri (sym c.as_str.ensures.value) ∙ c.in-Err-BadUri.ensures.no_device (ap Err c.in-Err-BadUri.field-0-is)) in
-    said_told (λ v. v.items) c.print_reply.result (setting g.D.Disk.device m) s (Queue q) (codes "error uri\n") g.met.D.Disk.lawful.only_now (kept_as g.D.Disk.device _ _ c.self.view_is c.self.invariant) is c.print_reply.ensures
+    said_told (λ v. v.items) c.print_reply.result (setting g.D.Disk.device m p) s (Queue q) (codes "error uri\n") g.met.D.Disk.lawful.only_now (kept_as g.D.Disk.device _ _ c.self.view_is c.self.invariant) is c.print_reply.ensures
 
 pub returns : goal.returns
-returns g c = λ m.
-    unread_told (λ v. v.items) c.print_reply-in-Err-Memory.result (setting g.D.Disk.device m) c.args.self.now (Queue c.args.queue) g.met.D.Disk.lawful.only_now (kept_as g.D.Disk.device _ _ c.self.view_is c.self.invariant) c.as_str.ensures.allowed c.print_reply-in-Err-Memory.ensures
+returns g c = λ m p.
+    unread_told (λ v. v.items) c.print_reply-in-Err-Memory.result (setting g.D.Disk.device m p) c.args.self.now (Queue c.args.queue) g.met.D.Disk.lawful.only_now (kept_as g.D.Disk.device _ _ c.self.view_is c.self.invariant) c.as_str.ensures.allowed c.print_reply-in-Err-Memory.ensures

@@ -2,7 +2,7 @@
 use Rattle.std.proofs.Common.{subst}
 use Rattle.spool_core.specs.Standing.{Standing}
 use Rattle.spool_engine.specs.Answers.{IsApplied}
-use Rattle.spool_engine.proofs.TurnLaws.{spool_applied}
+use Rattle.spool_engine.proofs.EventLaws.{spool_applied}
 use Rattle.spool_engine.proofs.executor.Executor.apply.Goals as goal
 
 pub invariant_of-self : goal.invariant_of-self

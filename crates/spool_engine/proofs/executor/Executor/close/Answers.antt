@@ -4,7 +4,7 @@ use Rattle.spool_types.specs.declared.event.Event.TheVariants.{Close}
 use Rattle.job_table.specs.Step.{answered, refusal_of}
 use Rattle.spool_engine.specs.Script.{closing_of}
 use Rattle.spool_core.specs.declared.spool.apply_fault.ApplyFault.TheVariants.{Dead, Refused, Memory}
-use Rattle.spool_engine.proofs.TurnLaws.{unasked}
+use Rattle.spool_engine.proofs.EventLaws.{unasked}
 use Rattle.spool_engine.proofs.executor.Executor.close.Goals as goal
 
 pub returns-then-met_fault : goal.returns-then-met_fault

@@ -3,7 +3,7 @@ use Rattle.std.proofs.Common.{◌∙◌, subst}
 use Rattle.std.specs.Io.KnownBytes.{Appends}
 use Rattle.whole_writes.specs.Writes.{WroteSome}
 use Rattle.spool_engine.proofs.TurnLaws.{wrote_one, wrote_part, wrote_none}
-use Rattle.spool_engine.proofs.executor.Executor.answer.Goals as goal
+use Rattle.spool_engine.proofs.printer.Printer.answer.Goals as goal
 
 pub returns-in-Ok-write_whole : goal.returns-in-Ok-write_whole
 returns-in-Ok-write_whole g c =

@@ -1,24 +1,23 @@
 -- one turn more, or a fault behind the turns so far
 use Rattle.std.proofs.Common.{[], ◌∷◌, ◌++◌, Ok, Err}
-use Rattle.command_lines.specs.Pending.{to_come}
-use Rattle.spool_engine.proofs.TurnLaws.{ends_more, ends_stop}
-use Rattle.spool_engine.proofs.executor.Executor.drain_end.Goals as goal
+use Rattle.spool_engine.proofs.TurnLaws.{drains_more, drains_stop}
+use Rattle.spool_engine.proofs.printer.Printer.serve_whole.Goals as goal
 
 pub commands-preserved : goal.commands-preserved
 commands-preserved g c =
     let (ts, h) = c.commands.invariant in
     let (t, one) = c.in-Ok.ensures in
     let gives = rw c.in-Ok-Some.field-0-is at c.in-Ok-Some.ensures.ok in
-    (ts ++ t ∷ [], ends_more _ (Ok tt) _ _ _ _ _ _ ts t _ _ _ _ h gives one)
+    (ts ++ t ∷ [], drains_more _ (Ok tt) _ _ _ _ _ _ ts t _ _ _ _ h gives one)
 
 pub returns-in-Err-answer : goal.returns-in-Err-answer
 returns-in-Err-answer g c =
     let (ts, h) = c.commands.invariant in
     let (t, one) = c.in-Err-answer.ensures in
     let gives = rw c.in-Ok-Some.field-0-is at c.in-Ok-Some.ensures.ok in
-    (ts ++ t ∷ [], to_come c.finish.new.self [], ends_more _ (Err c.in-Err-answer.fault) _ _ _ _ _ _ ts t _ _ _ _ h gives one, tt)
+    (ts ++ t ∷ [], drains_more _ (Err c.in-Err-answer.fault) _ _ _ _ _ _ ts t _ _ _ _ h gives one)
 
 pub returns-in-Err : goal.returns-in-Err
 returns-in-Err g c =
     let (ts, h) = c.commands.invariant in
-    (ts, to_come c.finish.new.self [], ends_stop _ _ _ _ ts _ _ _ _ h c.in-Err.ensures.err, tt)
+    (ts, drains_stop _ _ _ _ _ _ ts _ _ h c.in-Err.ensures.err)

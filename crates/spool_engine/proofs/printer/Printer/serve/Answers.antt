@@ -1,10 +1,9 @@
 use Rattle.std.proofs.Common.{◌≡◌, [], ◌++◌, take, length, subst, arith, ap, ◌∙◌, refl}
 use Rattle.std.specs.Io.KnownBytes.{Consumes, IsAtEnd}
 use Rattle.std.proofs.KnownBytes.{Keeps-refl}
-use Rattle.spool_engine.proofs.TurnLaws.{kept_as}
 use Rattle.spool_engine.proofs.RunLaws.{nothing_yet, still, stops, stops_in, goes_on, ends, renamed}
-use Rattle.spool_engine.proofs.executor.Executor.serve.Goals as goal
-use Rattle.spool_engine.proofs.executor.Executor.serve.Goals.{in-Ok+in-Ok-take_piece, in-Err+else-ne}
+use Rattle.spool_engine.proofs.printer.Printer.serve.Goals as goal
+use Rattle.spool_engine.proofs.printer.Printer.serve.Goals.{in-Ok+in-Ok-take_piece, in-Err+else-ne}
 
 pub reads-init : goal.reads-init
 reads-init g c = (refl, [], [], nothing_yet _ _ _ _ _ c.new-commands.ensures)
@@ -12,29 +11,29 @@ reads-init g c = (refl, [], [], nothing_yet _ _ _ _ _ c.new-commands.ensures)
 pub returns-in-Ok-eq0 : goal.returns-in-Ok-eq0
 returns-in-Ok-eq0 g c =
     let (long, seen, ts, far) = c.reads.invariant in
-    let (us, rest, h, none) = c.drain_end.ensures in
+    let (us, rest, h, none) = c.serve_end.ensures in
     let R = g.R.Read.remaining in
     let zero = c.in-Ok-eq0.field-0-test in
     let bytes = c.in-Ok-eq0.ensures.bytes in
     let takes : Consumes (R c.reads.reader) (R c.read.new.self) [] = subst (λ n. Consumes (R c.reads.reader) (R c.read.new.self) (take n c.read.new.buf)) zero bytes.0 in
     let end : IsAtEnd (R c.read.new.self) = bytes.1 zero (let l : length c.read.new.buf ≡ 16384 = c.read.auto.buf ∙ long in omega arith) in
-    ends _ c.drain_end.result _ _ _ _ _ _ _ seen rest ts us _ _ _ far takes end h none (kept_as g.D.Disk.device _ _ c.self.view_is c.self.invariant)
+    ends _ c.serve_end.result _ _ _ _ _ _ _ seen rest ts us _ _ _ far takes end h none c.met_fault-kept.ensures.kept
 
 pub returns-in-Err-take_piece : goal.returns-in-Err-take_piece
 returns-in-Err-take_piece g c =
     let (long, seen, ts, far) = c.reads.invariant in
     let (us, h) = c.in-Err-take_piece.ensures in
-    stops_in _ c.in-Err-take_piece.fault _ _ _ _ _ _ _ _ seen _ ts us _ _ _ far c.in-Ok.ensures.bytes.0 h (kept_as g.D.Disk.device _ _ c.self.view_is c.self.invariant)
+    stops_in _ c.in-Err-take_piece.fault _ _ _ _ _ _ _ _ seen _ ts us _ _ _ far c.in-Ok.ensures.bytes.0 h c.met_fault-kept.ensures.kept
 
 pub returns-then-ne : goal.returns-then-ne
 returns-then-ne g c =
     let (long, seen, ts, far) = c.reads.invariant in
-    stops _ _ _ _ _ _ _ seen ts _ _ far c.in-Err.ensures.bytes (kept_as g.D.Disk.device _ _ c.self.view_is c.self.invariant)
+    stops _ _ _ _ _ _ _ seen ts _ _ far c.in-Err.ensures.bytes c.met_fault-kept.ensures.kept
 
 pub returns : goal.returns
 returns g c =
     let (long, seen, ts, far) = c.reads.invariant in
-    stops _ _ _ _ _ _ _ seen ts _ _ far (Keeps-refl (g.R.Read.remaining c.reads.reader)) (kept_as g.D.Disk.device _ _ c.self.view_is c.self.invariant)
+    stops _ _ _ _ _ _ _ seen ts _ _ far (Keeps-refl (g.R.Read.remaining c.reads.reader)) c.met_fault-kept.ensures.kept
 
 pub reads-preserved : goal.reads-preserved
 reads-preserved g c =

@@ -1,0 +1,62 @@
+#!/usr/bin/env python3
+"""What a round costs: by the number of queues that have a job to run, and by that of the jobs that don't run.
+
+It runs crates/spool_shell/out/spool_shell (made by `rt run` in that folder) on a spool in memory. There no child can be
+started, so each job ends in the round that starts it: a round is one Start, one order and one Stage for each queue. The
+time of a script without its rounds is taken off, and what is left is divided by the rounds.
+
+The jobs that don't run are held. They are looked at by each queue until there is an index of the waiting jobs, so a
+round is not yet flat in them. Times depend on the machine; only the ratios are of interest, and no test reads them.
+"""
+import os
+import subprocess
+import sys
+import time
+
+here = os.path.dirname(os.path.abspath(__file__))
+shell = os.path.join(here, "..", "crates", "spool_shell", "out", "spool_shell")
+ROUNDS = 20
+
+
+def seconds(script):
+    """The least time of three runs."""
+    best = None
+    for _ in range(3):
+        start = time.perf_counter()
+        run = subprocess.run([shell, "--size", "268435456"], input=script, stdout=subprocess.PIPE, check=True)
+        took = time.perf_counter() - start
+        best = took if best is None else min(best, took)
+        if b"error" in run.stdout:
+            sys.exit("a reply was an error")
+    return best
+
+
+def before(queues, held):
+    """The queues, a job of each for every round, and jobs that are held."""
+    lines = [b"queue q%d spoolfile:/out application/octet-stream abort-job\n" % n for n in range(queues)]
+    job = 0
+    for n in range(held):
+        job += 1
+        lines.append(b'create q%d ann t 1 50 ""\nhold %d indefinite\nclose %d x\n' % (n % queues, job, job))
+    for _ in range(ROUNDS):
+        for n in range(queues):
+            job += 1
+            lines.append(b'create q%d ann t 1 50 ""\nclose %d x\n' % (n, job))
+    return b"".join(lines)
+
+
+def round_seconds(queues, held):
+    script = before(queues, held)
+    return (seconds(script + b"round\n" * ROUNDS) - seconds(script)) / ROUNDS
+
+
+def main():
+    if not os.path.exists(shell):
+        sys.exit("no program: run `rt run` in crates/spool_shell first")
+    for queues in (1, 8, 64):
+        for held in (0, 1000, 10000, 100000):
+            took = round_seconds(queues, held)
+            print(f"{queues:3} queues, {held:6} jobs held: {1e6 * took:10.0f} microseconds a round, {1e6 * took / queues:8.1f} a queue")
+
+
+main()

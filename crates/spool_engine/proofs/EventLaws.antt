@@ -1,0 +1,192 @@
+-- A turn of a command that is no round.
+use Rattle.std.proofs.Common.{◌≡◌, ℕ, List, [], ◌∷◌, refl, ap, sym, ◌∙◌, subst, inl, arith, true, false, cond, Option, None, Some, Result, Ok, Err}
+use Rattle.std.specs.Prelude.{◌≤◌, ◌↔◌, IfOk, OnOk, IsSome, codes}
+use Rattle.spool_types.specs.declared.event.Event.{Event}
+use Rattle.spool_types.specs.declared.event.Event.TheVariants.{AddQueue, Create as NewJob}
+use Rattle.spool_types.specs.declared.event.NewQueue.{NewQueue}
+use Rattle.spool_types.specs.declared.event.Reply.{Reply}
+use Rattle.spool_types.specs.declared.refusal.Refusal.{Refusal}
+use Rattle.spool_types.specs.State.{State}
+use Rattle.job_table.specs.Step.{answered}
+use Rattle.job_table.specs.Fold.{unless_refused}
+use Rattle.device_uri.specs.Devices.{is_device_uri}
+use Rattle.spool_disk.specs.Disk.{DiskView, LeavesOnly}
+use Rattle.spool_disk.proofs.Moments.{started, weaker_run}
+use Rattle.command_lines.specs.Replies.{refusal_line}
+use Rattle.command_lines.specs.declared.command.Command.{Command}
+use Rattle.command_lines.specs.declared.command.Creation.{Creation}
+use Rattle.command_lines.specs.declared.command.Command.TheVariants.{Queue, Create}
+use Rattle.spool_core.specs.Image.{HasTable, HasBeforeOrAfterEvent}
+use Rattle.spool_core.specs.Standing.{Standing, IsAnswer}
+use Rattle.spool_core.specs.declared.spool.apply_fault.ApplyFault.{ApplyFault}
+use Rattle.spool_core.specs.declared.spool.apply_fault.ApplyFault.TheVariants.{Dead, Refused, Memory, Full, Disk}
+use Rattle.print_rounds.proofs.PrefixLaws.{none_of, one_of}
+use Rattle.spool_engine.specs.Mime.{Mime}
+use Rattle.spool_engine.specs.Script.{says, asks, meaning, creating, job_options, job_of_creation, event_in, event_of, step_line, step_state, reply_line}
+use Rattle.spool_engine.specs.EventTurns.{Setting, Outcome, EventTurn, served, no_memory, full, disk, dead, unread, IsServedBy, IsTaken, IsOutcome, MayBeRead, IsKept, HasSomeOf, tried_as}
+use Rattle.spool_engine.specs.Answers.{answer_line, IsApplied, Takes}
+
+-- since this moment there is no other
+abbrev pub OnlyNow : {D : Type 0} → DiskView D → Type 0
+OnlyNow {D} v = (d : D) (c : List ℕ) → v.image_since d (v.moment d) c → v.image d c
+
+-- where nothing is done a crash leaves the table
+pub unmoved : {D : Type 0} (v : DiskView D) (s : Standing D) (P : List ℕ → Type 0) → OnlyNow v → IsKept v s → ((c : List ℕ) → HasTable s.state c → P c) → s.dead ≡ false → IsSome (v.bytes s.disk) → LeavesOnly v s.disk s.disk P
+unmoved v s P now kept weaker alive tells = started v s.disk P (λ c since. weaker c (kept alive tells c (now s.disk c since)))
+
+-- the state of a step is the one of the fold
+pub step_folds : (s : State) (e : Event) (o : Option Refusal) → step_state s (answered s e o) ≡ unless_refused s e o
+step_folds s e None = refl
+step_folds s e (Some r) = refl
+
+-- a command that is no event changes nothing
+said_turn : {D : Type 0} (v : Setting D) (s : Standing D) (c : Command) (text : List ℕ) → OnlyNow v.device → IsKept v.device s → meaning v.mime s.state c ≡ says text → (t : EventTurn D) × Takes v s c t s × (t.text ≡ text)
+said_turn v s c text now kept is = (
+  record { command = c; outcome = served; text = text; next = s },
+  record {
+    legal = record {
+      outcome = subst (λ w. IsServedBy s w text s) (sym is) (refl, refl);
+      counted = omega arith;
+      told = (λ h. h, λ h. h);
+      crash = unmoved v.device s (HasSomeOf s.state (tried_as (event_of v.mime s.state c) served)) now kept (none_of s.state (tried_as (event_of v.mime s.state c) served));
+      kept = kept;
+    };
+    command = refl;
+    next = refl;
+  },
+  refl,
+)
+
+-- what a crash leaves of an event that was tried, and of one that wasn't
+tried : {D : Type 0} (v : DiskView D) (s s' : Standing D) (e : Event) (a : Result Reply ApplyFault) → IsApplied v s e a s' → s.dead ≡ false → IsSome (v.bytes s.disk) → LeavesOnly v s.disk s'.disk (HasSomeOf s.state (e ∷ []))
+tried v s s' e a h alive tells = weaker_run v s.disk s'.disk (HasSomeOf s.state (e ∷ [])) (HasBeforeOrAfterEvent s.state e) (h.crash alive tells) (one_of s.state e)
+
+untried : {D : Type 0} (v : DiskView D) (s s' : Standing D) (e : Event) (a : Result Reply ApplyFault) → OnlyNow v → IsApplied v s e a s' → s' ≡ s → s.dead ≡ false → IsSome (v.bytes s.disk) → LeavesOnly v s.disk s'.disk (HasSomeOf s.state [])
+untried v s s' e a now h same alive tells = subst (λ x. LeavesOnly v s.disk x.disk (HasSomeOf s.state [])) (sym same)
+    (unmoved v s (HasSomeOf s.state []) now (subst (IsKept v) same h.kept) (none_of s.state []) alive tells)
+
+-- a turn whose event went so
+applied_turn : {D : Type 0} (v : Setting D) (s s' : Standing D) (c : Command) (e : Event) (line : Reply → List ℕ) (a : Result Reply ApplyFault) (o : Outcome) (text : List ℕ) → meaning v.mime s.state c ≡ asks e line → IsApplied v.device s e a s'
+    → IsOutcome v s (record { command = c; outcome = o; text = text; next = s' }) o → (s.dead ≡ false → IsSome (v.device.bytes s.disk) → LeavesOnly v.device s.disk s'.disk (HasSomeOf s.state (tried_as (Some e) o))) → (t : EventTurn D) × Takes v s c t s' × (t.text ≡ text)
+applied_turn v s s' c e line a o text is h out crash = (
+  record { command = c; outcome = o; text = text; next = s' },
+  record {
+    legal = record {
+      outcome = out;
+      counted = h.counted;
+      told = h.told;
+      crash = λ alive tells. subst (λ w. LeavesOnly v.device s.disk s'.disk (HasSomeOf s.state (tried_as (event_in w) o))) (sym is) (crash alive tells);
+      kept = h.kept;
+    };
+    command = refl;
+    next = refl;
+  },
+  refl,
+)
+
+pub answered_turn : {D : Type 0} (v : Setting D) (s s' : Standing D) (c : Command) (e : Event) (line : Reply → List ℕ) (a : Result Reply ApplyFault) → OnlyNow v.device → meaning v.mime s.state c ≡ asks e line → IsApplied v.device s e a s' → (t : EventTurn D) × Takes v s c t s' × (t.text ≡ answer_line line a)
+answered_turn v s s' c e line (Ok reply) now is h = applied_turn v s s' c e line (Ok reply) served (line reply) is h
+    (subst (λ w. IsServedBy s w (line reply) s') (sym is) (sym (ap (step_line line) h.cause.step), subst (λ r. IsTaken s e r s') (sym h.cause.step) h.cause))
+    (tried v.device s s' e (Ok reply) h)
+answered_turn v s s' c e line (Err (Refused refusal)) now is h = applied_turn v s s' c e line (Err (Refused refusal)) served (refusal_line refusal) is h
+    (subst (λ w. IsServedBy s w (refusal_line refusal) s') (sym is) (sym (ap (step_line line) h.cause.1), subst (λ r. IsTaken s e r s') (sym h.cause.1) (h.cause.0, h.cause.2)))
+    (tried v.device s s' e (Err (Refused refusal)) h)
+answered_turn v s s' c e line (Err Dead) now is h = applied_turn v s s' c e line (Err Dead) dead (codes "error dead\n") is h (record { event = e; is = ap event_in is; cause = h.cause; text = refl })
+    (untried v.device s s' e (Err Dead) now h h.cause.1)
+answered_turn v s s' c e line (Err Memory) now is h = applied_turn v s s' c e line (Err Memory) no_memory (codes "error memory\n") is h (record { event = e; is = ap event_in is; cause = h.cause; text = refl })
+    (untried v.device s s' e (Err Memory) now h h.cause.2)
+answered_turn v s s' c e line (Err Full) now is h = applied_turn v s s' c e line (Err Full) full (codes "error full\n") is h (record { event = e; is = ap event_in is; cause = h.cause; text = refl })
+    (untried v.device s s' e (Err Full) now h h.cause.1)
+answered_turn v s s' c e line (Err Disk) now is h = applied_turn v s s' c e line (Err Disk) disk (codes "error disk\n") is h (record { event = e; is = ap event_in is; cause = h.cause; text = refl })
+    (tried v.device s s' e (Err Disk) h)
+
+-- a text that is Ok has other bytes, where these are the same
+same_bytes : {X E : Type 0} (bytes : X → List ℕ) (r : Result X E) (a b : List ℕ) → b ≡ a → IfOk r (λ text. bytes text ≡ a) → IfOk r (λ text. bytes text ≡ b)
+same_bytes bytes (Ok x) a b e h = h ∙ sym e
+same_bytes bytes (Err fault) a b e h = h
+
+-- a command that is an event, and the text that tells how it went
+pub event_told : {X E D : Type 0} (bytes : X → List ℕ) (r : Result X E) (v : Setting D) (s s' : Standing D) (c : Command) (e : Event) (line : Reply → List ℕ) → OnlyNow v.device → meaning v.mime s.state c ≡ asks e line
+    → (a : Result Reply ApplyFault) × IsApplied v.device s e a s' × IfOk r (λ text. bytes text ≡ answer_line line a)
+    → (t : EventTurn D) × Takes v s c t s' × IfOk r (λ text. bytes text ≡ t.text)
+event_told bytes r v s s' c e line now is (a, went, text) =
+    let (t, takes, told) = answered_turn v s s' c e line a now is went in
+    (t, takes, same_bytes bytes r (answer_line line a) t.text told text)
+
+-- a command that is no event
+pub said_told : {X E D : Type 0} (bytes : X → List ℕ) (r : Result X E) (v : Setting D) (s : Standing D) (c : Command) (text : List ℕ) → OnlyNow v.device → IsKept v.device s → meaning v.mime s.state c ≡ says text → IfOk r (λ x. bytes x ≡ text) → (t : EventTurn D) × Takes v s c t s × IfOk r (λ x. bytes x ≡ t.text)
+said_told bytes r v s c text now kept is h =
+    let (t, takes, told) = said_turn v s c text now kept is in
+    (t, takes, same_bytes bytes r text t.text told h)
+
+-- a command whose text wasn't read since there was no memory
+pub unread_told : {X E D : Type 0} (bytes : X → List ℕ) (r : Result X E) (v : Setting D) (s : Standing D) (c : Command) → OnlyNow v.device → IsKept v.device s → MayBeRead c → IfOk r (λ x. bytes x ≡ codes "error memory\n") → (t : EventTurn D) × Takes v s c t s × IfOk r (λ x. bytes x ≡ t.text)
+unread_told bytes r v s c now kept may h = (
+  record { command = c; outcome = unread; text = codes "error memory\n"; next = s },
+  record {
+    legal = record {
+      outcome = record { may = may; text = refl; same = refl };
+      counted = omega arith;
+      told = (λ h. h, λ h. h);
+      crash = unmoved v.device s (HasSomeOf s.state (tried_as (event_of v.mime s.state c) unread)) now kept (none_of s.state (tried_as (event_of v.mime s.state c) unread));
+      kept = kept;
+    };
+    command = refl;
+    next = refl;
+  },
+  h,
+)
+
+-- a queue with the URI of a device is an event, and with another none
+pub queue_event : (m : Mime) (s : State) (q : NewQueue) → is_device_uri q.uri ≡ true → meaning m s (Queue q) ≡ asks (AddQueue q) reply_line
+queue_event m s q is = ap (λ b. cond b (asks (AddQueue q) reply_line) (says (codes "error uri\n"))) is
+
+pub no_queue_event : (m : Mime) (s : State) (q : NewQueue) → is_device_uri q.uri ≡ false → meaning m s (Queue q) ≡ says (codes "error uri\n")
+no_queue_event m s q is = ap (λ b. cond b (asks (AddQueue q) reply_line) (says (codes "error uri\n"))) is
+
+-- a job whose options can be kept is an event, and another none
+pub create_event : (m : Mime) (s : State) (n : Creation) (options : List ℕ) → job_options n.options ≡ Some options → meaning m s (Create n) ≡ asks (NewJob (job_of_creation s n options)) reply_line
+create_event m s n options is = ap (creating s n) is
+
+pub no_create_event : (m : Mime) (s : State) (n : Creation) → job_options n.options ≡ None → meaning m s (Create n) ≡ says (codes "error options\n")
+no_create_event m s n is = ap (creating s n) is
+
+-- the turn of a command by another name
+pub same_command : {X E D : Type 0} (bytes : X → List ℕ) (r : Result X E) (v : Setting D) (s s' : Standing D) (c c' : Command) → c ≡ c' → (t : EventTurn D) × Takes v s c' t s' × IfOk r (λ x. bytes x ≡ t.text) → (t : EventTurn D) × Takes v s c t s' × IfOk r (λ x. bytes x ≡ t.text)
+same_command bytes r v s s' c c' e (t, takes, told) = (t, record { legal = takes.legal; command = takes.command ∙ sym e; next = takes.next }, told)
+
+-- an event for which there was nothing to be done, so that the spool is as it was
+pub unasked : {D : Type 0} (v : DiskView D) (s : Standing D) (e : Event) (a : Result Reply ApplyFault) → OnlyNow v → IsKept v s → IsAnswer v s e a s → IsApplied v s e a s
+unasked v s e a now kept h = record {
+  cause = h;
+  counted = omega arith;
+  told = (λ h. h, λ h. h);
+  crash = unmoved v s (HasBeforeOrAfterEvent s.state e) now kept (λ image h. inl h);
+  kept = kept;
+}
+
+-- the same spool by another name
+pub kept_as : {D : Type 0} (v : DiskView D) (s s' : Standing D) → s ≡ s' → IsKept v s → IsKept v s'
+kept_as v s s' e kept = subst (IsKept v) e kept
+
+-- after every answer of the spool a crash leaves the table that is shown
+still_kept : {D : Type 0} (v : DiskView D) (s s' : Standing D) (e : Event) (a : Result Reply ApplyFault) → IsAnswer v s e a s' → (IsSome (v.bytes s'.disk) ↔ IsSome (v.bytes s.disk))
+    → OnOk a (IsSome (v.bytes s.disk) → (c : List ℕ) → v.image s'.disk c → HasTable s'.state c) → IsKept v s → IsKept v s'
+still_kept v s s' e (Ok reply) h told ok kept = λ alive tells c now. ok (told.0 tells) c now
+still_kept v s s' e (Err Dead) h told ok kept = kept_as v s s' (sym h.1) kept
+still_kept v s s' e (Err (Refused r)) h told ok kept = kept_as v s s' (sym h.2) kept
+still_kept v s s' e (Err Memory) h told ok kept = kept_as v s s' (sym h.2) kept
+still_kept v s s' e (Err Full) h told ok kept = kept_as v s s' (sym h.1) kept
+still_kept v s s' e (Err Disk) h told ok kept = λ alive tells c now. absurd (let died = h.dead in cc)
+
+-- what the spool says of an event
+pub spool_applied : {D : Type 0} (v : DiskView D) (s s' : Standing D) (e : Event) (a : Result Reply ApplyFault) → IsAnswer v s e a s' → v.failures s.disk ≤ v.failures s'.disk → (IsSome (v.bytes s'.disk) ↔ IsSome (v.bytes s.disk))
+    → (s.dead ≡ false → IsSome (v.bytes s.disk) → LeavesOnly v s.disk s'.disk (HasBeforeOrAfterEvent s.state e))
+    → OnOk a (IsSome (v.bytes s.disk) → (c : List ℕ) → v.image s'.disk c → HasTable s'.state c) → IsKept v s → IsApplied v s e a s'
+spool_applied v s s' e a h counted told crash ok kept = record {
+  cause = h;
+  counted = counted;
+  told = told;
+  crash = crash;
+  kept = still_kept v s s' e a h told ok kept;
+}

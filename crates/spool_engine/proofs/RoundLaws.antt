@@ -1,0 +1,181 @@
+-- Rounds, one after another.
+use Rattle.std.proofs.Common.{◌≡◌, ℕ, ◌≤◌, List, [], ◌∷◌, ◌++◌, refl, ap, sym, ◌∙◌, subst, inl, inr, ⊎_elim, arith, true, false, Bool, Option, Some, Result}
+use Rattle.std.specs.Prelude.{◌↔◌, IfOk, IsSome}
+use Rattle.std.specs.List.{flat_map}
+use Rattle.spool_types.specs.declared.event.Event.{Event}
+use Rattle.spool_core.specs.Standing.{Standing}
+use Rattle.job_table.specs.Fold.{after_all}
+use Rattle.spool_disk.specs.Disk.{LeavesOnly}
+use Rattle.spool_disk.proofs.Moments.{runs_on, weaker_run}
+use Rattle.command_lines.specs.declared.command.Command.{Command}
+use Rattle.child_pipeline.specs.Slots.{Slots}
+use Rattle.child_pipeline.specs.Told.{Told}
+use Rattle.print_rounds.specs.Courses.{Course, course}
+use Rattle.print_rounds.proofs.PrefixLaws.{none_of, some_first, some_later}
+use Rattle.print_rounds.specs.Finished.{EachFinishedOnce}
+use Rattle.print_rounds.specs.Rounds.{IsRoundBy, tried_in}
+use Rattle.print_rounds.specs.declared.outcome.Round.{Round}
+use Rattle.print_rounds.specs.declared.outcome.RoundFault.{RoundFault}
+use Rattle.spool_engine.specs.Script.{meaning, runs}
+use Rattle.spool_engine.specs.EventTurns.{Setting, EventTurn, IsEventTurn, IsKept, HasSomeOf}
+use Rattle.spool_engine.specs.Answers.{Takes}
+use Rattle.spool_engine.specs.Rounds.{Ran, IsRoundWith, IsRan, AreRan, AreRun, AreRunBy}
+use Rattle.spool_engine.specs.Runs.{Turn, TakesTurn, IsHeld, answered, ran}
+use Rattle.spool_engine.proofs.EventLaws.{OnlyNow, unmoved}
+
+-- ## A round
+
+-- after a fault of the device nothing is done
+pub dead_ran : {D : Type 0} (v : Setting D) (s : Course D) (r : Ran D) → s.spool.dead ≡ true → IsRan v s r → r.next ≡ s
+dead_ran v s r is h = (subst (λ b. IsRoundWith v.device v.place s b r) is h.round).0.1
+
+pub dead_rans : {D : Type 0} (v : Setting D) (s : Course D) (rs : List (Ran D)) (new : Course D) → s.spool.dead ≡ true → AreRan v s rs new → new ≡ s
+dead_rans v s [] new is h = h
+dead_rans v s (r ∷ rs) new is h =
+    let same : r.next ≡ s = dead_ran v s r is h.0 in
+    dead_rans v r.next rs new (ap (λ x. x.spool.dead) same ∙ is) h.1 ∙ same
+
+-- while the device works the table is that of all the events that were tried
+tried_table : {D : Type 0} (v : Setting D) (s : Course D) (r : Ran D) → r.next.spool.dead ≡ false → IsRoundWith v.device v.place s false r → r.next.spool.state ≡ after_all s.spool.state r.tried
+tried_table v s r lives h = ⊎_elim
+    (λ unbegun. ap (λ x. x.spool.state) unbegun.0.1 ∙ ap (after_all s.spool.state) (sym unbegun.1))
+    (λ made. made.0.table ∙ ap (after_all s.spool.state) (sym (made.0.all_acknowledged lives) ∙ sym made.1))
+    h
+
+-- a round, by how it went, and what a crash leaves of it
+pub ran_of : {D : Type 0} (v : Setting D) (old new : Course D) (result : Result Round RoundFault) (b : Bool) → old.spool.dead ≡ b → OnlyNow v.device → IsKept v.device old.spool → IsKept v.device new.spool
+    → v.device.failures old.spool.disk ≤ v.device.failures new.spool.disk → (IsSome (v.device.bytes new.spool.disk) ↔ IsSome (v.device.bytes old.spool.disk))
+    → ((t : Told) → old.told ≡ Some t → t.running ≡ [] → (js : List ℕ) × EachFinishedOnce t new.told js)
+    → IsRoundBy v.device v.place old b new result → (tried : List Event) × IsRan v old (record { next = new; result = result; tried = tried })
+ran_of v old new result true is now kept later counted told finished h = (
+  [],
+  record {
+    round = subst (λ b. IsRoundWith v.device v.place old b (record { next = new; result = result; tried = [] })) (sym is) (h, refl);
+    finished = finished;
+    counted = counted;
+    told = told;
+    crash = λ alive tells. absurd cc;
+    kept = later;
+  },
+)
+ran_of v old new result false is now kept later counted told finished h = ⊎_elim
+    (λ unbegun. (
+      [],
+      record {
+        round = subst (λ b. IsRoundWith v.device v.place old b (record { next = new; result = result; tried = [] })) (sym is) (inl (unbegun, refl));
+        finished = finished;
+        counted = counted;
+        told = told;
+        crash = λ alive tells. subst (λ x. LeavesOnly v.device old.spool.disk x.spool.disk (HasSomeOf old.spool.state [])) (sym unbegun.1) (unmoved v.device old.spool (HasSomeOf old.spool.state []) now kept (none_of old.spool.state []) alive tells);
+        kept = later;
+      },
+    ))
+    (λ made. (
+      tried_in old made.steps,
+      record {
+        round = subst (λ b. IsRoundWith v.device v.place old b (record { next = new; result = result; tried = tried_in old made.steps })) (sym is) (inr (made, refl));
+        finished = finished;
+        counted = counted;
+        told = told;
+        crash = made.any_moment;
+        kept = later;
+      },
+    ))
+    h
+
+-- ## Several rounds
+
+abbrev all_tried : {D : Type 0} → List (Ran D) → List Event
+all_tried rs = flat_map (λ r. r.tried) rs
+
+rounds_counted : {D : Type 0} (v : Setting D) (s : Course D) (rs : List (Ran D)) (new : Course D) → AreRan v s rs new → v.device.failures s.spool.disk ≤ v.device.failures new.spool.disk
+rounds_counted v s [] new h = subst (λ x. v.device.failures s.spool.disk ≤ v.device.failures x.spool.disk) (sym h) (omega arith)
+rounds_counted v s (r ∷ rs) new h = omega (arith, h.0.counted, rounds_counted v r.next rs new h.1)
+
+rounds_told : {D : Type 0} (v : Setting D) (s : Course D) (rs : List (Ran D)) (new : Course D) → AreRan v s rs new → IsSome (v.device.bytes new.spool.disk) ↔ IsSome (v.device.bytes s.spool.disk)
+rounds_told v s [] new h = subst (λ x. IsSome (v.device.bytes x.spool.disk) ↔ IsSome (v.device.bytes s.spool.disk)) (sym h) (λ k. k, λ k. k)
+rounds_told v s (r ∷ rs) new h =
+    let more = rounds_told v r.next rs new h.1 in
+    (λ k. h.0.told.0 (more.0 k), λ k. more.1 (h.0.told.1 k))
+
+rounds_kept : {D : Type 0} (v : Setting D) (s : Course D) (rs : List (Ran D)) (new : Course D) → IsKept v.device s.spool → AreRan v s rs new → IsKept v.device new.spool
+rounds_kept v s [] new kept h = subst (λ x. IsKept v.device x.spool) (sym h) kept
+rounds_kept v s (r ∷ rs) new kept h = rounds_kept v r.next rs new h.0.kept h.1
+
+module _ {D : Type 0} (v : Setting D) (now : OnlyNow v.device) where
+  -- by whether the device works after the first
+  crash_by : (s : Course D) (r : Ran D) (rs : List (Ran D)) (new : Course D) (b : Bool) → r.next.spool.dead ≡ b → IsRan v s r → AreRan v r.next rs new → s.spool.dead ≡ false → IsSome (v.device.bytes s.spool.disk)
+      → (r.next.spool.dead ≡ false → LeavesOnly v.device r.next.spool.disk new.spool.disk (HasSomeOf r.next.spool.state (all_tried rs)))
+      → LeavesOnly v.device s.spool.disk new.spool.disk (HasSomeOf s.spool.state (r.tried ++ all_tried rs))
+  crash_by s r rs new true is h more alive tells rest =
+      subst (λ x. LeavesOnly v.device s.spool.disk x.spool.disk (HasSomeOf s.spool.state (r.tried ++ all_tried rs))) (sym (dead_rans v r.next rs new is more))
+      (weaker_run v.device s.spool.disk r.next.spool.disk (HasSomeOf s.spool.state (r.tried ++ all_tried rs)) (HasSomeOf s.spool.state r.tried) (h.crash alive tells) (some_first s.spool.state r.tried (all_tried rs)))
+  crash_by s r rs new false is h more alive tells rest =
+      runs_on v.device s.spool.disk r.next.spool.disk new.spool.disk (HasSomeOf s.spool.state (r.tried ++ all_tried rs)) (HasSomeOf r.next.spool.state (all_tried rs))
+      (weaker_run v.device s.spool.disk r.next.spool.disk (HasSomeOf s.spool.state (r.tried ++ all_tried rs)) (HasSomeOf s.spool.state r.tried) (h.crash alive tells) (some_first s.spool.state r.tried (all_tried rs)))
+      (rest is)
+      (λ c. some_later s.spool.state r.next.spool.state r.tried (all_tried rs) c (tried_table v s r is (subst (λ b. IsRoundWith v.device v.place s b r) alive h.round)))
+
+  rounds_crash : (s : Course D) (rs : List (Ran D)) (new : Course D) → IsKept v.device s.spool → AreRan v s rs new → s.spool.dead ≡ false → IsSome (v.device.bytes s.spool.disk) → LeavesOnly v.device s.spool.disk new.spool.disk (HasSomeOf s.spool.state (all_tried rs))
+  rounds_crash s [] new kept h alive tells =
+      subst (λ x. LeavesOnly v.device s.spool.disk x.spool.disk (HasSomeOf s.spool.state [])) (sym h)
+      (unmoved v.device s.spool (HasSomeOf s.spool.state []) now kept (none_of s.spool.state []) alive tells)
+  rounds_crash s (r ∷ rs) new kept h alive tells = crash_by s r rs new r.next.spool.dead refl h.0 h.1 alive tells (λ lives. rounds_crash r.next rs new h.0.kept h.1 lives (h.0.told.1 tells))
+
+  -- the turn of a command that is told by rounds
+  pub rounds_turn : {X E : Type 0} (bytes : X → List ℕ) (result : Result X E) (s new : Course D) (c : Command) (most : ℕ) (line : List Round → List ℕ) → IsKept v.device s.spool → meaning v.mime s.spool.state c ≡ runs most line
+      → (rs : List (Ran D)) × (reply : List ℕ) × AreRun v most line s rs new reply × IfOk result (λ x. bytes x ≡ reply) → (t : Turn D) × TakesTurn v s c t new × IfOk result (λ x. bytes x ≡ t.text)
+  rounds_turn bytes result s new c most line kept is (rs, reply, run, told) = (
+    record { command = c; how = ran rs; text = reply; next = new },
+    record {
+      legal = record {
+        how = subst (λ w. AreRunBy v w s rs new reply) (sym is) run;
+        counted = rounds_counted v s rs new run.each;
+        told = rounds_told v s rs new run.each;
+        crash = rounds_crash s rs new kept run.each;
+        kept = rounds_kept v s rs new kept run.each;
+      };
+      command = refl;
+      next = refl;
+    },
+    told,
+  )
+
+-- ## A command that is no round, beside slots and children that stay as they are
+
+same_turn : {D : Type 0} (t : EventTurn D) (c : Command) (s' : Standing D) → t.command ≡ c → t.next ≡ s' → t ≡ record { command = c; outcome = t.outcome; text = t.text; next = s' }
+same_turn t c s' e f =
+    ap (λ x. record { command = x; outcome = t.outcome; text = t.text; next = t.next }) e
+    ∙ ap (λ x. record { command = c; outcome = t.outcome; text = t.text; next = x }) f
+
+pub held_turn : {X E D : Type 0} (bytes : X → List ℕ) (result : Result X E) (v : Setting D) (s new : Course D) (c : Command) → IsHeld s new
+    → (t : EventTurn D) × Takes v s.spool c t new.spool × IfOk result (λ x. bytes x ≡ t.text) → (t : Turn D) × TakesTurn v s c t new × IfOk result (λ x. bytes x ≡ t.text)
+held_turn bytes result v s new c held (t, takes, told) =
+    let one = subst (IsEventTurn v s.spool) (same_turn t c new.spool takes.command takes.next) takes.legal in (
+      record { command = c; how = answered t.outcome; text = t.text; next = new },
+      record {
+        legal = record { how = (one.outcome, held); counted = one.counted; told = one.told; crash = one.crash; kept = one.kept };
+        command = refl;
+        next = refl;
+      },
+      told,
+    )
+
+-- the same, where what was found goes by another name
+pub event_lifted : {X E D : Type 0} (bytes : X → List ℕ) (result : Result X E) (v : Setting D) (e e' : Standing D) (slots : Slots) (told : Option Told) (s : Course D) (c : Command) → course e slots told ≡ s
+    → (t : EventTurn D) × Takes v e c t e' × IfOk result (λ x. bytes x ≡ t.text) → (t : Turn D) × TakesTurn v s c t (course e' slots told) × IfOk result (λ x. bytes x ≡ t.text)
+event_lifted bytes result v e e' slots told s c is h =
+    subst (λ y. (t : Turn _) × TakesTurn v y c t (course e' slots told) × IfOk result (λ x. bytes x ≡ t.text)) is
+    (held_turn bytes result v (course e slots told) (course e' slots told) c (record { slots = refl; told = refl }) h)
+
+-- the same, where nothing has changed
+pub said_lifted : {X E D : Type 0} (bytes : X → List ℕ) (result : Result X E) (v : Setting D) (s : Course D) (c : Command)
+    → (t : EventTurn D) × Takes v s.spool c t s.spool × IfOk result (λ x. bytes x ≡ t.text) → (t : Turn D) × TakesTurn v s c t s × IfOk result (λ x. bytes x ≡ t.text)
+said_lifted bytes result v s c h = held_turn bytes result v s s c (record { slots = refl; told = refl }) h
+
+-- the same, where what was found goes by another name and hasn't changed
+pub listed : {X E D : Type 0} (bytes : X → List ℕ) (result : Result X E) (v : Setting D) (e : Standing D) (slots : Slots) (told : Option Told) (s : Course D) (c : Command) → course e slots told ≡ s
+    → (t : EventTurn D) × Takes v e c t e × IfOk result (λ x. bytes x ≡ t.text) → (t : Turn D) × TakesTurn v s c t s × IfOk result (λ x. bytes x ≡ t.text)
+listed bytes result v e slots told s c is h =
+    subst (λ y. (t : Turn _) × TakesTurn v y c t y × IfOk result (λ x. bytes x ≡ t.text)) is
+    (said_lifted bytes result v (course e slots told) c h)

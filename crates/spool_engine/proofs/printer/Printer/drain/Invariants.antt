@@ -1,0 +1,10 @@
+-- the rounds so far, of which none was idle or had a fault
+use Rattle.std.proofs.Common.{◌≡◌, List, length}
+use Rattle.spool_engine.specs.EventTurns.{setting}
+use Rattle.spool_engine.specs.Mime.{Mime}
+use Rattle.spool_engine.specs.Rounds.{Ran, AreRan}
+use Rattle.spool_engine.proofs.DrainLaws.{AreBusy}
+use Rattle.spool_engine.proofs.printer.Printer.drain.Given as goal
+
+abbrev pub invariant-loop-run : goal.invariant-loop-run
+invariant-loop-run g l = (m : Mime) → (rs : List (Ran g.row.D.Denot)) × AreRan (setting g.D.Disk.device m l.initial.place) l.initial.self rs l.self × AreBusy rs × (length rs ≡ l.run)

@@ -1,0 +1,13 @@
+-- the rounds of a drain are told by how many they were, or by the fault that ended them
+use Rattle.std.proofs.Common.{ap, refl, sym, ◌∙◌}
+use Rattle.spool_engine.specs.Rounds.{counts_in, drain_line, line_told, results_of}
+use Rattle.spool_engine.specs.Script.{drain_text}
+use Rattle.spool_engine.proofs.DrainLaws.{drain_told, as_told}
+use Rattle.spool_engine.proofs.printer.Printer.drain_text.Goals as goal
+
+pub returns : goal.returns
+returns g c = λ m.
+    let (rs, each, all, is) = c.drain-run.ensures m in
+    let q = counts_in (results_of rs) in
+    let reply = line_told drain_text q in
+    (rs, reply, record { each = each; all = all; text = refl }, as_told (λ v. v.items) c.drained_text.result reply _ (drain_told q ∙ ap drain_line (sym is)) c.drained_text.ensures)

@@ -1,0 +1,120 @@
+-- A turn of one command, where it is no round: what it says, or its one event, also where something failed.
+use Rattle.std.specs.Prelude.{◌≡◌, ℕ, ◌≤◌, ◌↔◌, List, [], ◌∷◌, codes, length, true, false, IsTrue, IsSome, Option, None, Some, Result, Ok, Err}
+use Rattle.std.specs.Result.{IsOk}
+use Rattle.spool_types.specs.declared.event.Event.{Event}
+use Rattle.spool_types.specs.declared.event.Reply.{Reply}
+use Rattle.spool_types.specs.declared.refusal.Refusal.{Refusal}
+use Rattle.spool_types.specs.State.{State}
+use Rattle.spool_types.specs.Values.{is_uri}
+use Rattle.filter_args.specs.Reading.{reading}
+use Rattle.filter_args.specs.declared.place.Place.{Place}
+use Rattle.job_table.specs.Step.{refusal_of, step}
+use Rattle.spool_disk.specs.Disk.{DiskView, LeavesOnly}
+use Rattle.command_lines.specs.declared.command.Command.{Command}
+use Rattle.command_lines.specs.declared.command.Command.TheVariants.{Queue, Create}
+use Rattle.spool_core.specs.Driving.{HasPrefixTable}
+use Rattle.spool_core.specs.Image.{HasTable}
+use Rattle.spool_core.specs.Standing.{Standing, IsDone, IsFull, IsFailed}
+use Rattle.spool_engine.specs.Mime.{Mime}
+use Rattle.spool_engine.specs.Script.{Meaning, says, asks, runs, meaning, event_of, step_line}
+
+-- what a run stands on: a disk, what documents are read by, and where children run
+pub record Setting (D : Type 0) : Type 1 where
+  pub device : DiskView D
+  pub mime : Mime
+  pub place : Place
+
+abbrev pub setting : {D : Type 0} → DiskView D → Mime → Place → Setting D
+setting device mime place = record { device = device; mime = mime; place = place }
+
+-- how a command went
+pub data Outcome : Type 0 where
+  served : Outcome
+  no_memory : Outcome
+  full : Outcome
+  disk : Outcome
+  dead : Outcome
+  -- no memory was found to read the URI of a queue, or the options of a job
+  unread : Outcome
+
+-- a command, how it went, its reply and the spool after it
+pub record EventTurn (D : Type 0) : Type 0 where
+  pub command : Command
+  pub outcome : Outcome
+  pub text : List ℕ
+  pub next : Standing D
+
+-- The spool took the event, by the table's answer to it: it is journalled and its room is taken, or it is refused and
+-- nothing has changed. A dead spool takes none.
+abbrev pub IsTaken : {D : Type 0} → Standing D → Event → Result (State × Reply) Refusal → Standing D → Type 0
+IsTaken old e (Ok r) new = IsDone old e r.1 new
+IsTaken old e (Err refusal) new = (old.dead ≡ false) × (new ≡ old)
+
+-- The reply is that of Script, and the spool took the event. A text that is said changes nothing.
+abbrev pub IsServedBy : {D : Type 0} → Standing D → Meaning → List ℕ → Standing D → Type 0
+IsServedBy s (says text) reply new = (reply ≡ text) × (new ≡ s)
+IsServedBy s (asks e line) reply new = (reply ≡ step_line line (step s.state e)) × IsTaken s e (step s.state e) new
+IsServedBy s (runs most line) reply new = ⊥
+
+abbrev pub IsServed : {D : Type 0} → Mime → Standing D → EventTurn D → Type 0
+IsServed m s t = IsServedBy s (meaning m s.state t.command) t.text t.next
+
+-- the command is an event that was answered by this line, and the cause of the line stands
+pub record Fails {D : Type 0} (m : Mime) (s : Standing D) (t : EventTurn D) (line : List ℕ) (Cause : Event → Type 0) : Type 0 where
+  pub event : Event
+  pub is : event_of m s.state t.command ≡ Some event
+  pub cause : Cause event
+  pub text : t.text ≡ line
+
+-- the text that is read before the spool is asked may be a good one: a URI within its limits, or options without a fault
+abbrev pub MayBeRead : Command → Type 0
+MayBeRead (Queue q) = is_uri q.uri ≡ true
+MayBeRead (Create c) = IsOk (reading c.options)
+MayBeRead c = ⊥
+
+-- that text wasn't read, and nothing has changed
+pub record IsUnread {D : Type 0} (s : Standing D) (t : EventTurn D) : Type 0 where
+  pub may : MayBeRead t.command
+  pub text : t.text ≡ codes "error memory\n"
+  pub same : t.next ≡ s
+
+-- Served, or an error's line and no row has changed. Each line but `error memory` comes only for its cause.
+abbrev pub IsOutcome : {D : Type 0} → Setting D → Standing D → EventTurn D → Outcome → Type 0
+IsOutcome v s t served = IsServed v.mime s t
+IsOutcome v s t no_memory = Fails v.mime s t (codes "error memory\n") (λ e. (s.dead ≡ false) × (refusal_of s.state e ≡ None) × (t.next ≡ s))
+IsOutcome v s t full = Fails v.mime s t (codes "error full\n") (λ e. IsFull s e × (t.next ≡ s))
+IsOutcome v s t disk = Fails v.mime s t (codes "error disk\n") (λ e. IsFailed v.device s e t.next)
+IsOutcome v s t unread = IsUnread s t
+IsOutcome v s t dead = Fails v.mime s t (codes "error dead\n") (λ e. IsTrue s.dead × (t.next ≡ s))
+
+-- Until the device has failed a crash leaves the table, where the disk tells its bytes.
+abbrev pub IsKept : {D : Type 0} → DiskView D → Standing D → Type 0
+IsKept device s = s.dead ≡ false → IsSome (device.bytes s.disk) → (c : List ℕ) → device.image s.disk c → HasTable s.state c
+
+-- the table after the first of these events, some or all
+abbrev pub HasSomeOf : State → List Event → List ℕ → Type 0
+HasSomeOf s events image = HasPrefixTable s events 0 (length events) image
+
+abbrev pub listed : Option Event → List Event
+listed None = []
+listed (Some e) = e ∷ []
+
+-- the event is tried where it is answered by the table, or the device fails at it
+abbrev pub tried_as : Option Event → Outcome → List Event
+tried_as asked served = listed asked
+tried_as asked no_memory = []
+tried_as asked full = []
+tried_as asked disk = listed asked
+tried_as asked dead = []
+tried_as asked unread = []
+
+-- A turn on the spool that it found. Unless the device had failed before, a crash at any moment of it leaves the table
+-- before the command or, where its event was tried, the one after it. Unless it has failed by then, a crash after it leaves
+-- the table that is shown.
+pub record IsEventTurn {D : Type 0} (v : Setting D) (s : Standing D) (t : EventTurn D) : Type 0 where
+  pub outcome : IsOutcome v s t t.outcome
+  pub counted : v.device.failures s.disk ≤ v.device.failures t.next.disk
+  pub told : IsSome (v.device.bytes t.next.disk) ↔ IsSome (v.device.bytes s.disk)
+  pub crash : s.dead ≡ false → IsSome (v.device.bytes s.disk) →
+      LeavesOnly v.device s.disk t.next.disk (HasSomeOf s.state (tried_as (event_of v.mime s.state t.command) t.outcome))
+  pub kept : IsKept v.device t.next

@@ -1,0 +1,113 @@
+-- Rounds that an engine runs, also where something failed.
+use Rattle.std.specs.Prelude.{◌≡◌, ◌≤◌, ◌↔◌, ◌⊎◌, ℕ, zero, suc, Bool, true, false, List, [], ◌∷◌, codes, length, map, IsSome, Some, Result, Ok, Err}
+use Rattle.spool_types.specs.declared.event.Event.{Event}
+use Rattle.filter_args.specs.declared.place.Place.{Place}
+use Rattle.spool_disk.specs.Disk.{DiskView, LeavesOnly}
+use Rattle.child_pipeline.specs.Told.{Told}
+use Rattle.command_lines.specs.Replies.{rounded_line, drained_line}
+use Rattle.print_rounds.specs.Courses.{Course}
+use Rattle.print_rounds.specs.Finished.{EachFinishedOnce}
+use Rattle.print_rounds.specs.Rounds.{IsUnbegun, IsRoundOf, IsRoundBy, tried_in}
+use Rattle.print_rounds.specs.declared.outcome.Round.{Round}
+use Rattle.print_rounds.specs.declared.outcome.RoundFault.{RoundFault}
+use Rattle.print_rounds.specs.declared.outcome.RoundFault.TheVariants as faults
+use Rattle.spool_engine.specs.EventTurns.{Setting, HasSomeOf, IsKept}
+use Rattle.spool_engine.specs.Script.{Meaning, says, asks, runs, is_idle}
+
+-- a round: what it leaves, its answer, and the events that were tried in it
+pub record Ran (D : Type 0) : Type 0 where
+  pub next : Course D
+  pub result : Result Round RoundFault
+  pub tried : List Event
+
+-- A round, and the events that were tried in it: those that were acknowledged, and behind them the one at which the device
+-- failed. Where nothing was done none was tried.
+abbrev pub IsRoundWith : {D : Type 0} → DiskView D → Place → Course D → Bool → Ran D → Type 0
+IsRoundWith device place old true r = IsRoundBy device place old true r.next r.result × (r.tried ≡ [])
+IsRoundWith device place old false r =
+    (IsUnbegun old r.next r.result × (r.tried ≡ []))
+    ⊎ ((made : IsRoundOf device place old r.next r.result) × (r.tried ≡ tried_in old made.steps))
+
+-- A round, and its children: whatever failed, each that was started is finished, once. Unless the device had failed
+-- before, a crash at any moment of it leaves the table after some of the events that were tried, the first of them.
+pub record IsRan {D : Type 0} (v : Setting D) (old : Course D) (r : Ran D) : Type 0 where
+  pub round : IsRoundWith v.device v.place old old.spool.dead r
+  pub finished : (t : Told) → old.told ≡ Some t → t.running ≡ [] → (js : List ℕ) × EachFinishedOnce t r.next.told js
+  pub counted : v.device.failures old.spool.disk ≤ v.device.failures r.next.spool.disk
+  pub told : IsSome (v.device.bytes r.next.spool.disk) ↔ IsSome (v.device.bytes old.spool.disk)
+  pub crash : old.spool.dead ≡ false → IsSome (v.device.bytes old.spool.disk) →
+      LeavesOnly v.device old.spool.disk r.next.spool.disk (HasSomeOf old.spool.state r.tried)
+  pub kept : IsKept v.device r.next.spool
+
+-- rounds in turn
+abbrev pub AreRan : {D : Type 0} → Setting D → Course D → List (Ran D) → Course D → Type 0
+AreRan v old [] new = new ≡ old
+AreRan v old (r ∷ rs) new = IsRan v old r × AreRan v r.next rs new
+
+abbrev pub results_of : {D : Type 0} → List (Ran D) → List (Result Round RoundFault)
+results_of rs = map (λ r. r.result) rs
+
+-- ## How many there are
+
+-- no round follows one that was idle, or had a fault
+abbrev pub is_last : Result Round RoundFault → Bool
+is_last (Ok round) = is_idle round
+is_last (Err fault) = true
+
+abbrev pub IsRest : Bool → List (Result Round RoundFault) → Type 0 → Type 0
+IsRest true rs Rest = rs ≡ []
+IsRest false rs Rest = Rest
+
+-- these are all: there are as many as may be, or the last one ends them
+abbrev pub AreAll : ℕ → List (Result Round RoundFault) → Type 0
+AreAll zero rs = rs ≡ []
+AreAll (suc n) [] = ⊥
+AreAll (suc n) (r ∷ rs) = IsRest (is_last r) rs (AreAll n rs)
+
+-- ## How they are told
+
+abbrev pub round_fault_line : RoundFault → List ℕ
+round_fault_line faults.Dead = codes "error dead\n"
+round_fault_line faults.Memory = codes "error memory\n"
+round_fault_line faults.Full = codes "error full\n"
+round_fault_line faults.Disk = codes "error disk\n"
+
+-- the line that tells one round, and the line that tells how many were run
+abbrev pub round_line : Result Round RoundFault → List ℕ
+round_line (Ok round) = rounded_line round.started round.finished
+round_line (Err fault) = round_fault_line fault
+
+abbrev pub drain_line : Result ℕ RoundFault → List ℕ
+drain_line (Ok run) = drained_line run
+drain_line (Err fault) = round_fault_line fault
+
+abbrev pub with_counts : Result Round RoundFault → Result (List Round) RoundFault → Result (List Round) RoundFault
+with_counts (Ok round) (Ok rounds) = Ok (round ∷ rounds)
+with_counts (Ok round) (Err fault) = Err fault
+with_counts (Err fault) rest = Err fault
+
+-- the counts of all, or the first fault
+abbrev pub counts_in : List (Result Round RoundFault) → Result (List Round) RoundFault
+counts_in [] = Ok []
+counts_in (r ∷ rs) = with_counts r (counts_in rs)
+
+-- how many they were, or the first fault
+abbrev pub rounds_run : Result (List Round) RoundFault → Result ℕ RoundFault
+rounds_run (Ok rounds) = Ok (length rounds)
+rounds_run (Err fault) = Err fault
+
+abbrev pub line_told : (List Round → List ℕ) → Result (List Round) RoundFault → List ℕ
+line_told line (Ok rounds) = line rounds
+line_told line (Err fault) = round_fault_line fault
+
+-- rounds that were run, as many as may be at the most, and their text
+pub record AreRun {D : Type 0} (v : Setting D) (most : ℕ) (line : List Round → List ℕ) (old : Course D) (rs : List (Ran D)) (new : Course D) (reply : List ℕ) : Type 0 where
+  pub each : AreRan v old rs new
+  pub all : AreAll most (results_of rs)
+  pub text : reply ≡ line_told line (counts_in (results_of rs))
+
+-- only a row of rounds is told by rounds
+abbrev pub AreRunBy : {D : Type 0} → Setting D → Meaning → Course D → List (Ran D) → Course D → List ℕ → Type 0
+AreRunBy v (says text) old rs new reply = ⊥
+AreRunBy v (asks e line) old rs new reply = ⊥
+AreRunBy v (runs most line) old rs new reply = AreRun v most line old rs new reply

@@ -1,0 +1,296 @@
+//! The printer: it serves the commands of a text, each on what it finds.
+ghost use Rattle.std.specs.Prelude.{◌≡◌, ℕ, List, [], IfOk, OnOk};
+ghost use Rattle.std.specs.FinMap as finite;
+ghost use Rattle.spool_types.specs.declared.event.Event.{Event as EventOf};
+ghost use Rattle.command_lines.specs.declared.command.Command.{Command};
+ghost use Rattle.print_rounds.specs.Courses.{course};
+ghost use Rattle.spool_engine.specs.EventTurns.{setting, IsKept};
+ghost use Rattle.spool_engine.specs.Mime.{Mime as MimeDatabase};
+ghost use Rattle.spool_engine.specs.Rounds.{Ran, IsRan, AreRan, AreAll, AreRun, counts_in, results_of, rounds_run};
+ghost use Rattle.spool_engine.specs.Script.{is_idle, round_text, drain_text};
+ghost use Rattle.spool_engine.specs.Runs.{Turn, TakesTurn, Serves, IsRun, Drains, DrainsEnd, DrainsPiece};
+
+use crate::answers::{drained_text, rounded_text};
+use crate::executor::Executor;
+use crate::fault::RunFault;
+use crate::mime::Mime;
+use child_pipeline::{Children, Runner};
+use command_lines::{Answer, Command, Commands, Rounds, print_reply};
+use filter_args::Place;
+use print_rounds::{Round, RoundFault};
+use spool_core::Spool;
+use spool_disk::Disk;
+use spool_types::Refusal;
+use std::alloc::{AllocError, Global};
+use std::io::{ErrorKind, Read, Write};
+use std::marker::Model;
+use whole_writes::write_whole;
+
+// How many bytes are asked of the reader at once.
+const PIECE: usize = 16_384;
+
+/// An executor, and beside it the slots and the children by which rounds are run. It is seen as what the spool shows, the
+/// slots, and what the children tell. Between two commands no child is running.
+#[derive(Drop)]
+pub(crate) struct Printer<D: Disk, C: Children> {
+    alloc: Global,
+    executor: Executor<D>,
+    runner: Runner<C>,
+    children: C,
+}
+
+impl<D: Disk, C: Children> Model for Printer<D, C> {
+    ghost use Rattle.print_rounds.specs.Courses.{Course, course};
+    ghost use Rattle.print_rounds.specs.Finished.{HasNoneRunning};
+    ghost use Rattle.std.specs.Coded.{codes};
+    ghost use Rattle.std.specs.FinMap as map;
+
+    ghost Value = { Course D };
+
+    ghost coded = { Prim.hlevel (codes, map.code, D.code) };
+
+    ghost view = { λ p. course p.executor p.runner (C.tells p.children) };
+
+    ghost invariant = { λ p. HasNoneRunning p.runner };
+}
+
+impl<D: Disk, C: Children> Printer<D, C> {
+    /// A printer that goes on from this spool.
+    pub fn new(alloc: Global, spool: Spool<D>, children: C) -> Printer<D, C>
+        ensures { result ≡ course spool finite.empty (C.tells children) }
+    {
+        Printer {
+            alloc,
+            executor: Executor::new(alloc, spool),
+            runner: Runner::new(alloc),
+            children,
+        }
+    }
+
+    /// The spool as it is now, and the children.
+    pub fn into_parts(self) -> (Spool<D>, C)
+        ensures spool { result.0 ≡ self.spool }
+        ensures children { C.tells result.1 ≡ self.told }
+    {
+        let Printer {
+            executor,
+            children,
+            ..
+        } = self;
+        (executor.into_spool(), children)
+    }
+
+    /// Whether the device has failed. Then every event is answered `error dead`.
+    pub fn met_fault(&self) -> bool
+        ensures dead { result ≡ self.now.spool.dead }
+        // Until then a crash leaves the table that is shown.
+        ensures kept { IsKept D.device self.now.spool }
+    {
+        self.executor.met_fault()
+    }
+
+    /// Runs a round.
+    pub fn round(&mut self, place: &Place) -> Result<Round, RoundFault>
+        ensures { (m : MimeDatabase) → (tried : List EventOf) × IsRan (setting D.device m place.now) self.old
+            (record { next = self.new; result = result; tried = tried }) }
+    {
+        self.executor
+            .round(place, &mut self.runner, &mut self.children)
+    }
+
+    // Runs rounds until one starts and finishes nothing, or these were run, and tells how many there were.
+    fn drain(&mut self, place: &Place, most: Rounds) -> Result<u32, RoundFault>
+        ensures { (m : MimeDatabase) → (rs : List (Ran D)) × AreRan (setting D.device m place.now) self.old rs self.new
+            × AreAll most (results_of rs) × (result ≡ rounds_run (counts_in (results_of rs))) }
+    {
+        for run in 0..most.get() {
+            match self.round(place) {
+                Ok(round) => {
+                    if is_idle(round) {
+                        return Ok(run + 1);
+                    }
+                }
+                Err(fault) => return Err(fault),
+            }
+        }
+        Ok(most.get())
+    }
+
+    // The text that tells a round.
+    fn round_text(&mut self, place: &Place) -> Result<Vec<u8>, AllocError>
+        ensures { (m : MimeDatabase) → (rs : List (Ran D)) × (reply : List ℕ)
+            × AreRun (setting D.device m place.now) 1 round_text self.old rs self.new reply
+            × IfOk result (λ text. text.items ≡ reply) }
+    {
+        let ran = self.round(place);
+        rounded_text(self.alloc, ran)
+    }
+
+    // The text that tells the rounds of a drain.
+    fn drain_text(&mut self, place: &Place, most: Rounds) -> Result<Vec<u8>, AllocError>
+        ensures { (m : MimeDatabase) → (rs : List (Ran D)) × (reply : List ℕ)
+            × AreRun (setting D.device m place.now) most drain_text self.old rs self.new reply
+            × IfOk result (λ text. text.items ≡ reply) }
+    {
+        let run = self.drain(place, most);
+        drained_text(self.alloc, run)
+    }
+
+    // Serves a command, and makes the text of its reply.
+    fn execute(
+        &mut self,
+        mime: &Mime,
+        place: &Place,
+        command: Command,
+    ) -> Result<Vec<u8>, AllocError>
+        ensures { (t : Turn D) ×
+            TakesTurn (setting D.device mime.now place.now) self.old command t self.new ×
+            IfOk result (λ text. text.items ≡ t.text) }
+    {
+        // Until the device has failed a crash leaves the table that is shown.
+        let _kept = self.met_fault();
+        match command {
+            Command::Apply(event) => self.executor.execute_event(event),
+            Command::Queue(queue) => self.executor.add_queue(queue),
+            Command::Create(creation) => self.executor.create(creation),
+            Command::Close { job, name } => self.executor.close(mime, job, name.as_str()),
+            Command::OversizedSend => {
+                print_reply(self.alloc, &Answer::Refused(Refusal::TooLong))
+            }
+            Command::Jobs => self.executor.jobs(),
+            Command::Queues => self.executor.queues(),
+            Command::Round => self.round_text(place),
+            Command::Drain(most) => self.drain_text(place, most),
+            Command::Malformed => print_reply(self.alloc, &Answer::Malformed),
+        }
+    }
+
+    // Serves a command, and writes its reply.
+    fn answer<W: Write>(
+        &mut self,
+        mime: &Mime,
+        place: &Place,
+        command: Command,
+        writer: &mut W,
+    ) -> Result<(), RunFault>
+        ensures { (t : Turn D) × Serves (setting D.device mime.now place.now)
+            self.old command t self.new result (W.contents writer.old) (W.contents writer.new) }
+    {
+        match self.execute(mime, place, command) {
+            Ok(text) => match write_whole(writer, &text) {
+                Ok(()) => Ok(()),
+                Err(_) => Err(RunFault::Write),
+            },
+            Err(_) => Err(RunFault::Memory),
+        }
+    }
+
+    // Serves the commands that are whole.
+    fn serve_whole<W: Write>(
+        &mut self,
+        mime: &Mime,
+        place: &Place,
+        commands: &mut Commands,
+        writer: &mut W,
+    ) -> Result<(), RunFault>
+        ensures { (turns : List (Turn D)) × Drains (setting D.device mime.now place.now)
+            self.old commands.old turns self.new commands.new result (W.contents writer.old) (W.contents writer.new) }
+    {
+        'commands: loop {
+            match commands.next() {
+                Ok(Some(command)) => match self.answer(mime, place, command, writer) {
+                    Ok(()) => {}
+                    Err(fault) => return Err(fault),
+                },
+                Ok(None) => return Ok(()),
+                Err(_) => return Err(RunFault::Memory),
+            }
+        }
+    }
+
+    // Serves the commands that are left where the text ends.
+    fn serve_end<W: Write>(
+        &mut self,
+        mime: &Mime,
+        place: &Place,
+        commands: &mut Commands,
+        writer: &mut W,
+    ) -> Result<(), RunFault>
+        ensures { (turns : List (Turn D)) × (rest : List Command) ×
+            DrainsEnd (setting D.device mime.now place.now)
+            self.old commands.old turns self.new rest result (W.contents writer.old) (W.contents writer.new) ×
+            OnOk result (rest ≡ []) }
+    {
+        'commands: loop {
+            match commands.finish() {
+                Ok(Some(command)) => match self.answer(mime, place, command, writer) {
+                    Ok(()) => {}
+                    Err(fault) => return Err(fault),
+                },
+                Ok(None) => return Ok(()),
+                Err(_) => return Err(RunFault::Memory),
+            }
+        }
+    }
+
+    // Takes a piece of the text, and serves the commands that are whole then.
+    fn take_piece<W: Write>(
+        &mut self,
+        mime: &Mime,
+        place: &Place,
+        commands: &mut Commands,
+        piece: &[u8],
+        writer: &mut W,
+    ) -> Result<(), RunFault>
+        ensures { (turns : List (Turn D)) × DrainsPiece (setting D.device mime.now place.now)
+            piece.now self.old commands.old turns self.new commands.new result (W.contents writer.old) (W.contents writer.new) }
+    {
+        match commands.feed(piece) {
+            Ok(()) => self.serve_whole(mime, place, commands, writer),
+            Err(_) => Err(RunFault::Memory),
+        }
+    }
+
+    /// Serves the commands of a text, and writes the reply to each before the next is looked at. A read that was
+    /// interrupted is made again.
+    pub fn serve<R: Read, W: Write>(
+        &mut self,
+        mime: &Mime,
+        place: &Place,
+        reader: &mut R,
+        writer: &mut W,
+    ) -> Result<(), RunFault>
+        ensures { (text : List ℕ) × (turns : List (Turn D)) ×
+            IsRun (setting D.device mime.now place.now) (R.remaining reader.old)
+            self.old text turns self.new result (W.contents writer.old) (W.contents writer.new) }
+    {
+        // Until the device has failed a crash leaves the table that is shown.
+        let _kept = self.met_fault();
+        let mut commands = Commands::new(self.alloc);
+        let mut piece = [0u8; PIECE];
+        'reads: for _ in 0..u32::MAX {
+            match reader.read(&mut piece) {
+                Ok(0) => return self.serve_end(mime, place, &mut commands, writer),
+                Ok(count) => {
+                    match self.take_piece(mime, place, &mut commands, &piece[..count], writer) {
+                        Ok(()) => {}
+                        Err(fault) => return Err(fault),
+                    }
+                }
+                Err(e) => {
+                    if e.kind() != ErrorKind::Interrupted {
+                        return Err(RunFault::Read);
+                    }
+                }
+            }
+        }
+        Err(RunFault::Read)
+    }
+}
+
+// Whether a round started and finished nothing.
+fn is_idle(round: Round) -> bool
+    ensures { result ≡ is_idle round }
+{
+    round.started == 0 && round.finished == 0
+}
