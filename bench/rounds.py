@@ -3,7 +3,7 @@
 
 It runs crates/spool_shell/out/spool_shell (made by `rt run` in that folder) on a spool in memory. There no child can be
 started, so each job ends in the round that starts it: a round is one Start, one order and one Stage for each queue. The
-time of a script without its rounds is taken off, and what is left is divided by the rounds.
+queues and the jobs are made first, and then the rounds are timed, from the first command to the last reply.
 
 The jobs that don't run are held. They are looked at by each queue until there is an index of the waiting jobs, so a
 round is not yet flat in them. Times depend on the machine; only the ratios are of interest, and no test reads them.
@@ -11,24 +11,12 @@ round is not yet flat in them. Times depend on the machine; only the ratios are 
 import os
 import subprocess
 import sys
+import threading
 import time
 
 here = os.path.dirname(os.path.abspath(__file__))
 shell = os.path.join(here, "..", "crates", "spool_shell", "out", "spool_shell")
 ROUNDS = 20
-
-
-def seconds(script):
-    """The least time of three runs."""
-    best = None
-    for _ in range(3):
-        start = time.perf_counter()
-        run = subprocess.run([shell, "--size", "268435456"], input=script, stdout=subprocess.PIPE, check=True)
-        took = time.perf_counter() - start
-        best = took if best is None else min(best, took)
-        if b"error" in run.stdout:
-            sys.exit("a reply was an error")
-    return best
 
 
 def before(queues, held):
@@ -46,8 +34,35 @@ def before(queues, held):
 
 
 def round_seconds(queues, held):
+    """The least time of a round in three runs."""
     script = before(queues, held)
-    return (seconds(script + b"round\n" * ROUNDS) - seconds(script)) / ROUNDS
+    replies = script.count(b"\n")
+    best = None
+    for _ in range(3):
+        words = [shell, "--size", "268435456"]
+        with subprocess.Popen(words, stdin=subprocess.PIPE, stdout=subprocess.PIPE) as running:
+            writing = threading.Thread(target=ask, args=(running, script))
+            writing.start()
+            wait_for(running, replies)
+            writing.join()
+            start = time.perf_counter()
+            ask(running, b"round\n" * ROUNDS)
+            wait_for(running, ROUNDS)
+            took = (time.perf_counter() - start) / ROUNDS
+            running.stdin.close()
+        best = took if best is None else min(best, took)
+    return best
+
+
+def ask(running, script):
+    running.stdin.write(script)
+    running.stdin.flush()
+
+
+def wait_for(running, replies):
+    for _ in range(replies):
+        if running.stdout.readline().startswith(b"error"):
+            sys.exit("a reply was an error")
 
 
 def main():

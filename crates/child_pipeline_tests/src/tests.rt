@@ -2,10 +2,8 @@ ghost use Rattle.std.specs.Prelude.{◌≡◌, IfOk};
 
 use child_pipeline::*;
 use filter_args::Place;
-use spool_types::{
-    Copies, Exit, FilterName, Filters, Interval, Items, JobId, JobRow, MediaType, Message, Note,
-    OptionText, Phase, Policy, Priority, QueueName, QueueRow, StageEnd, Title, Uri, UserName,
-};
+use sample_rows::{sample_job, sample_queue};
+use spool_types::{Exit, FilterName, Filters, Items, JobId, JobRow, Phase, StageEnd};
 use std::alloc::Global;
 use std::test::Fail;
 
@@ -21,44 +19,14 @@ fn filters(alloc: Global, names: &[&str]) -> Result<Filters, Fail> {
 fn job(alloc: Global, stage: u8) -> Result<JobRow, Fail>
     ensures { IfOk result (λ row. row.phase ≡ Phase.Processing 1 stage 3) }
 {
-    Ok(JobRow {
-        id: JobId::new(7).ok_or("no number")?,
-        queue: QueueName::read(alloc, "lab")?,
-        user: UserName::read(alloc, "ann")?,
-        title: Title::read(alloc, "P 1")?,
-        copies: Copies::new(2).ok_or("no copies")?,
-        priority: Priority::new(50).ok_or("no priority")?,
-        options: OptionText::read(alloc, "media=A4")?,
-        media: Some(MediaType::read(alloc, "text/plain")?),
-        filters: filters(alloc, &["raster", "pcl"])?,
-        attempts: 1,
-        pages: 0,
-        size: 3,
-        phase: Phase::Processing {
-            attempt: 1,
-            stage,
-            stages: 3,
-        },
-        document: Vec::new(alloc),
-    })
-}
-
-fn queue(alloc: Global, uri: &str) -> Result<QueueRow, Fail> {
-    Ok(QueueRow {
-        name: QueueName::read(alloc, "lab")?,
-        uri: Uri::read(alloc, uri)?,
-        target: MediaType::read(alloc, "application/x-prn")?,
-        policy: Policy::AbortJob,
-        interval: Interval::new(30).ok_or("no interval")?,
-        limit: 5,
-        info: Note::empty(alloc),
-        location: Note::empty(alloc),
-        accepting: true,
-        stopped: false,
-        message: Message::empty(alloc),
-        reasons: Items::empty(alloc),
-        attributes: Items::empty(alloc),
-    })
+    let phase = Phase::Processing {
+        attempt: 1,
+        stage,
+        stages: 3,
+    };
+    let mut job = sample_job(alloc, phase)?;
+    job.filters = filters(alloc, &["raster", "pcl"])?;
+    Ok(job)
 }
 
 fn place(alloc: Global) -> Result<Place, Fail> {
@@ -104,7 +72,7 @@ fn start<C: Children>(
     row: &JobRow,
 ) -> Result<bool, Fail> {
     let place = place(alloc)?;
-    let queue = queue(alloc, "socket://printer")?;
+    let queue = sample_queue(alloc, "socket://printer")?;
     let document = content(alloc, b"DOC")?;
     if !runner.is_due(row) {
         return Err(Fail::from("the stage isn't due"));

@@ -1,10 +1,8 @@
 ghost use Rattle.std.specs.Prelude.{◌<◌};
 
 use command_lines::*;
-use spool_types::{
-    Attributes, Copies, Filters, Interval, JobId, JobRow, MediaType, Message, Note, OptionText,
-    Phase, Policy, Priority, QueueName, QueueRow, Reason, Reasons, Refusal, Title, Uri, UserName,
-};
+use sample_rows::{sample_job, sample_queue};
+use spool_types::{JobId, JobRow, MediaType, Message, Phase, QueueRow, Reason, Reasons, Refusal};
 use std::alloc::Global;
 use std::test::Fail;
 
@@ -96,49 +94,28 @@ Drain(Ranged { number: 5 })\n\
 Queues\n\
 Jobs\n";
 
-#[test]
-fn every_command_at_once(rt: HostRuntime) -> Result<(), Fail> {
-    let lines = shown(rt.alloc(), SCRIPT, 4096)?;
-    assert_eq!(rt; lines.as_str(), SCRIPT_SHOWN);
-    Ok(())
-}
-
-#[test]
-fn every_command_cut_at_every_byte(rt: HostRuntime) -> Result<(), Fail> {
-    let lines = shown(rt.alloc(), SCRIPT, 1)?;
-    assert_eq!(rt; lines.as_str(), SCRIPT_SHOWN);
-    Ok(())
-}
-
-#[test]
-fn queues_with_interval_and_limit(rt: HostRuntime) -> Result<(), Fail> {
-    let text = b"queue q s:/ a/b stop-printer 86400 65535\n\
+// What a text shows, the text, and a line for each of its commands.
+const TEXTS: [(&str, &[u8], &str); 16] = [
+    (
+        "queues with interval and limit",
+        b"queue q s:/ a/b stop-printer 86400 65535\n\
 queue q s:/ a/b retry-job 86401\n\
 queue q s:/ a/b retry-job 0 65536\n\
 queue q s:/ a/b Retry-job\n\
 queue q s:/ a/b/c retry-job\n\
-queue q! s:/ a/b retry-job\n";
-    let lines = shown(rt.alloc(), text, 4096)?;
-    assert_eq!(rt;
-        lines.as_str(),
-        "Queue(NewQueue { name: \"q\", uri: \"s:/\", target: MediaType { name: \"a/b\" }, policy: StopPrinter, interval: Ranged { number: 86400 }, limit: 65535 })\nMalformed\nMalformed\nMalformed\nMalformed\nMalformed\n"
-    );
-    Ok(())
-}
-
-#[test]
-fn quoted_words(rt: HostRuntime) -> Result<(), Fail> {
-    let text = b"close 1 \"\"\n\
+queue q! s:/ a/b retry-job\n",
+        "Queue(NewQueue { name: \"q\", uri: \"s:/\", target: MediaType { name: \"a/b\" }, policy: StopPrinter, interval: Ranged { number: 86400 }, limit: 65535 })\nMalformed\nMalformed\nMalformed\nMalformed\nMalformed\n",
+    ),
+    (
+        "quoted words",
+        b"close 1 \"\"\n\
 close 1 \"a\"\"b\"\n\
 close 1 \"a\\\"b\\\\c\\d\"\n\
 close 1 \"a\n\
 close 1 a\"b\n\
 close 1 a\\b\n\
 \"jobs\"\n\
-\"cancel\" \"1\"\n";
-    let lines = shown(rt.alloc(), text, 4096)?;
-    assert_eq!(rt;
-        lines.as_str(),
+\"cancel\" \"1\"\n",
         "Close { job: JobId { number: 1 }, name: \"\" }\n\
 Malformed\n\
 Close { job: JobId { number: 1 }, name: \"a\\\"b\\\\c\\\\d\" }\n\
@@ -146,149 +123,105 @@ Malformed\n\
 Malformed\n\
 Close { job: JobId { number: 1 }, name: \"a\\\\b\" }\n\
 Jobs\n\
-Apply(Cancel(JobId { number: 1 }))\n"
-    );
-    Ok(())
-}
-
-#[test]
-fn blanks_and_remarks(rt: HostRuntime) -> Result<(), Fail> {
-    let text = b" \t jobs\t \n  \n # no remark\n#\xff\0\n\njobs\r\njobs x\nJobs\n";
-    let lines = shown(rt.alloc(), text, 4096)?;
-    assert_eq!(rt;
-        lines.as_str(),
-        "Jobs\nMalformed\nMalformed\nMalformed\nMalformed\nMalformed\n"
-    );
-    Ok(())
-}
-
-#[test]
-fn bytes_that_are_no_text(rt: HostRuntime) -> Result<(), Fail> {
-    let text =
-        b"close 1 a\0b\nclose 1 \xff\nclose 1 \xc3\xa9\nclose 1 \"a\tb\"\nsend 1 2\n\xff\0\n";
-    let lines = shown(rt.alloc(), text, 4096)?;
-    assert_eq!(rt;
-        lines.as_str(),
-        "Malformed\nMalformed\nClose { job: JobId { number: 1 }, name: \"\u{e9}\" }\nMalformed\nApply(Send { job: JobId { number: 1 }, bytes: Items { items: [255, 0] } })\n"
-    );
-    Ok(())
-}
-
-#[test]
-fn numbers(rt: HostRuntime) -> Result<(), Fail> {
-    let text =
-        b"cancel 0000000000001\ncancel 00000000000001\ncancel +1\ncancel 0\ncancel 2147483647\ncancel 2147483648\ncancel \"\"\n";
-    let lines = shown(rt.alloc(), text, 4096)?;
-    assert_eq!(rt;
-        lines.as_str(),
-        "Apply(Cancel(JobId { number: 1 }))\nMalformed\nMalformed\nMalformed\nApply(Cancel(JobId { number: 2147483647 }))\nMalformed\nMalformed\n"
-    );
-    Ok(())
-}
-
-#[test]
-fn moments(rt: HostRuntime) -> Result<(), Fail> {
-    let text = b"clock 0\nclock 4000000000000\nclock 4000000000001\nclock\nclock 1 2\nclock -1\n";
-    let lines = shown(rt.alloc(), text, 4096)?;
-    assert_eq!(rt;
-        lines.as_str(),
-        "Apply(Clock(Moment { seconds: 0 }))\nApply(Clock(Moment { seconds: 4000000000000 }))\nMalformed\nMalformed\nMalformed\nMalformed\n"
-    );
-    Ok(())
-}
-
-#[test]
-fn notes_of_a_queue(rt: HostRuntime) -> Result<(), Fail> {
-    let text = b"info lab \"Front desk\" \"\"\ninfo lab \"\" \"Room 4\"\ninfo lab a\n";
-    let lines = shown(rt.alloc(), text, 4096)?;
-    assert_eq!(rt;
-        lines.as_str(),
+Apply(Cancel(JobId { number: 1 }))\n",
+    ),
+    (
+        "blanks and remarks",
+        b" \t jobs\t \n  \n # no remark\n#\xff\0\n\njobs\r\njobs x\nJobs\n",
+        "Jobs\nMalformed\nMalformed\nMalformed\nMalformed\nMalformed\n",
+    ),
+    (
+        "bytes that are no text",
+        b"close 1 a\0b\nclose 1 \xff\nclose 1 \xc3\xa9\nclose 1 \"a\tb\"\nsend 1 2\n\xff\0\n",
+        "Malformed\nMalformed\nClose { job: JobId { number: 1 }, name: \"\u{e9}\" }\nMalformed\nApply(Send { job: JobId { number: 1 }, bytes: Items { items: [255, 0] } })\n",
+    ),
+    (
+        "numbers",
+        b"cancel 0000000000001\ncancel 00000000000001\ncancel +1\ncancel 0\ncancel 2147483647\ncancel 2147483648\ncancel \"\"\n",
+        "Apply(Cancel(JobId { number: 1 }))\nMalformed\nMalformed\nMalformed\nApply(Cancel(JobId { number: 2147483647 }))\nMalformed\nMalformed\n",
+    ),
+    (
+        "moments",
+        b"clock 0\nclock 4000000000000\nclock 4000000000001\nclock\nclock 1 2\nclock -1\n",
+        "Apply(Clock(Moment { seconds: 0 }))\nApply(Clock(Moment { seconds: 4000000000000 }))\nMalformed\nMalformed\nMalformed\nMalformed\n",
+    ),
+    (
+        "notes of a queue",
+        b"info lab \"Front desk\" \"\"\ninfo lab \"\" \"Room 4\"\ninfo lab a\n",
         "Apply(Info(QueueNotes { queue: \"lab\", info: \"Front desk\", location: \"\" }))\n\
 Apply(Info(QueueNotes { queue: \"lab\", info: \"\", location: \"Room 4\" }))\n\
-Malformed\n"
-    );
-    Ok(())
-}
-
-#[test]
-fn queues_that_accept_or_reject(rt: HostRuntime) -> Result<(), Fail> {
-    let text = b"accept lab\nreject lab\naccept\naccept lab lab\n";
-    let lines = shown(rt.alloc(), text, 4096)?;
-    assert_eq!(rt;
-        lines.as_str(),
+Malformed\n",
+    ),
+    (
+        "queues that accept or reject",
+        b"accept lab\nreject lab\naccept\naccept lab lab\n",
         "Apply(SetAccept { queue: \"lab\", accepting: true })\n\
 Apply(SetAccept { queue: \"lab\", accepting: false })\n\
 Malformed\n\
-Malformed\n"
-    );
-    Ok(())
-}
-
-#[test]
-fn queues_that_stop_or_go_on(rt: HostRuntime) -> Result<(), Fail> {
-    let lines = shown(rt.alloc(), b"enable lab\ndisable lab\n", 4096)?;
-    assert_eq!(rt;
-        lines.as_str(),
-        "Apply(SetStop { queue: \"lab\", stopped: false })\nApply(SetStop { queue: \"lab\", stopped: true })\n"
-    );
-    Ok(())
-}
-
-#[test]
-fn holds(rt: HostRuntime) -> Result<(), Fail> {
-    let text = b"hold 1 100\nhold 1 indefinite\nhold 1 \"indefinite\"\n\
-hold 1\nhold 1 Indefinite\nhold 1 4000000000001\nhold 0 indefinite\n";
-    let lines = shown(rt.alloc(), text, 4096)?;
-    assert_eq!(rt;
-        lines.as_str(),
+Malformed\n",
+    ),
+    (
+        "queues that stop or go on",
+        b"enable lab\ndisable lab\n",
+        "Apply(SetStop { queue: \"lab\", stopped: false })\nApply(SetStop { queue: \"lab\", stopped: true })\n",
+    ),
+    (
+        "holds",
+        b"hold 1 100\nhold 1 indefinite\nhold 1 \"indefinite\"\n\
+hold 1\nhold 1 Indefinite\nhold 1 4000000000001\nhold 0 indefinite\n",
         "Apply(Hold { job: JobId { number: 1 }, until: Some(Moment { seconds: 100 }) })\n\
 Apply(Hold { job: JobId { number: 1 }, until: None })\n\
 Apply(Hold { job: JobId { number: 1 }, until: None })\n\
 Malformed\n\
 Malformed\n\
 Malformed\n\
-Malformed\n"
-    );
+Malformed\n",
+    ),
+    (
+        "releases",
+        b"release 1\nrelease x\n",
+        "Apply(Release(JobId { number: 1 }))\nMalformed\n",
+    ),
+    (
+        "listings take no words",
+        b"queues\nqueues 1\n",
+        "Queues\nMalformed\n",
+    ),
+    (
+        "drains have 1 to 1000 rounds",
+        b"round\nround 1\ndrain\ndrain 0\ndrain 1\ndrain 1000\ndrain 1001\ndrain 1 1\n",
+        "Round\nMalformed\nMalformed\nMalformed\nDrain(Ranged { number: 1 })\nDrain(Ranged { number: 1000 })\nMalformed\nMalformed\n",
+    ),
+    (
+        "limits of a creation",
+        b"create q u t 9999 100 o\ncreate q u t 10000 1 o\ncreate q u t 1 101 o\ncreate q u t 0 1 o\ncreate q \"\" t 1 1 o\n",
+        "Create(Creation { queue: \"q\", user: \"u\", title: \"t\", copies: Ranged { number: 9999 }, priority: Ranged { number: 100 }, options: \"o\" })\nMalformed\nMalformed\nMalformed\nMalformed\n",
+    ),
+    (
+        "sends without their end",
+        b"send 1 2\nabc\njobs\nsend 1\nsend 1 5\nab",
+        "Malformed\nJobs\nMalformed\nMalformed\n",
+    ),
+    (
+        "sends of nothing",
+        b"send 1 0\n\nsend 1 0",
+        "Apply(Send { job: JobId { number: 1 }, bytes: Items { items: [] } })\nMalformed\n",
+    ),
+];
+
+#[test]
+fn texts_are_read_as_their_commands(rt: HostRuntime) -> Result<(), Fail> {
+    for (what, text, want) in TEXTS {
+        assert_eq!(rt; shown(rt.alloc(), text, 4096)?.as_str(), want, "{what}");
+    }
     Ok(())
 }
 
 #[test]
-fn releases(rt: HostRuntime) -> Result<(), Fail> {
-    let lines = shown(rt.alloc(), b"release 1\nrelease x\n", 4096)?;
-    assert_eq!(rt;
-        lines.as_str(),
-        "Apply(Release(JobId { number: 1 }))\nMalformed\n"
-    );
-    Ok(())
-}
-
-#[test]
-fn listings_take_no_words(rt: HostRuntime) -> Result<(), Fail> {
-    let lines = shown(rt.alloc(), b"queues\nqueues 1\n", 4096)?;
-    assert_eq!(rt; lines.as_str(), "Queues\nMalformed\n");
-    Ok(())
-}
-
-#[test]
-fn drains_have_1_to_1000_rounds(rt: HostRuntime) -> Result<(), Fail> {
-    let text = b"round\nround 1\ndrain\ndrain 0\ndrain 1\ndrain 1000\ndrain 1001\ndrain 1 1\n";
-    let lines = shown(rt.alloc(), text, 4096)?;
-    assert_eq!(rt;
-        lines.as_str(),
-        "Round\nMalformed\nMalformed\nMalformed\nDrain(Ranged { number: 1 })\nDrain(Ranged { number: 1000 })\nMalformed\nMalformed\n"
-    );
-    Ok(())
-}
-
-#[test]
-fn limits_of_a_creation(rt: HostRuntime) -> Result<(), Fail> {
-    let text =
-        b"create q u t 9999 100 o\ncreate q u t 10000 1 o\ncreate q u t 1 101 o\ncreate q u t 0 1 o\ncreate q \"\" t 1 1 o\n";
-    let lines = shown(rt.alloc(), text, 4096)?;
-    assert_eq!(rt;
-        lines.as_str(),
-        "Create(Creation { queue: \"q\", user: \"u\", title: \"t\", copies: Ranged { number: 9999 }, priority: Ranged { number: 100 }, options: \"o\" })\nMalformed\nMalformed\nMalformed\nMalformed\n"
-    );
+fn every_command_is_read_however_it_is_cut(rt: HostRuntime) -> Result<(), Fail> {
+    for size in [4096, 7, 1] {
+        assert_eq!(rt; shown(rt.alloc(), SCRIPT, size)?.as_str(), SCRIPT_SHOWN);
+    }
     Ok(())
 }
 
@@ -301,6 +234,68 @@ fn padded(alloc: Global, front: &[u8], b: u8, count: usize, end: &[u8]) -> Resul
     Ok(text)
 }
 
+// What is padded, a front, a byte, how often it comes, an end, and a line for each command.
+const PADDED: [(&str, &[u8], u8, usize, &[u8], &str); 7] = [
+    (
+        "a long location",
+        b"info lab \"\" ",
+        b'x',
+        128,
+        b"\n",
+        "Malformed\n",
+    ),
+    (
+        "a long info",
+        b"info lab ",
+        b'x',
+        128,
+        b" \"\"\n",
+        "Malformed\n",
+    ),
+    (
+        "the longest line",
+        b"jobs",
+        b' ',
+        4092,
+        b"\njobs\n",
+        "Jobs\nJobs\n",
+    ),
+    (
+        "a longer line",
+        b"jobs",
+        b' ',
+        4093,
+        b"\njobs\n",
+        "Malformed\nJobs\n",
+    ),
+    ("a long remark", b"#", b'x', 9000, b"\njobs\n", "Jobs\n"),
+    (
+        "an oversized send",
+        b"send 1 70000\n",
+        b'\n',
+        70_000,
+        b"\njobs\n",
+        "OversizedSend\nJobs\n",
+    ),
+    (
+        "another byte behind it",
+        b"send 1 70000\n",
+        b'\n',
+        70_000,
+        b"x\njobs\n",
+        "Malformed\nJobs\n",
+    ),
+];
+
+#[test]
+fn long_texts_are_read_as_their_commands(rt: HostRuntime) -> Result<(), Fail> {
+    for (what, front, byte, count, end, want) in PADDED {
+        let text = padded(rt.alloc(), front, byte, count, end)?;
+        assert_eq!(rt; shown(rt.alloc(), &text, 100)?.as_str(), want, "{what}");
+    }
+    Ok(())
+}
+
 #[test]
 fn longest_note(rt: HostRuntime) -> Result<(), Fail> {
     let alloc = rt.alloc();
@@ -308,66 +303,6 @@ fn longest_note(rt: HostRuntime) -> Result<(), Fail> {
     let front = b"Apply(Info(QueueNotes { queue: \"lab\", info: \"\", location: \"";
     let want = padded(alloc, front, b'x', 127, b"\" }))\n")?;
     assert_eq!(rt; shown(alloc, &text, 4096)?.as_bytes(), want.as_slice());
-    Ok(())
-}
-
-#[test]
-fn longer_notes(rt: HostRuntime) -> Result<(), Fail> {
-    let alloc = rt.alloc();
-    let text = padded(alloc, b"info lab \"\" ", b'x', 128, b"\n")?;
-    assert_eq!(rt; shown(alloc, &text, 4096)?.as_str(), "Malformed\n");
-    let text = padded(alloc, b"info lab ", b'x', 128, b" \"\"\n")?;
-    assert_eq!(rt; shown(alloc, &text, 4096)?.as_str(), "Malformed\n");
-    Ok(())
-}
-
-#[test]
-fn longest_line(rt: HostRuntime) -> Result<(), Fail> {
-    let text = padded(rt.alloc(), b"jobs", b' ', 4092, b"\njobs\n")?;
-    assert_eq!(rt; shown(rt.alloc(), &text, 100)?.as_str(), "Jobs\nJobs\n");
-    let text = padded(rt.alloc(), b"jobs", b' ', 4093, b"\njobs\n")?;
-    assert_eq!(rt;
-        shown(rt.alloc(), &text, 100)?.as_str(),
-        "Malformed\nJobs\n"
-    );
-    Ok(())
-}
-
-#[test]
-fn long_remark(rt: HostRuntime) -> Result<(), Fail> {
-    let text = padded(rt.alloc(), b"#", b'x', 9000, b"\njobs\n")?;
-    assert_eq!(rt; shown(rt.alloc(), &text, 100)?.as_str(), "Jobs\n");
-    Ok(())
-}
-
-#[test]
-fn oversized_send(rt: HostRuntime) -> Result<(), Fail> {
-    let text = padded(rt.alloc(), b"send 1 70000\n", b'\n', 70_000, b"\njobs\n")?;
-    assert_eq!(rt;
-        shown(rt.alloc(), &text, 4096)?.as_str(),
-        "OversizedSend\nJobs\n"
-    );
-    let text = padded(rt.alloc(), b"send 1 70000\n", b'\n', 70_000, b"x\njobs\n")?;
-    assert_eq!(rt;
-        shown(rt.alloc(), &text, 4096)?.as_str(),
-        "Malformed\nJobs\n"
-    );
-    Ok(())
-}
-
-#[test]
-fn sends_without_their_end(rt: HostRuntime) -> Result<(), Fail> {
-    let lines = shown(
-        rt.alloc(),
-        b"send 1 2\nabc\njobs\nsend 1\nsend 1 5\nab",
-        4096,
-    )?;
-    assert_eq!(rt; lines.as_str(), "Malformed\nJobs\nMalformed\nMalformed\n");
-    let lines = shown(rt.alloc(), b"send 1 0\n\nsend 1 0", 4096)?;
-    assert_eq!(rt;
-        lines.as_str(),
-        "Apply(Send { job: JobId { number: 1 }, bytes: Items { items: [] } })\nMalformed\n"
-    );
     Ok(())
 }
 
@@ -420,82 +355,25 @@ fn a_closed_job_is_told_by_its_type_and_stages(rt: HostRuntime) -> Result<(), Fa
     Ok(())
 }
 
-// The queue lab, which prints on a device that takes any bytes.
-fn queue(alloc: Global) -> Result<QueueRow, Fail> {
-    Ok(QueueRow {
-        name: QueueName::read(alloc, "lab")?,
-        uri: Uri::read(alloc, "spoolfile:/out")?,
-        target: MediaType::read(alloc, "application/octet-stream")?,
-        policy: Policy::AbortJob,
-        interval: Interval::new(30).ok_or("no interval")?,
-        limit: 5,
-        info: Note::empty(alloc),
-        location: Note::empty(alloc),
-        accepting: true,
-        stopped: false,
-        message: Message::empty(alloc),
-        reasons: Reasons::empty(alloc),
-        attributes: Attributes::empty(alloc),
-    })
-}
-
-// A job of the queue lab that is processing.
+// A job that is processing.
 fn processing(alloc: Global) -> Result<JobRow, Fail> {
-    Ok(JobRow {
-        id: JobId::new(1).ok_or("no number")?,
-        queue: QueueName::read(alloc, "lab")?,
-        user: UserName::read(alloc, "ann")?,
-        title: Title::read(alloc, "First page")?,
-        copies: Copies::new(1).ok_or("no copies")?,
-        priority: Priority::new(50).ok_or("no priority")?,
-        options: OptionText::empty(alloc),
-        media: Some(MediaType::read(alloc, "application/octet-stream")?),
-        filters: Filters::empty(alloc),
-        attempts: 1,
-        pages: 0,
-        size: 3,
-        phase: Phase::Processing {
-            attempt: 1,
-            stage: 1,
-            stages: 1,
-        },
-        document: Vec::from_slice(alloc, b"a\nb")?,
-    })
-}
-
-#[test]
-fn no_queues_are_counted(rt: HostRuntime) -> Result<(), Fail> {
-    let alloc = rt.alloc();
-    let answer = Answer::Queues {
-        rows: &[],
-        jobs: &[],
+    let phase = Phase::Processing {
+        attempt: 1,
+        stage: 1,
+        stages: 1,
     };
-    assert_eq!(rt; printed(alloc, &answer)?.as_str(), "ok 0\n");
-    Ok(())
+    Ok(sample_job(alloc, phase)?)
 }
 
-#[test]
-fn an_idle_queue_is_listed(rt: HostRuntime) -> Result<(), Fail> {
-    let alloc = rt.alloc();
-    let rows = [queue(alloc)?];
-    assert_eq!(rt;
-        printed(
-            alloc,
-            &Answer::Queues {
-                rows: &rows,
-                jobs: &[]
-            }
-        )?
-        .as_str(),
-        "queue lab 3 accepting application/octet-stream abort-job 30 5 none \"\"\nok 1\n"
-    );
-    Ok(())
+// The listing of queues.
+fn listed(alloc: Global, rows: &[QueueRow], jobs: &[JobRow]) -> Result<String, Fail> {
+    printed(alloc, &Answer::Queues { rows, jobs })
 }
 
 #[test]
 fn a_stopped_queue_is_listed_with_its_reasons(rt: HostRuntime) -> Result<(), Fail> {
     let alloc = rt.alloc();
-    let mut row = queue(alloc)?;
+    let mut row = sample_queue(alloc, "spoolfile:/out")?;
     row.accepting = false;
     row.stopped = true;
     row.message = Message::read(alloc, "a \"b\"")?;
@@ -504,38 +382,21 @@ fn a_stopped_queue_is_listed_with_its_reasons(rt: HostRuntime) -> Result<(), Fai
     reasons.push(Reason::read(alloc, "toner-low")?)?;
     row.reasons = Reasons::new(reasons).ok().ok_or("too many reasons")?;
     assert_eq!(rt;
-        printed(
-            alloc,
-            &Answer::Queues {
-                rows: &[row],
-                jobs: &[]
-            }
-        )?
-        .as_str(),
-        "queue lab 5 rejecting application/octet-stream abort-job 30 5 media-empty,toner-low \"a \\\"b\\\"\"\nok 1\n"
+        listed(alloc, &[row], &[])?.as_str(),
+        "queue lab 5 rejecting application/x-prn abort-job 30 5 media-empty,toner-low \"a \\\"b\\\"\"\nok 1\n"
     );
     Ok(())
 }
 
 #[test]
-fn a_queue_with_a_processing_job_is_listed_as_processing(rt: HostRuntime) -> Result<(), Fail> {
+fn queues_are_listed(rt: HostRuntime) -> Result<(), Fail> {
     let alloc = rt.alloc();
+    let idle = [sample_queue(alloc, "spoolfile:/out")?];
     let jobs = [processing(alloc)?];
-    let mut stopped = queue(alloc)?;
-    stopped.stopped = true;
-    let rows = [queue(alloc)?, stopped];
-    assert_eq!(rt;
-        printed(
-            alloc,
-            &Answer::Queues {
-                rows: &rows,
-                jobs: &jobs
-            }
-        )?
-        .as_str(),
-        "queue lab 4 accepting application/octet-stream abort-job 30 5 none \"\"\n\
-queue lab 4 accepting application/octet-stream abort-job 30 5 none \"\"\n\
-ok 2\n"
-    );
+    let line = "queue lab 3 accepting application/x-prn abort-job 30 5 none \"\"\nok 1\n";
+    let busy = "queue lab 4 accepting application/x-prn abort-job 30 5 none \"\"\nok 1\n";
+    assert_eq!(rt; listed(alloc, &[], &jobs)?.as_str(), "ok 0\n");
+    assert_eq!(rt; listed(alloc, &idle, &[])?.as_str(), line);
+    assert_eq!(rt; listed(alloc, &idle, &jobs)?.as_str(), busy);
     Ok(())
 }

@@ -1,8 +1,6 @@
 use filter_args::*;
-use spool_types::{
-    Copies, Filters, Interval, Items, JobId, JobRow, MediaType, Message, Note, OptionText, Phase,
-    Policy, Priority, QueueName, QueueRow, Title, Uri, UserName,
-};
+use sample_rows::{sample_job, sample_queue};
+use spool_types::{JobRow, Note, Phase, QueueRow};
 use std::alloc::Global;
 use std::test::Fail;
 
@@ -71,45 +69,20 @@ fn an_option_has_its_last_value(rt: HostRuntime) -> Result<(), Fail> {
     Ok(())
 }
 
+// The first stage of an attempt.
 fn job(alloc: Global) -> Result<JobRow, Fail> {
-    Ok(JobRow {
-        id: JobId::new(7).ok_or("no number")?,
-        queue: QueueName::read(alloc, "lab")?,
-        user: UserName::read(alloc, "ann")?,
-        title: Title::read(alloc, "P 1")?,
-        copies: Copies::new(2).ok_or("no copies")?,
-        priority: Priority::new(50).ok_or("no priority")?,
-        options: OptionText::read(alloc, "media=A4")?,
-        media: Some(MediaType::read(alloc, "text/plain")?),
-        filters: Filters::empty(alloc),
-        attempts: 1,
-        pages: 0,
-        size: 3,
-        phase: Phase::Processing {
-            attempt: 1,
-            stage: 1,
-            stages: 1,
-        },
-        document: Vec::new(alloc),
-    })
+    let phase = Phase::Processing {
+        attempt: 1,
+        stage: 1,
+        stages: 1,
+    };
+    Ok(sample_job(alloc, phase)?)
 }
 
 fn queue(alloc: Global) -> Result<QueueRow, Fail> {
-    Ok(QueueRow {
-        name: QueueName::read(alloc, "lab")?,
-        uri: Uri::read(alloc, "spoolfile:/out")?,
-        target: MediaType::read(alloc, "application/x-prn")?,
-        policy: Policy::AbortJob,
-        interval: Interval::new(30).ok_or("no interval")?,
-        limit: 5,
-        info: Note::read(alloc, "Front")?,
-        location: Note::empty(alloc),
-        accepting: true,
-        stopped: false,
-        message: Message::empty(alloc),
-        reasons: Items::empty(alloc),
-        attributes: Items::empty(alloc),
-    })
+    let mut queue = sample_queue(alloc, "spoolfile:/out")?;
+    queue.info = Note::read(alloc, "Front")?;
+    Ok(queue)
 }
 
 fn place(alloc: Global, side: bool) -> Result<Place, Fail> {

@@ -1,3 +1,4 @@
+use sample_rows::sample_job;
 use spool_types::*;
 use std::alloc::Global;
 use std::test::Fail;
@@ -240,26 +241,6 @@ fn policies_have_their_words(rt: HostRuntime) -> Result<(), Fail> {
     Ok(())
 }
 
-// A job of the queue lab in this phase.
-fn job_in(alloc: Global, phase: Phase) -> Result<JobRow, Fail> {
-    Ok(JobRow {
-        id: JobId::new(1).ok_or("no")?,
-        queue: QueueName::read(alloc, "lab")?,
-        user: UserName::read(alloc, "ann")?,
-        title: Title::read(alloc, "report")?,
-        copies: Copies::new(1).ok_or("no")?,
-        priority: Priority::new(50).ok_or("no")?,
-        options: OptionText::read(alloc, "")?,
-        media: None,
-        filters: Items::empty(alloc),
-        attempts: 1,
-        pages: 0,
-        size: 0,
-        phase,
-        document: Vec::new(alloc),
-    })
-}
-
 #[test]
 fn a_queue_is_busy_while_a_job_of_it_is_processing(rt: HostRuntime) -> Result<(), Fail> {
     let alloc = rt.alloc();
@@ -268,7 +249,10 @@ fn a_queue_is_busy_while_a_job_of_it_is_processing(rt: HostRuntime) -> Result<()
         stage: 1,
         stages: 1,
     };
-    let jobs = vec![in alloc; job_in(alloc, Phase::Canceled)?, job_in(alloc, processing)?]?;
+    let jobs = vec![in alloc;
+        sample_job(alloc, Phase::Canceled)?,
+        sample_job(alloc, processing)?,
+    ]?;
     assert!(rt; is_busy(&jobs, &QueueName::read(alloc, "lab")?));
     assert!(rt; !is_busy(&jobs, &QueueName::read(alloc, "hall")?));
     assert!(rt; !is_busy(&jobs[..1], &QueueName::read(alloc, "lab")?));
