@@ -1,0 +1,91 @@
+//! What the words of a line may be.
+ghost use Rattle.std.specs.Prelude.{◌≡◌};
+ghost use Rattle.std.specs.List.{list_all};
+ghost use Rattle.program_lists.specs.Values.{is_path, is_path_byte, is_word, is_scheme, is_scheme_byte, is_small_letter};
+
+use line_words::is_blank;
+use spool_types::{Text, TextKind};
+
+/// The kind of a program's path: it begins with `/`, and holds neither a blank nor `=`.
+#[derive(Clone, Copy, Debug)]
+pub struct ProgramPathKind;
+
+/// Where a program lies.
+pub type ProgramPath = Text<ProgramPathKind>;
+
+impl TextKind for ProgramPathKind {
+    ghost allowed = { is_path };
+
+    fn allows(text: &str) -> bool {
+        match text.as_bytes().split_first() {
+            Some((first, _)) => *first == b'/' && has_only_path_bytes(text),
+            None => false,
+        }
+    }
+}
+
+fn has_only_path_bytes(text: &str) -> bool
+    ensures { result ≡ list_all is_path_byte text.now }
+{
+    text.as_bytes().iter().all(|b| is_path_byte(*b))
+}
+
+// Neither a blank nor `=`.
+fn is_path_byte(b: u8) -> bool
+    ensures { result ≡ is_path_byte b }
+{
+    !is_blank(b) && b != b'='
+}
+
+/// The kind of a program's first word: it holds no blank.
+#[derive(Clone, Copy, Debug)]
+pub struct ProgramWordKind;
+
+/// A word that a program is given before all others.
+pub type ProgramWord = Text<ProgramWordKind>;
+
+impl TextKind for ProgramWordKind {
+    ghost allowed = { is_word };
+
+    fn allows(text: &str) -> bool {
+        text.as_bytes().iter().all(|b| !is_blank(*b))
+    }
+}
+
+/// The kind of a backend's name: the scheme of a device's URI (RFC 3986, 3.1) as the URL Standard's parser gives it, which folds
+/// capitals. It is a small letter, and then small letters, digits, `+`, `-` and `.`.
+#[derive(Clone, Copy, Debug)]
+pub struct BackendNameKind;
+
+/// The scheme of the devices that a backend serves.
+pub type BackendName = Text<BackendNameKind>;
+
+impl TextKind for BackendNameKind {
+    ghost allowed = { is_scheme };
+
+    fn allows(text: &str) -> bool {
+        match text.as_bytes().split_first() {
+            Some((first, rest)) => is_small_letter(*first) && has_only_scheme_bytes(rest),
+            None => false,
+        }
+    }
+}
+
+fn has_only_scheme_bytes(bytes: &[u8]) -> bool
+    ensures { result ≡ list_all is_scheme_byte bytes.now }
+{
+    bytes.iter().all(|b| is_scheme_byte(*b))
+}
+
+fn is_small_letter(b: u8) -> bool
+    ensures { result ≡ is_small_letter b }
+{
+    matches!(b, b'a'..=b'z')
+}
+
+// A small letter, a digit or one of `+-.`.
+fn is_scheme_byte(b: u8) -> bool
+    ensures { result ≡ is_scheme_byte b }
+{
+    matches!(b, b'a'..=b'z' | b'0'..=b'9' | b'+' | b'-' | b'.')
+}

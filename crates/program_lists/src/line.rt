@@ -1,0 +1,156 @@
+//! What a line says.
+ghost use Rattle.std.specs.Prelude.{◌≡◌, IfOk, map};
+ghost use Rattle.program_lists.specs.Lines.{words_of, said_by, listed_in, program_in, word_in, begins_remark, as_filter, as_backend, as_side};
+
+use crate::kinds::{BackendNameKind, ProgramPath, ProgramWord};
+use line_words::is_blank;
+use spool_types::{FilterNameKind, Text, TextKind};
+use std::alloc::{AllocError, Global};
+
+const FILTER: &[u8] = b"filter";
+
+const BACKEND: &[u8] = b"backend";
+
+const SIDE: &[u8] = b"side";
+
+/// A program: where it lies, and the word that comes before the words of a job, if there is one.
+#[derive(Debug, Drop)]
+pub struct ListedProgram {
+    pub path: ProgramPath,
+    pub word: Option<ProgramWord>,
+}
+
+/// A program and its name, a text of the kind `K`.
+#[derive(Debug, Drop)]
+pub struct Listed<K: TextKind> {
+    pub name: Text<K>,
+    pub program: ListedProgram,
+}
+
+/// A filter of the file.
+pub type ListedFilter = Listed<FilterNameKind>;
+
+/// A backend of the file, under the scheme of the devices that it serves.
+pub type ListedBackend = Listed<BackendNameKind>;
+
+/// What a line says.
+#[derive(Debug, Drop)]
+pub enum Said {
+    /// It has no words.
+    Nothing,
+    Filter(ListedFilter),
+    Backend(ListedBackend),
+    Side(ListedProgram),
+    /// It doesn't read.
+    Unread,
+}
+
+/// Reads a line.
+pub fn read_line(alloc: Global, line: &[u8]) -> Result<Said, AllocError>
+    ensures { IfOk result (λ said. said ≡ said_by (words_of line.now)) }
+{
+    let words = words_of(alloc, line)?;
+    let Some((first, rest)) = words.split_first() else {
+        return Ok(Said::Nothing);
+    };
+    if *first == FILTER {
+        Ok(as_filter(read_listed(alloc, rest)?))
+    } else if *first == BACKEND {
+        Ok(as_backend(read_listed(alloc, rest)?))
+    } else if *first == SIDE {
+        Ok(as_side(read_program(alloc, rest)?))
+    } else {
+        Ok(Said::Unread)
+    }
+}
+
+// The words of a line before its remark.
+fn words_of<'a>(alloc: Global, line: &'a [u8]) -> Result<Vec<&'a [u8]>, AllocError>
+    ensures { IfOk result (λ words. map (λ word. word.now) words.items ≡ words_of line.now) }
+{
+    line.split(|b| is_blank(*b))
+        .filter(|word| !word.is_empty())
+        .take_while(|word| !begins_remark(word))
+        .collect(alloc)
+}
+
+fn begins_remark(word: &[u8]) -> bool
+    ensures { result ≡ begins_remark word.now }
+{
+    word.first() == Some(&b'#')
+}
+
+// NAME PATH [WORD], if the words read so.
+fn read_listed<K: TextKind>(alloc: Global, words: &[&[u8]]) -> Result<Option<Listed<K>>, AllocError>
+    ensures { IfOk result (λ listed. listed ≡ listed_in K.allowed (map (λ word. word.now) words.now)) }
+{
+    let Some((name, rest)) = words.split_first() else {
+        return Ok(None);
+    };
+    let Some(name) = Text::from_word(alloc, name)? else {
+        return Ok(None);
+    };
+    let Some(program) = read_program(alloc, rest)? else {
+        return Ok(None);
+    };
+    Ok(Some(Listed { name, program }))
+}
+
+// PATH [WORD], if the words read so.
+fn read_program(alloc: Global, words: &[&[u8]]) -> Result<Option<ListedProgram>, AllocError>
+    ensures { IfOk result (λ program. program ≡ program_in (map (λ word. word.now) words.now)) }
+{
+    let Some((path, rest)) = words.split_first() else {
+        return Ok(None);
+    };
+    let Some(path) = ProgramPath::from_word(alloc, path)? else {
+        return Ok(None);
+    };
+    let Some(word) = read_word(alloc, rest)? else {
+        return Ok(None);
+    };
+    Ok(Some(ListedProgram { path, word }))
+}
+
+// [WORD], if the words read so.
+fn read_word(alloc: Global, words: &[&[u8]]) -> Result<Option<Option<ProgramWord>>, AllocError>
+    ensures { IfOk result (λ word. word ≡ word_in (map (λ word. word.now) words.now)) }
+{
+    let Some((word, more)) = words.split_first() else {
+        return Ok(Some(None));
+    };
+    if !more.is_empty() {
+        return Ok(None);
+    }
+    match ProgramWord::from_word(alloc, word)? {
+        Some(word) => Ok(Some(Some(word))),
+        None => Ok(None),
+    }
+}
+
+fn as_filter(listed: Option<ListedFilter>) -> Said
+    ensures { result ≡ as_filter listed }
+{
+    match listed {
+        Some(listed) => Said::Filter(listed),
+        None => Said::Unread,
+    }
+}
+
+fn as_backend(listed: Option<ListedBackend>) -> Said
+    ensures { result ≡ as_backend listed }
+{
+    match listed {
+        Some(listed) => Said::Backend(listed),
+        None => Said::Unread,
+    }
+}
+
+fn as_side(program: Option<ListedProgram>) -> Said
+    ensures { result ≡ as_side program }
+{
+    match program {
+        Some(program) => Said::Side(program),
+        None => Said::Unread,
+    }
+}

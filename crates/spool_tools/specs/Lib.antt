@@ -1,0 +1,10 @@
+pub mod Numbers
+pub mod Words
+pub mod Seen
+pub mod Options
+pub mod Results
+pub mod Filters
+pub mod Side
+pub mod Devices
+pub mod Backends
+pub mod Ending

@@ -1,0 +1,324 @@
+#!/usr/bin/env python3
+"""Runs the tools with real files, sockets and environments: tools.py [SPOOL_TOOLS]
+
+SPOOL_TOOLS is the program, and crates/spool_tools/out/spool_tools (made by `rt run` in that folder) where none is
+given. Each case compares a tool's output, its standard error, its status and the files that it leaves: what each filter
+makes of some bytes, from standard input and from a file with several copies, also in little memory; what each backend
+leaves, by each of its options; the packets that pass on the side channel; and words that are refused, where nothing is
+written. With SLOW=1 in the environment the 20 turns of `meet` are waited for, too.
+
+The last line is `N of N`, with status 0, or behind a line for each case that differs, with status 1. It takes some ten
+seconds.
+"""
+import os
+import resource
+import socket
+import subprocess
+import sys
+import tempfile
+import threading
+import time
+
+here = os.path.dirname(os.path.abspath(__file__))
+built = os.path.join(here, "..", "crates", "spool_tools", "out", "spool_tools")
+tools = os.path.abspath(sys.argv[1] if len(sys.argv) > 1 else built)
+
+JOB = ["7", "ann", "First page", "3", "media=A4"]
+SECONDS = 60  # a tool that takes longer hangs
+
+count = 0
+failures = []
+
+
+def check(name, got, wanted):
+    global count
+    count += 1
+    if got != wanted:
+        failures.append(name)
+        print(f"{name}: {got!r:.300}, and not {wanted!r:.300}")
+
+
+def run(words, given=b"", uri=None, side=None, **more):
+    """The output, the standard error and the status of the program over these words."""
+    env = {"PATH": "/usr/bin:/bin"}
+    if uri is not None:
+        env["DEVICE_URI"] = uri
+    if side is not None:
+        env["SPOOL_SIDE"] = side
+    ended = subprocess.run([tools, *words], input=given, capture_output=True, env=env, timeout=SECONDS, **more)
+    return ended.stdout, ended.stderr, ended.returncode
+
+
+def read(path):
+    try:
+        with open(path, "rb") as file:
+            return file.read()
+    except FileNotFoundError:
+        return None
+
+
+def write(path, data):
+    with open(path, "wb") as file:
+        file.write(data)
+    return path
+
+
+def printed(data):
+    return data.replace(b"\n", b"\r\n") + b"\f"
+
+
+def texts():
+    """Bytes of all kinds, and of lengths about those that are read at once."""
+    every = bytes(range(256)) * 5
+    yield from (b"", b"a\n", b"\n", b"\n\n\r\n", b"a\fb\f\n", b"no end", "äöü €\n".encode(), every, b"\f" * 1000)
+    for length in (65_535, 65_536, 65_537, 131_072, 1_048_576):
+        yield (b"\n" * length)
+        yield ((b"line\f\n" * (length // 6 + 1))[:length])
+
+
+def filters(folder):
+    document = os.path.join(folder, "document")
+    for number, text in enumerate(texts()):
+        write(document, text)
+        for copies in ("1", "3"):
+            job = ["1", "u", "t", copies, "o"]
+            times = int(copies)
+            name = f"text {number}, {copies} copies"
+            check(f"texttoprn of a file, {name}", run(["texttoprn", *job, document], b"unread"),
+                  (printed(text) * times, b"PAGE: 1 %d\n" % times, 0))
+            check(f"texttoprn of its input, {name}", run(["texttoprn", *job], text),
+                  (printed(text), b"PAGE: 1 1\n", 0))
+            feeds = text.count(b"\f")
+            check(f"prncount of a file, {name}", run(["prncount", *job, document], b"unread"),
+                  (text * times, b"PAGE: total %d\n" % (feeds * times), 0))
+            check(f"prncount of its input, {name}", run(["prncount", *job], text),
+                  (text, b"PAGE: total %d\n" % feeds, 0))
+    # The greatest number of copies, leading zeros, and a name with all that a shell would read.
+    odd = write(os.path.join(folder, "a 'b' \"c\" $d;e\n-f"), b"x\n")
+    job = ["1", "u", "t", "9999", ""]
+    check("9999 copies", run(["texttoprn", *job, odd]), (b"x\r\n\f" * 9999, b"PAGE: 1 9999\n", 0))
+    check("copies 0002", run(["prncount", "1", "u", "t", "0002", "", odd]), (b"x\nx\n", b"PAGE: total 0\n", 0))
+    # Faults: a file that isn't there, a folder, an output that is full.
+    for tool in ("texttoprn", "prncount"):
+        for name in ("/nowhere", folder, ""):
+            check(f"{tool} of {name}", run([tool, *JOB, name]), (b"", b"ERROR: cannot read\n", 1))
+        with open("/dev/full", "wb") as full:
+            ended = subprocess.run([tools, tool, *JOB], input=b"a\n", stdout=full, stderr=subprocess.PIPE,
+                                   timeout=SECONDS)
+        check(f"{tool} on a full disk", (ended.stderr, ended.returncode), (b"ERROR: cannot write\n", 1))
+        with open("/dev/full", "wb") as full:
+            ended = subprocess.run([tools, tool, *JOB], input=b"a\n", stdout=subprocess.PIPE, stderr=full,
+                                   timeout=SECONDS)
+        check(f"{tool} that can't tell its pages", ended.returncode, 1)
+
+
+def bounded(folder):
+    """A document of 64 MiB and three copies of it, in 32 MiB of memory."""
+    large = write(os.path.join(folder, "large"), b"0123456789abcde\n" * (4 << 20))
+
+    def limit():
+        resource.setrlimit(resource.RLIMIT_AS, (32 << 20, 32 << 20))
+
+    with open(large, "rb") as given:
+        ended = subprocess.run([tools, "texttoprn", *JOB], stdin=given, stdout=subprocess.DEVNULL,
+                               stderr=subprocess.PIPE, timeout=SECONDS, preexec_fn=limit)
+    check("texttoprn in little memory", (ended.stderr, ended.returncode), (b"PAGE: 1 1\n", 0))
+    ended = subprocess.run([tools, "prncount", *JOB, large], stdout=subprocess.DEVNULL, stderr=subprocess.PIPE,
+                           timeout=SECONDS, preexec_fn=limit)
+    check("prncount in little memory", (ended.stderr, ended.returncode), (b"PAGE: total 0\n", 0))
+    os.remove(large)
+
+
+def spoolfile(folder):
+    document = write(os.path.join(folder, "document"), b"some\n\fbytes\0\xff")
+    out = os.path.join(folder, "out")
+    for name, query, status in (
+        ("no options", "", 0),
+        ("exit 0", "?exit=0", 0),
+        ("exit 6", "?exit=6", 6),
+        ("exit 255", "?exit=255", 255),
+        ("exit 007", "?exit=007", 7),
+        ("exit 256", "?exit=256", 0),
+        ("exit -1", "?exit=-1", 0),
+        ("exit +1", "?exit=%2B1", 0),
+        ("no exit", "?exit=", 0),
+        ("exit 6x", "?exit=6x", 0),
+        ("another option", "?Exit=6", 0),
+        ("the last of two", "?exit=6&exit=7", 7),
+        ("the last of two, no number", "?exit=6&exit=x", 0),
+        ("an option without a name", "?exit=6&=x", 0),
+        ("64 options", "?exit=6" + "&a" * 63, 6),
+        ("65 options", "?exit=6" + "&a" * 64, 0),
+        ("a coded name", "?%65xit=6", 6),
+    ):
+        for words, wanted in ((JOB, b"from input"), ([*JOB, document], b"some\n\fbytes\0\xff" * 3)):
+            write(out, b"what was there, and is longer than what comes now and then some more bytes of it")
+            got = run(["spoolfile", *words], b"from input", uri=f"spoolfile:{out}{query}")
+            check(f"spoolfile with {name}, {len(words)} words", (got, read(out)), ((b"", b"", status), wanted))
+    # The path is decoded, as the value of an option is.
+    for name, path, file in (("a coded path", "/a%20b%25%c3%a4", "a b%ä"), ("a path with braces", "/{a}", "{a}")):
+        got = run(["spoolfile", *JOB], b"x", uri=f"spoolfile:{folder}{path}")
+        check(name, (got, read(os.path.join(folder, file))), ((b"", b"", 0), b"x"))
+    got = run(["spoolfile", *JOB], b"y", uri=f"spoolfile://host{out}")
+    check("a URI with a host", (got, read(out)), ((b"", b"", 0), b"y"))
+    fault = (b"", b"ERROR: cannot write\n", 1)
+    for name, uri in (
+        ("no URI", None),
+        ("an empty URI", ""),
+        ("no scheme", out),
+        ("a long URI", "spoolfile:/" + "a" * 1023),
+        ("a folder", f"spoolfile:{folder}?exit=6"),
+        ("no folder", f"spoolfile:{folder}/none/out?exit=6"),
+        ("no path", "spoolfile:"),
+        ("no text", "spoolfile:/%ff"),
+        ("a full disk", "spoolfile:/dev/full?exit=6"),
+    ):
+        check(f"spoolfile with {name}", run(["spoolfile", *JOB], b"x", uri=uri), fault)
+    check("spoolfile of no file", run(["spoolfile", *JOB, "/nowhere"], uri=f"spoolfile:{out}?exit=6"), fault)
+
+
+def meet(folder):
+    a, b = os.path.join(folder, "a"), os.path.join(folder, "b")
+
+    def start(mine, other, query=""):
+        env = {"DEVICE_URI": f"meet:{mine}?partner={other}{query}"}
+        return subprocess.Popen([tools, "meet", *JOB], stdin=subprocess.DEVNULL, stdout=subprocess.PIPE,
+                                stderr=subprocess.PIPE, env=env)
+
+    def end(child):
+        out, errors = child.communicate(timeout=SECONDS)
+        return out, errors, child.returncode
+
+    both = [start(a, b), start(b, a)]
+    check("two that meet", ([end(child) for child in both], read(a), read(b)), ([(b"", b"", 0)] * 2, b"", b""))
+    # Both marks are still there, so each is found at once, and a mark that is there keeps what it has.
+    write(a, b"kept")
+    began = time.monotonic()
+    got = end(start(a, b))
+    check("a mark that is there", (got, read(a), time.monotonic() - began < 0.9), ((b"", b"", 0), b"kept", True))
+    os.remove(a)
+    os.remove(b)
+    for turns, least, most in (("0", 0, 0.9), ("1", 0, 0.9), ("3", 1.9, 2.9)):
+        began = time.monotonic()
+        got = end(start(a, b, f"&turns={turns}"))
+        took = time.monotonic() - began
+        got = got, read(a), read(b), least <= took < most
+        check(f"nobody in {turns} turns", got, ((b"", b"", 1), None, None, True))
+    late = start(a, b, "&turns=9")
+    time.sleep(1.5)
+    there = read(a)
+    write(b, b"")
+    check("one that comes late", (there, end(late), read(a)), (b"", (b"", b"", 0), b""))
+    os.remove(a)
+    check("the last of two turns", (end(start(a, "/nowhere", "&turns=9&turns=1")), read(a)), ((b"", b"", 1), None))
+    check("no partner", (run(["meet", *JOB], uri=f"meet:{a}?turns=1"), read(a)), ((b"", b"", 1), None))
+    check("no place for a mark", run(["meet", *JOB], uri=f"meet:{folder}/none/a?partner=/&turns=9"), (b"", b"", 1))
+    check("no URI to meet at", run(["meet", *JOB]), (b"", b"", 1))
+    if os.environ.get("SLOW"):
+        began = time.monotonic()
+        got = end(start(a, "/nowhere"))
+        check("nobody in 20 turns", (got, 18.9 <= time.monotonic() - began < 20), ((b"", b"", 1), True))
+
+
+class Server(threading.Thread):
+    """Takes one connection, keeps what comes, and answers the first four bytes."""
+
+    def __init__(self, path, answer):
+        super().__init__(daemon=True)
+        self.socket = socket.socket(socket.AF_UNIX)
+        self.socket.bind(path)
+        self.socket.listen()
+        self.answer, self.got = answer, b""
+        self.start()
+
+    def run(self):
+        connection, _ = self.socket.accept()
+        self.socket.close()
+        with connection:
+            try:
+                self.serve(connection)
+            except OSError:
+                pass  # the tool ended without reading all of the answer
+
+    def serve(self, connection):
+        while len(self.got) < 4:
+            piece = connection.recv(100)
+            if not piece:
+                return
+            self.got += piece
+        if self.answer is None:
+            return
+        for byte in self.answer:
+            connection.send(bytes([byte]))
+        connection.shutdown(socket.SHUT_WR)
+        while piece := connection.recv(100):
+            self.got += piece
+
+
+def side(folder):
+    out = os.path.join(folder, "id")
+    uri = f"sideask:{out}?id=unused"
+    longest = bytes(range(256)) * 8
+    for number, (name, answer, status, wanted) in enumerate((
+        ("an id", b"\4\1\0\6MFG:X;", 0, b"MFG:X;"),
+        ("no id", b"\4\1\0\0", 0, b""),
+        ("the longest data", b"\4\1\x08\0" + longest, 0, longest),
+        ("bytes after the answer", b"\4\1\0\1A\4\1\0\1B", 0, b"A"),
+        ("too many data", b"\4\1\x08\1" + longest + b"x", 1, None),
+        ("another command", b"\5\1\0\1\1", 1, None),
+        ("another status", b"\4\5\0\0", 1, None),
+        ("a cut head", b"\4\1\0", 1, None),
+        ("cut data", b"\4\1\0\6MFG", 1, None),
+        ("no answer", b"", 1, None),
+        ("a socket that closes", None, 1, None),
+    )):
+        path = os.path.join(folder, f"side-{number}")
+        server = Server(path, answer)
+        got = run(["sideask", *JOB], b"unread", uri=uri, side=path)
+        server.join(SECONDS)
+        check(f"sideask with {name}", (got, server.got, read(out)), ((b"", b"", status), b"\4\0\0\0", wanted))
+        if os.path.exists(out):
+            os.remove(out)
+    document = write(os.path.join(folder, "document"), b"")
+    none = os.path.join(folder, "none")
+    for name, path in (("no variable", None), ("an empty variable", ""), ("no socket", none), ("a file", document)):
+        check(f"sideask with {name}", (run(["sideask", *JOB], uri=uri, side=path), read(out)), ((b"", b"", 1), None))
+    path = os.path.join(folder, "side-full")
+    server = Server(path, b"\4\1\0\1A")
+    check("sideask on a full disk", run(["sideask", *JOB], uri="sideask:/dev/full", side=path), (b"", b"", 1))
+    path = os.path.join(folder, "end")
+    server = Server(path, b"")
+    got = run(["side-end", path])
+    server.join(SECONDS)
+    check("side-end", (got, server.got), ((b"", b"", 0), b"\xff\0\0\0"))
+    for path in (os.path.join(folder, "end"), os.path.join(folder, "none"), "", "x" * 200):
+        check(f"side-end {path:.20}", run(["side-end", path]), (b"", b"", 1))
+
+
+def words(folder):
+    out = os.path.join(folder, "refused")
+    for tool in ("spoolfile", "meet", "sideask"):
+        check(f"the device of {tool}", run([tool]), (f'file {tool} "Unknown" "{tool}"\n'.encode(), b"", 0))
+        with open("/dev/full", "wb") as full:
+            ended = subprocess.run([tools, tool], stdout=full, stderr=subprocess.PIPE)
+        check(f"the device of {tool} on a full disk", (ended.stderr, ended.returncode), (b"", 1))
+    refused = [[], [""], ["-"], ["--help"], ["other", *JOB], [*JOB], ["Spoolfile"], ["spoolfile "], ["spoolfil"]]
+    refused += [["texttoprn"], ["prncount"], ["side-end"], ["side-end", "a", "b"], ["side-end", *JOB]]
+    for tool in ("texttoprn", "prncount", "spoolfile", "meet", "sideask"):
+        refused += [[tool, *JOB[:n]] for n in (1, 2, 3, 4)] + [[tool, *JOB, "x", "y"]]
+        for copies in ("", "0", "00", "10000", "-1", "+1", " 1", "1 ", "x", "1.0", "0x1", "4294967297", "9" * 20):
+            refused += [[tool, "1", "u", "t", copies, "o"], [tool, "1", "u", "t", copies, "o", "/dev/null"]]
+    for given in refused:
+        for uri in (f"spoolfile:{out}", f"meet:{out}?partner=/dev/null"):
+            check(f"the words {given}", (run(given, b"a\n", uri=uri, side=out), read(out)), ((b"", b"", 1), None))
+    got = subprocess.run([tools, "prncount", "1", b"\xff", "t", "1", "o"], input=b"a", capture_output=True)
+    check("a word that is no text", (got.stdout, got.stderr, got.returncode), (b"", b"", 1))
+
+
+with tempfile.TemporaryDirectory() as folder:
+    for part in (filters, bounded, spoolfile, meet, side, words):
+        place = os.path.join(folder, part.__name__)
+        os.mkdir(place)
+        part(place)
+print(f"{count - len(failures)} of {count}")
+sys.exit(1 if failures else 0)
