@@ -1,2 +1,5 @@
+pub mod Accepted
 pub mod Sizes
 pub mod Refusals
+mod PrintLaws
+mod StateLaws

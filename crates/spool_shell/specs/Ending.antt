@@ -1,10 +1,11 @@
 -- How the program ends.
-use Rattle.std.specs.Prelude.{◌≡◌, ◌≢◌, ◌⊎◌, ℕ, List, [], Bool, true, false, Option, None, Some, Result, Ok, Err}
+use Rattle.std.specs.Prelude.{◌≡◌, ◌≢◌, ◌⊎◌, ℕ, List, Bool, true, false, Option, Some, Result, Ok, Err, codes}
 use Rattle.std.specs.FinMap as finite
 use Rattle.std.specs.String.{string_bytes}
 use Rattle.clap.specs.Words.{kind_of}
 use Rattle.clap.specs.declared.error.kind.ErrorKind.{ErrorKind}
 use Rattle.clap.specs.declared.error.kind.ErrorKind.TheVariants.{DisplayHelp, DisplayVersion}
+use Rattle.child_pipeline.specs.Told.{Told}
 use Rattle.filter_args.specs.declared.place.Place.{Place}
 use Rattle.print_rounds.specs.Courses.{Course, course}
 use Rattle.spool_disk.specs.Disk.{DiskView}
@@ -30,26 +31,24 @@ ending_of (Ok done) false = Ok tt
 ending_of (Ok done) true = Err Disk
 ending_of (Err fault) dead = Err (of_run fault)
 
--- a place without names, where no child runs
-pub record IsNowhere (place : Place) : Type 0 where
-  pub root : string_bytes place.root ≡ []
-  pub lang : string_bytes place.lang ≡ []
-  pub path : string_bytes place.path ≡ []
-  pub side : place.side ≡ false
+-- the place of the children of a spool in the folder `root`
+pub record IsPlace (root : List ℕ) (side : Bool) (place : Place) : Type 0 where
+  pub folder : string_bytes place.root ≡ root
+  pub locale : string_bytes place.lang ≡ codes "C"
+  pub programs : string_bytes place.path ≡ codes "/usr/bin:/bin"
+  pub channel : place.side ≡ side
 
--- The spool has the table of the disk's bytes, no slot is held, and a run over it, with children that tell nothing, ended
--- so.
-pub record HasRun {D : Type 0} (device : DiskView D) (mime : Mime) (disk : D) (known : Option (List ℕ)) (result : Result (Unit {0}) ShellFault) (old new : Option (List ℕ)) : Type 0 where
+-- The spool has the table of the disk's bytes, no slot is held, and a run over it, with children that tell this in this
+-- place, ended so.
+pub record HasRun {D : Type 0} (device : DiskView D) (mime : Mime) (place : Place) (told : Option Told) (disk : D) (known : Option (List ℕ)) (result : Result (Unit {0}) ShellFault) (old new : Option (List ℕ)) : Type 0 where
   pub before : Standing D
   pub after : Course D
-  pub place : Place
   pub text : List ℕ
   pub turns : List (Turn D)
   pub ran : Result (Unit {0}) RunFault
   pub opened : (r : List ℕ) → device.bytes disk ≡ Some r → IsReopenedFrom before.state r
   pub alive : before.dead ≡ false
-  pub nowhere : IsNowhere place
-  pub run : IsRun (setting device mime place) known (course before finite.empty None) text turns after ran old new
+  pub run : IsRun (setting device mime place) known (course before finite.empty told) text turns after ran old new
   pub ends : result ≡ ending_of ran after.spool.dead
 
 -- The disk wasn't opened, for a fault that its bytes have, if it is one of bytes. Nothing was read or written.

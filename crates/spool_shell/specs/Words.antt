@@ -1,11 +1,13 @@
 -- What the words of the command line mean, as clap reads them.
-use Rattle.std.specs.Prelude.{◌≡◌, ◌≤◌, ℕ, ⊤, List, [], Option, Some, IfSome, codes, length}
+use Rattle.std.specs.Prelude.{◌≡◌, ◌⊎◌, ◌≤◌, ℕ, ⊤, Bool as Truth, false, List, [], Option, None, Some, IfSome, codes, length}
 use Rattle.std.specs.Prelude.{option_map, unwrap_or}
+use Rattle.std.specs.Str.{bytes_eq}
 use Rattle.std.specs.Str.Parse.{digits_value, without_leading_plus}
 use Rattle.clap.specs.Words.{App, IsUnsignedIn, Row, Rule, Text, fault_of, first_of, found_of, matches_of}
 use Rattle.clap.specs.Words.{kind_of, new_app, new_rule, one_of, one_text, with_rule}
 use Rattle.clap.specs.declared.builder.value_parser.ValueParser.{ValueParser}
-use Rattle.clap.specs.declared.builder.value_parser.ValueParser.TheVariants.{NonEmptyString, Unsigned}
+use Rattle.clap.specs.declared.builder.value_parser.ValueParser.TheVariants.{Bool, NonEmptyString, Unsigned}
+use Rattle.clap.specs.declared.builder.action.ArgAction.TheVariants.{SetTrue}
 use Rattle.clap.specs.declared.error.kind.ErrorKind.TheVariants.{ValueValidation}
 use Rattle.clap.specs.declared.parser.matches.ArgMatches.{ArgMatches}
 use Rattle.spool_shell.specs.declared.words.WordsFault.{WordsFault}
@@ -26,14 +28,18 @@ option_of name parser =
 abbrev pub text_option : Text → Rule
 text_option name = option_of name NonEmptyString
 
+-- a flag `--NAME`: no value follows it
+abbrev pub flag_of : Text → Rule
+flag_of name = record (new_rule name) { long = Some name; action = Some SetTrue; parser = Some Bool }
+
 -- the name, and the options whose values are texts
 abbrev pub text_app : App
-text_app = with_rule (with_rule (with_rule (new_app (codes "spool_shell")) (text_option (codes "root")))
-    (text_option (codes "types"))) (text_option (codes "convs"))
+text_app = with_rule (with_rule (with_rule (with_rule (new_app (codes "spool_shell")) (text_option (codes "root")))
+    (text_option (codes "types"))) (text_option (codes "convs"))) (text_option (codes "programs"))
 
--- `spool_shell [--root DIR] [--types FILE] [--convs FILE] [--size BYTES]`
+-- `spool_shell [--root DIR] [--types FILE] [--convs FILE] [--programs FILE] [--size BYTES] [--devices]`
 abbrev pub shell_app : App
-shell_app = with_rule text_app (option_of (codes "size") sizes)
+shell_app = with_rule (with_rule text_app (option_of (codes "size") sizes)) (flag_of (codes "devices"))
 
 -- ---- what clap finds in words, of which the first is the program's name
 
@@ -49,6 +55,10 @@ types_of found = first_of (codes "types") found
 abbrev pub convs_of : List Row → Option Text
 convs_of found = first_of (codes "convs") found
 
+-- the FILE of programs, where it is given
+abbrev pub programs_of : List Row → Option Text
+programs_of found = first_of (codes "programs") found
+
 -- the number that a text of digits stands for
 abbrev pub number_of : Text → ℕ
 number_of text = digits_value 10 (without_leading_plus text)
@@ -56,6 +66,15 @@ number_of text = digits_value 10 (without_leading_plus text)
 -- BYTES, or 4,194,304 where they are not given
 abbrev pub size_of : List Row → ℕ
 size_of found = unwrap_or (option_map number_of (one_of (codes "size") found)) 4194304
+
+-- a flag that is there is `true`
+abbrev pub is_told : Option Text → Truth
+is_told None = false
+is_told (Some text) = bytes_eq text (codes "true")
+
+-- whether the flag `--devices` is there
+abbrev pub devices_of : List Row → Truth
+devices_of found = is_told (one_of (codes "devices") found)
 
 abbrev pub root_in : List Text → Option Text
 root_in words = root_of (matches_of shell_app words)
@@ -66,8 +85,14 @@ types_in words = types_of (matches_of shell_app words)
 abbrev pub convs_in : List Text → Option Text
 convs_in words = convs_of (matches_of shell_app words)
 
+abbrev pub programs_in : List Text → Option Text
+programs_in words = programs_of (matches_of shell_app words)
+
 abbrev pub size_in : List Text → ℕ
 size_in words = size_of (matches_of shell_app words)
+
+abbrev pub devices_in : List Text → Truth
+devices_in words = devices_of (matches_of shell_app words)
 
 -- clap finds no fault in the words
 abbrev pub AreFaultless : List Text → Type 0
@@ -93,3 +118,7 @@ IsMistake Memory = ⊤
 abbrev pub HasSizeInRange : ArgMatches → Type 0
 HasSizeInRange m =
     (text : Text) → one_text (found_of m) (codes "size") ≡ Some text → IsUnsignedIn 4096 1073741824 text
+
+-- the flag's value is one of the two that there are
+abbrev pub HasFlagInRange : ArgMatches → Type 0
+HasFlagInRange m = (text : Text) → one_text (found_of m) (codes "devices") ≡ Some text → (text ≡ codes "true") ⊎ (text ≡ codes "false")

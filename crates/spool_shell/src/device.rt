@@ -104,7 +104,7 @@ fn is_absent<R: Files>(rt: &R, path: Path<'_>) -> io::Result<bool> {
 }
 
 // Removes the file, or the link, of this name.
-fn remove_if_there<R: Files>(rt: &R, path: Path<'_>) -> io::Result<()> {
+pub(crate) fn remove_if_there<R: Files>(rt: &R, path: Path<'_>) -> io::Result<()> {
     match fs::remove_file(rt, path) {
         Err(error) if error.kind() != ErrorKind::NotFound => Err(error),
         _ => Ok(()),
@@ -136,7 +136,7 @@ fn finish_device<R: Files<File = File>>(
 }
 
 // A file without bytes, which its owner alone may read.
-fn new_file<R: Files<File = File>>(rt: &R, path: Path<'_>) -> io::Result<File> {
+pub(crate) fn new_file<R: Files<File = File>>(rt: &R, path: Path<'_>) -> io::Result<File> {
     OpenOptions::new()
         .read(true)
         .write(true)

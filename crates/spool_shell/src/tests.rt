@@ -20,7 +20,9 @@ fn no_words_ask_for_memory(rt: HostRuntime) -> Result<(), Fail> {
     assert_eq!(rt; words.root, None);
     assert_eq!(rt; words.types, None);
     assert_eq!(rt; words.convs, None);
+    assert_eq!(rt; words.programs, None);
     assert_eq!(rt; words.size, 4_194_304);
+    assert!(rt; !words.devices);
     Ok(())
 }
 
@@ -30,10 +32,13 @@ fn all_options_are_read(rt: HostRuntime) -> Result<(), Fail> {
         "spool_shell",
         "--convs",
         "a.convs",
+        "--devices",
         "--size",
         "4096",
         "--root=/var/spool",
         "--types=a.types",
+        "--programs",
+        "a.programs",
     ];
     let Ok(words) = read_words(rt.alloc(), &given) else {
         return Err(Fail::from("refused"));
@@ -41,7 +46,9 @@ fn all_options_are_read(rt: HostRuntime) -> Result<(), Fail> {
     assert_eq!(rt; words.root, Some("/var/spool"));
     assert_eq!(rt; words.types, Some("a.types"));
     assert_eq!(rt; words.convs, Some("a.convs"));
+    assert_eq!(rt; words.programs, Some("a.programs"));
     assert_eq!(rt; words.size, 4_096);
+    assert!(rt; words.devices);
     Ok(())
 }
 
@@ -66,12 +73,14 @@ fn other_words_are_refused(rt: HostRuntime) {
     assert!(rt; is_refused(alloc, &["spool_shell", "--root"]));
     assert!(rt; is_refused(alloc, &["spool_shell", "--root", ""]));
     assert!(rt; is_refused(alloc, &["spool_shell", "--root", "a", "--root", "b"]));
+    assert!(rt; is_refused(alloc, &["spool_shell", "--devices=true"]));
+    assert!(rt; is_refused(alloc, &["spool_shell", "--devices", "--devices"]));
 }
 
 #[test]
 fn files_are_named_once(rt: HostRuntime) {
     let alloc = rt.alloc();
-    for option in ["--types", "--convs"] {
+    for option in ["--types", "--convs", "--programs"] {
         assert!(rt; is_refused(alloc, &["spool_shell", option]), "{option}");
         assert!(rt; is_refused(alloc, &["spool_shell", option, ""]), "{option}");
         assert!(rt;
@@ -225,7 +234,7 @@ fn told_of(rt: HostRuntime, bytes: &[u8]) -> Result<Vec<u8>, Fail> {
     let file = "spool_shell_tests.held/spool.disk";
     fs::create_dir(&rt, "spool_shell_tests.held")?;
     fs::write(&rt, file, bytes)?;
-    let told = told(rt, Some("spool_shell_tests.held"), None, None)?;
+    let told = told(rt, Some("spool_shell_tests.held"), None, None, None)?;
     if fs::read(&rt, file)?.as_slice() != bytes {
         return Err(Fail::from("the file has changed"));
     }
@@ -267,6 +276,7 @@ fn broken_after(alloc: Global, calls: u64) -> Result<Vec<u8>, Fail> {
     let ended = serve(
         alloc,
         FuseDisk::new(disk, calls),
+        (NoChildren, place_in(alloc, "", false)?),
         rules,
         &mut script.as_bytes(),
         &mut told,
@@ -318,17 +328,20 @@ fn a_reader_or_a_writer_may_fail(rt: HostRuntime) -> Result<(), Fail> {
         root: None,
         types: None,
         convs: None,
+        programs: None,
         size: 4_096,
+        devices: false,
     };
     let logged = Logged::new(rt, Level::Warn, WarningLines(rt));
     let mut told = Vec::new(rt.alloc());
     let mut reader = b"queues\nqueues".as_slice().chain(Broken);
-    let ended = run(&logged, words, &mut reader, &mut told);
+    let ended = run(&logged, &rt, words, &mut reader, &mut told);
     assert!(rt; matches!(ended, Err(ShellFault::Read)));
     assert_eq!(rt; told.as_slice(), b"ok 0\n".as_slice());
     let mut room = [0; 7];
     let ended = run(
         &logged,
+        &rt,
         words,
         &mut b"queues\nqueues\n".as_slice(),
         &mut room.as_mut_slice(),
@@ -398,6 +411,7 @@ fn told(
     root: Option<&str>,
     types: Option<&str>,
     convs: Option<&str>,
+    programs: Option<&str>,
 ) -> Result<Vec<u8>, AllocError> {
     let mut told = Vec::new(rt.alloc());
     let errors = Kept::new(rt.alloc());
@@ -405,10 +419,12 @@ fn told(
         root,
         types,
         convs,
+        programs,
         size: 4_096,
+        devices: false,
     };
     let logged = Logged::new(rt, Level::Warn, WarningLines(&errors));
-    let ended = run(&logged, words, &mut b"queues\n".as_slice(), &mut told);
+    let ended = run(&logged, &rt, words, &mut b"queues\n".as_slice(), &mut told);
     if let Err(fault) = ended {
         let _ = fail(&errors, &fault);
     }
@@ -427,7 +443,7 @@ fn lines_that_do_not_read_are_warned_of(rt: HostRuntime) -> Result<(), Fail> {
     fs::write(&rt, convs, CONVS)?;
     let want = format!(in rt.alloc(); "ok 0\n{WARNINGS}")?;
     assert_eq!(rt;
-        told(rt, None, Some(types), Some(convs))?.as_slice(),
+        told(rt, None, Some(types), Some(convs), None)?.as_slice(),
         want.as_bytes()
     );
     fs::remove_dir_all(&rt, "spool_shell_tests.warned")?;
@@ -444,6 +460,7 @@ fn warnings_come_before_the_spool(rt: HostRuntime) -> Result<(), Fail> {
         Some("spool_shell_tests.early/absent"),
         None,
         Some(convs),
+        None,
     )?;
     assert_eq!(rt;
         told.as_slice(),
@@ -456,20 +473,30 @@ fn warnings_come_before_the_spool(rt: HostRuntime) -> Result<(), Fail> {
 #[test]
 fn files_are_read_in_their_order(rt: HostRuntime) -> Result<(), Fail> {
     fs::create_dir(&rt, "spool_shell_tests.files")?;
-    let (types, convs) = (
+    let names = [
         "spool_shell_tests.files/a.types",
         "spool_shell_tests.files/a.convs",
-    );
+        "spool_shell_tests.files/a.programs",
+    ];
     let root = Some("spool_shell_tests.files/absent");
+    for (name, text) in [
+        (names[0], TYPES),
+        (names[1], CONVS),
+        (names[2], "filter f /f\nfilter f\n"),
+    ] {
+        let want = format!(in rt.alloc(); "spool: file {name}\n")?;
+        let absent = told(rt, root, Some(names[0]), Some(names[1]), Some(names[2]))?;
+        assert_eq!(rt; absent.as_slice(), want.as_bytes());
+        fs::write(&rt, name, text)?;
+    }
+    let unread = told(rt, root, Some(names[0]), Some(names[1]), Some(names[2]))?;
     assert_eq!(rt;
-        told(rt, root, Some(types), Some(convs))?.as_slice(),
-        b"spool: file spool_shell_tests.files/a.types\n".as_slice()
+        unread.as_slice(),
+        b"spool: file spool_shell_tests.files/a.programs\n".as_slice()
     );
-    fs::write(&rt, types, TYPES)?;
-    assert_eq!(rt;
-        told(rt, root, Some(types), Some(convs))?.as_slice(),
-        b"spool: file spool_shell_tests.files/a.convs\n".as_slice()
-    );
+    fs::write(&rt, names[2], "filter f /f\n")?;
+    let read = told(rt, None, None, None, Some(names[2]))?;
+    assert_eq!(rt; read.as_slice(), b"ok 0\n".as_slice());
     fs::remove_dir_all(&rt, "spool_shell_tests.files")?;
     Ok(())
 }
@@ -484,15 +511,15 @@ fn files_are_text(rt: HostRuntime) -> Result<(), Fail> {
     fs::write(&rt, types, "text/plain txt\n")?;
     fs::write(&rt, convs, b"a/a b/b 10 \xff\n".as_slice())?;
     assert_eq!(rt;
-        told(rt, None, Some(types), Some(convs))?.as_slice(),
+        told(rt, None, Some(types), Some(convs), None)?.as_slice(),
         b"spool: file spool_shell_tests.bytes/a.convs\n".as_slice()
     );
     assert_eq!(rt;
-        told(rt, None, Some(convs), Some(types))?.as_slice(),
+        told(rt, None, Some(convs), Some(types), None)?.as_slice(),
         b"spool: file spool_shell_tests.bytes/a.convs\n".as_slice()
     );
     assert_eq!(rt;
-        told(rt, None, Some(types), None)?.as_slice(),
+        told(rt, None, Some(types), None, None)?.as_slice(),
         b"ok 0\n".as_slice()
     );
     fs::remove_dir_all(&rt, "spool_shell_tests.bytes")?;

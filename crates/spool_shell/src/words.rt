@@ -4,12 +4,13 @@ ghost use Rattle.std.specs.Option.{option_map};
 ghost use Rattle.clap.specs.Words.{app_of, found_of, kind_of, matches_of, rows_of, rule_of};
 ghost use Rattle.clap.specs.declared.builder.texts.Texts.TheVariants.{One};
 ghost use Rattle.clap.specs.declared.error.kind.ErrorKind.TheVariants.{OutOfMemory};
-ghost use Rattle.spool_shell.specs.Words.{AreFaultless, AreTaken, HasSizeInRange, IsMistake, RefusesOnly, convs_in, root_in, shell_app};
-ghost use Rattle.spool_shell.specs.Words.{size_in, size_of, text_option, types_in};
+ghost use Rattle.spool_shell.specs.Words.{AreFaultless, AreTaken, HasFlagInRange, HasSizeInRange, IsMistake, RefusesOnly, convs_in};
+ghost use Rattle.spool_shell.specs.Words.{devices_in, devices_of, programs_in, root_in, shell_app, size_in, size_of, text_app, text_option};
+ghost use Rattle.spool_shell.specs.Words.{types_in};
 
 use clap::builder::ValueParser;
 use clap::error::ErrorKind;
-use clap::{Arg, ArgMatches, Command, Error};
+use clap::{Arg, ArgAction, ArgMatches, Command, Error};
 use std::alloc::{AllocError, Global};
 use std::convert::AsStr;
 
@@ -33,8 +34,12 @@ pub struct ShellWords<'a> {
     pub types: Option<&'a str>,
     /// The file of mime.convs(5). Without one it counts as empty.
     pub convs: Option<&'a str>,
+    /// The file that says which programs filters and backends are. Without one it counts as empty.
+    pub programs: Option<&'a str>,
     /// The length in bytes of a spool that is made.
     pub size: u64,
+    /// Whether the devices of the backends are to be listed, and no commands served.
+    pub devices: bool,
 }
 
 /// Why the words say nothing.
@@ -54,7 +59,10 @@ pub fn read_words<'a, S: AsStr>(alloc: Global, words: &'a [S]) -> Result<ShellWo
         option_map (λ file. file.now) found.types ≡ types_in (map S.text words.entry.now)) }
     ensures convs { IfOk result (λ found.
         option_map (λ file. file.now) found.convs ≡ convs_in (map S.text words.entry.now)) }
+    ensures programs { IfOk result (λ found.
+        option_map (λ file. file.now) found.programs ≡ programs_in (map S.text words.entry.now)) }
     ensures size { IfOk result (λ found. found.size ≡ size_in (map S.text words.entry.now)) }
+    ensures devices { IfOk result (λ found. found.devices ≡ devices_in (map S.text words.entry.now)) }
     ensures short_root { IfOk result (λ found. IfSome found.root (λ dir. length dir.now ≤ 64)) }
     ensures size_in_range { IfOk result (λ found. (4096 ≤ found.size) × (found.size ≤ 1073741824)) }
     ensures taken { MatchResult result (λ _. AreTaken (map S.text words.entry.now))
@@ -74,17 +82,37 @@ pub fn read_words<'a, S: AsStr>(alloc: Global, words: &'a [S]) -> Result<ShellWo
     }
     let types = matches.get_str("types");
     let convs = matches.get_str("convs");
+    let programs = matches.get_str("programs");
     Ok(ShellWords {
         root,
         types,
         convs,
+        programs,
         size: size_given(&matches),
+        devices: devices_given(&matches),
     })
 }
 
 // The program's command, as clap knows it.
 fn shell_command<'a>(alloc: Global) -> Result<Command<'a>, AllocError>
     ensures { IfOk result (λ command. app_of command ≡ shell_app) }
+{
+    let size = Arg::new(alloc, "size")
+        .long("size")
+        .value_name("BYTES")
+        .value_parser(ValueParser::Unsigned(LEAST_SIZE, GREATEST_SIZE))
+        .help("The length of a spool that is made [default: 4194304]");
+    let devices = Arg::new(alloc, "devices")
+        .long("devices")
+        .action(ArgAction::SetTrue)
+        .value_parser(ValueParser::Bool)
+        .help("List the devices that the backends know, and serve no commands");
+    text_command(alloc)?.arg(size)?.arg(devices)
+}
+
+// The command with its options whose values are texts.
+fn text_command<'a>(alloc: Global) -> Result<Command<'a>, AllocError>
+    ensures { IfOk result (λ command. app_of command ≡ text_app) }
 {
     let root = text_arg(
         alloc,
@@ -104,11 +132,12 @@ fn shell_command<'a>(alloc: Global) -> Result<Command<'a>, AllocError>
         "FILE",
         "Read the filters that convert documents from this file [default: none]",
     );
-    let size = Arg::new(alloc, "size")
-        .long("size")
-        .value_name("BYTES")
-        .value_parser(ValueParser::Unsigned(LEAST_SIZE, GREATEST_SIZE))
-        .help("The length of a spool that is made [default: 4194304]");
+    let programs = text_arg(
+        alloc,
+        "programs",
+        "FILE",
+        "Read which programs filters and backends are from this file [default: none]",
+    );
     Command::new(alloc, "spool_shell")
         .about(
             "Serves a print spool: reads commands on standard input, and writes replies on standard output",
@@ -116,7 +145,7 @@ fn shell_command<'a>(alloc: Global) -> Result<Command<'a>, AllocError>
         .arg(root)?
         .arg(types)?
         .arg(convs)?
-        .arg(size)
+        .arg(programs)
 }
 
 // An option with a text that isn't empty.
@@ -140,6 +169,7 @@ fn parse<'a, S: AsStr>(
     requires { app_of command.old ≡ shell_app }
     ensures found { IfOk result (λ m. rows_of (found_of m) ≡ matches_of shell_app (map S.text words.entry.now)) }
     ensures size { IfOk result HasSizeInRange }
+    ensures devices { IfOk result HasFlagInRange }
     ensures taken { MatchResult result (λ _. AreFaultless (map S.text words.entry.now))
         (RefusesOnly (AreFaultless (map S.text words.entry.now))) }
 {
@@ -187,4 +217,12 @@ fn size_given(matches: &ArgMatches<'_>) -> u64
     ensures in_range { (4096 ≤ result) × (result ≤ 1073741824) }
 {
     matches.get_one::<u64>("size").unwrap_or(DEFAULT_SIZE)
+}
+
+// Whether the devices are asked for.
+fn devices_given(matches: &ArgMatches<'_>) -> bool
+    requires { HasFlagInRange matches.now }
+    ensures { result ≡ devices_of (rows_of (found_of matches.now)) }
+{
+    matches.get_flag("devices")
 }

@@ -7,7 +7,7 @@ use Rattle.clap.specs.Simple.{built, is_buildable}
 use Rattle.clap.specs.declared.builder.command.Command.{Command}
 use Rattle.clap.proofs.SimpleLemmas.{plain_fields}
 use Rattle.spool_shell.specs.Words.{shell_app}
-use Rattle.spool_shell.proofs.Sizes.{IsShell, is_plain, size_accepted}
+use Rattle.spool_shell.proofs.Accepted.{IsShell, flag_accepted, is_plain, size_accepted}
 use Rattle.spool_shell.proofs.Refusals.{refused_by_clap}
 use Rattle.spool_shell.proofs.words.parse.Goals as goal
 
@@ -23,6 +23,12 @@ returns-in-Ok-clause-size g c =
     let new = c.try_get_matches_from_mut.new.self in
     let shell : IsShell new = is_shell c.args.command.now new c.requires (λ broken. c.in-Ok.ensures.fails broken) c.in-Ok.ensures.after in
     size_accepted new (found_of c.in-Ok.matches) shell (c.in-Ok.ensures.ok.1 (plain_fields new (is_plain new shell)).globals).values
+
+pub returns-in-Ok-clause-devices : goal.returns-in-Ok-clause-devices
+returns-in-Ok-clause-devices g c =
+    let new = c.try_get_matches_from_mut.new.self in
+    let shell : IsShell new = is_shell c.args.command.now new c.requires (λ broken. c.in-Ok.ensures.fails broken) c.in-Ok.ensures.after in
+    flag_accepted new (found_of c.in-Ok.matches) shell (c.in-Ok.ensures.ok.1 (plain_fields new (is_plain new shell)).globals).values
 
 pub returns-in-Err-clause-taken : goal.returns-in-Err-clause-taken
 returns-in-Err-clause-taken g c =

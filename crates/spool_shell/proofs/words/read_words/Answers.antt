@@ -2,7 +2,7 @@ use Rattle.std.proofs.Common.{◌≡◌, ◌∙◌, ap, sym, subst, codes, map, 
 use Rattle.std.specs.Prelude.{IfSome, option_map}
 use Rattle.clap.specs.Words.{Text, found_of}
 use Rattle.clap.proofs.WalkLemmas.{first_value-rows}
-use Rattle.spool_shell.specs.Words.{AreTaken, convs_of, root_in, root_of, types_of}
+use Rattle.spool_shell.specs.Words.{AreTaken, convs_of, programs_of, root_in, root_of, types_of}
 use Rattle.spool_shell.proofs.Refusals.{is_not_short, is_short, refuses}
 use Rattle.spool_shell.proofs.words.read_words.Goals as goal
 
@@ -25,6 +25,10 @@ returns-clause-types g c =
 pub returns-clause-convs : goal.returns-clause-convs
 returns-clause-convs g c =
     c.get_str-convs.ensures ∙ first_value-rows (found_of c.in-Ok-parse.matches) (codes "convs") ∙ ap convs_of c.in-Ok-parse.ensures.found
+
+pub returns-clause-programs : goal.returns-clause-programs
+returns-clause-programs g c =
+    c.get_str-programs.ensures ∙ first_value-rows (found_of c.in-Ok-parse.matches) (codes "programs") ∙ ap programs_of c.in-Ok-parse.ensures.found
 
 pub returns-clause-taken : goal.returns-clause-taken
 returns-clause-taken g c =

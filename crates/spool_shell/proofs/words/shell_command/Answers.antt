@@ -1,15 +1,12 @@
-use Rattle.std.proofs.Common.{rules, ap, ap₂, codes, ◌≡◌, ◌∙◌}
+use Rattle.std.proofs.Common.{rules, ap₂, codes, ◌≡◌, ◌∙◌}
 use Rattle.std.proofs.lemmas.Result.{IfOk-weaker}
-use Rattle.clap.specs.Words.{new_app, rule_of, with_rule}
-use Rattle.clap.specs.Simple.{app_of, app_of_fields}
-use Rattle.spool_shell.specs.Words.{option_of, sizes}
+use Rattle.clap.specs.Words.{rule_of, with_rule}
+use Rattle.spool_shell.specs.Words.{flag_of, option_of, sizes}
 use Rattle.spool_shell.proofs.words.shell_command.Goals as goal
 
 pub returns : goal.returns
 returns c =
     let size_is : rule_of c.help-size.result ≡ option_of (codes "size") sizes = search rules in
-    let about_is : app_of c.about.result ≡ new_app (codes "spool_shell") = ap app_of_fields c.about.ensures ∙ c.new-2.ensures.app in
-    IfOk-weaker c.arg-4.result _ _ (λ command added. added.shape (search rules)
-    ∙ ap₂ with_rule (c.in_ok-arg-3.ensures.shape (search rules) ∙ ap₂ with_rule (c.in_ok-arg-2.ensures.shape (search rules)
-    ∙ ap₂ with_rule (c.in_ok-arg.ensures.shape (search rules) ∙ ap₂ with_rule about_is c.text_arg-root.ensures.rule)
-    c.text_arg-types.ensures.rule) c.text_arg-convs.ensures.rule) size_is) c.arg-4.ensures
+    let devices_is : rule_of c.help-devices.result ≡ flag_of (codes "devices") = search rules in
+    IfOk-weaker c.arg-2.result _ _ (λ command added. added.shape (search rules)
+    ∙ ap₂ with_rule (c.in_ok-arg.ensures.shape (search rules) ∙ ap₂ with_rule c.in_ok-text_command.ensures size_is) devices_is) c.arg-2.ensures

@@ -1,0 +1,95 @@
+-- The device that the options of a URI tell of.
+use Rattle.std.specs.Prelude.{ℕ, Bool, true, ◌&&◌, not, cond, nat_le, List, [], ◌∷◌, length, take, drop, codes, Option, None, Some, Result, Ok, Err}
+use Rattle.std.specs.List.{list_all}
+use Rattle.std.specs.Char.{is_ascii_digit}
+use Rattle.std.specs.Str.{bytes_eq}
+use Rattle.line_words.specs.Numbers.{read_on}
+use Rattle.url.specs.Parts.{Parts}
+use Rattle.url.specs.Parser.{parse_url}
+use Rattle.url.specs.declared.error.ParseError.{ParseError}
+use Rattle.spool_types.specs.Values.{is_uri}
+use Rattle.device_uri.specs.Options.{pairs_of, options_of, is_bad}
+use Rattle.side_channel.specs.declared.devices.Device.{Device}
+
+-- a name and its value
+abbrev pub Pair : Type 0
+Pair = List ℕ × List ℕ
+
+-- ---- the options
+
+-- those of a URL, and none where one of them is bad
+abbrev pub readable : Parts → List Pair
+readable url = cond (is_bad (pairs_of url)) [] (options_of url)
+
+abbrev pub of_parsed : Result Parts ParseError → List Pair
+of_parsed (Ok url) = readable url
+of_parsed (Err e) = []
+
+-- those of a text, and none where it is no URI
+abbrev pub options_in : List ℕ → List Pair
+options_in text = cond (is_uri text) (of_parsed (parse_url None text)) []
+
+-- the last value of a name, where `found` came before these
+abbrev pub last_behind : List ℕ → Option (List ℕ) → List Pair → Option (List ℕ)
+last_behind name found [] = found
+last_behind name found (q ∷ qs) = last_behind name (cond (bytes_eq q.0 name) (Some q.1) found) qs
+
+-- the last value of a name
+abbrev pub last_value : List ℕ → List Pair → Option (List ℕ)
+last_value name options = last_behind name None options
+
+-- ---- their values
+
+-- `0` alone is no
+abbrev pub flag_in : Option (List ℕ) → Bool
+flag_in None = true
+flag_in (Some value) = not (bytes_eq value (codes "0"))
+
+-- one digit or more, and a number of at most 255
+abbrev pub is_state : List ℕ → Bool
+is_state value = nat_le 1 (length value) && list_all is_ascii_digit value && nat_le (read_on 0 value) 255
+
+abbrev pub state_number : List ℕ → Option ℕ
+state_number value = cond (is_state value) (Some (read_on 0 value)) None
+
+-- the number, or 1, which is ONLINE
+abbrev pub state_in : Option (List ℕ) → ℕ
+state_in None = 1
+state_in (Some value) = cond (is_state value) (read_on 0 value) 1
+
+-- the bytes, or none where they are too many
+abbrev pub id_in : Option (List ℕ) → List ℕ
+id_in None = []
+id_in (Some value) = cond (nat_le (length value) 1000) value []
+
+-- ---- the device
+
+abbrev pub device_with : List Pair → Device
+device_with options =
+    record {
+      bidi = flag_in (last_value (codes "bidi") options);
+      connected = flag_in (last_value (codes "connected") options);
+      state = state_in (last_value (codes "state") options);
+      id = id_in (last_value (codes "id") options);
+    }
+
+abbrev pub device_in : List ℕ → Device
+device_in uri = device_with (options_in uri)
+
+-- ---- the URI among variables
+
+abbrev pub uri_name : List ℕ
+uri_name = codes "DEVICE_URI="
+
+-- what stands behind the name in a variable that begins with it
+abbrev pub uri_behind : List ℕ → Option (List ℕ)
+uri_behind variable = cond (bytes_eq (take 11 variable) uri_name) (Some (drop 11 variable)) None
+
+abbrev pub uri_or : List ℕ → Option (List ℕ) → List ℕ
+uri_or rest None = rest
+uri_or rest (Some uri) = uri
+
+-- the same of the first variable that begins with it
+abbrev pub uri_among : List (List ℕ) → List ℕ
+uri_among [] = []
+uri_among (v ∷ vs) = uri_or (uri_among vs) (uri_behind v)

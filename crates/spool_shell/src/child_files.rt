@@ -1,0 +1,88 @@
+//! The files of a child, in the spool's folder.
+ghost use Rattle.std.specs.Prelude.{◌≡◌, IfOk};
+ghost use Rattle.std.specs.String.{string_bytes};
+ghost use Rattle.spool_shell.specs.ChildFiles.{file_of};
+ghost use Rattle.filter_args.specs.declared.files.ChildFile.TheVariants as files;
+
+use crate::device::{new_file, remove_if_there};
+use child_pipeline::Order;
+use filter_args::{ChildFile, Place};
+use std::alloc::{AllocError, Global};
+use std::fs::{File, Files};
+use std::io::{Read, Write};
+use std::path::Path;
+use std::{fs, io};
+
+/// The paths of a child's files.
+#[derive(Debug, Drop)]
+pub(crate) struct ChildPaths {
+    pub input: String,
+    pub output: String,
+    pub errors: String,
+    /// The socket of its side channel.
+    pub side: String,
+}
+
+impl ChildPaths {
+    /// Those of an order's child.
+    pub fn of(alloc: Global, place: &Place, order: &Order) -> Result<ChildPaths, AllocError>
+        ensures input { IfOk result (λ paths. string_bytes paths.input ≡ file_of files.Input (string_bytes place.now.root) order.now) }
+        ensures output { IfOk result (λ paths. string_bytes paths.output ≡ file_of files.Output (string_bytes place.now.root) order.now) }
+        ensures errors { IfOk result (λ paths. string_bytes paths.errors ≡ file_of files.Errors (string_bytes place.now.root) order.now) }
+        ensures side { IfOk result (λ paths. string_bytes paths.side ≡ file_of files.Side (string_bytes place.now.root) order.now) }
+    {
+        Ok(ChildPaths {
+            input: path_of(alloc, ChildFile::Input, place, order)?,
+            output: path_of(alloc, ChildFile::Output, place, order)?,
+            errors: path_of(alloc, ChildFile::Errors, place, order)?,
+            side: path_of(alloc, ChildFile::Side, place, order)?,
+        })
+    }
+
+    /// Removes those that are there.
+    pub fn remove<R: Files>(&self, rt: &R) {
+        for path in [&self.input, &self.output, &self.errors, &self.side] {
+            let _ = fs::remove_file(rt, path.as_str());
+        }
+    }
+}
+
+fn path_of(
+    alloc: Global,
+    file: ChildFile,
+    place: &Place,
+    order: &Order,
+) -> Result<String, AllocError>
+    ensures { IfOk result (λ path. string_bytes path ≡ file_of file (string_bytes place.now.root) order.now) }
+{
+    let stage = order.stage.get() as u8;
+    file.path(alloc, place, order.job, order.attempt.get(), stage)
+}
+
+/// Makes a file, which its owner alone may read. What a crash left under this name goes first, and so does a link, which
+/// is never followed.
+pub(crate) fn make_file<R: Files<File = File>>(rt: &R, path: &str) -> io::Result<File> {
+    let path = Path::new(path);
+    remove_if_there(rt, path)?;
+    new_file(rt, path)
+}
+
+/// Makes a file of these bytes.
+pub(crate) fn make_file_of<R: Files<File = File>>(
+    rt: &R,
+    path: &str,
+    bytes: &[u8],
+) -> io::Result<()> {
+    make_file(rt, path)?.write_all(bytes)
+}
+
+/// Reads up to so many bytes.
+pub(crate) fn read_at_most<R: Read + Drop>(
+    alloc: Global,
+    reader: R,
+    most: u64,
+) -> io::Result<Vec<u8>> {
+    let mut bytes = Vec::new(alloc);
+    reader.take(most).read_to_end(&mut bytes)?;
+    Ok(bytes)
+}

@@ -1,0 +1,63 @@
+//! The devices that the backends know of.
+//!
+//! A backend that is run without the words of a job prints a line for each device that it finds, or one for what it could
+//! serve (backend(7)). The lines that read so are printed as they were written. Nothing limits how long a backend takes:
+//! one that hangs is the user's to stop. Its standard error goes nowhere, and so does what it prints behind its first
+//! 1,048,576 bytes.
+
+use crate::child_files::read_at_most;
+use crate::device_lines::print_lines;
+use crate::fault::ShellFault;
+use crate::script::push_program;
+use program_lists::{ListedProgram, ProgramList};
+use std::alloc::{AllocError, Global};
+use std::io::{ErrorKind, Write};
+use std::process::{Command, Processes, Stdio};
+use std::{io, str};
+
+// What runs a backend without a variable.
+const ENV: &str = "/usr/bin/env";
+
+// How many bytes of a backend's lines are read.
+const MOST_LINES: u64 = 1_048_576;
+
+/// Prints the devices of each backend, in the file's order.
+pub(crate) fn print_devices<R: Processes + AllocGlobal, W: Write>(
+    rt: &R,
+    list: &ProgramList,
+    writer: &mut W,
+) -> Result<(), ShellFault> {
+    for backend in list.backends() {
+        let told = match told_by(rt, &backend.program) {
+            Ok(told) => told,
+            Err(error) if error.kind() == ErrorKind::OutOfMemory => return Err(ShellFault::Memory),
+            Err(_) => continue,
+        };
+        print_lines(rt.alloc(), &told, writer)?;
+    }
+    Ok(())
+}
+
+// What a backend prints.
+fn told_by<R: Processes + AllocGlobal>(rt: &R, program: &ListedProgram) -> io::Result<Vec<u8>> {
+    let mut command = discovery(rt.alloc(), program)?;
+    command.stdin(Stdio::null());
+    command.stdout(Stdio::piped());
+    command.stderr(Stdio::null());
+    let mut child = command.spawn(rt)?;
+    let told = match child.stdout.take() {
+        Some(output) => read_at_most(rt.alloc(), output, MOST_LINES),
+        None => Ok(Vec::new(rt.alloc())),
+    };
+    let _ = child.wait();
+    told
+}
+
+// How a backend is run to tell its devices.
+fn discovery(alloc: Global, program: &ListedProgram) -> Result<Command, AllocError> {
+    let mut command = Command::new(alloc, ENV)?;
+    command.env_clear();
+    command.arg("-i")?;
+    push_program(&mut command, program)?;
+    Ok(command)
+}

@@ -1,0 +1,633 @@
+#!/usr/bin/env python3
+"""Runs the shell with real children, and looks at what each was given and what became of its job: children.py [SHELL [TEST..]]
+
+SHELL is the program, and crates/spool_shell/out/spool_shell (made by `rt run` in that folder) where none is given. No clause
+can say what a file, a socket or a process does, so these are the tests of the launcher, the side channel's sockets and
+`--devices`. Its filters and backends are small programs of sh and Python, which it writes into a fresh folder for each test.
+Each TEST is the name of a function below; without one all are run.
+
+The last line is `N of N`, with status 0, or the first difference, with status 1. The folder of that test stays then, and is
+named. The whole takes about a minute.
+"""
+import os
+import resource
+import shutil
+import signal
+import subprocess
+import sys
+import tempfile
+import time
+
+here = os.path.dirname(os.path.abspath(__file__))
+shell = os.path.abspath(sys.argv[1] if len(sys.argv) > 1 else os.path.join(here, "..", "crates", "spool_shell", "out", "spool_shell"))
+
+TYPES = "a/a txt\n"
+CONVS = "a/a b/b 10 first\n"
+
+# What the programs of Python begin with: each reports what it finds in the file `NAME.WORD` of the test's folder.
+PYTHON = """#!/usr/bin/python3 -ES
+import os, socket, stat, sys, time
+word = sys.argv[1]
+here = os.path.dirname(os.path.abspath(__file__))
+def report(text, name=None):
+    with open(os.path.join(here, "report." + (name or word)), "a") as file:
+        file.write(text + "\\n")
+"""
+
+# The side channel as a child of Python sees it.
+CHANNEL = PYTHON + """
+side = os.environ["SPOOL_SIDE"]
+def call():
+    line = socket.socket(socket.AF_UNIX, socket.SOCK_STREAM)
+    line.settimeout(20)
+    line.connect(side)
+    return line
+def ask(line, request):
+    line.sendall(request)
+    answer = b""
+    while len(answer) < 4 or len(answer) < 4 + int.from_bytes(answer[2:4], "big"):
+        piece = line.recv(4096)
+        if not piece:
+            return "cut " + answer.hex()
+        answer += piece
+    return answer.hex()
+"""
+
+SIDE_END = """#!/usr/bin/python3 -ES
+import socket, sys
+line = socket.socket(socket.AF_UNIX, socket.SOCK_STREAM)
+line.connect(sys.argv[-1])
+line.sendall(b"\\xff\\0\\0\\0")
+"""
+
+
+class Difference(Exception):
+    pass
+
+
+def same(what, found, wanted):
+    if found != wanted:
+        raise Difference(f"{what}: {found!r} in place of {wanted!r}")
+
+
+def quoted(text):
+    return '"' + text.replace("\\", "\\\\").replace('"', '\\"') + '"'
+
+
+class Folder:
+    """The folder of a test: the files of the shell, its programs, and what they report."""
+
+    def __init__(self):
+        self.path = tempfile.mkdtemp(prefix="spool-children-")
+        self.root = "spool"
+        os.mkdir(self.at(self.root))
+        self.lines = []
+        self.write("types", TYPES)
+        self.write("convs", CONVS)
+
+    def at(self, *names):
+        return os.path.join(self.path, *names)
+
+    def write(self, name, text, mode=0o644):
+        with open(self.at(name), "w") as file:
+            file.write(text)
+        os.chmod(self.at(name), mode)
+
+    def read(self, name):
+        with open(self.at(name), "rb") as file:
+            return file.read()
+
+    def program(self, kind, name, text, word="", file=None):
+        """Writes a program, and lists it."""
+        file = file or f"{kind}-{name}"
+        self.write(file, text, 0o755)
+        self.lines.append(f"{kind} {name} {self.at(file)} {word}".rstrip())
+
+    def side(self, text=SIDE_END, word=""):
+        self.write("side-program", text, 0o755)
+        self.lines.append(f"side {self.at('side-program')} {word}".rstrip())
+
+    def words(self):
+        self.write("programs", "".join(line + "\n" for line in self.lines))
+        files = [word for name in ("types", "convs", "programs") for word in (f"--{name}", name)]
+        return [shell, "--root", self.root, "--size", "16777216", *files]
+
+    def run(self, script, status=0, **how):
+        """The replies to a script."""
+        text = script if isinstance(script, bytes) else "".join(line + "\n" for line in script).encode()
+        run = subprocess.run(self.words(), input=text, cwd=self.path, stdout=subprocess.PIPE, stderr=subprocess.PIPE, timeout=120, **how)
+        same("status", (run.returncode, run.stderr), (status, b""))
+        return run.stdout.decode().splitlines()
+
+    def report(self, name):
+        file = self.at("report." + name)
+        if not os.path.exists(file):
+            return []
+        with open(file) as opened:
+            return opened.read().splitlines()
+
+    def left(self):
+        return sorted(os.listdir(self.at(self.root)))
+
+
+def printed(queue, uri, target="a/a", policy="abort-job", number=1, document=b"", title='""', user="ann", options='""', copies=1):
+    """The script that prints a document on a queue of its own: with target b/b through the filter `first`."""
+    head = f"queue {queue} {uri} {target} {policy}\ncreate {queue} {user} {title} {copies} 50 {options}\n"
+    pieces = b"".join(f"send {number} {len(piece)}\n".encode() + piece + b"\n" for piece in pieces_of(document))
+    return head.encode() + pieces + f"close {number} page.txt\n".encode()
+
+
+def pieces_of(document):
+    return [document[at : at + 65536] for at in range(0, len(document), 65536)]
+
+
+def states(replies):
+    """The state and the reason of each job in the last listing."""
+    found = {}
+    for line in replies:
+        words = line.split(" ")
+        if words[0] == "job":
+            found[int(words[1])] = f"{words[3]} {words[4]}"
+    return found
+
+
+def queue_states(replies):
+    return {line.split(" ")[1]: line.split(" ")[2] for line in replies if line.startswith("queue ")}
+
+
+# ---- ends of children
+
+# What becomes of the job of a backend with this status, under each policy: its state and reason, and the queue's state.
+FAILED = {"abort-job": ("8 backend-failed", "3"), "retry-job": ("3 retry-later", "3"), "retry-current-job": ("3 none", "3"), "stop-printer": ("3 none", "5")}
+ANSWERED = {
+    0: ("9 job-completed-successfully", "3"),
+    2: ("4 cups-held-for-authentication", "3"),
+    3: ("4 held-by-backend", "3"),
+    4: ("3 none", "5"),
+    5: ("7 canceled", "3"),
+    6: ("3 retry-later", "3"),
+    7: ("3 none", "3"),
+}
+STATUSES = [0, 1, 2, 3, 4, 5, 6, 7, 8, 255]
+
+EXIT = '#!/bin/sh\ncat >/dev/null\nexit "${DEVICE_URI##*/}"\n'
+
+
+def statuses_of_backends(folder):
+    folder.program("backend", "exit", EXIT)
+    script, wanted, queues = b"", {}, {}
+    for policy in FAILED:
+        for status in STATUSES:
+            number = len(wanted) + 1
+            queue = f"{policy}-{status}"
+            script += printed(queue, f"exit:/{status}", policy=policy, number=number)
+            wanted[number], queues[queue] = ANSWERED.get(status, FAILED[policy])
+    replies = folder.run(script + b"round\njobs\nqueues\n")
+    same("round", "ok started 40 finished 40" in replies, True)
+    same("jobs", states(replies), wanted)
+    same("queues", queue_states(replies), queues)
+    same("files", folder.left(), ["spool.disk"])
+
+
+def statuses_of_filters(folder):
+    folder.program("filter", "first", '#!/bin/sh\nexit "$3"\n')
+    folder.program("backend", "exit", EXIT)
+    script = b""
+    for number, status in enumerate(STATUSES, 1):
+        script += printed(f"q{status}", "exit:/0", "b/b", "stop-printer", number, title=str(status))
+    replies = folder.run(script + b"drain 5\njobs\n")
+    wanted = {number: "8 filter-failed" for number in range(2, 11)}
+    same("jobs", states(replies), {1: "9 job-completed-successfully", **wanted})
+
+
+def stage_event(number, attempt, stage, end):
+    """What the journal has of the end of a stage."""
+    return b"\x0d" + number.to_bytes(4, "big") + attempt.to_bytes(4, "big") + bytes([stage]) + end
+
+
+def signals(folder):
+    folder.program("filter", "first", "#!/bin/sh\nkill -SEGV $$\n")
+    folder.program("backend", "kill", '#!/bin/sh\nkill "${DEVICE_URI##*/}" $$\n')
+    script = printed("a", "kill:/-KILL") + printed("b", "kill:/-TERM", policy="stop-printer", number=2) + printed("c", "kill:/-KILL", "b/b", number=3)
+    same("jobs", states(folder.run(script + b"drain 5\njobs\n")), {1: "8 backend-failed", 2: "3 none", 3: "8 filter-failed"})
+    journal = folder.read("spool/spool.disk")
+    for number in (1, 2, 3):
+        same(f"signal of {number}", stage_event(number, 1, 1, b"\x01") in journal, True)
+
+
+def programs_that_cannot_run(folder):
+    folder.program("backend", "there", "#!/bin/sh\nexit 0\n")
+    folder.lines.append(f"backend absent {folder.at('absent')}")
+    folder.lines.append(f"backend folder {folder.path}")
+    folder.write("plain", "#!/bin/sh\nexit 0\n")
+    folder.lines.append(f"backend plain {folder.at('plain')}")
+    folder.write("broken", "#!/no/such/shell\n", 0o755)
+    folder.lines.append(f"backend broken {folder.at('broken')}")
+    script = b""
+    for number, scheme in enumerate(["absent", "folder", "plain", "unlisted", "broken", "there"], 1):
+        script += printed(scheme, f"{scheme}:/x", number=number)
+    script += printed("filtered", "there:/x", "b/b", number=7)
+    replies = folder.run(script + b"round\njobs\n")
+    # `env` ends with 127 where it finds no shell for the program.
+    same("round", "ok started 2 finished 7" in replies, True)
+    wanted = {number: "8 backend-failed" for number in range(1, 6)}
+    same("jobs", states(replies), {**wanted, 6: "9 job-completed-successfully", 7: "8 filter-failed"})
+    journal = folder.read("spool/spool.disk")
+    for number in (1, 2, 3, 4, 7):
+        same(f"end of {number}", stage_event(number, 1, 1, b"\x02") in journal, True)
+    same("end of 5", stage_event(5, 1, 1, b"\x00\x7f") in journal, True)
+    same("files", folder.left(), ["spool.disk"])
+
+
+def no_descriptors_left(folder):
+    folder.program("backend", "exit", EXIT)
+    script = b"".join(printed(f"q{n:02}", "exit:/0", number=n) for n in range(1, 21))
+
+    def limited():
+        resource.setrlimit(resource.RLIMIT_NOFILE, (24, 24))
+
+    replies = folder.run(script + b"round\njobs\n", preexec_fn=limited)
+    found = states(replies)
+    started = sum(state == "9 job-completed-successfully" for state in found.values())
+    same("some are started, and some aren't", 0 < started < 20, True)
+    same("round", f"ok started {started} finished 20" in replies, True)
+    same("ends", set(found.values()), {"9 job-completed-successfully", "8 backend-failed"})
+    same("files", folder.left(), ["spool.disk"])
+
+
+# ---- what children are given
+
+GIVEN = PYTHON + """
+report(repr(sys.argv[2:]), "words")
+with open("/proc/self/environ", "rb") as file:
+    report(repr(file.read().decode().split("\\0")[:-1]), "environment")
+open_ones = []
+for n in range(256):
+    try:
+        os.fstat(n)
+        open_ones.append(n)
+    except OSError:
+        pass
+report(repr(open_ones), "descriptors")
+report(os.readlink("/proc/self/fd/4"), "descriptors")
+report(repr(os.read(0, 100)), "input")
+root = os.environ["TMPDIR"]
+for name in sorted(os.listdir(root)):
+    found = os.lstat(os.path.join(root, name))
+    report(f"{name} {stat.S_IMODE(found.st_mode):o} {stat.S_ISREG(found.st_mode)}", "files")
+if sys.argv[7:]:
+    with open(sys.argv[7], "rb") as file:
+        report(repr(file.read()), "document")
+print("from", word)
+"""
+
+
+def given(folder):
+    folder.program("filter", "first", GIVEN, "one", "given")
+    folder.lines.append(f"backend last {folder.at('given')} two")
+    script = b'queue lab last:/out?id=A%20B b/b abort-job\ninfo lab Front "Room 1"\n'
+    script += b'create lab ann "First page" 2 50 "media=A4 nocollate"\nsend 1 5\nhello\nclose 1 page.txt\ndrain 5\njobs\n'
+    # What the shell was started with isn't handed on.
+    opened = [os.open("/dev/null", os.O_RDONLY) for _ in range(12)]
+    replies = folder.run(script, pass_fds=opened, env={"SECRET": "x", "LANG": "de_DE", "PATH": "/sbin", "ENV": "/nowhere"})
+    for fd in opened:
+        os.close(fd)
+    same("jobs", states(replies), {1: "9 job-completed-successfully"})
+    words = ["1", "ann", "First page", "2", "media=A4 collate=false"]
+    same("words", folder.report("words"), [repr([*words, "spool/in-1-1-1"]), repr(words)])
+    for stage in (1, 2):
+        wanted = ["CHARSET=utf-8", "CONTENT_TYPE=a/a", "CUPS_FILETYPE=document", "DEVICE_URI=last:/out?id=A%20B", "FINAL_CONTENT_TYPE=b/b", "LANG=C"]
+        wanted += ["PATH=/usr/bin:/bin", "PRINTER=lab", "PRINTER_INFO=Front", "PRINTER_LOCATION=Room 1", "TMPDIR=spool"]
+        wanted += ["SPOOL_ATTEMPT=1", "SPOOL_SIDE=", f"SPOOL_STAGE={stage}"]
+        same("environment", folder.report("environment")[stage - 1], repr(wanted))
+    same("descriptors", folder.report("descriptors"), ["[0, 1, 2, 4]", "/dev/null"] * 2)
+    same("input", folder.report("input"), ["b''", repr(b"from one\n")])
+    same("document", folder.report("document"), [repr(b"hello")])
+    files = [f"{name}-1-1-{stage} 600 True" for stage in (1, 2) for name in ("err", "in", "out")]
+    same("files", folder.report("files"), [*files[:3], "spool.disk 600 True", *files[3:], "spool.disk 600 True"])
+    same("files left", folder.left(), ["spool.disk"])
+
+
+# Texts that a shell, `env` or a reader of options could take for more than words.
+ODD = ['a b', '"', "'", "$(touch hit)", "`touch hit`", "; touch hit;", "$HOME", "-i", "--", "A=B", "*", "\\", "\\n", "é €", "%s", "", "& touch hit &", "> hit", "a  b "]
+
+
+def odd_words(folder):
+    folder.program("backend", "last", GIVEN, "one", "given")
+    script = b"queue lab last:/x a/a abort-job\n"
+    for number, text in enumerate(ODD, 1):
+        options = "x=" + "".join("\\" + c if c in " '\"\\" else c for c in text)
+        words = ("lab", quoted(text or "u"), quoted(text), "1", "50", quoted(options))
+        script += ("create " + " ".join(words) + f"\nclose {number} page.txt\nround\n").encode()
+    replies = folder.run(script + b"jobs\n")
+    same("jobs", states(replies), {n: "9 job-completed-successfully" for n in range(1, len(ODD) + 1)})
+    for number, (text, report) in enumerate(zip(ODD, folder.report("words")), 1):
+        options = "x=" + "".join("\\" + c if c in " '\"\\" else c for c in text)
+        same("words", report, repr([str(number), text or "u", text, "1", options, f"spool/in-{number}-1-1"]))
+    same("nothing else ran", os.path.exists(folder.at("hit")) or os.path.exists(folder.at("spool", "hit")), False)
+
+
+def links(folder):
+    folder.program("backend", "exit", '#!/bin/sh\necho out; echo err >&2; cat "$6" >&2\n')
+    folder.write("victim", "keep", 0o644)
+    for name in ("in", "out", "err"):
+        os.symlink("../victim", folder.at("spool", f"{name}-1-1-1"))
+    folder.write("spool/out-2-1-1", "left by a crash" * 100, 0o644)
+    script = printed("lab", "exit:/0", document=b"doc") + b'create lab ann "" 1 50 ""\nclose 2 page.txt\ndrain 5\njobs\n'
+    same("jobs", states(folder.run(script)), {1: "9 job-completed-successfully", 2: "9 job-completed-successfully"})
+    same("victim", folder.read("victim"), b"keep")
+    same("files", folder.left(), ["spool.disk"])
+    os.mkdir(folder.at("spool", "err-3-1-1"))
+    same("a folder in the way", states(folder.run(b'create lab ann "" 1 50 ""\nclose 3 page.txt\nround\njobs\n'))[3], "8 backend-failed")
+    same("files", folder.left(), ["err-3-1-1", "spool.disk"])
+
+
+# ---- what children write
+
+COPIES = "#!/bin/sh\nhead -c \"$3\" /dev/zero\n"
+COUNTS = '#!/bin/sh\nwc -c >"$0.$1"\n'
+
+
+def outputs(folder):
+    sizes = [0, 1, 65536, 1048576, 1048577, 3000000]
+    folder.program("filter", "first", COPIES)
+    folder.program("backend", "count", COUNTS)
+    script = b"".join(printed(f"q{n}", "count:/x", "b/b", number=n, title=str(size)) for n, size in enumerate(sizes, 1))
+    replies = folder.run(script + b"drain 5\njobs\n")
+    for number, size in enumerate(sizes, 1):
+        fits = size <= 1048576
+        same(f"{size} bytes", states(replies)[number], "9 job-completed-successfully" if fits else "8 filter-failed")
+        count = folder.at(f"backend-count.{number}")
+        same(f"{size} bytes counted", int(folder.read(count)) if os.path.exists(count) else None, size if fits else None)
+        same("lost", stage_event(number, 1, 1, b"\x03") in folder.read("spool/spool.disk"), not fits)
+
+
+def documents(folder):
+    document = os.urandom(1048576)
+    folder.program("filter", "first", '#!/bin/sh\ncat "$6"\n')
+    folder.program("backend", "keep", '#!/bin/sh\ncat >"$0.kept"\n')
+    replies = folder.run(printed("q", "keep:/x", "b/b", document=document) + b"drain 5\njobs\n")
+    same("jobs", states(replies), {1: "9 job-completed-successfully"})
+    same("document", folder.read("backend-keep.kept") == document, True)
+
+
+def standard_error(folder):
+    text = '#!/bin/sh\necho "STATE: +toner-low" >&2\nyes "DEBUG: on and on" | head -c 3000000 >&2\necho "STATE: +media-jam" >&2\n'
+    folder.program("backend", "loud", text)
+    folder.program("backend", "told", '#!/bin/sh\nprintf "INFO: half\\nPAGE: 1 3\\nSTATE: +media-low\\nATTR: marker-levels=5" >&2\nexit 3\n')
+    script = printed("a", "loud:/x") + printed("b", "told:/x", number=2) + b"round\njobs\nqueues\n"
+    replies = folder.run(script)
+    same("jobs", states(replies), {1: "9 job-completed-successfully", 2: "4 held-by-backend"})
+    same("pages", [line for line in replies if line.startswith("job 2")], ['job 2 b 4 held-by-backend "ann" 0 3 ""'])
+    same("reasons", [line.split(" ")[8:] for line in replies if line.startswith("queue ")], [["toner-low", '""'], ["media-low", '"half"']])
+
+
+# ---- several children
+
+MEETS = '#!/bin/sh\ntouch "$0.${DEVICE_URI##*/}"\nfor i in 1 2 3 4 5 6 7 8 9 10; do\n    [ -e "$0.$3" ] && exit 0\n    sleep 0.5\ndone\nexit 1\n'
+
+
+def at_once(folder):
+    folder.program("backend", "meet", MEETS)
+    script = printed("a", "meet:/x", title="y") + printed("b", "meet:/y", title="x", number=2)
+    replies = folder.run(script + b"round\njobs\n")
+    same("round", "ok started 2 finished 2" in replies, True)
+    same("jobs", states(replies), {1: "9 job-completed-successfully", 2: "9 job-completed-successfully"})
+
+
+SLOW = '#!/bin/sh\necho "$1 $SPOOL_ATTEMPT" >>"$0.ran"\nsleep 0.03\n'
+KILLS = 40
+
+
+def wait_for_children(folder):
+    """Waits until nothing runs in the folder any more: the child of a shell that was killed goes on."""
+    for _ in range(600):
+        running = False
+        for process in os.listdir("/proc"):
+            try:
+                running |= process.isdigit() and os.readlink(f"/proc/{process}/cwd") == folder.path
+            except OSError:
+                pass
+        if not running:
+            return
+        time.sleep(0.05)
+    raise Difference("a child goes on for half a minute")
+
+
+def killed(folder):
+    """A shell that is killed at some moment, and opened again: what had ended doesn't run again."""
+    folder.program("backend", "slow", SLOW)
+    within = 0
+    for trial in range(KILLS):
+        policy, shown = [("abort-job", "8 attempt-lost"), ("retry-current-job", "3 none"), ("retry-job", "3 retry-later")][trial % 3]
+        shutil.rmtree(folder.at("spool"))
+        os.mkdir(folder.at("spool"))
+        ran = folder.at("backend-slow.ran")
+        open(ran, "w").close()
+        script = f"queue lab slow:/x a/a {policy}\n".encode() + b"".join(b'create lab ann "" 1 50 ""\nclose %d page.txt\n' % n for n in range(1, 9))
+        child = subprocess.Popen(folder.words(), cwd=folder.path, stdin=subprocess.PIPE, stdout=subprocess.PIPE, stderr=subprocess.PIPE)
+        child.stdin.write(script + b"round\njobs\n" * 8)
+        child.stdin.flush()
+        time.sleep(0.02 + trial * 0.5 / KILLS)
+        child.send_signal(signal.SIGKILL)
+        replies = child.communicate()[0].decode().splitlines()
+        before = states(line for line in replies if line.endswith('""'))
+        ended = {number for number, state in before.items() if state[0] in "789"}
+        wait_for_children(folder)
+        attempts = {}
+        for line in open(ran):
+            number, attempt = map(int, line.split())
+            attempts[number] = max(attempt, attempts.get(number, 0))
+        after = states(folder.run(b"jobs\n"))
+        for number in ended:
+            same(f"job {number} that had ended", after[number], before[number])
+        within += any(after[number] == shown for number in set(attempts) - ended)
+        for number in set(attempts) - ended:
+            same(f"job {number} that was started", after[number] in (shown, "9 job-completed-successfully"), True)
+        last = states(folder.run(b"clock 100\ndrain 100\njobs\n"))
+        closed = {number: state for number, state in last.items() if after[number] != "4 job-incoming"}
+        same("all that were closed end", {state[0] for state in closed.values()} <= {"8", "9"}, True)
+        for line in open(ran):
+            number, attempt = map(int, line.split())
+            if after.get(number, "3")[0] in "789":
+                same(f"job {number} didn't run again", attempt <= attempts.get(number, 0), True)
+        # A child of the killed shell leaves its files.
+        for name in folder.left():
+            same("file", name == "spool.disk" or name.rsplit("-", 3)[0] in ("in", "out", "err"), True)
+    same("some were killed while a child ran", within > 0, True)
+
+
+# ---- the side channel
+
+ASKS = CHANNEL + """
+line = call()
+for request in ("04000000", "03000000", "05000000", "08000000", "010000024142", "06000000", "09000000", "ff010000"):
+    report(ask(line, bytes.fromhex(request)), sys.argv[2])
+"""
+
+
+def sessions(folder):
+    folder.root = "r" * 64
+    os.mkdir(folder.at(folder.root))
+    folder.program("backend", "ask", ASKS, "asks")
+    folder.side()
+    script = printed("a", "ask:/o?id=MFG%3AX%3B&bidi=0&state=007&connected=1") + printed("b", "ask:/o?state=256&state=9&bidi=2&connected=0&id=x&id=", number=2)
+    replies = folder.run(script + b"round\njobs\n")
+    same("jobs", states(replies), {1: "9 job-completed-successfully", 2: "9 job-completed-successfully"})
+    rest = ["01010000", "06070000", "09050000", "ff050000"]
+    same("answers", folder.report("1"), ["04010006" + b"MFG:X;".hex(), "0301000100", "0501000107", "0801000101", *rest])
+    same("defaults", folder.report("2"), ["04010000", "0301000101", "0501000109", "0801000100", *rest])
+    same("files", folder.left(), ["spool.disk"])
+
+
+def stage_with_side(folder):
+    """A child with a side channel has the environment, the descriptors and the status of one without."""
+    folder.program("backend", "last", GIVEN + "report(oct(os.stat(os.environ['SPOOL_SIDE']).st_mode), 'socket')\nsys.exit(6)\n", "one", "given")
+    folder.program("backend", "kill", "#!/bin/sh\nkill -KILL $$\n")
+    folder.side(word="a-word")
+    replies = folder.run(printed("a", "last:/x") + printed("b", "kill:/x", number=2) + b"round\njobs\n")
+    same("jobs", states(replies), {1: "3 retry-later", 2: "8 backend-failed"})
+    same("descriptors", folder.report("descriptors"), ["[0, 1, 2, 4]", "/dev/null"])
+    same("side", "'SPOOL_SIDE=spool/side-1-1-1'" in folder.report("environment")[0], True)
+    same("socket", folder.report("socket"), ["0o140600"])
+    same("status of a signal", stage_event(2, 1, 1, b"\x00\x89") in folder.read("spool/spool.disk"), True)
+    same("files", folder.left(), ["spool.disk"])
+
+
+# Clients that are up to no good, and then one that asks.
+CLIENTS = {
+    "hangup": "call().close()\nreport(ask(call(), b'\\3\\0\\0\\0'))",
+    "cut": "l = call()\nl.sendall(b'\\3\\0\\0')\nl.close()\nreport(ask(call(), b'\\3\\0\\0\\0'))",
+    "rubbish": "l = call()\ntry:\n    l.sendall(os.urandom(300000))\nexcept OSError:\n    pass\nl.close()\nreport(ask(call(), b'\\3\\0\\0\\0'))",
+    "flood": "l = call()\nl.settimeout(4)\ntry:\n    while True:\n        l.sendall(b'\\3\\0\\0\\0' * 16384)\nexcept OSError:\n    pass\nreport(ask(call(), b'\\3\\0\\0\\0'))",
+    "open": "keep = call()\nreport(ask(keep, b'\\3\\0\\0\\0'))\ntime.sleep(1)\nreport(ask(keep, b'\\3\\0\\0\\0'))\nkeep.close()\nreport(ask(call(), b'\\3\\0\\0\\0'))",
+    "quiet": "keep = call()\nreport('0301000101')",
+    "early": "l = call()\nl.sendall(b'\\xff\\0\\0\\0')\nprint(l.recv(1))\nreport('0301000101')",
+    "forks": "keep = call()\nif os.fork() == 0:\n    os.setsid()\n    time.sleep(8)\n    os._exit(0)\nreport('0301000101')",
+    "many": "for n in range(256):\n    call().close()\ntry:\n    answer = ask(call(), b'\\3\\0\\0\\0')\nexcept OSError:\n    answer = 'cut '\nreport('0301000101' if answer == 'cut ' else answer)",
+}
+
+
+def clients(folder):
+    script = b""
+    for number, (name, text) in enumerate(CLIENTS.items(), 1):
+        folder.program("backend", name, CHANNEL + text + "\n", name)
+        script += printed(name, f"{name}:/x", number=number)
+    folder.side()
+    begun = time.monotonic()
+    replies = folder.run(script + b"round\njobs\n")
+    for number, name in enumerate(CLIENTS, 1):
+        same(f"client {name}", (states(replies)[number], set(folder.report(name))), ("9 job-completed-successfully", {"0301000101"}))
+    same("seconds", time.monotonic() - begun < 30, True)
+
+
+def sides_that_fail(folder):
+    for name, text in {"fails": "#!/bin/sh\nexit 1\n", "silent": "#!/bin/sh\nexit 0\n", "broken": "#!/no/such/shell\n", "absent": None}.items():
+        folder.lines = []
+        folder.program("backend", "exit", EXIT)
+        folder.side(text or "")
+        if text is None:
+            os.remove(folder.at("side-program"))
+        shutil.rmtree(folder.at("spool"))
+        os.mkdir(folder.at("spool"))
+        begun = time.monotonic()
+        same(f"side program {name}", states(folder.run(printed("a", "exit:/5") + b"round\njobs\n")), {1: "7 canceled"})
+        same("seconds", time.monotonic() - begun < 5, True)
+
+
+# ---- devices
+
+
+def devices(folder):
+    folder.program("backend", "one", '#!/bin/sh\necho \'direct one:/x "A B" "C" "MFG:X;" ""\'\necho nothing\necho "$#$*" >"$0.words"\ncat /proc/$$/environ >"$0.environment"\necho loud >&2\n', "a-word")
+    folder.lines.append(f"backend absent {folder.at('absent')}")
+    folder.program("filter", "one", '#!/bin/sh\necho \'direct filter:/x "A" "B"\'\n')
+    folder.program("backend", "a", '#!/bin/sh\nprintf \'network  a "Unknown" "A"\\ndirect b:/\\377 "A" "B"\\nfile c "Unknown" "C"\'\nexit 1\n')
+    folder.side()
+    for root in ("spool", "absent"):
+        run = subprocess.run([*folder.words()[:1], "--root", root, "--programs", "programs", "--devices"], cwd=folder.path, input=b"jobs\n", capture_output=True, timeout=60)
+        same("devices", (run.returncode, run.stderr), (0, b""))
+        wanted = b'direct one:/x "A B" "C" "MFG:X;" ""\nnetwork  a "Unknown" "A"\nfile c "Unknown" "C"\n'
+        same("devices", run.stdout, wanted)
+    same("words", folder.read("backend-one.words"), b"1a-word\n")
+    same("environment", folder.read("backend-one.environment"), b"")
+    same("spool", folder.left(), [])
+    run = subprocess.run([shell, "--devices"], stdin=subprocess.DEVNULL, capture_output=True, timeout=60)
+    same("no programs", (run.returncode, run.stdout, run.stderr), (0, b"", b""))
+    run = subprocess.run(f"exec '{shell}' --programs programs --devices >/dev/full", shell=True, cwd=folder.path, capture_output=True, timeout=60)
+    same("full", (run.returncode, run.stderr), (1, b"spool: write\n"))
+
+
+# ---- a full folder
+
+
+def full_folder(folder):
+    """Where no file of a child can be filled, none is started; once there is room, the next round prints."""
+    root = folder.at(folder.root)
+    mounted = subprocess.run(["mount", "-t", "tmpfs", "-o", "size=20m", "none", root], capture_output=True)
+    if mounted.returncode:
+        print("full_folder: left out, since it may not mount a file system (it wants root)")
+        return
+    try:
+        folder.program("backend", "keep", '#!/bin/sh\ncat "$6" >"${DEVICE_URI#keep:}"\n')
+        document = bytes(range(256)) * 4096
+        folder.run(printed("lab", f"keep:{folder.at('kept')}", policy="retry-current-job", document=document))
+        with open(os.path.join(root, "filler"), "wb", buffering=0) as filler:
+            try:
+                while filler.write(bytes(65536)):
+                    pass
+            except OSError:
+                pass
+        replies = folder.run(["round", "jobs"])
+        same("a full folder", (replies[0], states(replies)), ("ok started 0 finished 1", {1: "3 none"}))
+        same("what is left", folder.left(), ["filler", "spool.disk"])
+        os.remove(os.path.join(root, "filler"))
+        replies = folder.run(["round", "jobs"])
+        same("with room", (replies[0], states(replies)), ("ok started 1 finished 1", {1: "9 job-completed-successfully"}))
+        same("what it printed", folder.read("kept") == document, True)
+    finally:
+        subprocess.run(["umount", root], check=True)
+
+
+TESTS = [
+    statuses_of_backends,
+    statuses_of_filters,
+    signals,
+    programs_that_cannot_run,
+    no_descriptors_left,
+    given,
+    odd_words,
+    links,
+    outputs,
+    documents,
+    standard_error,
+    full_folder,
+    at_once,
+    killed,
+    sessions,
+    stage_with_side,
+    clients,
+    sides_that_fail,
+    devices,
+]
+
+
+def main():
+    tests = [test for test in TESTS if not sys.argv[2:] or test.__name__ in sys.argv[2:]]
+    for test in tests:
+        folder = Folder()
+        begun = time.monotonic()
+        try:
+            test(folder)
+        except (Difference, OSError, subprocess.SubprocessError) as fault:
+            print(f"{test.__name__}: {fault}")
+            print("folder:", folder.path)
+            return 1
+        print(f"{test.__name__}: {time.monotonic() - begun:.1f} s", flush=True)
+        shutil.rmtree(folder.path)
+    print(f"{len(tests)} of {len(tests)}")
+    return 0
+
+
+if __name__ == "__main__":
+    sys.exit(main())

@@ -1,0 +1,177 @@
+#!/usr/bin/env python3
+"""Prints with real programs, as an office would: office.py
+
+It runs the built programs, crates/spool_shell/out/spool_shell and crates/spool_tools/out/spool_tools:
+
+1. examples/office/print.sh prints a letter through a filter into a file, whose bytes are compared.
+2. Two backends `meet` find each other, so the children of a round run at once; and `sideask` learns the device's id by
+   the side channel.
+3. A document goes through CUPS's own backend `socket` to a printer that listens on the loopback address. Where that
+   backend isn't installed (Debian's package `cups`) this part is left out, and said to be.
+
+The last line is `N checks, 0 failed`, with status 0, or names how many failed, with status 1.
+"""
+import os
+import socket
+import subprocess
+import sys
+import tempfile
+import threading
+
+HERE = os.path.dirname(os.path.realpath(__file__))
+ROOT = os.path.dirname(HERE)
+SHELL = os.path.join(ROOT, "crates/spool_shell/out/spool_shell")
+TOOLS = os.path.join(ROOT, "crates/spool_tools/out/spool_tools")
+SOCKET = "/usr/lib/cups/backend/socket"
+
+LETTER = b"Dear Bo,\r\ncome. Ann\r\n\x0c"
+
+REPLIES = """ok
+ok job 1
+ok bytes 19
+ok type text/plain stages 2
+ok rounds 3
+job 1 hall 9 job-completed-successfully "ann" 19 2 "A letter"
+ok 1
+"""
+
+checks = failed = 0
+
+
+def check(name, found, wanted):
+    global checks, failed
+    checks += 1
+    if found != wanted:
+        failed += 1
+        print(f"{name}: {found!r}, and not {wanted!r}")
+
+
+def print_letter(room):
+    folder = os.path.join(room, "office")
+    ran = subprocess.run([os.path.join(ROOT, "examples/office/print.sh"), folder], capture_output=True, timeout=60)
+    check("the status of print.sh", (ran.returncode, ran.stderr), (0, b""))
+    check("the replies of print.sh", ran.stdout.decode(), REPLIES)
+    with open(os.path.join(folder, "letter.prn"), "rb") as file:
+        check("the printed letter", file.read(), 2 * LETTER)
+    left = sorted(os.listdir(os.path.join(folder, "spool")))
+    check("the files of the children", [name for name in left if "-" in name], [])
+
+
+def served(room, name, programs, script):
+    """The status, the replies and what was said of a script that is served in a fresh folder."""
+    folder = os.path.join(room, name)
+    os.mkdir(folder)
+    listed = os.path.join(room, name + ".programs")
+    with open(listed, "w") as file:
+        file.write(programs)
+    words = [SHELL, "--root", folder, "--programs", listed]
+    ran = subprocess.run(words, input=script.encode(), capture_output=True, timeout=60)
+    return ran.returncode, ran.stdout.decode(), ran.stderr.decode()
+
+
+def meet_each_other(room):
+    a, b = os.path.join(room, "a"), os.path.join(room, "b")
+    script = f"queue one meet:{a}?partner={b} application/octet-stream abort-job\n"
+    script += f"queue two meet:{b}?partner={a} application/octet-stream abort-job\n"
+    for job, queue in ((1, "one"), (2, "two")):
+        script += f'create {queue} ann "" 1 50 ""\nsend {job} 1\nx\nclose {job} x\n'
+    status, replies, said = served(room, "meet", f"backend meet {TOOLS} meet\n", script + "round\njobs\n")
+    wanted = """ok started 2 finished 2
+job 1 one 9 job-completed-successfully "ann" 1 0 ""
+job 2 two 9 job-completed-successfully "ann" 1 0 ""
+ok 2
+"""
+    check("two that meet", (status, replies[-len(wanted) :], said), (0, wanted, ""))
+
+
+def ask_the_device(room):
+    told = os.path.join(room, "told")
+    script = f"queue lab sideask:{told}?id=MFG%3AX%3B application/octet-stream abort-job\n"
+    script += 'create lab ann "" 1 50 ""\nsend 1 1\nx\nclose 1 x\nround\njobs\n'
+    programs = f"backend sideask {TOOLS} sideask\nside {TOOLS} side-end\n"
+    status, replies, said = served(room, "sideask", programs, script)
+    wanted = 'ok started 1 finished 1\njob 1 lab 9 job-completed-successfully "ann" 1 0 ""\nok 1\n'
+    check("the one that asks", (status, replies[-len(wanted) :], said), (0, wanted, ""))
+    with open(told, "rb") as file:
+        check("what the device told", file.read(), b"MFG:X;")
+
+
+def first_script(room):
+    out = os.path.join(room, "out")
+    script = f"queue lab spoolfile:{out} application/octet-stream abort-job\n"
+    script += 'create lab ann "First page" 1 50 ""\nsend 1 0\n\nclose 1 page.txt\ndrain 5\njobs\n'
+    wanted = """ok
+ok job 1
+ok bytes 0
+ok type application/octet-stream stages 1
+ok rounds 2
+job 1 lab 9 job-completed-successfully "ann" 0 0 "First page"
+ok 1
+"""
+    check("the first script", served(room, "first", f"backend spoolfile {TOOLS} spoolfile\n", script), (0, wanted, ""))
+    check("its empty document", os.path.getsize(out), 0)
+    words = [SHELL, "--programs", os.path.join(room, "first.programs"), "--devices"]
+    ran = subprocess.run(words, capture_output=True, timeout=60)
+    check("its devices", (ran.returncode, ran.stdout), (0, b'file spoolfile "Unknown" "spoolfile"\n'))
+
+
+def print_to_socket(room):
+    printer = socket.create_server(("127.0.0.1", 0))
+    printer.settimeout(30)
+    taken = []
+
+    def take():
+        connection, _ = printer.accept()
+        while piece := connection.recv(65536):
+            taken.append(piece)
+        connection.close()
+
+    listening = threading.Thread(target=take)
+    listening.start()
+    folder = os.path.join(room, "socket")
+    os.mkdir(folder)
+    programs = os.path.join(room, "programs")
+    with open(programs, "w") as file:
+        file.write(f"backend socket {SOCKET}\nfilter prncount {TOOLS} prncount\n")
+    convs = os.path.join(room, "convs")
+    with open(convs, "w") as file:
+        file.write("application/octet-stream application/x-prn 1 prncount\n")
+    page = bytes(range(256)) * 200
+    port = printer.getsockname()[1]
+    script = b"".join(
+        [
+            b"queue net socket://127.0.0.1:%d/?waiteof=false application/x-prn retry-job\n" % port,
+            b'create net ann "Bytes" 1 50 ""\n',
+            b"send 1 %d\n%s\n" % (len(page), page),
+            b"close 1 page\ndrain 9\njobs\n",
+        ]
+    )
+    words = [SHELL, "--root", folder, "--convs", convs, "--programs", programs]
+    ran = subprocess.run(words, input=script, capture_output=True, timeout=60)
+    listening.join()
+    check("the status of the run to the socket", (ran.returncode, ran.stderr), (0, b""))
+    done = b'job 1 net 9 job-completed-successfully "ann" 51200 200 "Bytes"\nok 1\n'
+    check("the end of the job to the socket", ran.stdout[-len(done) :], done)
+    check("what the printer took", b"".join(taken), page)
+
+
+def main():
+    for program in (SHELL, TOOLS):
+        if not os.path.isfile(program):
+            print(f"office.py wants the built program {program}: run rt all check, or rt ci")
+            return 1
+    with tempfile.TemporaryDirectory(prefix="office-", dir="/tmp") as room:
+        print_letter(room)
+        first_script(room)
+        meet_each_other(room)
+        ask_the_device(room)
+        if os.path.isfile(SOCKET):
+            print_to_socket(room)
+        else:
+            print(f"left out: {SOCKET} isn't there (Debian's package cups)")
+    print(f"{checks} checks, {failed} failed")
+    return 1 if failed else 0
+
+
+if __name__ == "__main__":
+    sys.exit(main())
