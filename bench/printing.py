@@ -100,6 +100,7 @@ def memory(room):
     """Eight documents of the full size, handed to their backends at once."""
     folder = os.path.join(room, "memory")
     spooler = Spooler(folder, 67_108_864, "backend cat /bin/cat\n")
+    spooler.ask(b"jobs\n")
     nothing = spooler.memory()
     for n in range(8):
         spooler.ask(b"queue q%d cat:/ application/octet-stream abort-job\n" % n)
