@@ -29,6 +29,7 @@ mod event;
 mod items;
 mod kinds;
 mod limits;
+mod listing;
 mod media;
 mod numbers;
 mod phase;
@@ -48,6 +49,7 @@ pub use kinds::{
     ReasonKind, Title, TitleKind, Uri, UriKind, UserName, UserNameKind,
 };
 pub use limits::{LONGEST_DOCUMENT, LONGEST_SEND, MOST_KEPT, MOST_QUEUES};
+pub use listing::{Head, ListedJob, Row};
 pub use media::{MediaName, MediaType, MediaTypeKind};
 pub use numbers::{JobId, Moment};
 pub use phase::{AbortReason, Hold, HoldReason, Phase, Policy};
