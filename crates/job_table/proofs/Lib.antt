@@ -11,3 +11,4 @@ pub mod Ended
 pub mod Reopened
 pub mod Choice
 pub mod Next
+pub mod Stages

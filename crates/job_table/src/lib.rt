@@ -31,6 +31,8 @@
 //! - *NoHiddenAllocation*: only `prepare` may answer out of memory, and it asks for memory only where room is missing.
 //!   `commit` can't fail: what it calls that takes memory finds the room that `prepare` made (`IsPrepared`), and it leaves
 //!   no more room than it found (`HasNoMore`). A new table has no room.
+//! - A stage of an attempt that is spent stays spent, and one that is left is spent ([`spent_stages_stay_spent`], by
+//!   `Stages`). So no stage of an attempt comes twice.
 //! - *EndedStaysEnded* ([`ended_jobs_stay`]), and that each state is legal ([`legal_tables_stay_legal`]).
 //!
 //! # Invariants
@@ -58,5 +60,5 @@
 mod laws;
 mod table;
 
-pub use laws::{ended_jobs_stay, legal_tables_stay_legal, reopening};
+pub use laws::{ended_jobs_stay, legal_tables_stay_legal, reopening, spent_stages_stay_spent};
 pub use table::{PrepareFault, Table, is_in_stage};

@@ -130,7 +130,7 @@ in_stage attempt stage slot Canceled attempt_is stage_is is = absurd is
 in_stage attempt stage slot (Aborted reason) attempt_is stage_is is = absurd is
 
 -- a stage that is to be started has a slot, which is current
-due_of : (slots : Slots) (r : Job) (own : Slots) → slots_for slots r ≡ Some own → IsDue (finite.get own r.id) r.phase
+pub due_of : (slots : Slots) (r : Job) (own : Slots) → slots_for slots r ≡ Some own → IsDue (finite.get own r.id) r.phase
 due_of slots r own due = by_phase r.phase refl due
   where
     by_first : (attempt stage stages : ℕ) → r.phase ≡ Processing attempt stage stages → readiness attempt stage (finite.get slots r.id) ≡ None → (b : Bool) → (stage == 1) ≡ b → slots_for slots r ≡ Some own → slots_by slots r stage None ≡ Some own → IsDue (finite.get own r.id) r.phase

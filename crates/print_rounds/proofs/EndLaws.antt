@@ -68,7 +68,7 @@ reply_same m j (replies.Phase p) = by_phase (is_processing p && nat_lt (slot_in 
     by_phase true = λ k other. get_other m j k (advanced (slot_in m j)) other
     by_phase false = λ k other. get_left m j k other
 
-moved_same : (m : Slots) (j : ℕ) (a : Answer) → SameBut j m (moved m j a)
+pub moved_same : (m : Slots) (j : ℕ) (a : Answer) → SameBut j m (moved m j a)
 moved_same m j (Ok r) = reply_same m j r
 moved_same m j (Err fault) = λ k other. refl
 

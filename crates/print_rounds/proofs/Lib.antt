@@ -13,5 +13,9 @@ pub mod PartLaws
 pub mod AcceptLaws
 pub mod CurrentLaws
 pub mod ToldLaws
+pub mod KeyLaws
+pub mod HoldLaws
+pub mod WorldLaws
+pub mod JoinLaws
 pub mod RoundLaws
 pub mod PrepareLaws

@@ -19,7 +19,8 @@ use Rattle.print_rounds.specs.Counts.{acknowledged_by, tried_by, start_events, s
 use Rattle.print_rounds.specs.Courses.{Course, Answer, IsApplied, Starting, IsStartingOf, AreStartings, Ending, IsEnding, IsEndingOf, AreEndings, IsReport, is_silent}
 use Rattle.print_rounds.specs.declared.outcome.Report.{Report}
 use Rattle.print_rounds.specs.declared.outcome.Report.TheVariants as reports
-use Rattle.print_rounds.proofs.PrefixLaws.{HasSomeOf, after_both, none_of, one_of, some_first, some_later}
+use Rattle.print_rounds.specs.Rounds.{HasSomeOf}
+use Rattle.print_rounds.proofs.PrefixLaws.{after_both, none_of, one_of, some_first, some_later}
 use Rattle.print_rounds.proofs.ReportLaws.{done_state, fault_state}
 
 -- A part of a round, with the events that were tried in it and those that were acknowledged. After a fault of the device
@@ -118,12 +119,12 @@ module _ {D : Type 0} (device : DiskView D) where
 -- ## One event
 
 module _ {D : Type 0} (device : DiskView D) where
-  done_one : (old : Standing D) (e : Event) (reply : Reply) (new : Standing D) → IsDone old e reply new → new.state ≡ after_one old.state e
+  pub done_one : (old : Standing D) (e : Event) (reply : Reply) (new : Standing D) → IsDone old e reply new → new.state ≡ after_one old.state e
   done_one old e reply new done =
       sym (ap (unless_refused old.state e) done.fits.accepted
       ∙ (done_state old.state e (refusal_of old.state e) new.state reply refl done.fits.accepted done.step).0)
 
-  answer_table : (old : Standing D) (e : Event) (a : Answer) (new : Standing D) → IsAnswer device old e a new → new.state ≡ after_all old.state (acknowledged_by e a)
+  pub answer_table : (old : Standing D) (e : Event) (a : Answer) (new : Standing D) → IsAnswer device old e a new → new.state ≡ after_all old.state (acknowledged_by e a)
   answer_table old e (Ok reply) new done = done_one old e reply new done
   answer_table old e (Err fault) new is = fault_state device old e fault new is
 

@@ -5,16 +5,12 @@ use Rattle.std.proofs.lemmas.List.{take-append-le}
 use Rattle.spool_types.specs.declared.event.Event.{Event}
 use Rattle.spool_types.specs.State.{State}
 use Rattle.job_table.specs.Fold.{after_one, after_all}
-use Rattle.spool_core.specs.Driving.{HasPrefixTable}
 use Rattle.spool_core.specs.Image.{HasTable, HasBeforeOrAfterEvent}
+use Rattle.print_rounds.specs.Rounds.{HasSomeOf}
 
 pub after_both : (s : State) (es fs : List Event) → after_all s (es ++ fs) ≡ after_all (after_all s es) fs
 after_both s [] fs = refl
 after_both s (e ∷ es) fs = after_both (after_one s e) es fs
-
--- the table after the first of these events, some or all
-abbrev pub HasSomeOf : State → List Event → List ℕ → Type 0
-HasSomeOf s events image = HasPrefixTable s events 0 (length events) image
 
 pub none_of : (s : State) (es : List Event) (c : List ℕ) → HasTable s c → HasSomeOf s es c
 none_of s es c has = (0, omega arith, omega arith, has)

@@ -16,17 +16,19 @@ use Rattle.print_rounds.specs.Choice.{busy_jobs}
 use Rattle.print_rounds.specs.Counts.{starting_fault, stages_fault, launching_fault, ending_fault, counts_of, result_of, starting_events, ending_events, starting_tried, ending_tried}
 use Rattle.print_rounds.specs.Courses.{Course, course, Answer, Starting, AreStartings, IsStartingOf, Ending, AreEndings, IsRunOfStages}
 use Rattle.print_rounds.specs.Faultless.{IsBegun, AllBegun, AreExact, AreExactStarts}
-use Rattle.print_rounds.specs.Finished.{AreDistinct, EachFinishedOnce}
+use Rattle.print_rounds.specs.Finished.{AreDistinct, EachFinishedOnce, HasNoneRunning}
 use Rattle.print_rounds.specs.Rounds.{IsRoundBy, IsRoundOf, IsScriptRound, jobs_run}
 use Rattle.print_rounds.specs.Script.{Play, play_from, play_stages, current_slots, round_of}
 use Rattle.print_rounds.specs.declared.outcome.Round.{Round}
 use Rattle.print_rounds.specs.declared.outcome.RoundFault.{RoundFault}
 use Rattle.print_rounds.proofs.AcceptLaws.{all_begun, all_served, or_first, or_second}
 use Rattle.print_rounds.proofs.CurrentLaws.{AllSuit, current_suit, starts_suit, launches_suit}
+use Rattle.print_rounds.proofs.HoldLaws.{Laws}
 use Rattle.print_rounds.proofs.LaunchLaws.{HasNumbers}
 use Rattle.print_rounds.proofs.StartLaws.{starts_keys}
 use Rattle.print_rounds.proofs.PartLaws.{IsKept, IsPart, starts_part, ends_part, both_parts, part_crash}
 use Rattle.print_rounds.proofs.ToldLaws.{all_told, suit_in}
+use Rattle.print_rounds.proofs.WorldLaws.{failed_turn, live_turn}
 
 -- where no child is asked for, none is to be finished
 pub none_asked : (t : Told) (slots : Slots) (told : Option Told) → told ≡ Some t → t.running ≡ [] → EachFinishedOnce t told []
@@ -73,8 +75,8 @@ module _ {D : Type 0} (device : DiskView D) where
 
   module _ (lawful : IsLawful device) (place : Place) (old : Course D) (kept : IsKept device old.spool) (mid : Standing D) (ts : List (Starting D)) (starts : AreStartings device old.spool ts mid) (queues : map (λ t. t.queue) ts ≡ finite.keys old.spool.state.queues) where
     -- the device failed at a start
-    pub dead_round : old.spool.dead ≡ false → mid.dead ≡ true → (result : Result Round RoundFault) → result ≡ result_of (record { started = 0; finished = 0 }) (starting_fault ts) → IsRoundOf device place old (course mid (current_slots old.spool.state old.slots) old.told) result
-    dead_round alive dead result answer = record {
+    pub dead_round : Laws → IsLegal old.spool.state → HasNoneRunning old.slots → old.spool.dead ≡ false → mid.dead ≡ true → (result : Result Round RoundFault) → result ≡ result_of (record { started = 0; finished = 0 }) (starting_fault ts) → IsRoundOf device place old (course mid (current_slots old.spool.state old.slots) old.told) result
+    dead_round laws legal rests alive dead result answer = record {
       steps = record { startings = ts; mid = mid; launchings = []; slots = current_slots old.spool.state old.slots; told = old.told; endings = [] };
       made = record {
         starts = starts;
@@ -88,6 +90,7 @@ module _ {D : Type 0} (device : DiskView D) where
       table = part.table;
       any_moment = part_crash device lawful old.spool mid (starting_tried old.spool ts ++ []) (starting_events old.spool ts ++ []) kept part;
       all_acknowledged = part.acknowledged;
+      turn = λ t tells quiet. failed_turn device laws old legal mid ts starts rests t tells alive;
       exact = λ none t tells quiet.
           let lives : mid.dead ≡ false = starts_alive old.spool ts mid starts (all_begun device old.spool ts mid starts (or_first (starting_fault ts) None none)) alive in
           absurd (cc);
@@ -123,9 +126,9 @@ module _ {D : Type 0} (device : DiskView D) where
             ended = p.ended ∙ ap (λ (q : Play). q.ended) whole;
           }
 
-      pub live_round : mid.dead ≡ false → IsLegal old.spool.state → ((s : State) (events : List Event) → IsLegal s → IsLegal (after_all s events)) → AreExactStarts old.spool (finite.keys old.spool.state.queues) mid ts → AreExact device place (course mid (current_slots old.spool.state old.slots) old.told) js new runs → AreDistinct js
+      pub live_round : old.spool.dead ≡ false → mid.dead ≡ false → IsLegal old.spool.state → Laws → HasNoneRunning old.slots → HasNoneRunning new.slots → AreExactStarts old.spool (finite.keys old.spool.state.queues) mid ts → AreExact device place (course mid (current_slots old.spool.state old.slots) old.told) js new runs → AreDistinct js
           → (result : Result Round RoundFault) → result ≡ result_of (counts_of runs.launchings runs.endings) (option_or (starting_fault ts) (stages_fault runs.launchings runs.endings)) → IsRoundOf device place old new result
-      live_round alive legal stays exact_starts exact distinct result answer = record {
+      live_round lived alive legal laws rests rests_then exact_starts exact distinct result answer = record {
         steps = record { startings = ts; mid = mid; launchings = runs.launchings; slots = runs.slots; told = runs.told; endings = runs.endings };
         made = record {
           starts = starts;
@@ -139,9 +142,10 @@ module _ {D : Type 0} (device : DiskView D) where
         table = part.table;
         any_moment = part_crash device lawful old.spool new.spool (starting_tried old.spool ts ++ ending_tried runs.endings) (starting_events old.spool ts ++ ending_events runs.endings) kept part;
         all_acknowledged = part.acknowledged;
+        turn = λ t tells quiet. live_turn device laws old legal mid ts starts place js new runs distinct rests rests_then t tells quiet lived;
         exact = λ none t tells quiet.
             let later = or_second (starting_fault ts) (stages_fault runs.launchings runs.endings) none in
-            live_exact legal stays exact_starts exact distinct (or_first (starting_fault ts) (stages_fault runs.launchings runs.endings) none)
+            live_exact legal laws.legal exact_starts exact distinct (or_first (starting_fault ts) (stages_fault runs.launchings runs.endings) none)
             (or_first (launching_fault runs.launchings) (ending_fault runs.endings) later) (or_second (launching_fault runs.launchings) (ending_fault runs.endings) later) t tells quiet;
       }
         where
@@ -149,17 +153,17 @@ module _ {D : Type 0} (device : DiskView D) where
           part = run_part place old.spool ts starts runs
 
     -- the same over slots that are the current ones, whatever was answered of the starts
-    pub whole_round : old.spool.dead ≡ false → mid.dead ≡ false → IsLegal old.spool.state → ((s : State) (events : List Event) → IsLegal s → IsLegal (after_all s events)) → AreExactStarts old.spool (finite.keys old.spool.state.queues) mid ts
+    pub whole_round : old.spool.dead ≡ false → mid.dead ≡ false → IsLegal old.spool.state → Laws → HasNoneRunning old.slots → AreExactStarts old.spool (finite.keys old.spool.state.queues) mid ts
         → (slots : Slots) → slots ≡ current_slots old.spool.state old.slots → (js : List ℕ) → js ≡ busy_jobs mid.state (finite.keys mid.state.queues) → AreDistinct js
-        → (new : Course D) (stages : Result Round RoundFault) → ((runs : IsRunOfStages device place (course mid slots old.told) js new) × AreExact device place (course mid slots old.told) js new runs × (stages ≡ result_of (counts_of runs.launchings runs.endings) (stages_fault runs.launchings runs.endings)))
+        → (new : Course D) → HasNoneRunning new.slots → (stages : Result Round RoundFault) → ((runs : IsRunOfStages device place (course mid slots old.told) js new) × AreExact device place (course mid slots old.told) js new runs × (stages ≡ result_of (counts_of runs.launchings runs.endings) (stages_fault runs.launchings runs.endings)))
         → (result : Result Round RoundFault) → ((round : Round) (later : Option RoundFault) → stages ≡ result_of round later → result ≡ result_of round (option_or (starting_fault ts) later)) → IsRoundBy device place old old.spool.dead new result
-    whole_round alive mid_alive legal stays exact_starts slots freed js jobs distinct new stages steps result answer =
+    whole_round alive mid_alive legal laws rests exact_starts slots freed js jobs distinct new rests_then stages steps result answer =
         let (runs, exact, is) = subst (λ sl. (runs : IsRunOfStages device place (course mid sl old.told) js new) × AreExact device place (course mid sl old.told) js new runs × (stages ≡ result_of (counts_of runs.launchings runs.endings) (stages_fault runs.launchings runs.endings))) freed steps in
         subst (λ b. IsRoundBy device place old b new result) (sym alive)
-        (inr (live_round js new runs jobs mid_alive legal stays exact_starts exact distinct result (answer (counts_of runs.launchings runs.endings) (stages_fault runs.launchings runs.endings) is)))
+        (inr (live_round js new runs jobs alive mid_alive legal laws rests rests_then exact_starts exact distinct result (answer (counts_of runs.launchings runs.endings) (stages_fault runs.launchings runs.endings) is)))
 
     -- the same where the device failed at a start
-    pub failed_round : old.spool.dead ≡ false → mid.dead ≡ true → (slots : Slots) → slots ≡ current_slots old.spool.state old.slots → (result : Result Round RoundFault) → result ≡ result_of (record { started = 0; finished = 0 }) (starting_fault ts) → IsRoundBy device place old old.spool.dead (course mid slots old.told) result
-    failed_round alive dead slots freed result answer =
+    pub failed_round : Laws → IsLegal old.spool.state → HasNoneRunning old.slots → old.spool.dead ≡ false → mid.dead ≡ true → (slots : Slots) → slots ≡ current_slots old.spool.state old.slots → (result : Result Round RoundFault) → result ≡ result_of (record { started = 0; finished = 0 }) (starting_fault ts) → IsRoundBy device place old old.spool.dead (course mid slots old.told) result
+    failed_round laws legal rests alive dead slots freed result answer =
         subst (λ b. IsRoundBy device place old b (course mid slots old.told) result) (sym alive)
-        (inr (subst (λ sl. IsRoundOf device place old (course mid sl old.told) result) (sym freed) (dead_round alive dead result answer)))
+        (inr (subst (λ sl. IsRoundOf device place old (course mid sl old.told) result) (sym freed) (dead_round laws legal rests alive dead result answer)))

@@ -5,4 +5,5 @@ pub mod Finished
 pub mod Counts
 pub mod Script
 pub mod Faultless
+pub mod World
 pub mod Rounds

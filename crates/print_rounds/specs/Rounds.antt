@@ -4,6 +4,7 @@ use Rattle.std.specs.FinMap as finite
 use Rattle.std.specs.Option.{option_or}
 use Rattle.spool_disk.specs.Disk.{DiskView, LeavesOnly}
 use Rattle.spool_types.specs.declared.event.Event.{Event}
+use Rattle.spool_types.specs.State.{State}
 use Rattle.job_table.specs.Fold.{after_all}
 use Rattle.spool_core.specs.Driving.{HasPrefixTable}
 use Rattle.spool_core.specs.Standing.{Standing}
@@ -14,9 +15,14 @@ use Rattle.print_rounds.specs.Choice.{busy_jobs}
 use Rattle.print_rounds.specs.Courses.{Course, course, Starting, AreStartings, Launching, Ending, AreLaunchings, AreEndings}
 use Rattle.print_rounds.specs.Counts.{starting_fault, stages_fault, counts_of, started_in, told_in, result_of, starting_events, ending_events, starting_tried, ending_tried}
 use Rattle.print_rounds.specs.Script.{Play, current_slots, round_of}
+use Rattle.print_rounds.specs.World.{IsCallTurn}
 use Rattle.print_rounds.specs.declared.outcome.Round.{Round}
 use Rattle.print_rounds.specs.declared.outcome.RoundFault.{RoundFault}
 use Rattle.print_rounds.specs.declared.outcome.RoundFault.TheVariants as ends
+
+-- the table after the first of these events, some or all
+abbrev pub HasSomeOf : State → List Event → List ℕ → Type 0
+HasSomeOf s events image = HasPrefixTable s events 0 (length events) image
 
 -- the steps of a round: the slots that aren't current are freed, the next jobs started, and unless the device has failed
 -- by then a stage of each processing job is run
@@ -71,9 +77,11 @@ pub record IsRoundOf {D : Type 0} (device : DiskView D) (place : Place) (old new
   -- Unless the device had failed before, a crash at any moment of the round leaves the table after the first of the events
   -- that were tried, some or all.
   pub any_moment : old.spool.dead ≡ false → IsSome (device.bytes old.spool.disk) →
-      LeavesOnly device old.spool.disk new.spool.disk (HasPrefixTable old.spool.state (tried_in old steps) 0 (length (tried_in old steps)))
+      LeavesOnly device old.spool.disk new.spool.disk (HasSomeOf old.spool.state (tried_in old steps))
   -- while the device works every event that was tried was acknowledged
   pub all_acknowledged : new.spool.dead ≡ false → tried_in old steps ≡ events_in old steps
+  -- where the children tell it is a turn of World
+  pub turn : (t : Told) → old.told ≡ Some t → t.running ≡ [] → IsCallTurn t old (events_in old steps) new
   -- where nothing failed, and the children tell, it is Script's
   pub exact : fault_in steps ≡ None → (t : Told) → old.told ≡ Some t → t.running ≡ [] → IsScriptRound old steps new (round_of place old.spool.state old.slots t)
 

@@ -25,6 +25,8 @@
 //!   say the same (`AreExactStarts`, `AreExact`).
 //! - *EachFinishedOnce* (`finished`): whatever failed, each child that was started is finished once, none else, and every
 //!   start came before the first finish. After a round no child runs (`rest`), which the next one asks for.
+//! - *NoStageTwice* for one round: where the children tell it is a turn of World (`turn`, `IsCallTurn`), and two calls one after
+//!   the other are one turn ([`calls_join`]). So no stage of an attempt that was ordered is ordered again.
 //! - *RightInput*: each start's order is exactly `order_in` of the job's slot, with the document of its row in a first stage
 //!   and the output in the slot in a later one (`Launched`). A later stage that has no slot isn't started.
 //!
@@ -43,12 +45,14 @@
 mod busy;
 mod ends;
 mod launches;
+mod laws;
 mod outcome;
 mod rounds;
 mod slots;
 mod stages;
 mod starts;
 
+pub use laws::calls_join;
 pub use outcome::{Launch, Report, Round, RoundFault};
 pub use rounds::round;
 pub use stages::run_stages;

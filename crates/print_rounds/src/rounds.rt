@@ -12,7 +12,7 @@ use crate::stages::run_stages;
 use crate::starts::start_jobs;
 use child_pipeline::{Children, Runner};
 use filter_args::Place;
-use job_table::legal_tables_stay_legal;
+use job_table::{legal_tables_stay_legal, spent_stages_stay_spent};
 use spool_core::Spool;
 use spool_disk::Disk;
 use std::alloc::Global;
@@ -30,7 +30,7 @@ pub fn round<D: Disk, C: Children>(
     requires { HasNoneRunning runner.old }
 
     // What was done, step by step, and its answer. A crash at any moment of it leaves the table after the first of its events.
-    // Where nothing failed and the children tell, it is what Script says.
+    // Where the children tell it is a turn of World, and where nothing failed it is what Script says.
     ensures round { IsRoundBy D.device place.now (course spool.old runner.old (C.tells children.old)) spool.old.dead (course spool.new runner.new (C.tells children.new)) result }
     ensures later { D.device.failures spool.old.disk ≤ D.device.failures spool.new.disk }
     ensures told { IsSome (D.device.bytes spool.new.disk) ↔ IsSome (D.device.bytes spool.old.disk) }
@@ -45,6 +45,7 @@ pub fn round<D: Disk, C: Children>(
     // The table is legal, and stays so.
     let _legal = spool.table().jobs();
     legal_tables_stay_legal();
+    spent_stages_stay_spent();
     let mut jobs = match Vec::with_capacity(alloc, spool.table().queues().len()) {
         Ok(jobs) => jobs,
         Err(_) => return Err(RoundFault::Memory),

@@ -11,7 +11,8 @@ use Rattle.spool_disk.proofs.Moments.{runs_on, weaker_run}
 use Rattle.spool_core.specs.Standing.{Standing}
 use Rattle.print_rounds.specs.Courses.{Course}
 use Rattle.spool_engine.specs.Script.{Meaning, says, asks, runs, meaning}
-use Rattle.spool_engine.specs.EventTurns.{Setting, Outcome, EventTurn, served, no_memory, full, disk, dead, unread, IsTaken, IsServedBy, IsOutcome, IsKept, HasSomeOf}
+use Rattle.print_rounds.specs.Rounds.{HasSomeOf}
+use Rattle.spool_engine.specs.EventTurns.{Setting, Outcome, EventTurn, served, no_memory, full, disk, dead, unread, IsTaken, IsServedBy, IsOutcome, IsKept}
 use Rattle.spool_engine.specs.Rounds.{Ran, AreRunBy}
 use Rattle.spool_engine.specs.Runs.{Turn, How, answered, ran, event_turn, tried_in, IsHow, IsTurn, IsAlong, AreTurns, last_course}
 use Rattle.spool_engine.proofs.EventLaws.{OnlyNow, unmoved}

@@ -23,7 +23,8 @@ use Rattle.spool_core.specs.declared.spool.apply_fault.ApplyFault.TheVariants.{D
 use Rattle.print_rounds.proofs.PrefixLaws.{none_of, one_of}
 use Rattle.spool_engine.specs.Mime.{Mime}
 use Rattle.spool_engine.specs.Script.{says, asks, meaning, creating, job_options, job_of_creation, event_in, event_of, step_line, step_state, reply_line}
-use Rattle.spool_engine.specs.EventTurns.{Setting, Outcome, EventTurn, served, no_memory, full, disk, dead, unread, IsServedBy, IsTaken, IsOutcome, MayBeRead, IsKept, HasSomeOf, tried_as}
+use Rattle.print_rounds.specs.Rounds.{HasSomeOf}
+use Rattle.spool_engine.specs.EventTurns.{Setting, Outcome, EventTurn, served, no_memory, full, disk, dead, unread, IsServedBy, IsTaken, IsOutcome, MayBeRead, IsKept, tried_as}
 use Rattle.spool_engine.specs.Answers.{answer_line, IsApplied, Takes}
 
 -- since this moment there is no other

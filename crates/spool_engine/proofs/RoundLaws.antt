@@ -13,11 +13,11 @@ use Rattle.child_pipeline.specs.Told.{Told}
 use Rattle.print_rounds.specs.Courses.{Course, course}
 use Rattle.print_rounds.proofs.PrefixLaws.{none_of, some_first, some_later}
 use Rattle.print_rounds.specs.Finished.{EachFinishedOnce}
-use Rattle.print_rounds.specs.Rounds.{IsRoundBy, tried_in}
+use Rattle.print_rounds.specs.Rounds.{HasSomeOf, IsRoundBy, tried_in}
 use Rattle.print_rounds.specs.declared.outcome.Round.{Round}
 use Rattle.print_rounds.specs.declared.outcome.RoundFault.{RoundFault}
 use Rattle.spool_engine.specs.Script.{meaning, runs}
-use Rattle.spool_engine.specs.EventTurns.{Setting, EventTurn, IsEventTurn, IsKept, HasSomeOf}
+use Rattle.spool_engine.specs.EventTurns.{Setting, EventTurn, IsEventTurn, IsKept}
 use Rattle.spool_engine.specs.Answers.{Takes}
 use Rattle.spool_engine.specs.Rounds.{Ran, IsRoundWith, IsRan, AreRan, AreRun, AreRunBy}
 use Rattle.spool_engine.specs.Runs.{Turn, TakesTurn, IsHeld, answered, ran}

@@ -1,5 +1,5 @@
 -- A turn of one command, where it is no round: what it says, or its one event, also where something failed.
-use Rattle.std.specs.Prelude.{◌≡◌, ℕ, ◌≤◌, ◌↔◌, List, [], ◌∷◌, codes, length, true, false, IsTrue, IsSome, Option, None, Some, Result, Ok, Err}
+use Rattle.std.specs.Prelude.{◌≡◌, ℕ, ◌≤◌, ◌↔◌, List, [], ◌∷◌, codes, true, false, IsTrue, IsSome, Option, None, Some, Result, Ok, Err}
 use Rattle.std.specs.Result.{IsOk}
 use Rattle.spool_types.specs.declared.event.Event.{Event}
 use Rattle.spool_types.specs.declared.event.Reply.{Reply}
@@ -12,9 +12,9 @@ use Rattle.job_table.specs.Step.{refusal_of, step}
 use Rattle.spool_disk.specs.Disk.{DiskView, LeavesOnly}
 use Rattle.command_lines.specs.declared.command.Command.{Command}
 use Rattle.command_lines.specs.declared.command.Command.TheVariants.{Queue, Create}
-use Rattle.spool_core.specs.Driving.{HasPrefixTable}
 use Rattle.spool_core.specs.Image.{HasTable}
 use Rattle.spool_core.specs.Standing.{Standing, IsDone, IsFull, IsFailed}
+use Rattle.print_rounds.specs.Rounds.{HasSomeOf}
 use Rattle.spool_engine.specs.Mime.{Mime}
 use Rattle.spool_engine.specs.Script.{Meaning, says, asks, runs, meaning, event_of, step_line}
 
@@ -90,10 +90,6 @@ IsOutcome v s t dead = Fails v.mime s t (codes "error dead\n") (λ e. IsTrue s.d
 -- Until the device has failed a crash leaves the table, where the disk tells its bytes.
 abbrev pub IsKept : {D : Type 0} → DiskView D → Standing D → Type 0
 IsKept device s = s.dead ≡ false → IsSome (device.bytes s.disk) → (c : List ℕ) → device.image s.disk c → HasTable s.state c
-
--- the table after the first of these events, some or all
-abbrev pub HasSomeOf : State → List Event → List ℕ → Type 0
-HasSomeOf s events image = HasPrefixTable s events 0 (length events) image
 
 abbrev pub listed : Option Event → List Event
 listed None = []

@@ -7,11 +7,11 @@ use Rattle.child_pipeline.specs.Told.{Told}
 use Rattle.command_lines.specs.Replies.{rounded_line, drained_line}
 use Rattle.print_rounds.specs.Courses.{Course}
 use Rattle.print_rounds.specs.Finished.{EachFinishedOnce}
-use Rattle.print_rounds.specs.Rounds.{IsUnbegun, IsRoundOf, IsRoundBy, tried_in}
+use Rattle.print_rounds.specs.Rounds.{HasSomeOf, IsUnbegun, IsRoundOf, IsRoundBy, tried_in}
 use Rattle.print_rounds.specs.declared.outcome.Round.{Round}
 use Rattle.print_rounds.specs.declared.outcome.RoundFault.{RoundFault}
 use Rattle.print_rounds.specs.declared.outcome.RoundFault.TheVariants as faults
-use Rattle.spool_engine.specs.EventTurns.{Setting, HasSomeOf, IsKept}
+use Rattle.spool_engine.specs.EventTurns.{Setting, IsKept}
 use Rattle.spool_engine.specs.Script.{Meaning, says, asks, runs, is_idle}
 
 -- a round: what it leaves, its answer, and the events that were tried in it

@@ -15,7 +15,8 @@ use Rattle.spool_core.specs.Image.{HasTable}
 use Rattle.child_pipeline.specs.Told.{Told}
 use Rattle.print_rounds.specs.Courses.{Course}
 use Rattle.spool_engine.specs.Mime.{Mime}
-use Rattle.spool_engine.specs.EventTurns.{Setting, Outcome, served, EventTurn, IsOutcome, IsKept, HasSomeOf, tried_as}
+use Rattle.print_rounds.specs.Rounds.{HasSomeOf}
+use Rattle.spool_engine.specs.EventTurns.{Setting, Outcome, served, EventTurn, IsOutcome, IsKept, tried_as}
 use Rattle.spool_engine.specs.Rounds.{Ran, AreRunBy, counts_in, results_of}
 use Rattle.spool_engine.specs.Script.{Scene, meaning, event_of, replies_of, events_of, scene_of}
 use Rattle.spool_engine.specs.declared.fault.RunFault.{RunFault}

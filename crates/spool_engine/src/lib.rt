@@ -68,4 +68,4 @@ mod printer;
 
 pub use engine::Engine;
 pub use fault::RunFault;
-pub use laws::crashes_between_replies;
+pub use laws::{calls_are_turns, crashes_between_replies};

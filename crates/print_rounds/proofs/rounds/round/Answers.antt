@@ -27,7 +27,13 @@ returns-then-is_dead-2-clause-round g c =
     let old = course c.args.spool.now c.args.runner.now (g.C.Children.tells c.args.children.now) in
     let (ts, starts, queues, fault, exact) = c.start_jobs-fault.ensures in
     failed_round g.D.Disk.device g.met.D.Disk.lawful c.args.place.now old c.table.ensures.kept c.start_jobs-fault.new.spool ts starts queues
-    (sym c.is_dead.ensures ∙ c.if-is_dead.false) (sym c.is_dead-2.ensures ∙ c.if-is_dead-2.true)
+    (record {
+      legal = c.legal_tables_stay_legal.ensures.stays;
+      spent = c.spent_stages_stay_spent.ensures.stays;
+      left = c.spent_stages_stay_spent.ensures.left;
+      either = c.spent_stages_stay_spent.ensures.either;
+      ended = c.spent_stages_stay_spent.ensures.ended;
+    }) (subst IsLegal c.table.ensures.table c.jobs-legal.ensures.legal) c.requires (sym c.is_dead.ensures ∙ c.if-is_dead.false) (sym c.is_dead-2.ensures ∙ c.if-is_dead-2.true)
     c.free_old.new.runner (c.free_old.ensures ∙ ap (λ s. current_slots s c.args.runner.now) c.table-3.ensures.table)
     c.unless.result (c.unless.ensures ∙ ap (result_of (record { started = 0; finished = 0 })) fault)
 
@@ -54,10 +60,17 @@ returns-in-None-clause-round g c =
     let (ts, starts, queues, fault, exact) = c.start_jobs-fault.ensures in
     whole_round g.D.Disk.device g.met.D.Disk.lawful c.args.place.now old c.table.ensures.kept c.start_jobs-fault.new.spool ts starts queues
     (sym c.is_dead.ensures ∙ c.if-is_dead.false) (sym c.is_dead-2.ensures ∙ c.if-is_dead-2.false)
-    (subst IsLegal c.table.ensures.table c.jobs-legal.ensures.legal) c.legal_tables_stay_legal.ensures.stays exact
+    (subst IsLegal c.table.ensures.table c.jobs-legal.ensures.legal) (record {
+      legal = c.legal_tables_stay_legal.ensures.stays;
+      spent = c.spent_stages_stay_spent.ensures.stays;
+      left = c.spent_stages_stay_spent.ensures.left;
+      either = c.spent_stages_stay_spent.ensures.either;
+      ended = c.spent_stages_stay_spent.ensures.ended;
+    }) c.requires exact
     c.free_old.new.runner (c.free_old.ensures ∙ ap (λ s. current_slots s c.args.runner.now) c.table-3.ensures.table)
     c.deref.result.now (c.deref.ensures.value ∙ c.list_busy.ensures.value ∙ ap (λ (s : State). busy_jobs s (finite.keys s.queues)) c.table-4.ensures.table) (subst AreDistinct (sym c.deref.ensures.value) c.list_busy.ensures.distinct)
-    new c.run_stages-stages.result c.run_stages-stages.ensures.steps
+    new (c.run_stages-stages.ensures.rest (subst HasNoneRunning (sym c.free_old.ensures) (current_rests c.table-3.result.now.state c.args.runner.now c.requires)))
+    c.run_stages-stages.result c.run_stages-stages.ensures.steps
     c.run_stages-stages.result (λ round later is. later_answer round (starting_fault ts) later c.run_stages-stages.result (sym fault ∙ c.in-None.is) is)
 
 pub returns-in-None-clause-rest : goal.returns-in-None-clause-rest
@@ -70,10 +83,17 @@ returns-clause-round g c =
     let (ts, starts, queues, fault, exact) = c.start_jobs-fault.ensures in
     whole_round g.D.Disk.device g.met.D.Disk.lawful c.args.place.now old c.table.ensures.kept c.start_jobs-fault.new.spool ts starts queues
     (sym c.is_dead.ensures ∙ c.if-is_dead.false) (sym c.is_dead-2.ensures ∙ c.if-is_dead-2.false)
-    (subst IsLegal c.table.ensures.table c.jobs-legal.ensures.legal) c.legal_tables_stay_legal.ensures.stays exact
+    (subst IsLegal c.table.ensures.table c.jobs-legal.ensures.legal) (record {
+      legal = c.legal_tables_stay_legal.ensures.stays;
+      spent = c.spent_stages_stay_spent.ensures.stays;
+      left = c.spent_stages_stay_spent.ensures.left;
+      either = c.spent_stages_stay_spent.ensures.either;
+      ended = c.spent_stages_stay_spent.ensures.ended;
+    }) c.requires exact
     c.free_old.new.runner (c.free_old.ensures ∙ ap (λ s. current_slots s c.args.runner.now) c.table-3.ensures.table)
     c.deref.result.now (c.deref.ensures.value ∙ c.list_busy.ensures.value ∙ ap (λ (s : State). busy_jobs s (finite.keys s.queues)) c.table-4.ensures.table) (subst AreDistinct (sym c.deref.ensures.value) c.list_busy.ensures.distinct)
-    new c.run_stages-stages.result c.run_stages-stages.ensures.steps
+    new (c.run_stages-stages.ensures.rest (subst HasNoneRunning (sym c.free_old.ensures) (current_rests c.table-3.result.now.state c.args.runner.now c.requires)))
+    c.run_stages-stages.result c.run_stages-stages.ensures.steps
     (Err c.in-Some.fault) (λ round later is. first_answer round (starting_fault ts) later c.in-Some.fault (sym fault ∙ c.in-Some.is))
 
 pub returns-clause-rest : goal.returns-clause-rest

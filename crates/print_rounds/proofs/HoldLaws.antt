@@ -1,0 +1,342 @@
+-- The stages that slots have started: none is started again, and each is kept until its end is told.
+use Rattle.std.proofs.Common.{◌≡◌, ◌⊎◌, inl, inr, ℕ, Bool, true, false, cond, ◌&&◌, ◌==◌, List, [], ◌∷◌, ◌++◌, map, Option, Some, None, unwrap_or, Result, Ok, Err, refl, sym, ap, subst, ◌∙◌, append_assoc, append-nil}
+use Rattle.std.specs.FinMap as finite
+use Rattle.std.proofs.lemmas.List.{map-append}
+use Rattle.std.proofs.lemmas.Bool.{eqb-true, eq-eqb}
+use Rattle.spool_disk.specs.Disk.{DiskView}
+use Rattle.spool_types.specs.declared.event.Event.{Event}
+use Rattle.spool_types.specs.declared.event.Event.TheVariants.{Stage}
+use Rattle.spool_types.specs.declared.event.StageEnd.{StageEnd}
+use Rattle.spool_types.specs.declared.phase.Phase.{Phase}
+use Rattle.spool_types.specs.declared.phase.Phase.TheVariants.{Incoming, Waiting, Processing, Completed, Canceled, Aborted}
+use Rattle.spool_types.specs.declared.rows.QueueRow.{QueueRow}
+use Rattle.spool_types.specs.State.{State, Job, job_at}
+use Rattle.job_table.specs.Attempts.{is_in_stage}
+use Rattle.job_table.specs.Fold.{after_all}
+use Rattle.job_table.specs.Legal.{IsLegal}
+use Rattle.job_table.specs.Stages.{Key, key_of, IsIn, IsSpent}
+use Rattle.job_table.specs.Step.{after, refusal_of}
+use Rattle.spool_core.specs.Standing.{Standing}
+use Rattle.filter_args.specs.declared.place.Place.{Place}
+use Rattle.child_pipeline.specs.declared.order.ChildFault.{ChildFault}
+use Rattle.child_pipeline.specs.declared.order.Placed.{Placed}
+use Rattle.child_pipeline.specs.declared.runner.Progress.{Progress}
+use Rattle.child_pipeline.specs.declared.runner.Progress.TheVariants.{Ready, Running, Ended}
+use Rattle.child_pipeline.specs.declared.runner.Slot.{Slot}
+use Rattle.child_pipeline.specs.Slots.{Slots, slot_in, begun, IsStart, with_progress, put_progress, progress_after, order_in, end_in, is_ready, is_ended, IsTicketless, IsDue, IsCurrent, FinishesFrom}
+use Rattle.child_pipeline.specs.Told.{Told, started_by}
+use Rattle.print_rounds.specs.Choice.{slots_for, slots_in, slots_by, readiness}
+use Rattle.print_rounds.specs.Counts.{report_events}
+use Rattle.print_rounds.specs.Courses.{Answer, Course, Launching, IsLaunch, AreLaunchings, Ending, IsReport, IsEndingOf, AreEndings, is_silent}
+use Rattle.print_rounds.specs.Script.{current_slots, is_current}
+use Rattle.print_rounds.specs.World.{key_in, keys_in, IsAmong, AreOnce, IsEndedSlot, IsHeld}
+use Rattle.print_rounds.specs.declared.outcome.Launch.{Launch}
+use Rattle.print_rounds.specs.declared.outcome.Launch.TheVariants.{Unlaunched, Launched, NoMemory}
+use Rattle.print_rounds.specs.declared.outcome.Report.{Report}
+use Rattle.print_rounds.specs.declared.outcome.Report.TheVariants as reports
+use Rattle.print_rounds.proofs.CurrentLaws.{due_of}
+use Rattle.print_rounds.proofs.EndLaws.{get_own, get_other, moved_same, SameBut}
+use Rattle.print_rounds.proofs.FreeLaws.{get_current}
+use Rattle.print_rounds.proofs.KeyLaws.{accepted_one, among_either, once_both}
+use Rattle.print_rounds.proofs.LaunchLaws.{HasNumbers, due_own, some_of}
+use Rattle.print_rounds.proofs.PartLaws.{done_one, end_part}
+use Rattle.print_rounds.proofs.ReportLaws.{fault_state}
+
+-- a stage that was started, or couldn't be, and whose end isn't told yet
+pub record HasBegun (slots : Slots) (k : Key) : Type 0 where
+  pub slot : Slot ℕ
+  pub there : finite.get slots k.job ≡ Some slot
+  pub attempt : slot.attempt ≡ k.attempt
+  pub stage : slot.stage ≡ k.stage
+  pub begun : is_ready slot.progress ≡ false
+
+begun_same : (old new : Slots) (k : Key) → finite.get new k.job ≡ finite.get old k.job → HasBegun old k → HasBegun new k
+begun_same old new k same has = record { slot = has.slot; there = same ∙ has.there; attempt = has.attempt; stage = has.stage; begun = has.begun }
+
+-- a kept finish is one
+kept_begun : (p : Progress ℕ) → is_ended p ≡ true → is_ready p ≡ false
+kept_begun (Ready input) ended = absurd (cc)
+kept_begun (Running n) ended = absurd (cc)
+kept_begun (Ended finish) ended = refl
+
+-- and without a child that runs it is kept
+begun_kept : (slot : Slot ℕ) (p : Progress ℕ) → slot.progress ≡ p → is_ready p ≡ false → IsTicketless (Some slot) → is_ended p ≡ true
+begun_kept slot (Ready input) is begun rests = absurd (cc)
+begun_kept slot (Running n) is begun rests = absurd (rests n is)
+begun_kept slot (Ended finish) is begun rests = refl
+
+pub begun_ended : (slots : Slots) (k : Key) → HasBegun slots k → IsTicketless (finite.get slots k.job) → IsEndedSlot slots k
+begun_ended slots k has rests = record {
+  slot = has.slot;
+  there = has.there;
+  attempt = has.attempt;
+  stage = has.stage;
+  ended = begun_kept has.slot has.slot.progress refl has.begun (subst IsTicketless has.there rests);
+}
+
+-- a slot that is held is current
+pub held_begun : (s : State) (slots : Slots) (k : Key) → IsHeld s slots k → HasBegun (current_slots s slots) k
+held_begun s slots k (inside, held) = record {
+  slot = held.slot;
+  there = get_current s slots k.job ∙ ap (λ o. cond (is_current (job_at s k.job) o) o None) held.there
+      ∙ ap (λ b. cond b (Some held.slot) None) (ap (λ o. is_current o (Some held.slot)) inside.there ∙ in_it inside.row.phase inside.phase);
+  attempt = held.attempt;
+  stage = held.stage;
+  begun = kept_begun held.slot.progress held.ended;
+}
+  where
+    in_it : (p : Phase) → p ≡ Processing k.attempt k.stage inside.stages → is_in_stage held.slot.attempt held.slot.stage p ≡ true
+    in_it p is = ap (is_in_stage held.slot.attempt held.slot.stage) is
+        ∙ ap (λ b. b && k.stage == held.slot.stage) (eq-eqb k.attempt held.slot.attempt (sym held.attempt)) ∙ eq-eqb k.stage held.slot.stage (sym held.stage)
+
+-- the stage of a job that was begun isn't to be started
+begun_rests : (slots : Slots) (r : Job) (k : Key) (stages : ℕ) → r.id ≡ k.job → r.phase ≡ Processing k.attempt k.stage stages → HasBegun slots k → slots_for slots r ≡ None
+begun_rests slots r k stages id is has =
+    ap (slots_in slots r) is
+    ∙ ap (λ o. slots_by slots r k.stage (readiness k.attempt k.stage o)) (ap (finite.get slots) id ∙ has.there)
+    ∙ ap (λ b. slots_by slots r k.stage (cond b (Some (is_ready has.slot.progress)) None)) (ap (λ b. b && has.slot.stage == k.stage) (eq-eqb has.slot.attempt k.attempt has.attempt) ∙ eq-eqb has.slot.stage k.stage has.stage)
+    ∙ ap (λ b. slots_by slots r k.stage (Some b)) has.begun
+
+never_both : {X : Type 0} (o : Option X) (x : X) → o ≡ None → o ≡ Some x → ⊥
+never_both o x p q = cc
+
+-- ## The starts of stages
+
+-- what starts do: their orders are for stages that the table has jobs in and that weren't begun, each once; they are begun
+-- then, and what was begun stays so
+pub record AreBegun (s : State) (t : Told) (old : Slots) (new : Slots) (told : Option Told) : Type 0 where
+  pub now : Told
+  pub tells : told ≡ Some now
+  pub orders : List Placed
+  pub added : now.orders ≡ t.orders ++ orders
+  pub once : AreOnce (keys_in orders)
+  pub fresh : (k : Key) → IsAmong (keys_in orders) k → ¬ (HasBegun old k)
+  pub inside : (k : Key) → IsAmong (keys_in orders) k → IsIn s k
+  pub begun : (k : Key) → IsAmong (keys_in orders) k → HasBegun new k
+  pub kept : (k : Key) → IsIn s k → HasBegun old k → HasBegun new k
+
+none_begun : (s : State) (t : Told) (old new : Slots) (told : Option Told) → told ≡ Some t → ((k : Key) → IsIn s k → HasBegun old k → HasBegun new k) → AreBegun s t old new told
+none_begun s t old new told tells kept = record {
+  now = t;
+  tells = tells;
+  orders = [];
+  added = sym (append-nil t.orders);
+  once = tt;
+  fresh = λ k among. absurd among;
+  inside = λ k among. absurd among;
+  begun = λ k among. absurd among;
+  kept = kept;
+}
+
+-- starts, and then more
+both_begun : (s : State) (t : Told) (old mid new : Slots) (told told' : Option Told) (one : AreBegun s t old mid told) → AreBegun s one.now mid new told' → AreBegun s t old new told'
+both_begun s t old mid new told told' one two = record {
+  now = two.now;
+  tells = two.tells;
+  orders = one.orders ++ two.orders;
+  added = two.added ∙ ap (λ l. l ++ two.orders) one.added ∙ append_assoc t.orders one.orders two.orders;
+  once = subst AreOnce (sym split) (once_both (keys_in one.orders) (keys_in two.orders) one.once two.once (λ k first later. two.fresh k later (one.begun k first)));
+  fresh = λ k among has. elim (each k among) [
+    | inl first ↦ one.fresh k first has
+    | inr later ↦ two.fresh k later (one.kept k (two.inside k later) has)
+  ];
+  inside = λ k among. elim (each k among) [
+    | inl first ↦ one.inside k first
+    | inr later ↦ two.inside k later
+  ];
+  begun = λ k among. elim (each k among) [
+    | inl first ↦ two.kept k (one.inside k first) (one.begun k first)
+    | inr later ↦ two.begun k later
+  ];
+  kept = λ k inside has. two.kept k inside (one.kept k inside has);
+}
+  where
+    split : keys_in (one.orders ++ two.orders) ≡ keys_in one.orders ++ keys_in two.orders
+    split = map-append key_in one.orders two.orders
+
+    each : (k : Key) → IsAmong (keys_in (one.orders ++ two.orders)) k → IsAmong (keys_in one.orders) k ⊎ IsAmong (keys_in two.orders) k
+    each k among = among_either (keys_in one.orders) (keys_in two.orders) k (subst (λ l. IsAmong l k) split among)
+
+-- the stage that a current slot is for
+abbrev key_at : ℕ → Slot ℕ → Key
+key_at j slot = record { job = j; attempt = slot.attempt; stage = slot.stage }
+
+current_in : (s : State) (r : Job) (slot : Slot ℕ) (p : Phase) → job_at s r.id ≡ Some r → r.phase ≡ p → IsCurrent slot p → IsIn s (key_at r.id slot)
+current_in s r slot (Processing attempt stage stages) there is (first, second) = record {
+  row = r;
+  stages = stages;
+  there = there;
+  phase = is ∙ ap (λ a. Processing a stage stages) (sym first) ∙ ap (λ n. Processing slot.attempt n stages) (sym second);
+}
+current_in s r slot (Incoming hold) there is current = absurd current
+current_in s r slot (Waiting hold not_before first) there is current = absurd current
+current_in s r slot Completed there is current = absurd current
+current_in s r slot Canceled there is current = absurd current
+current_in s r slot (Aborted reason) there is current = absurd current
+
+progress_begun : (b : Bool) (n : ℕ) → is_ready (progress_after b n) ≡ false
+progress_begun true n = refl
+progress_begun false n = refl
+
+-- the slot of a stage that is to be started
+due_slot : (o : Option (Slot ℕ)) (p : Phase) → IsDue o p → IsCurrent (unwrap_or o (begun 0 0)) p
+due_slot None p due = absurd due
+due_slot (Some slot) p due = due.1
+
+-- what was begun in the slots before is no stage that is to be started, so that it is another job's
+module _ (s : State) (old own : Slots) (r : Job) (there : job_at s r.id ≡ Some r) (due : slots_for old r ≡ Some own) where
+  other_begun : (k : Key) → IsIn s k → HasBegun old k → (b : Bool) → (k.job == r.id) ≡ b → b ≡ false
+  other_begun k inside has false is = refl
+  other_begun k inside has true is =
+      let same : k.job ≡ r.id = eqb-true k.job r.id is in
+      let row : inside.row ≡ r = some_of inside.row r (sym inside.there ∙ ap (job_at s) same ∙ there) in
+      absurd (never_both (slots_for old r) own (begun_rests old r k inside.stages (sym same) (ap (λ (x : Job). x.phase) (sym row) ∙ inside.phase) has) due)
+
+  kept_by : (new : Slots) → SameBut r.id old new → (k : Key) → IsIn s k → HasBegun old k → HasBegun new k
+  kept_by new same k inside has = begun_same old new k (same k.job (other_begun k inside has (k.job == r.id) refl)) has
+
+  module _ (place : Place) (q : QueueRow) (t : Told) (n : ℕ) (b : Bool) (new : Slots) (put : new ≡ put_progress own r.id (progress_after b n)) where
+    own_in : IsIn s (key_at r.id (slot_in own r.id))
+    own_in = current_in s r (slot_in own r.id) r.phase there refl (due_slot (finite.get own r.id) r.phase (due_of old r own due))
+
+    own_begun : HasBegun new (key_at r.id (slot_in own r.id))
+    own_begun = record {
+      slot = with_progress (slot_in own r.id) (progress_after b n);
+      there = ap (λ m. finite.get m r.id) put ∙ get_own own r.id (with_progress (slot_in own r.id) (progress_after b n));
+      attempt = refl;
+      stage = refl;
+      begun = progress_begun b n;
+    }
+
+    own_fresh : ¬ (HasBegun old (key_at r.id (slot_in own r.id)))
+    own_fresh has = never_both (slots_for old r) own (begun_rests old r (key_at r.id (slot_in own r.id)) own_in.stages refl (ap (λ (x : Job). x.phase) (some_of r own_in.row (sym there ∙ own_in.there)) ∙ own_in.phase) has) due
+
+    others : SameBut r.id old new
+    others k other = ap (λ m. finite.get m k) put ∙ get_other own r.id k (with_progress (slot_in own r.id) (progress_after b n)) other ∙ (due_own old r own due).same k other
+
+    one_order : (p : Placed) → key_in p ≡ key_at r.id (slot_in own r.id) → (now : Told) (told : Option Told) → told ≡ Some now → now.orders ≡ t.orders ++ p ∷ [] → AreBegun s t old new told
+    one_order p is now told tells added = record {
+      now = now;
+      tells = tells;
+      orders = p ∷ [];
+      added = added;
+      once = (λ among. among, tt);
+      fresh = λ k among. elim among [
+        | inl same ↦ subst (λ x. ¬ (HasBegun old x)) (sym is ∙ same) own_fresh
+        | inr none ↦ absurd none
+      ];
+      inside = λ k among. elim among [
+        | inl same ↦ subst (IsIn s) (sym is ∙ same) own_in
+        | inr none ↦ absurd none
+      ];
+      begun = λ k among. elim among [
+        | inl same ↦ subst (HasBegun new) (sym is ∙ same) own_begun
+        | inr none ↦ absurd none
+      ];
+      kept = kept_by new others;
+    }
+
+    -- by the answers that are still to come
+    by_answers : (starts : List (Result (Unit {0}) ChildFault)) (document : List ℕ) (told : Option Told) → told ≡ Some (started_by t (order_in place own r q document) starts) → AreBegun s t old new told
+    by_answers [] document told tells = none_begun s t old new told tells (kept_by new others)
+    by_answers (Ok done ∷ rest) document told tells = one_order (record { order = order_in place own r q document; before = t.finished }) refl _ told tells refl
+    by_answers (Err fault ∷ rest) document told tells = one_order (record { order = order_in place own r q document; before = t.finished }) refl _ told tells refl
+
+module _ (place : Place) (s : State) (numbers : HasNumbers s) where
+  launch_begun : (t : Told) (old : Slots) (told : Option Told) (j : ℕ) (l : Launch) (new : Slots) (told' : Option Told) → IsLaunch place s old told j l new told' → told ≡ Some t → AreBegun s t old new told'
+  launch_begun t old told j Unlaunched new told' (rests, same, tells') tells = none_begun s t old new told' (tells' ∙ tells) (λ k inside has. begun_same old new k (ap (λ m. finite.get m k.job) same) has)
+  launch_begun t old told j (Launched b) new told' (r, q, own, due, starts) tells =
+      let row = ap (job_at s) (numbers j r due.row) ∙ due.row in
+      let start = subst (λ o. IsStart o (order_in place own r q r.document) b starts.number told') tells starts.start in
+      by_answers s old own r row due.due place q t starts.number b new starts.slots t.starts r.document told' start.told
+  launch_begun t old told j NoMemory new told' (r, q, own, due, either, tells') tells = none_begun s t old new told' (tells' ∙ tells) (λ k inside has. elim either [
+    | inl same ↦ begun_same old new k (ap (λ m. finite.get m k.job) same) has
+    | inr same ↦ kept_by s old own r (ap (job_at s) (numbers j r due.row) ∙ due.row) due.due new (λ i other. ap (λ m. finite.get m i) same ∙ (due_own old r own due.due).same i other) k inside has
+  ])
+
+  pub launches_begun : (t : Told) (old : Slots) (told : Option Told) (ts : List Launching) (new : Slots) (told' : Option Told) → AreLaunchings place s old told ts new told' → told ≡ Some t → AreBegun s t old new told'
+  launches_begun t old told [] new told' (same, tells') tells = none_begun s t old new told' (tells' ∙ tells) (λ k inside has. begun_same old new k (ap (λ m. finite.get m k.job) same) has)
+  launches_begun t old told (l ∷ ts) new told' (launch, launches) tells =
+      let one = launch_begun t old told l.job l.launch l.slots l.told launch tells in
+      both_begun s t old l.slots new l.told told' one (launches_begun one.now l.slots l.told ts new told' launches one.tells)
+
+-- ## The ends of stages
+
+-- the table has the job in the stage, which is begun, or the stage is spent
+abbrev IsGoing : State → Slots → Key → Type 0
+IsGoing s slots k = (IsIn s k × HasBegun slots k) ⊎ IsSpent s k
+
+-- what is so of each legal table
+pub record Laws : Type 0 where
+  pub legal : (s : State) (events : List Event) → IsLegal s → IsLegal (after_all s events)
+  pub spent : (s : State) (k : Key) (events : List Event) → IsLegal s → IsSpent s k → IsSpent (after_all s events) k
+  pub left : (s : State) (k : Key) (events : List Event) → IsLegal s → IsIn s k → IsIn (after_all s events) k ⊎ IsSpent (after_all s events) k
+  pub either : (s : State) (k : Key) → IsLegal s → IsIn s k → ¬ (IsSpent s k)
+  pub ended : (s : State) (e : StageEnd) → IsLegal s → refusal_of s (Stage e) ≡ None → IsSpent (after s (Stage e)) (key_of e)
+
+-- a finish that is kept for a job
+waited_begun : (old new : Slots) (j : ℕ) (told told' : Option Told) (p : Progress ℕ) → p ≡ (slot_in old j).progress → FinishesFrom p told old j new told' → (k : Key) → HasBegun old k → HasBegun new k
+waited_begun old new j told told' (Ended finish) at (same, tells) k has = begun_same old new k (ap (λ m. finite.get m k.job) same) has
+waited_begun old new j told told' (Ready input) at finishes k has = absurd finishes
+waited_begun old new j told told' (Running n) at finishes k has = by_job (k.job == j) refl
+  where
+    by_job : (b : Bool) → (k.job == j) ≡ b → HasBegun new k
+    by_job true is =
+        let same : k.job ≡ j = eqb-true k.job j is in
+        let own : slot_in old j ≡ has.slot = ap (λ o. unwrap_or o (begun 0 0)) (ap (finite.get old) (sym same) ∙ has.there) in
+        record {
+          slot = with_progress (slot_in old j) (Ended finishes.finish);
+          there = ap (finite.get new) same ∙ ap (λ m. finite.get m j) finishes.slots ∙ get_own old j (with_progress (slot_in old j) (Ended finishes.finish));
+          attempt = ap (λ (x : Slot ℕ). x.attempt) own ∙ has.attempt;
+          stage = ap (λ (x : Slot ℕ). x.stage) own ∙ has.stage;
+          begun = refl;
+        }
+    by_job false is = begun_same old new k (ap (λ m. finite.get m k.job) finishes.slots ∙ get_other old j k.job (with_progress (slot_in old j) (Ended finishes.finish)) is) has
+
+module _ {D : Type 0} (device : DiskView D) (laws : Laws) (k : Key) where
+  -- a stage that goes on, after an event that was accepted
+  after_event : (s t : State) (e : Event) → IsLegal s → t ≡ after_all s (e ∷ []) → IsIn s k → IsIn t k ⊎ IsSpent t k
+  after_event s t e legal is inside = subst (λ u. IsIn u k ⊎ IsSpent u k) (sym is) (laws.left s k (e ∷ []) legal inside)
+
+  answered_going : (kept next : Course D) (j : ℕ) (a : Answer) → IsReport device kept j (reports.Answered a) next → IsLegal kept.spool.state → IsIn kept.spool.state k → HasBegun kept.slots k → IsGoing next.spool.state next.slots k
+  answered_going kept next j (Err fault) (is, slots, told) legal inside has =
+      inl (subst (λ s. IsIn s k) (sym (fault_state device kept.spool (Stage (end_in kept.slots j)) fault next.spool is.cause)) inside, begun_same kept.slots next.slots k (ap (λ m. finite.get m k.job) slots) has)
+  answered_going kept next j (Ok reply) (is, slots, told) legal inside has = by_job (k.job == j) refl
+    where
+      by_job : (b : Bool) → (k.job == j) ≡ b → IsGoing next.spool.state next.slots k
+      by_job true at =
+          let same : k.job ≡ j = eqb-true k.job j at in
+          let own : slot_in kept.slots j ≡ has.slot = ap (λ o. unwrap_or o (begun 0 0)) (ap (finite.get kept.slots) (sym same) ∙ has.there) in
+          let key : key_of (end_in kept.slots j) ≡ k =
+          ap (λ i. record { job = i; attempt = (slot_in kept.slots j).attempt; stage = (slot_in kept.slots j).stage }) (sym same)
+          ∙ ap (λ a. record { job = k.job; attempt = a; stage = (slot_in kept.slots j).stage }) (ap (λ (x : Slot ℕ). x.attempt) own ∙ has.attempt)
+          ∙ ap (λ n. record { job = k.job; attempt = k.attempt; stage = n }) (ap (λ (x : Slot ℕ). x.stage) own ∙ has.stage) in
+          let gone = laws.ended kept.spool.state (end_in kept.slots j) legal is.cause.fits.accepted in
+          inr (subst (λ s. IsSpent s k) (sym (done_one device kept.spool (Stage (end_in kept.slots j)) reply next.spool is.cause ∙ accepted_one kept.spool.state (Stage (end_in kept.slots j)) is.cause.fits.accepted))
+          (subst (IsSpent (after kept.spool.state (Stage (end_in kept.slots j)))) key gone))
+      by_job false at = elim (after_event kept.spool.state next.spool.state (Stage (end_in kept.slots j)) legal (done_one device kept.spool (Stage (end_in kept.slots j)) reply next.spool is.cause) inside) [
+        | inl still ↦ inl (still, begun_same kept.slots next.slots k (ap (λ m. finite.get m k.job) slots ∙ moved_same kept.slots j (Ok reply) k.job at) has)
+        | inr gone ↦ inr gone
+      ]
+
+  report_going : (kept next : Course D) (j : ℕ) (r : Report) → IsReport device kept j r next → IsLegal kept.spool.state → IsIn kept.spool.state k → HasBegun kept.slots k → IsGoing next.spool.state next.slots k
+  report_going kept next j reports.Silent is legal inside has = absurd is
+  report_going kept next j reports.NoMemory is legal inside has = subst (λ (c : Course D). IsGoing c.spool.state c.slots k) (sym is) (inl (inside, has))
+  report_going kept next j (reports.Answered a) is legal inside has = answered_going kept next j a is legal inside has
+
+  end_going : (old : Course D) (e : Ending D) (b : Bool) → IsEndingOf device old b e → IsLegal old.spool.state → IsIn old.spool.state k → HasBegun old.slots k → IsGoing e.next.spool.state e.next.slots k
+  end_going old e true (silent, kept, next) legal inside has = subst (λ (c : Course D). IsGoing c.spool.state c.slots k) (sym next) (inl (inside, has))
+  end_going old e false (finishes, same, report) legal inside has =
+      report_going e.kept e.next e.job e.report report (subst (λ (x : Standing D). IsLegal x.state) (sym same) legal) (subst (λ (x : Standing D). IsIn x.state k) (sym same) inside)
+      (waited_begun old.slots e.kept.slots e.job old.told e.kept.told (slot_in old.slots e.job).progress refl finishes k has)
+
+  pub ends_going : (old : Course D) (es : List (Ending D)) (new : Course D) → AreEndings device old es new → IsLegal old.spool.state → IsGoing old.spool.state old.slots k → IsGoing new.spool.state new.slots k
+  ends_going old [] new same legal going = subst (λ (c : Course D). IsGoing c.spool.state c.slots k) (sym same) going
+  ends_going old (e ∷ es) new (ends, others) legal going =
+      let part = end_part device old e ends in
+      let table = part.table in
+      let events = report_events (Stage (end_in e.kept.slots e.job)) e.report in
+      ends_going e.next es new others (subst IsLegal (sym table) (laws.legal old.spool.state events legal)) (elim going [
+        | inl now ↦ end_going old e (is_silent (finite.get old.slots e.job)) ends legal now.0 now.1
+        | inr gone ↦ inr (subst (λ s. IsSpent s k) (sym table) (laws.spent old.spool.state k events legal gone))
+      ])

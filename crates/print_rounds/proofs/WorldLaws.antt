@@ -1,0 +1,110 @@
+-- A round is a turn of World.
+use Rattle.std.proofs.Common.{◌≡◌, ◌⊎◌, inl, inr, ℕ, false, List, [], ◌++◌, map, Some, refl, sym, ap, subst, ◌∙◌, append-nil}
+use Rattle.std.proofs.lemmas.Bool.{both_ways}
+use Rattle.spool_disk.specs.Disk.{DiskView}
+use Rattle.spool_types.specs.State.{State}
+use Rattle.job_table.specs.Fold.{after_all}
+use Rattle.job_table.specs.Legal.{IsLegal}
+use Rattle.job_table.specs.Stages.{Key, IsIn, IsSpent}
+use Rattle.spool_core.specs.History.{AreAccepted}
+use Rattle.spool_core.specs.Standing.{Standing}
+use Rattle.filter_args.specs.declared.place.Place.{Place}
+use Rattle.child_pipeline.specs.Slots.{Slots}
+use Rattle.child_pipeline.specs.Told.{Told}
+use Rattle.print_rounds.specs.Counts.{starting_events, ending_events}
+use Rattle.print_rounds.specs.Courses.{Course, course, Starting, AreStartings, IsRunOfStages}
+use Rattle.print_rounds.specs.Finished.{AreDistinct, HasNoneRunning, running_in}
+use Rattle.print_rounds.specs.Script.{current_slots}
+use Rattle.print_rounds.specs.World.{IsHeld, IsCallTurn}
+use Rattle.print_rounds.proofs.BusyLaws.{all_rest}
+use Rattle.print_rounds.proofs.EndLaws.{ends_finished}
+use Rattle.print_rounds.proofs.FreeLaws.{current_rests}
+use Rattle.print_rounds.proofs.HoldLaws.{HasBegun, Laws, begun_ended, held_begun, launches_begun, ends_going}
+use Rattle.print_rounds.proofs.KeyLaws.{accepted_both, starts_accepted, ends_accepted}
+use Rattle.print_rounds.proofs.LaunchLaws.{HasNumbers, all_started, some_of}
+use Rattle.print_rounds.proofs.PartLaws.{starts_part, ends_part}
+use Rattle.print_rounds.proofs.PrefixLaws.{after_both}
+
+-- a stage that goes on is held where no child runs
+going_held : (s : State) (slots : Slots) (k : Key) → HasNoneRunning slots → (IsIn s k × HasBegun slots k) ⊎ IsSpent s k → IsHeld s slots k ⊎ IsSpent s k
+going_held s slots k rests (inl now) = inl (now.0, begun_ended slots k now.1 (rests k.job))
+going_held s slots k rests (inr gone) = inr gone
+
+module _ {D : Type 0} (device : DiskView D) (laws : Laws) (old : Course D) (legal : IsLegal old.spool.state) (mid : Standing D) (ts : List (Starting D)) (starts : AreStartings device old.spool ts mid) where
+  -- what was held at the start goes on, or is spent
+  held_going : (k : Key) → IsHeld old.spool.state old.slots k → (IsIn mid.state k × HasBegun (current_slots old.spool.state old.slots) k) ⊎ IsSpent mid.state k
+  held_going k held =
+      let table = (starts_part device old.spool ts mid starts).table in
+      elim (laws.left old.spool.state k (starting_events old.spool ts) legal held.0) [
+        | inl still ↦ inl (subst (λ s. IsIn s k) (sym table) still, held_begun old.spool.state old.slots k held)
+        | inr gone ↦ inr (subst (λ s. IsSpent s k) (sym table) gone)
+      ]
+
+  legal_mid : IsLegal mid.state
+  legal_mid = subst IsLegal (sym (starts_part device old.spool ts mid starts).table) (laws.legal old.spool.state (starting_events old.spool ts) legal)
+
+  -- the device failed at a start
+  pub failed_turn : HasNoneRunning old.slots → (t : Told) → old.told ≡ Some t → old.spool.dead ≡ false → IsCallTurn t old (starting_events old.spool ts ++ []) (course mid (current_slots old.spool.state old.slots) old.told)
+  failed_turn rests t tells alive = record {
+    now = t;
+    tells = tells;
+    orders = [];
+    added = sym (append-nil t.orders);
+    turn = record {
+      legal = legal;
+      accepted = subst (AreAccepted old.spool.state) (sym (append-nil (starting_events old.spool ts))) (starts_accepted device old.spool ts mid starts);
+      table = (starts_part device old.spool ts mid starts).table ∙ ap (after_all old.spool.state) (sym (append-nil (starting_events old.spool ts)));
+      distinct = tt;
+      outside = λ k among. absurd among;
+      reached = λ k among. absurd among;
+      settled = λ goes_on k some. elim some [
+        | inl held ↦ going_held mid.state (current_slots old.spool.state old.slots) k (current_rests old.spool.state old.slots rests) (held_going k held)
+        | inr none ↦ absurd none
+      ];
+    };
+    after_over = λ died. absurd (both_ways _ alive died);
+  }
+
+  module _ (place : Place) (js : List ℕ) (new : Course D) (runs : IsRunOfStages device place (course mid (current_slots old.spool.state old.slots) old.told) js new) (distinct : AreDistinct js) (rests : HasNoneRunning old.slots) (rests_then : HasNoneRunning new.slots) (t : Told) (tells : old.told ≡ Some t) (quiet : t.running ≡ []) where
+    numbers : HasNumbers mid.state
+    numbers j r there = (legal_mid.jobs j r there).id
+
+    -- a stage of each processing job was run
+    pub live_turn : old.spool.dead ≡ false → IsCallTurn t old (starting_events old.spool ts ++ ending_events runs.endings) new
+    live_turn alive =
+        let slots : Slots = current_slots old.spool.state old.slots in
+        let begun = launches_begun place mid.state numbers t slots old.told runs.launchings runs.slots runs.told runs.starts tells in
+        let started = all_started place mid.state numbers t slots old.told runs.launchings runs.slots runs.told runs.starts tells
+        (all_rest slots (current_rests old.spool.state old.slots rests) (map (λ l. l.job) runs.launchings)) (subst AreDistinct (sym runs.started) distinct) in
+        let same : started.now ≡ begun.now = some_of started.now begun.now (sym started.tells ∙ begun.tells) in
+        let running = started.are.running ∙ ap (λ ns. ns ++ running_in runs.slots (map (λ l. l.job) runs.launchings)) quiet ∙ ap (running_in runs.slots) (runs.started ∙ sym runs.ended) in
+        let ended = ends_finished device begun.now (course mid runs.slots runs.told) runs.endings new runs.ends begun.tells
+        (ap (λ (u : Told). u.running) (sym same) ∙ running) (subst AreDistinct (sym runs.ended) distinct) in
+        let first = (starts_part device old.spool ts mid starts).table in
+        let last = (ends_part device (course mid runs.slots runs.told) runs.endings new runs.ends).table in
+        record {
+          now = ended.0;
+          tells = ended.1;
+          orders = begun.orders;
+          added = ended.2.orders ∙ begun.added;
+          turn = record {
+            legal = legal;
+            accepted = accepted_both old.spool.state (starting_events old.spool ts) (ending_events runs.endings) (starts_accepted device old.spool ts mid starts)
+                (subst (λ s. AreAccepted s (ending_events runs.endings)) first (ends_accepted device (course mid runs.slots runs.told) runs.endings new runs.ends));
+            table = last ∙ ap (λ s. after_all s (ending_events runs.endings)) first ∙ sym (after_both old.spool.state (starting_events old.spool ts) (ending_events runs.endings));
+            distinct = begun.once;
+            outside = λ k among held. elim (held_going k held) [
+              | inl now ↦ begun.fresh k among now.1
+              | inr gone ↦ laws.either mid.state k legal_mid (begun.inside k among) gone
+            ];
+            reached = λ k among. record { first = starting_events old.spool ts; rest = ending_events runs.endings; split = refl; reached = subst (λ s. IsIn s k) first (begun.inside k among) };
+            settled = λ goes_on k some. elim some [
+              | inl held ↦ going_held new.spool.state new.slots k rests_then (ends_going device laws k (course mid runs.slots runs.told) runs.endings new runs.ends legal_mid (elim (held_going k held) [
+                | inl now ↦ inl (now.0, begun.kept k now.0 now.1)
+                | inr gone ↦ inr gone
+              ]))
+              | inr among ↦ going_held new.spool.state new.slots k rests_then (ends_going device laws k (course mid runs.slots runs.told) runs.endings new runs.ends legal_mid (inl (begun.inside k among, begun.begun k among)))
+            ];
+          };
+          after_over = λ died. absurd (both_ways _ alive died);
+        }

@@ -1,0 +1,154 @@
+-- A round, and a run, is a turn of World.
+use Rattle.std.proofs.Common.{◌≡◌, ◌⊎◌, inl, inr, ℕ, true, false, Bool, List, [], ◌∷◌, ◌++◌, Some, None, Result, Ok, Err, refl, sym, ap, subst, ◌∙◌, append-nil}
+use Rattle.std.proofs.lemmas.Bool.{both_ways}
+use Rattle.spool_types.specs.declared.event.Event.{Event}
+use Rattle.spool_types.specs.declared.event.Reply.{Reply}
+use Rattle.spool_types.specs.declared.refusal.Refusal.{Refusal}
+use Rattle.spool_types.specs.State.{State}
+use Rattle.job_table.specs.Fold.{after_all, unless_refused}
+use Rattle.job_table.specs.Legal.{IsLegal}
+use Rattle.job_table.specs.Stages.{Key, IsIn, IsSpent}
+use Rattle.job_table.specs.Step.{step, refusal_of, answered, after, reply_to}
+use Rattle.spool_core.specs.History.{AreAccepted}
+use Rattle.spool_core.specs.Standing.{Standing}
+use Rattle.child_pipeline.specs.Told.{Told}
+use Rattle.print_rounds.specs.Courses.{Course}
+use Rattle.print_rounds.specs.World.{IsEndedSlot, IsCallTurn}
+use Rattle.spool_engine.specs.EventTurns.{Setting, Outcome, served, no_memory, full, disk, dead, unread, IsTaken, IsServedBy, IsOutcome}
+use Rattle.spool_engine.specs.Rounds.{Ran, IsRoundWith, IsRan, AreRan, AreRunBy}
+use Rattle.spool_engine.specs.Runs.{Turn, How, answered as replied, ran, event_turn, IsHow, IsHeld as HasSlotsOf, AreTurns, last_course}
+use Rattle.spool_engine.specs.Script.{Meaning, says, asks, runs, meaning}
+
+-- a turn after which no child runs
+abbrev pub IsQuietTurn : {D : Type 0} → Told → Course D → Course D → Type 0
+IsQuietTurn t old new = (more : List Event) × (c : IsCallTurn t old more new) × (c.now.running ≡ [])
+
+-- what is so of each legal table, and of calls
+pub record Laws (D : Type 0) : Type 0 where
+  pub legal : (s : State) (events : List Event) → IsLegal s → IsLegal (after_all s events)
+  pub left : (s : State) (k : Key) (events : List Event) → IsLegal s → IsIn s k → IsIn (after_all s events) k ⊎ IsSpent (after_all s events) k
+  pub joined : (old mid new : Course D) (t : Told) (more further : List Event) (one : IsCallTurn t old more mid) → IsCallTurn one.now mid further new → IsCallTurn t old (more ++ further) new
+
+some_same : (x y : Told) → Some x ≡ Some y → x ≡ y
+some_same x y e = cc
+
+module _ {D : Type 0} (laws : Laws D) (t : Told) (quiet : t.running ≡ []) where
+  -- events without a round: the slots are as they were
+  plain_turn : (old new : Course D) (events : List Event) → IsLegal old.spool.state → old.told ≡ Some t → AreAccepted old.spool.state events → new.spool.state ≡ after_all old.spool.state events
+      → HasSlotsOf old new → (old.spool.dead ≡ true → new.spool.dead ≡ true) → IsQuietTurn t old new
+  plain_turn old new events legal tells accepted table held over = (
+    events,
+    record {
+      now = t;
+      tells = held.told ∙ tells;
+      orders = [];
+      added = sym (append-nil t.orders);
+      turn = record {
+        legal = legal;
+        accepted = accepted;
+        table = table;
+        distinct = tt;
+        outside = λ k among. absurd among;
+        reached = λ k among. absurd among;
+        settled = λ alive k some. elim some [
+          | inl before ↦ elim (laws.left old.spool.state k events legal before.0) [
+            | inl still ↦ inl (subst (λ s. IsIn s k) (sym table) still, subst (λ m. IsEndedSlot m k) (sym held.slots) before.1)
+            | inr gone ↦ inr (subst (λ s. IsSpent s k) (sym table) gone)
+          ]
+          | inr none ↦ absurd none
+        ];
+      };
+      after_over = λ died. (refl, over died);
+    },
+    quiet,
+  )
+
+  still_turn : (old new : Course D) → IsLegal old.spool.state → old.told ≡ Some t → new.spool ≡ old.spool → HasSlotsOf old new → IsQuietTurn t old new
+  still_turn old new legal tells same held = plain_turn old new [] legal tells tt (ap (λ (x : Standing D). x.state) same) held (λ died. ap (λ (x : Standing D). x.dead) same ∙ died)
+
+  -- ## A command of one event, or of none
+
+  done_state : (s : State) (e : Event) (new : State) (reply : Reply) → refusal_of s e ≡ None → step s e ≡ Ok (new, reply) → new ≡ after_all s (e ∷ [])
+  done_state s e new reply accepted stepped =
+      let both : Ok (after s e, reply_to s e) ≡ Ok (new, reply) = sym (ap (answered s e) accepted) ∙ stepped in
+      sym (ap (unless_refused s e) accepted ∙ ap state_in both)
+    where
+      state_in : Result (State × Reply) Refusal → State
+      state_in (Ok p) = p.0
+      state_in (Err r) = s
+
+  taken_turn : (old new : Course D) (e : Event) (answer : Result (State × Reply) Refusal) → IsLegal old.spool.state → old.told ≡ Some t → HasSlotsOf old new → IsTaken old.spool e answer new.spool → IsQuietTurn t old new
+  taken_turn old new e (Ok r) legal tells held done =
+      plain_turn old new (e ∷ []) legal tells (done.fits.accepted, tt) (done_state old.spool.state e new.spool.state r.1 done.fits.accepted done.step) held
+      (λ died. absurd (both_ways _ done.fits.alive died))
+  taken_turn old new e (Err refusal) legal tells held refused = still_turn old new legal tells refused.1 held
+
+  served_turn : (old new : Course D) (w : Meaning) (reply : List ℕ) → IsLegal old.spool.state → old.told ≡ Some t → HasSlotsOf old new → IsServedBy old.spool w reply new.spool → IsQuietTurn t old new
+  served_turn old new (says text) reply legal tells held is = still_turn old new legal tells is.1 held
+  served_turn old new (asks e line) reply legal tells held is = taken_turn old new e (step old.spool.state e) legal tells held is.1
+  served_turn old new (runs most line) reply legal tells held is = absurd is
+
+  outcome_turn : (v : Setting D) (old : Course D) (turn : Turn D) (o : Outcome) → IsLegal old.spool.state → old.told ≡ Some t → HasSlotsOf old turn.next → IsOutcome v old.spool (event_turn turn o) o → IsQuietTurn t old turn.next
+  outcome_turn v old turn served legal tells held is = served_turn old turn.next (meaning v.mime old.spool.state turn.command) turn.text legal tells held is
+  outcome_turn v old turn no_memory legal tells held is = still_turn old turn.next legal tells is.cause.2 held
+  outcome_turn v old turn full legal tells held is = still_turn old turn.next legal tells is.cause.1 held
+  outcome_turn v old turn disk legal tells held is = plain_turn old turn.next [] legal tells tt is.cause.state held (λ died. is.cause.dead)
+  outcome_turn v old turn dead legal tells held is = still_turn old turn.next legal tells is.cause.1 held
+  outcome_turn v old turn unread legal tells held is = still_turn old turn.next legal tells is.same held
+
+  -- ## A round
+
+  same_turn : (old new : Course D) → IsLegal old.spool.state → old.told ≡ Some t → new ≡ old → IsQuietTurn t old new
+  same_turn old new legal tells same = still_turn old new legal tells (ap (λ (c : Course D). c.spool) same) (record { slots = ap (λ (c : Course D). c.slots) same; told = ap (λ (c : Course D). c.told) same })
+
+  -- what is told after a round, whose children have all been finished
+  quiet_after : (v : Setting D) (old : Course D) (r : Ran D) → IsRan v old r → old.told ≡ Some t → (now : Told) → r.next.told ≡ Some now → now.running ≡ []
+  quiet_after v old r is tells now tells' =
+      let (js, once) = is.finished t tells quiet in
+      ap (λ (u : Told). u.running) (some_same now once.now (sym tells' ∙ once.tells)) ∙ once.finished.running
+
+  pub round_turn : (v : Setting D) (old : Course D) (r : Ran D) → IsLegal old.spool.state → old.told ≡ Some t → IsRan v old r → IsQuietTurn t old r.next
+  round_turn v old r legal tells is = by_death old.spool.dead is.round
+    where
+      by_death : (b : Bool) → IsRoundWith v.device v.place old b r → IsQuietTurn t old r.next
+      by_death true round = same_turn old r.next legal tells round.0.1
+      by_death false round = elim round [
+        | inl unbegun ↦ same_turn old r.next legal tells unbegun.0.1
+        | inr made ↦
+            let c = made.0.turn t tells quiet in
+            (_, c, quiet_after v old r is tells c.now c.tells)
+      ]
+
+-- ## Rounds, and turns, one after the other
+
+module _ {D : Type 0} (laws : Laws D) where
+  then_turn : (t : Told) (old mid new : Course D) → (one : IsQuietTurn t old mid) → IsQuietTurn one.1.now mid new → IsQuietTurn t old new
+  then_turn t old mid new (more, one, quiet) (further, two, quiet_then) =
+      (more ++ further, laws.joined old mid new t more further one two, quiet_of)
+    where
+      quiet_of : (laws.joined old mid new t more further one two).now.running ≡ []
+      quiet_of = ap (λ (u : Told). u.running) (some_same (laws.joined old mid new t more further one two).now two.now (sym (laws.joined old mid new t more further one two).tells ∙ two.tells)) ∙ quiet_then
+
+  legal_then : (t : Told) (old mid : Course D) → IsQuietTurn t old mid → IsLegal mid.spool.state
+  legal_then t old mid (more, one, quiet) = subst IsLegal (sym one.turn.table) (laws.legal old.spool.state more one.turn.legal)
+
+  rounds_turn : (v : Setting D) (rs : List (Ran D)) (t : Told) → t.running ≡ [] → (old new : Course D) → IsLegal old.spool.state → old.told ≡ Some t → AreRan v old rs new → IsQuietTurn t old new
+  rounds_turn v [] t quiet old new legal tells same = same_turn laws t quiet old new legal tells same
+  rounds_turn v (r ∷ rs) t quiet old new legal tells (is, others) =
+      let one = round_turn laws t quiet v old r legal tells is in
+      then_turn t old r.next new one (rounds_turn v rs one.1.now one.2 r.next new (legal_then t old r.next one) one.1.tells others)
+
+  run_turn : (v : Setting D) (w : Meaning) (t : Told) → t.running ≡ [] → (old new : Course D) (rs : List (Ran D)) (reply : List ℕ) → IsLegal old.spool.state → old.told ≡ Some t → AreRunBy v w old rs new reply → IsQuietTurn t old new
+  run_turn v (says text) t quiet old new rs reply legal tells is = absurd is
+  run_turn v (asks e line) t quiet old new rs reply legal tells is = absurd is
+  run_turn v (runs most line) t quiet old new rs reply legal tells is = rounds_turn v rs t quiet old new legal tells is.each
+
+  how_turn : (v : Setting D) (t : Told) → t.running ≡ [] → (old : Course D) (turn : Turn D) (how : How D) → IsLegal old.spool.state → old.told ≡ Some t → IsHow v old turn how → IsQuietTurn t old turn.next
+  how_turn v t quiet old turn (replied outcome) legal tells is = outcome_turn laws t quiet v old turn outcome legal tells is.1 is.0
+  how_turn v t quiet old turn (ran rs) legal tells is = run_turn v (meaning v.mime old.spool.state turn.command) t quiet old turn.next rs turn.text legal tells is
+
+  pub turns_turn : (v : Setting D) (turns : List (Turn D)) (t : Told) → t.running ≡ [] → (old : Course D) → IsLegal old.spool.state → old.told ≡ Some t → AreTurns v old turns → IsQuietTurn t old (last_course old turns)
+  turns_turn v [] t quiet old legal tells are = same_turn laws t quiet old old legal tells refl
+  turns_turn v (turn ∷ turns) t quiet old legal tells (first, others) =
+      let one = how_turn v t quiet old turn turn.how legal tells first.how in
+      then_turn t old turn.next (last_course turn.next turns) one (turns_turn v turns one.1.now one.2 turn.next (legal_then t old turn.next one) one.1.tells others)
