@@ -11,3 +11,7 @@ pub mod Ended
 pub mod Reopened
 pub mod Choice
 pub mod Next
+pub mod Above
+pub mod Loaded
+pub mod Pushed
+pub mod Ascending

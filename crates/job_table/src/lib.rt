@@ -56,7 +56,9 @@
 #![tactic(auto)]
 
 mod laws;
+mod loading;
 mod table;
 
 pub use laws::{ended_jobs_stay, legal_tables_stay_legal, reopening};
+pub use loading::{LoadFault, Loading};
 pub use table::{PrepareFault, Table, is_in_stage};
