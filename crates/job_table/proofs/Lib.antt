@@ -15,3 +15,6 @@ pub mod Above
 pub mod Loaded
 pub mod Pushed
 pub mod Ascending
+pub mod Pieces
+pub mod Listed
+pub mod Reloaded

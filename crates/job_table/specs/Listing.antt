@@ -26,13 +26,14 @@ listed r = record {
   phase = r.phase;
 }
 
--- so many parts, of which each but the last has the greatest length
-abbrev pub parts : ℕ → List ℕ → List (List ℕ)
-parts zero bytes = []
-parts (suc n) bytes = take longest_send bytes ∷ parts n (drop longest_send bytes)
+-- so many parts, of which each but the last has this length
+abbrev pub parts : ℕ → ℕ → List ℕ → List (List ℕ)
+parts longest zero bytes = []
+parts longest (suc n) bytes = take longest bytes ∷ parts longest n (drop longest bytes)
 
+-- as many parts of the greatest length as the bytes need
 abbrev pub pieces : List ℕ → List (List ℕ)
-pieces bytes = parts ((length bytes + 65535) / longest_send) bytes
+pieces bytes = parts longest_send ((length bytes + 65535) / longest_send) bytes
 
 -- a job, and behind it the pieces of its document
 abbrev pub job_rows : Job → List Row
