@@ -12,3 +12,10 @@ pub mod Reopened
 pub mod Choice
 pub mod Next
 pub mod Stages
+pub mod Above
+pub mod Loaded
+pub mod Pushed
+pub mod Ascending
+pub mod Pieces
+pub mod Listed
+pub mod Reloaded

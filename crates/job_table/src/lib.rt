@@ -17,6 +17,15 @@
 //!   of a stage come before the verdict on its exit (`with_effects`); `row_effects` says what they make of the job's pages
 //!   and of the queue. `Losses`: what a reopening makes of a job that was processing.
 //!
+//! # What a listing is
+//!
+//! A checkpoint writes a table down as rows, and a [`Loading`] makes the table again, row by row.
+//!
+//! - `Listing`: the rows that a table is listed as: its head, its queues, and each of its jobs with its document's pieces
+//!   behind it.
+//! - `Loading`: which row may come next (`IsPlaced`), and what it adds (`loaded`); rows in turn (`ArePlaced`,
+//!   `loaded_all`). A job goes into the table once its document is whole, so the table is legal after each row.
+//!
 //! # Promises
 //!
 //! - *ExactStep*: `prepare` refuses an event exactly where a cause of its refusal holds, with the refusal of the first
@@ -33,6 +42,8 @@
 //!   no more room than it found (`HasNoMore`). A new table has no room.
 //! - A stage of an attempt that is spent stays spent, and one that is left is spent ([`spent_stages_stay_spent`], by
 //!   `Stages`). So no stage of an attempt comes twice.
+//! - *Loading*: [`Loading::load`] takes a row exactly where it may come next, and adds what it adds. What is listed is
+//!   loaded again, and nothing but a listing of a legal table is taken whole ([`listings_are_loaded`]).
 //! - *EndedStaysEnded* ([`ended_jobs_stay`]), and that each state is legal ([`legal_tables_stay_legal`]).
 //!
 //! # Invariants
@@ -51,14 +62,24 @@
 //!    event.
 //! 5. A job that has ended holds no memory for its document (`IsFreedWhenEnded`).
 //!
+//! 6. The table of a loading is legal. Its last job stands beside it while the document is short: whole pieces of it are
+//!    there, and the job may be put in as the table's last row (`IsReading`). The memory for the row and for the whole
+//!    document was found when the job came, so no piece moves the document.
+//!
 //! # Faults
 //!
-//! [`PrepareFault`] is all there is: a refusal, or out of memory. Either leaves the rows as they were, and the table
-//! goes on as if the event had not come.
+//! [`PrepareFault`] is all there is for an event: a refusal, or out of memory. Either leaves the rows as they were, and the
+//! table goes on as if the event had not come. [`LoadFault`] is the same for a row of a listing: it is out of place or
+//! against what is so of each table, or there was no memory for it.
 #![tactic(auto)]
 
 mod laws;
+mod loading;
 mod table;
 
-pub use laws::{ended_jobs_stay, legal_tables_stay_legal, reopening, spent_stages_stay_spent};
+pub use laws::{
+    ended_jobs_stay, legal_tables_stay_legal, listings_are_loaded, reopening,
+    spent_stages_stay_spent,
+};
+pub use loading::{LoadFault, Loading};
 pub use table::{PrepareFault, Table, is_in_stage};

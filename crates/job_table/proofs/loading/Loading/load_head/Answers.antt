@@ -1,0 +1,12 @@
+-- nothing was read before the head
+use Rattle.std.proofs.Common.{refl, sym, subst}
+use Rattle.job_table.specs.Reading.{progress_of, IsReading}
+use Rattle.job_table.proofs.Loaded.{progress_is, reading_head}
+use Rattle.job_table.specs.Loading.{loaded}
+use Rattle.spool_types.specs.declared.listing.Row.TheVariants.{Head as HeadRow}
+use Rattle.job_table.proofs.loading.Loading.load_head.Goals as goal
+
+pub invariant_of-self : goal.invariant_of-self
+invariant_of-self c = subst IsReading
+    (sym (progress_is (loaded (progress_of c.self.inside) (HeadRow c.args.head)) _ c.set_head.ensures refl (c.self.invariant.fresh c.if-self.false).whole))
+    (reading_head (progress_of c.self.inside) c.args.head)

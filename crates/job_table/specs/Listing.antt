@@ -1,0 +1,47 @@
+-- The rows that a table is listed as.
+use Rattle.std.specs.Prelude.{ℕ, zero, suc, ◌+◌, ◌/◌, List, [], ◌∷◌, ◌++◌, length, take, drop, map}
+use Rattle.std.specs.List.{flat_map}
+use Rattle.std.specs.FinMap as finite
+use Rattle.spool_types.specs.Limits.{longest_send}
+use Rattle.spool_types.specs.State.{State, Job}
+use Rattle.spool_types.specs.declared.listing.ListedJob.{ListedJob}
+use Rattle.spool_types.specs.declared.listing.Row.{Row}
+use Rattle.spool_types.specs.declared.listing.Row.TheVariants.{Head, Queue, Job as JobRow, Piece}
+
+-- a job without its document
+abbrev pub listed : Job → ListedJob
+listed r = record {
+  id = r.id;
+  queue = r.queue;
+  user = r.user;
+  title = r.title;
+  copies = r.copies;
+  priority = r.priority;
+  options = r.options;
+  media = r.media;
+  filters = r.filters;
+  attempts = r.attempts;
+  pages = r.pages;
+  size = r.size;
+  phase = r.phase;
+}
+
+-- so many parts, of which each but the last has this length
+abbrev pub parts : ℕ → ℕ → List ℕ → List (List ℕ)
+parts longest zero bytes = []
+parts longest (suc n) bytes = take longest bytes ∷ parts longest n (drop longest bytes)
+
+-- as many parts of the greatest length as the bytes need
+abbrev pub pieces : List ℕ → List (List ℕ)
+pieces bytes = parts longest_send ((length bytes + 65535) / longest_send) bytes
+
+-- a job, and behind it the pieces of its document
+abbrev pub job_rows : Job → List Row
+job_rows r = JobRow (listed r) ∷ map (λ bytes. Piece r.id bytes) (pieces r.document)
+
+-- The head; the queues in ascending order of name; the jobs in ascending order of number, each followed by its document's
+-- pieces.
+abbrev pub listing : State → List Row
+listing s =
+    Head (record { highest = s.highest; moment = s.moment })
+    ∷ (map (λ q. Queue q) (finite.values s.queues) ++ flat_map job_rows (finite.values s.jobs))

@@ -1,0 +1,151 @@
+-- A listing that is read row by row: which row may come next, and what it adds.
+use Rattle.std.specs.Prelude.{◌≡◌, ℕ, ◌-◌, ◌==◌, ◌<◌, ◌≤◌, Bool, true, false, cond, List, [], ◌∷◌, ◌++◌, length, min, Option, None, Some, IsSome}
+use Rattle.std.specs.declared.cmp.Ordering.{Ordering}
+use Rattle.std.specs.declared.cmp.Ordering.TheVariants.{Less}
+use Rattle.std.specs.List.{AllByRecursion}
+use Rattle.std.specs.Ordering.{nat_cmp}
+use Rattle.std.specs.Cmp.Lexicographic.{slice_cmp}
+use Rattle.std.specs.FinMap as finite
+use Rattle.spool_types.specs.Busy.{is_busy}
+use Rattle.spool_types.specs.Limits.{most_queues, longest_document, longest_send, greatest_number}
+use Rattle.spool_types.specs.Phases.{has_ended, is_processing}
+use Rattle.spool_types.specs.State.{State, Job, nothing, queue_at}
+use Rattle.spool_types.specs.declared.rows.QueueRow.{QueueRow}
+use Rattle.spool_types.specs.declared.listing.Head.{Head}
+use Rattle.spool_types.specs.declared.listing.ListedJob.{ListedJob}
+use Rattle.spool_types.specs.declared.listing.Row.{Row}
+use Rattle.spool_types.specs.declared.listing.Row.TheVariants.{Head as HeadRow, Queue, Job as JobRow, Piece}
+use Rattle.row_effects.specs.Fold.{IsInOrder}
+use Rattle.job_table.specs.Legal.{Fits}
+
+-- What the rows so far tell: the table of all that is whole, whether the head was among them, and the last job while its
+-- document is short.
+pub record Progress : Type 0 where
+  pub state : State
+  pub begun : Bool
+  pub partial : Option Job
+
+abbrev pub begin_loading : Progress
+begin_loading = record { state = nothing; begun = false; partial = None }
+
+-- no document is short
+abbrev pub IsWhole : Progress → Type 0
+IsWhole p = p.partial ≡ None
+
+-- ## What a row adds
+
+-- the job with a document that is still to come
+abbrev pub unlisted : ListedJob → Job
+unlisted r = record {
+  id = r.id;
+  queue = r.queue;
+  user = r.user;
+  title = r.title;
+  copies = r.copies;
+  priority = r.priority;
+  options = r.options;
+  media = r.media;
+  filters = r.filters;
+  attempts = r.attempts;
+  pages = r.pages;
+  size = r.size;
+  phase = r.phase;
+  document = [];
+}
+
+abbrev pub headed : Head → State
+headed head = record nothing { highest = head.highest; moment = head.moment }
+
+abbrev pub with_queue : State → QueueRow → State
+with_queue s q = record s { queues = finite.insert s.queues q.name q }
+
+abbrev pub with_job : State → Job → State
+with_job s r = record s { jobs = finite.insert s.jobs r.id r }
+
+abbrev pub with_piece : List ℕ → Job → Job
+with_piece bytes r = record r { document = r.document ++ bytes }
+
+-- how many bytes its document has: a job that has ended has none
+abbrev pub document_len : Job → ℕ
+document_len r = cond (has_ended r.phase) 0 r.size
+
+-- the last job goes into the table once its document is whole
+abbrev pub with_last : Progress → Job → Progress
+with_last p r = cond (length r.document == document_len r) (record p { state = with_job p.state r; partial = None }) (record p { partial = Some r })
+
+abbrev pub with_next_piece : Progress → List ℕ → Option Job → Progress
+with_next_piece p bytes None = p
+with_next_piece p bytes (Some r) = with_last p (with_piece bytes r)
+
+-- the rows so far and this one, where it may come next
+abbrev pub loaded : Progress → Row → Progress
+loaded p (HeadRow head) = record { state = headed head; begun = true; partial = None }
+loaded p (Queue q) = record p { state = with_queue p.state q }
+loaded p (JobRow r) = with_last p (unlisted r)
+loaded p (Piece j bytes) = with_next_piece p bytes p.partial
+
+-- ## Which row may come next
+
+-- above all of the keys
+abbrev pub IsAbove : {K : Type 0} → (K → K → Ordering) → K → List K → Type 0
+IsAbove R k keys = AllByRecursion (λ (x : _). R x k ≡ Less) keys
+
+-- the head comes first
+pub record IsNextHead (p : Progress) (head : Head) : Type 0 where
+  pub first : p.begun ≡ false
+  pub highest : head.highest ≤ greatest_number
+
+-- a queue above all queues of a table that has no jobs yet, with its reasons and its attributes in order
+pub record IsNewQueue (s : State) (q : QueueRow) : Type 0 where
+  pub no_jobs : finite.values s.jobs ≡ []
+  pub few : finite.len s.queues < most_queues
+  pub above : IsAbove (slice_cmp nat_cmp) q.name (finite.keys s.queues)
+  pub in_order : IsInOrder q
+
+pub record IsNextQueue (p : Progress) (q : QueueRow) : Type 0 where
+  pub begun : p.begun ≡ true
+  pub whole : IsWhole p
+  pub new : IsNewQueue p.state q
+
+-- A job above all jobs of the table, of a number that was given and of a queue that is there. Its phase fits the rest of
+-- its row, and it is the only processing job of its queue.
+pub record IsNewJob (s : State) (r : Job) : Type 0 where
+  pub above : IsAbove nat_cmp r.id (finite.keys s.jobs)
+  pub given : r.id ≤ s.highest
+  pub queue : IsSome (queue_at s r.queue)
+  pub phase : Fits r r.phase
+  pub size : r.size ≤ longest_document
+  pub alone : is_processing r.phase ≡ true → is_busy (finite.values s.jobs) r.queue ≡ false
+
+-- a job comes once the documents before it are whole
+pub record IsNextJob (p : Progress) (r : ListedJob) : Type 0 where
+  pub begun : p.begun ≡ true
+  pub whole : IsWhole p
+  pub new : IsNewJob p.state (unlisted r)
+
+-- a piece has the greatest length, or is the rest of the document
+pub record IsNextPiece (r : Job) (j : ℕ) (bytes : List ℕ) : Type 0 where
+  pub own : r.id ≡ j
+  pub full : length bytes ≡ min (r.size - length r.document) longest_send
+
+abbrev pub IsPieceOf : Option Job → ℕ → List ℕ → Type 0
+IsPieceOf None j bytes = ⊥
+IsPieceOf (Some r) j bytes = IsNextPiece r j bytes
+
+-- The row may come next: it is neither out of place nor against what is so of each table.
+abbrev pub IsPlaced : Progress → Row → Type 0
+IsPlaced p (HeadRow head) = IsNextHead p head
+IsPlaced p (Queue q) = IsNextQueue p q
+IsPlaced p (JobRow r) = IsNextJob p r
+IsPlaced p (Piece j bytes) = IsPieceOf p.partial j bytes
+
+-- ## Rows in turn
+
+-- each may come next in its turn
+abbrev pub ArePlaced : Progress → List Row → Type 0
+ArePlaced p [] = Unit {0}
+ArePlaced p (row ∷ rows) = IsPlaced p row × ArePlaced (loaded p row) rows
+
+abbrev pub loaded_all : Progress → List Row → Progress
+loaded_all p [] = p
+loaded_all p (row ∷ rows) = loaded_all (loaded p row) rows
