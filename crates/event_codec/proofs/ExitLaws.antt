@@ -10,7 +10,7 @@ use Rattle.event_codec.specs.Reading.{number_at, status_at, kind_of_exit, exit_a
 use Rattle.event_codec.proofs.FieldLaws.{IsBytes, done, ok_is, Takes, Takes-then, Reads, got, again-then, again-last}
 use Rattle.event_codec.proofs.FilterLaws.{chosen, refused, reads_byte}
 
-abbrev Byte : ℕ → Type 0
+abbrev pub Byte : ℕ → Type 0
 Byte n = n < 2 ^ 8
 
 record Exited (bytes : List ℕ) (x : Exit) (rest : List ℕ) : Type 0 where
@@ -18,7 +18,7 @@ record Exited (bytes : List ℕ) (x : Exit) (rest : List ℕ) : Type 0 where
   legal : IsExit x
 
 -- the first byte is the one that was looked for
-of_byte : (bytes : List ℕ) (kind k : ℕ) (after : List ℕ) → Takes bytes (to_be_bytes w8 kind) after → eqb kind k ≡ true → Takes bytes (to_be_bytes w8 k) after
+pub of_byte : (bytes : List ℕ) (kind k : ℕ) (after : List ℕ) → Takes bytes (to_be_bytes w8 kind) after → eqb kind k ≡ true → Takes bytes (to_be_bytes w8 k) after
 of_byte bytes kind k after t e = subst (λ (n : ℕ). Takes bytes (to_be_bytes w8 n) after) (eqb-true kind k e) t
 
 -- an end of one byte

@@ -8,8 +8,8 @@ use Rattle.spool_types.specs.declared.phase.Policy.TheVariants.{AbortJob, RetryJ
 use Rattle.spool_types.specs.Values.{is_filter_name}
 use Rattle.event_codec.specs.declared.fault.CodecFault.{CodecFault}
 use Rattle.event_codec.specs.declared.fault.CodecFault.TheVariants.{Range}
-use Rattle.event_codec.specs.Spelling.{text_code, policy_number, filters_code, IsIn, IsText, AreFilters}
-use Rattle.event_codec.specs.Reading.{◌>>=◌, number_at, ranged_at, policy_of, policy_at, text_at, list_at, counted_filters_at, flagged_filters_at, maybe_filters_at}
+use Rattle.event_codec.specs.Spelling.{text_code, counted_code, policy_number, filters_code, IsIn, IsText, AreFilters}
+use Rattle.event_codec.specs.Reading.{◌>>=◌, number_at, ranged_at, policy_of, policy_at, text_at, list_at, filters_at, some_filters_at, flagged_filters_at, maybe_filters_at}
 use Rattle.event_codec.proofs.FieldLaws.{IsBytes, bind_ok, ok_is, Takes, Takes-then, Reads, got, again-then, again-last, wide8, reads_number, reads_ranged}
 use Rattle.event_codec.proofs.ListLaws.{list_takes, list_again}
 use Rattle.event_codec.proofs.TextLaws.{reads_filter_name}
@@ -84,39 +84,32 @@ reads_policy = record { takes = policy_takes; again = policy_again }
 
 -- ---- filters
 
-abbrev counted_code : List (List ℕ) → List ℕ
-counted_code fs = to_be_bytes w8 (length fs) ++ flat_map text_code fs
-
 abbrev pub reads_count : Reads (ranged_at 0 15 w8) (to_be_bytes w8) (IsIn 0 15)
 reads_count = reads_ranged 0 15 w8 (2 ^ 8) wide8 (omega arith)
 
-record Counted (bytes : List ℕ) (o : Option (List (List ℕ))) (rest : List ℕ) : Type 0 where
-  filters : List (List ℕ)
-  is : Some filters ≡ o
-  taken : Takes bytes (counted_code filters) rest
-  legal : AreFilters (Some filters)
+abbrev pub AreFew : List (List ℕ) → Type 0
+AreFew fs = AreFilters (Some fs)
 
-counted_take : (bytes : List ℕ) (o : Option (List (List ℕ))) (rest : List ℕ) → IsBytes bytes → counted_filters_at bytes ≡ Ok (o, rest) → Counted bytes o rest
-unfolding counted_filters_at
-counted_take bytes o rest fits e =
-    let a = got (ranged_at 0 15 w8) (to_be_bytes w8) (IsIn 0 15) reads_count bytes (λ count. list_at (text_at is_filter_name) count.0 count.1 >>= λ filters. Ok (Some filters.0, filters.1)) (o, rest) fits e in
-    let b = bind_ok (list_at (text_at is_filter_name) a.value a.rest) (λ filters. Ok (Some filters.0, filters.1)) (o, rest) a.then in
-    let f = list_takes (text_at is_filter_name) text_code (IsText is_filter_name) reads_filter_name a.value a.rest b.value.0 b.value.1 a.taken.rest_fits b.was in
-    let both = Takes-then bytes (to_be_bytes w8 a.value) a.rest (flat_map text_code b.value.0) b.value.1 a.taken f.taken in
-    let whole : Takes bytes (counted_code b.value.0) b.value.1 = subst (λ (k : ℕ). Takes bytes (to_be_bytes w8 k ++ flat_map text_code b.value.0) b.value.1) (sym f.count) both in
-    let same = ok_is (Some b.value.0, b.value.1) (o, rest) b.then in
-    record {
-      filters = b.value.0;
-      is = ap (λ (x : Option (List (List ℕ)) × List ℕ). x.0) same;
-      taken = subst (λ (x : Option (List (List ℕ)) × List ℕ). Takes bytes (counted_code b.value.0) x.1) same whole;
-      legal = (omega (arith, f.count, a.legal.at_most), f.legal);
-    }
+filters_take : (bytes : List ℕ) (fs : List (List ℕ)) (rest : List ℕ) → IsBytes bytes → filters_at bytes ≡ Ok (fs, rest) → Takes bytes (counted_code fs) rest × AreFew fs
+unfolding filters_at
+filters_take bytes fs rest fits e =
+    let a = got (ranged_at 0 15 w8) (to_be_bytes w8) (IsIn 0 15) reads_count bytes (λ count. list_at (text_at is_filter_name) count.0 count.1) (fs, rest) fits e in
+    let f = list_takes (text_at is_filter_name) text_code (IsText is_filter_name) reads_filter_name a.value a.rest fs rest a.taken.rest_fits a.then in
+    let both = Takes-then bytes (to_be_bytes w8 a.value) a.rest (flat_map text_code fs) rest a.taken f.taken in (
+      subst (λ (k : ℕ). Takes bytes (to_be_bytes w8 k ++ flat_map text_code fs) rest) (sym f.count) both,
+      (omega (arith, f.count, a.legal.at_most), f.legal),
+    )
 
-counted_again : (fs : List (List ℕ)) (rest : List ℕ) → AreFilters (Some fs) → counted_filters_at (counted_code fs ++ rest) ≡ Ok (Some fs, rest)
-unfolding counted_filters_at
-counted_again fs rest h =
-    again-then (ranged_at 0 15 w8) (to_be_bytes w8) (IsIn 0 15) reads_count (length fs) (flat_map text_code fs) rest (λ count. list_at (text_at is_filter_name) count.0 count.1 >>= λ filters. Ok (Some filters.0, filters.1)) (record { at_least = omega arith; at_most = h.0 })
-    ∙ rw (list_again (text_at is_filter_name) text_code (IsText is_filter_name) reads_filter_name fs rest h.1) refl
+filters_again : (fs : List (List ℕ)) (rest : List ℕ) → AreFew fs → filters_at (counted_code fs ++ rest) ≡ Ok (fs, rest)
+unfolding filters_at
+filters_again fs rest h =
+    again-then (ranged_at 0 15 w8) (to_be_bytes w8) (IsIn 0 15) reads_count (length fs) (flat_map text_code fs) rest (λ count. list_at (text_at is_filter_name) count.0 count.1) (record { at_least = omega arith; at_most = h.0 })
+    ∙ list_again (text_at is_filter_name) text_code (IsText is_filter_name) reads_filter_name fs rest h.1
+
+pub reads_few : Reads filters_at counted_code AreFew
+reads_few = record { takes = filters_take; again = filters_again }
+
+-- ---- and whether there are any
 
 record Maybe (bytes : List ℕ) (o : Option (List (List ℕ))) (rest : List ℕ) : Type 0 where
   taken : Takes bytes (filters_code o) rest
@@ -128,20 +121,21 @@ no_filters bytes flag after o rest t e same =
     let none : Maybe bytes None after = record { taken = zero_taken; legal = tt } in
     subst (λ (x : Option (List (List ℕ)) × List ℕ). Maybe bytes x.0 x.1) same none
 
-some_filters : (bytes : List ℕ) (flag : ℕ) (after : List ℕ) (o : Option (List (List ℕ))) (rest : List ℕ) → Takes bytes (to_be_bytes w8 flag) after → flag ≡ 1 → counted_filters_at after ≡ Ok (o, rest) → Maybe bytes o rest
+some_filters : (bytes : List ℕ) (flag : ℕ) (after : List ℕ) (o : Option (List (List ℕ))) (rest : List ℕ) → Takes bytes (to_be_bytes w8 flag) after → flag ≡ 1 → some_filters_at after ≡ Ok (o, rest) → Maybe bytes o rest
+unfolding some_filters_at
 some_filters bytes flag after o rest t e h =
-    let c = counted_take after o rest t.rest_fits h in
+    let c = got filters_at counted_code AreFew reads_few after (λ filters. Ok (Some filters.0, filters.1)) (o, rest) t.rest_fits h in
     let one_taken : Takes bytes (to_be_bytes w8 1) after = subst (λ (n : ℕ). Takes bytes (to_be_bytes w8 n) after) e t in
-    let both = Takes-then bytes (to_be_bytes w8 1) after (counted_code c.filters) rest one_taken c.taken in
-    let some : Maybe bytes (Some c.filters) rest = record { taken = both; legal = c.legal } in
-    subst (λ (p : Option (List (List ℕ))). Maybe bytes p rest) c.is some
+    let both = Takes-then bytes (to_be_bytes w8 1) after (counted_code c.value) c.rest one_taken c.taken in
+    let some : Maybe bytes (Some c.value) c.rest = record { taken = both; legal = c.legal } in
+    subst (λ (x : Option (List (List ℕ)) × List ℕ). Maybe bytes x.0 x.1) (ok_is (Some c.value, c.rest) (o, rest) c.then) some
 
 flagged_take : (bytes : List ℕ) (flag : ℕ) (after : List ℕ) (o : Option (List (List ℕ))) (rest : List ℕ) → Takes bytes (to_be_bytes w8 flag) after → flagged_filters_at flag after ≡ Ok (o, rest) → Maybe bytes o rest
 unfolding flagged_filters_at
 flagged_take bytes flag after o rest t e =
     elim (chosen (eqb flag 0) (Ok (None, after)) _ (Ok (o, rest)) e) [
       | inl h ↦ no_filters bytes flag after o rest t (eqb-true flag 0 h.0) (ok_is (None, after) (o, rest) h.1)
-      | inr h ↦ elim (chosen (eqb flag 1) (counted_filters_at after) (Err Range) (Ok (o, rest)) h.1) [
+      | inr h ↦ elim (chosen (eqb flag 1) (some_filters_at after) (Err Range) (Ok (o, rest)) h.1) [
         | inl i ↦ some_filters bytes flag after o rest t (eqb-true flag 1 i.0) i.1
         | inr i ↦ absurd (refused Range (o, rest) i.1)
       ]
@@ -155,11 +149,11 @@ maybe_takes bytes o rest fits e =
     (m.taken, m.legal)
 
 maybe_again : (o : Option (List (List ℕ))) (rest : List ℕ) → AreFilters o → maybe_filters_at (filters_code o ++ rest) ≡ Ok (o, rest)
-unfolding maybe_filters_at flagged_filters_at
+unfolding maybe_filters_at flagged_filters_at some_filters_at
 maybe_again None rest h = again-last (number_at w8) (to_be_bytes w8) (λ n. n < 2 ^ 8) reads_byte 0 rest (λ flag. flagged_filters_at flag.0 flag.1) (omega arith)
 maybe_again (Some fs) rest h =
     again-then (number_at w8) (to_be_bytes w8) (λ n. n < 2 ^ 8) reads_byte 1 (counted_code fs) rest (λ flag. flagged_filters_at flag.0 flag.1) (omega arith)
-    ∙ counted_again fs rest h
+    ∙ again-last filters_at counted_code AreFew reads_few fs rest (λ filters. Ok (Some filters.0, filters.1)) h
 
 pub reads_filters : Reads maybe_filters_at filters_code AreFilters
 reads_filters = record { takes = maybe_takes; again = maybe_again }

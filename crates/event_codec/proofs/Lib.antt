@@ -10,3 +10,6 @@ pub mod ExitLaws
 pub mod Sizes
 pub mod EffectLaws
 pub mod EventLaws
+pub mod PhaseLaws
+pub mod OrderLaws
+pub mod RowLaws

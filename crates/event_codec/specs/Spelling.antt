@@ -44,10 +44,14 @@ abbrev pub until_code : Option ℕ → List ℕ
 until_code None = to_be_bytes w8 1
 until_code (Some m) = to_be_bytes w8 2 ++ to_be_bytes w64 m
 
--- 0 where nothing prints the document; else 1, how many filters there are, and each of them
+-- how many texts there are in one byte, and each of them
+abbrev pub counted_code : List (List ℕ) → List ℕ
+counted_code texts = to_be_bytes w8 (length texts) ++ flat_map text_code texts
+
+-- 0 where nothing prints the document; else 1, and the filters
 abbrev pub filters_code : Option (List (List ℕ)) → List ℕ
 filters_code None = to_be_bytes w8 0
-filters_code (Some filters) = to_be_bytes w8 1 ++ to_be_bytes w8 (length filters) ++ flat_map text_code filters
+filters_code (Some filters) = to_be_bytes w8 1 ++ counted_code filters
 
 -- ---- events
 

@@ -44,7 +44,7 @@ fn put_words(out: &mut Vec<u8>, words: &Words)
     put_texts(out, words);
 }
 
-fn put_attribute(out: &mut Vec<u8>, attribute: &Attribute)
+pub(crate) fn put_attribute(out: &mut Vec<u8>, attribute: &Attribute)
     requires room { vec_len out.old + length (attribute_code attribute.now) ≤ vec_capacity out.old }
     ensures written { out.new.items ≡ out.old.items ++ attribute_code attribute.now }
     ensures len { vec_len out.new ≡ vec_len out.old + length (attribute_code attribute.now) }

@@ -1,4 +1,4 @@
-//! Why bytes are no event.
+//! Why bytes are no event, or no row.
 ghost use Rattle.std.specs.Prelude.{◌≡◌};
 ghost use Rattle.event_codec.specs.declared.fault.CodecFault.TheVariants.{Range, Memory};
 ghost use Rattle.event_codec.specs.Reading.{codec_fault};
@@ -9,7 +9,7 @@ use std::alloc::{AllocError, AllocFailed};
 /// What is wrong with the bytes: the first fault from left to right.
 #[derive(Clone, Copy, Debug, PartialEq, Eq)]
 pub enum CodecFault {
-    /// The first byte stands for no event.
+    /// The first byte stands for no event, or where a row is read for no row.
     Kind,
     /// A field passes the end, or bytes stand after the last one. No bytes at all are this too.
     Length,

@@ -2,7 +2,7 @@
 ghost use Rattle.std.specs.Prelude.{◌≡◌, ◌+◌, ◌*◌, ◌≤◌, ◌<◌, ◌^◌, ◌++◌, List, ℕ, true, length, vec_len, vec_capacity};
 ghost use Rattle.std.specs.List.{flat_map, AllByRecursion};
 ghost use Rattle.spool_types.specs.Values.{is_media_type};
-ghost use Rattle.event_codec.specs.Spelling.{text_code, flag_code, IsText};
+ghost use Rattle.event_codec.specs.Spelling.{text_code, counted_code, flag_code, IsText};
 
 use spool_types::{MediaType, Text, TextKind};
 
@@ -74,6 +74,20 @@ pub(crate) fn put_texts<K: TextKind>(out: &mut Vec<u8>, texts: &[Text<K>])
     }
 }
 
+/// How many texts there are in one byte, and each of them.
+pub(crate) fn put_counted<K: TextKind>(out: &mut Vec<u8>, texts: &[Text<K>])
+    requires short { (t : List ℕ) → K.allowed t ≡ true → length t < 2 ^ 16 }
+    requires few { length texts.now ≤ 64 }
+    requires room { vec_len out.old + length (counted_code texts.now) ≤ vec_capacity out.old }
+    ensures written { out.new.items ≡ out.old.items ++ counted_code texts.now }
+    ensures len { vec_len out.new ≡ vec_len out.old + length (counted_code texts.now) }
+    ensures grown { vec_capacity out.old ≤ vec_capacity out.new }
+    ensures are_texts { AllByRecursion (IsText K.allowed) texts.now }
+{
+    put(out, &(texts.len() as u8).to_be_bytes());
+    put_texts(out, texts);
+}
+
 /// How many bytes the code of a text has.
 pub(crate) fn text_len<K: TextKind>(text: &Text<K>) -> usize
     requires short { (t : List ℕ) → K.allowed t ≡ true → length t ≤ 2048 }
@@ -93,13 +107,23 @@ pub(crate) fn media_len(media: &MediaType) -> usize
 /// How many bytes the codes of a few texts have.
 pub(crate) fn texts_len<K: TextKind>(texts: &[Text<K>]) -> usize
     requires short { (t : List ℕ) → K.allowed t ≡ true → length t ≤ 2048 }
-    requires few { length texts.now ≤ 15 }
+    requires few { length texts.now ≤ 64 }
     ensures value { result ≡ length (flat_map text_code texts.now) }
-    ensures small { result ≤ 15 * 2050 }
+    ensures small { result ≤ length texts.now * 2050 }
 {
     let mut len = 0;
     for text in texts {
         len += text_len(text);
     }
     len
+}
+
+/// How many bytes a few texts have, with their number in one byte.
+pub(crate) fn counted_len<K: TextKind>(texts: &[Text<K>]) -> usize
+    requires short { (t : List ℕ) → K.allowed t ≡ true → length t ≤ 2048 }
+    requires few { length texts.now ≤ 64 }
+    ensures value { result ≡ length (counted_code texts.now) }
+    ensures small { result ≤ 1 + length texts.now * 2050 }
+{
+    1 + texts_len(texts)
 }

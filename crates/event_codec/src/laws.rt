@@ -3,7 +3,9 @@ ghost use Rattle.std.specs.Prelude.{◌≡◌, ◌+◌, List, ℕ, [], ◌++◌,
 ghost use Rattle.spool_types.specs.declared.event.Event.{Event};
 ghost use Rattle.spool_types.specs.declared.effect.Effect.{Effect};
 ghost use Rattle.spool_types.specs.Effects.{effects_size};
+ghost use Rattle.spool_types.specs.declared.listing.Row.{Row};
 ghost use Rattle.event_codec.specs.Spelling.{effects_code, IsSpellable, spelling};
+ghost use Rattle.event_codec.specs.RowSpelling.{IsRowSpellable, row_spelling};
 
 /// No event's spelling begins another's, so that what stands behind a spelling is never a part of it.
 pub fn no_proper_prefix()
@@ -18,4 +20,19 @@ pub fn one_event()
 /// The code of effects has two bytes for their number, and as many more as their size says.
 pub fn effects_have_their_size()
     ensures { (effects : List Effect) → length (effects_code effects) ≡ 2 + effects_size effects }
+{}
+
+/// No row's spelling begins another's.
+pub fn no_proper_prefix_of_rows()
+    ensures { (a b : Row) (rest : List ℕ) → IsRowSpellable a → IsRowSpellable b → row_spelling a ++ rest ≡ row_spelling b → rest ≡ [] }
+{}
+
+/// Bytes spell one row at most.
+pub fn one_row()
+    ensures { (a b : Row) → IsRowSpellable a → IsRowSpellable b → row_spelling a ≡ row_spelling b → a ≡ b }
+{}
+
+/// No row is spelled as an event is, and neither begins the other, whatever stands behind them.
+pub fn rows_are_no_events()
+    ensures { (row : Row) (e : Event) (some more : List ℕ) → ¬ (row_spelling row ++ some ≡ spelling e ++ more) }
 {}

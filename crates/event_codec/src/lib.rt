@@ -1,4 +1,4 @@
-//! The spelling of events in bytes.
+//! The spelling of events, and of the rows of a listing, in bytes.
 //!
 //! An event is spelled by its kind in one byte and its fields in order, and nothing else. Numbers are big-endian. A text
 //! is its length in two bytes and its bytes of UTF-8. The table of kinds and fields is `spelling`, in `specs/Spelling`;
@@ -37,6 +37,22 @@
 //!
 //! The effects of one stage have at most 16,384 bytes in all, which their number isn't counted in.
 //!
+//! A row is spelled like an event. The first byte tells them apart. `specs/RowSpelling` and `specs/RowReading` say of rows
+//! what the other two files say of events.
+//!
+//! | Byte | Row | Fields |
+//! |---|---|---|
+//! | 40 | Head | highest number in 4 bytes, 0 for none, moment in 8 |
+//! | 41 | Queue | fields of 01, info, location, accepting and stopped in 1 byte each, message, the number of reasons in 1, and each, the number of attributes in 1, and each |
+//! | 42 | Job | job in 4 bytes, queue, user, title, copies in 2, priority in 1, options, 0, or 1 and its media type, the number of filters in 1, and each, attempts in 4, pages in 4, size in 4, phase |
+//! | 43 | Piece | job in 4 bytes, length in 4, from 1 to 65,536, that many bytes |
+//!
+//! Reasons ascend, and attributes by their names. A phase is its kind in 1 byte and its fields: 0 and a hold, incoming; 1,
+//! a hold, a moment in 8 bytes and whether it is first in 1, waiting; 2 and the stage in 1, processing; 3 completed; 4
+//! canceled; 5 and the reason in 1, aborted. A hold is 0 where there is none; 1 and its reason in 1; or 2 and a moment in 8.
+//! Of a processing job the row tells its stage alone: its attempt is the number of its attempts, and its stages are its
+//! filters and one.
+//!
 //! # Promises
 //!
 //! - *ExactSpelling*: [`encode`] gives `spelling` of its event (`spelled`), and that event is within its limits
@@ -44,21 +60,29 @@
 //!   bytes are its spelling (`sound`), gives each event from its spelling (`complete`), and answers the first fault from
 //!   the left (`exact`, by `reading`).
 //! - [`no_proper_prefix`]: no spelling is a proper prefix of another. [`one_event`]: bytes spell one event at most.
-//! - No spelling has 131,072 bytes (`short`), and [`effects_have_their_size`]: the effects of a stage have as many as
-//!   `effects_size` says.
+//! - So it is with rows: [`encode_row`], [`encode_row_onto`] and [`decode_row`], [`no_proper_prefix_of_rows`] and [`one_row`].
+//!   The types of a row's fields leave something open (`IsLegalRow`): that a queue's lists ascend, that a processing job is
+//!   in a stage of its newest attempt, that a number or a size isn't too great, that a piece isn't empty. A row of which that
+//!   isn't so is written too, but has no spelling, and [`decode_row`] never gives it. [`rows_are_no_events`]: no row's bytes
+//!   begin as an event's do, so neither begins the other.
+//! - No spelling of an event has 131,072 bytes, and none of a row 524,288 (`short`). [`effects_have_their_size`]: the effects
+//!   of a stage have as many bytes as `effects_size` says.
 //!
 //! # Faults
 //!
-//! The first byte is looked at first, and is [`CodecFault::Kind`] where it is no event's. Then each field from left
-//! to right may have a fault: `Length` where it passes the end, `Utf8` where a text isn't UTF-8, `Range` where the value
+//! The first byte is looked at first, and is [`CodecFault::Kind`] where it is no event's, or no row's. Then each field from
+//! left to right may have a fault: `Length` where it passes the end, `Utf8` where a text isn't UTF-8, `Range` where the value
 //! is outside its limits. An effect of no kind and a level of none are `Range`, and so is the effect that passes 16,384
-//! bytes, whose own faults come first. Bytes after the last field are `Length`, and so are no bytes at all.
+//! bytes, whose own faults come first. Bytes after the last field are `Length`, and so are no bytes at all. A reason or a name
+//! of an attribute that isn't above the one before it is `Range` in its place, before what follows is looked at.
 //!
-//! `Memory` comes only where a value is kept in memory of its own (`memory`, by `reaches_copy`): a text, the bytes of a send,
-//! an effect. So it never comes for an event without one, and never before the first of them. Nothing is kept then.
+//! `Memory` comes only where a value is kept in memory of its own (`memory`, by `reaches_copy` and `reaches_row_copy`): a
+//! text, the bytes of a send or a piece, an effect. So it never comes for an event without one or for a head, and never
+//! before the first of them. Nothing is kept then.
 //!
-//! [`encode`] and [`encode_onto`] reserve the whole length at once, and fail only there. [`encode_onto`] doesn't fail where
-//! the room is there already (`fits`), and leaves the bytes as they were where it fails (`kept`).
+//! [`encode`] and [`encode_row`], [`encode_onto`] and [`encode_row_onto`] reserve the whole length at once, and fail only
+//! there. The last two don't fail where the room is there already (`fits`), and leave the bytes as they were where they fail
+//! (`kept`).
 #![tactic(auto)]
 
 mod effect_reading;
@@ -67,10 +91,18 @@ mod fault;
 mod field_writing;
 mod fields;
 mod laws;
+mod phase_reading;
 mod reading;
+mod row_reading;
+mod row_writing;
 mod writing;
 
 pub use fault::CodecFault;
-pub use laws::{effects_have_their_size, no_proper_prefix, one_event};
+pub use laws::{
+    effects_have_their_size, no_proper_prefix, no_proper_prefix_of_rows, one_event, one_row,
+    rows_are_no_events,
+};
 pub use reading::decode;
+pub use row_reading::decode_row;
+pub use row_writing::{encode_row, encode_row_onto};
 pub use writing::{encode, encode_onto};

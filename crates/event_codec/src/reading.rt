@@ -1,10 +1,10 @@
 //! Reading events.
-ghost use Rattle.std.specs.Prelude.{◌≡◌, ◌↔◌, ◌⊎◌, ℕ, length, is_ok, false, IfOk, IfErr, IsOk, Ok};
+ghost use Rattle.std.specs.Prelude.{◌≡◌, ◌≤◌, ◌↔◌, ◌⊎◌, ℕ, length, is_ok, false, IsTrue, IfOk, IfErr, OnOk, IsOk, Ok};
 ghost use Rattle.std.specs.Int.{w8, w16, w32};
 ghost use Rattle.spool_types.specs.declared.event.Event.{Event};
 ghost use Rattle.spool_types.specs.Values.{is_media_type, is_queue_name};
 ghost use Rattle.event_codec.specs.Spelling.{IsSpellable, spelling};
-ghost use Rattle.event_codec.specs.Reading.{Gives, MemoryOnly, text_at, flag_at, until_at, exit_at, policy_at, counted_filters_at, maybe_filters_at, piece_at, queue_at, notes_at, accept_at, stop_at, job_at, send_at, closing_at, hold_at, numbered_at, clock_at, stage_at, closing_copies, stage_copies, reaches_copy, whole, reading};
+ghost use Rattle.event_codec.specs.Reading.{Gives, MemoryOnly, text_at, flag_at, until_at, exit_at, policy_at, filters_at, maybe_filters_at, piece_at, new_queue_at, queue_at, notes_at, accept_at, stop_at, job_at, send_at, closing_at, hold_at, numbered_at, clock_at, stage_at, closing_copies, stage_copies, reaches_copy, whole, reading};
 
 use crate::effect_reading::effects_at;
 use crate::fault::CodecFault;
@@ -18,7 +18,7 @@ use spool_types::{
 use std::alloc::Global;
 
 #[tactic(auto, unfolding(crate::specs::Reading::flag_at, crate::specs::Reading::flag_of))]
-fn flag_at(bytes: &[u8]) -> Result<(bool, &[u8]), CodecFault>
+pub(crate) fn flag_at(bytes: &[u8]) -> Result<(bool, &[u8]), CodecFault>
     ensures read { Gives (λ x. (x.0, x.1.now)) result (flag_at bytes.now) }
     ensures memory { IfErr result (MemoryOnly false) }
 {
@@ -82,7 +82,7 @@ fn policy_at(bytes: &[u8]) -> Result<(Policy, &[u8]), CodecFault>
     Ok((policy, rest))
 }
 
-fn media_at(alloc: Global, bytes: &[u8]) -> Result<(MediaType, &[u8]), CodecFault>
+pub(crate) fn media_at(alloc: Global, bytes: &[u8]) -> Result<(MediaType, &[u8]), CodecFault>
     ensures read { Gives (λ x. (x.0, x.1.now)) result (text_at is_media_type bytes.now) }
     ensures memory { IfErr result (MemoryOnly (is_ok (text_at is_media_type bytes.now))) }
 {
@@ -90,9 +90,11 @@ fn media_at(alloc: Global, bytes: &[u8]) -> Result<(MediaType, &[u8]), CodecFaul
     Ok((MediaType::from_name(name), rest))
 }
 
-#[tactic(auto, unfolding(crate::specs::Reading::counted_filters_at, crate::specs::Reading::ranged_at, crate::specs::Reading::ranged, crate::specs::Reading::checked))]
-fn counted_filters_at(alloc: Global, bytes: &[u8]) -> Result<(Option<Filters>, &[u8]), CodecFault>
-    ensures read { Gives (λ x. (x.0, x.1.now)) result (counted_filters_at bytes.now) }
+/// How many filters there are, and each of them.
+#[tactic(auto, unfolding(crate::specs::Reading::filters_at, crate::specs::Reading::ranged_at, crate::specs::Reading::ranged, crate::specs::Reading::checked))]
+pub(crate) fn filters_at(alloc: Global, bytes: &[u8]) -> Result<(Filters, &[u8]), CodecFault>
+    ensures read { Gives (λ x. (x.0, x.1.now)) result (filters_at bytes.now) }
+    ensures few { IfOk result (λ x. length x.0 ≤ 15) }
 {
     let (count, rest) = u8_at(bytes)?;
     if 15 < count {
@@ -100,30 +102,38 @@ fn counted_filters_at(alloc: Global, bytes: &[u8]) -> Result<(Option<Filters>, &
     }
     let (filters, rest) = texts_at(alloc, count as u16, rest)?;
     match Filters::new(filters) {
-        Ok(filters) => Ok((Some(filters), rest)),
+        Ok(filters) => Ok((filters, rest)),
         Err(_) => Err(CodecFault::Range),
     }
 }
 
-#[tactic(auto, unfolding(crate::specs::Reading::maybe_filters_at, crate::specs::Reading::flagged_filters_at))]
+#[tactic(auto, unfolding(crate::specs::Reading::maybe_filters_at, crate::specs::Reading::flagged_filters_at, crate::specs::Reading::some_filters_at))]
 fn maybe_filters_at(alloc: Global, bytes: &[u8]) -> Result<(Option<Filters>, &[u8]), CodecFault>
     ensures read { Gives (λ x. (x.0, x.1.now)) result (maybe_filters_at bytes.now) }
 {
     let (flag, rest) = u8_at(bytes)?;
     match flag {
         0 => Ok((None, rest)),
-        1 => counted_filters_at(alloc, rest),
+        1 => {
+            let (filters, rest) = filters_at(alloc, rest)?;
+            Ok((Some(filters), rest))
+        }
         _ => Err(CodecFault::Range),
     }
 }
 
+/// The bytes of a send: so many at least.
 #[tactic(auto, unfolding(crate::specs::Reading::piece_at, crate::specs::Reading::ranged_at, crate::specs::Reading::ranged, crate::specs::Reading::checked))]
-fn piece_at(alloc: Global, bytes: &[u8]) -> Result<(Piece, &[u8]), CodecFault>
-    ensures read { Gives (λ x. (x.0, x.1.now)) result (piece_at bytes.now) }
-    ensures memory { IfErr result (MemoryOnly (is_ok (piece_at bytes.now))) }
+pub(crate) fn piece_at(
+    alloc: Global,
+    least: u32,
+    bytes: &[u8],
+) -> Result<(Piece, &[u8]), CodecFault>
+    ensures read { Gives (λ x. (x.0, x.1.now)) result (piece_at least bytes.now) }
+    ensures memory { IfErr result (MemoryOnly (is_ok (piece_at least bytes.now))) }
 {
     let (count, rest) = u32_at(bytes)?;
-    if LONGEST_SEND < count as usize {
+    if count < least || LONGEST_SEND < count as usize {
         return Err(CodecFault::Range);
     }
     let (part, rest) = part_at(count as usize, rest)?;
@@ -134,7 +144,7 @@ fn piece_at(alloc: Global, bytes: &[u8]) -> Result<(Piece, &[u8]), CodecFault>
 }
 
 /// Nothing stands after the last field.
-fn ended(rest: &[u8]) -> Result<(), CodecFault>
+pub(crate) fn ended(rest: &[u8]) -> Result<(), CodecFault>
     ensures ok { IsOk result ↔ (length rest.now ≡ 0) }
     ensures fault { IfErr result (λ e. e ≡ CodecFault.Length) }
 {
@@ -145,27 +155,39 @@ fn ended(rest: &[u8]) -> Result<(), CodecFault>
     }
 }
 
-#[tactic(auto, unfolding(crate::specs::Reading::queue_at, crate::specs::Reading::ranged_at, crate::specs::Reading::whole))]
-fn new_queue_of(alloc: Global, fields: &[u8]) -> Result<Event, CodecFault>
-    ensures read { Gives (λ e. e) result (whole (queue_at fields.now)) }
-    ensures memory { IfErr result (MemoryOnly (is_ok (text_at is_queue_name fields.now))) }
+/// A queue as it is added.
+#[tactic(auto, unfolding(crate::specs::Reading::new_queue_at, crate::specs::Reading::ranged_at))]
+pub(crate) fn new_queue_at(alloc: Global, bytes: &[u8]) -> Result<(NewQueue, &[u8]), CodecFault>
+    ensures read { Gives (λ x. (x.0, x.1.now)) result (new_queue_at bytes.now) }
+    ensures copied { OnOk result (IsTrue (is_ok (text_at is_queue_name bytes.now))) }
+    ensures memory { IfErr result (MemoryOnly (is_ok (text_at is_queue_name bytes.now))) }
 {
-    let (name, rest) = text_at(alloc, fields)?;
+    let (name, rest) = text_at(alloc, bytes)?;
     let (uri, rest) = text_at(alloc, rest)?;
     let (target, rest) = media_at(alloc, rest)?;
     let (policy, rest) = policy_at(rest)?;
     let (interval, rest) = u32_at(rest)?;
     let interval = ranged(interval)?;
     let (limit, rest) = u16_at(rest)?;
-    ended(rest)?;
-    Ok(Event::AddQueue(NewQueue {
+    let queue = NewQueue {
         name,
         uri,
         target,
         policy,
         interval,
         limit,
-    }))
+    };
+    Ok((queue, rest))
+}
+
+#[tactic(auto, unfolding(crate::specs::Reading::queue_at, crate::specs::Reading::whole))]
+fn new_queue_of(alloc: Global, fields: &[u8]) -> Result<Event, CodecFault>
+    ensures read { Gives (λ e. e) result (whole (queue_at fields.now)) }
+    ensures memory { IfErr result (MemoryOnly (is_ok (text_at is_queue_name fields.now))) }
+{
+    let (queue, rest) = new_queue_at(alloc, fields)?;
+    ended(rest)?;
+    Ok(Event::AddQueue(queue))
 }
 
 #[tactic(auto, unfolding(crate::specs::Reading::notes_at, crate::specs::Reading::whole))]
@@ -240,7 +262,7 @@ fn send_of(alloc: Global, fields: &[u8]) -> Result<Event, CodecFault>
 {
     let (number, rest) = u32_at(fields)?;
     let job = job_id(number)?;
-    let (bytes, rest) = piece_at(alloc, rest)?;
+    let (bytes, rest) = piece_at(alloc, 0, rest)?;
     ended(rest)?;
     Ok(Event::Send { job, bytes })
 }

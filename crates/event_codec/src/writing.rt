@@ -8,7 +8,7 @@ ghost use Rattle.event_codec.specs.Spelling.{text_code, flag_code, until_code, f
 
 use crate::effect_writing::put_effects;
 use crate::field_writing::{
-    media_len, put, put_flag, put_media, put_text, put_texts, text_len, texts_len,
+    counted_len, media_len, put, put_counted, put_flag, put_media, put_text, text_len,
 };
 use spool_types::{
     Closing, Event, Exit, Filters, JobId, MediaType, Moment, NewJob, NewQueue, Piece, Policy,
@@ -16,7 +16,7 @@ use spool_types::{
 };
 use std::alloc::{AllocError, Global};
 
-fn policy_byte(policy: Policy) -> u8
+pub(crate) fn policy_byte(policy: Policy) -> u8
     ensures { result ≡ policy_number policy }
 {
     match policy {
@@ -92,7 +92,7 @@ fn put_job(out: &mut Vec<u8>, job: &NewJob)
     put_text(out, &job.options);
 }
 
-fn put_send(out: &mut Vec<u8>, job: JobId, bytes: &Piece)
+pub(crate) fn put_send(out: &mut Vec<u8>, job: JobId, bytes: &Piece)
     requires room { vec_len out.old + length (send_code job bytes.now) ≤ vec_capacity out.old }
     ensures written { out.new.items ≡ out.old.items ++ send_code job bytes.now }
     ensures len { vec_len out.new ≡ vec_len out.old + length (send_code job bytes.now) }
@@ -115,10 +115,8 @@ fn put_filters(out: &mut Vec<u8>, filters: &Option<Filters>)
     match filters {
         None => put(out, &0u8.to_be_bytes()),
         Some(filters) => {
-            let filters = filters.as_slice();
             put(out, &1u8.to_be_bytes());
-            put(out, &(filters.len() as u8).to_be_bytes());
-            put_texts(out, filters);
+            put_counted(out, filters.as_slice());
         }
     }
 }
@@ -296,7 +294,7 @@ fn filters_len(filters: &Option<Filters>) -> usize
 {
     match filters {
         None => 1,
-        Some(filters) => 2 + texts_len(filters.as_slice()),
+        Some(filters) => 1 + counted_len(filters.as_slice()),
     }
 }
 

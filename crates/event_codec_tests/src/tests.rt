@@ -1,6 +1,6 @@
 //! Rows in hexadecimal, each beside what it is read as.
 use event_codec::*;
-use spool_types::{Event, JobId};
+use spool_types::{Event, Head, JobId, Moment, Row};
 use std::alloc::Global;
 use std::process::Abort;
 use std::test::Fail;
@@ -113,6 +113,97 @@ const EFFECT_FAULTS: &str = "\
 00 01 07 06 00 01 1F = Range\n\
 00 01 07 06 00 01 C3 = Utf8";
 
+// Rows of a listing, each before what is spelled so. A queue and a job have 31 and 48 bytes at least.
+const ROWS: &str = "\
+40 00 00 00 00 00 00 00 00 00 00 00 00 = Head(Head { highest: 0, moment: Moment { seconds: 0 } })\n\
+40 7F FF FF FF 00 00 03 A3 52 94 40 00 = Head(Head { highest: 2147483647, moment: Moment { seconds: 4000000000000 } })\n\
+41 00 01 71 00 03 73 3A 2F 00 03 61 2F 62 00 00 00 00 1E 00 05 00 00 00 00 01 00 00 00 00 00 = Queue(QueueRow { name: \"q\", uri: \"s:/\", target: MediaType { name: \"a/b\" }, policy: AbortJob, interval: Ranged { number: 30 }, limit: 5, info: \"\", location: \"\", accepting: true, stopped: false, message: \"\", reasons: Items { items: [] }, attributes: Items { items: [] } })\n\
+41 00 01 71 00 03 73 3A 2F 00 03 61 2F 62 03 00 00 00 00 00 00 00 01 61 00 01 62 00 01 00 01 6D 02 00 01 61 00 03 62 2E 63 02 00 03 61 2D 31 00 03 78 20 79 00 01 62 00 00 = Queue(QueueRow { name: \"q\", uri: \"s:/\", target: MediaType { name: \"a/b\" }, policy: StopPrinter, interval: Ranged { number: 0 }, limit: 0, info: \"a\", location: \"b\", accepting: false, stopped: true, message: \"m\", reasons: Items { items: [\"a\", \"b.c\"] }, attributes: Items { items: [Attribute { name: \"a-1\", value: \"x y\" }, Attribute { name: \"b\", value: \"\" }] } })\n\
+42 00 00 00 01 00 01 71 00 01 75 00 00 00 01 32 00 00 01 00 03 61 2F 62 00 00 00 00 00 00 00 00 00 00 00 00 00 01 00 00 00 00 00 00 00 00 00 00 = Job(ListedJob { id: JobId { number: 1 }, queue: \"q\", user: \"u\", title: \"\", copies: Ranged { number: 1 }, priority: Ranged { number: 50 }, options: \"\", media: Some(MediaType { name: \"a/b\" }), filters: Items { items: [] }, attempts: 0, pages: 0, size: 0, phase: Waiting { hold: Free, not_before: Moment { seconds: 0 }, first: false } })\n\
+43 00 00 00 01 00 00 00 02 61 62 = Piece { job: JobId { number: 1 }, bytes: Items { items: [97, 98] } }";
+
+// What stands behind the size of a job of two attempts, three pages and one filter, each before its phase.
+const PHASES: &str = "\
+00 00 = Incoming(Free)\n\
+00 01 00 = Incoming(Indefinite(Unspecified))\n\
+00 01 01 = Incoming(Indefinite(Authentication))\n\
+00 01 02 = Incoming(Indefinite(Backend))\n\
+00 02 00 00 00 00 00 00 00 64 = Incoming(Until(Moment { seconds: 100 }))\n\
+01 00 00 00 00 00 00 00 00 00 00 = Waiting { hold: Free, not_before: Moment { seconds: 0 }, first: false }\n\
+01 01 02 00 00 00 00 00 00 00 05 01 = Waiting { hold: Indefinite(Backend), not_before: Moment { seconds: 5 }, first: true }\n\
+02 01 = Processing { attempt: 2, stage: 1, stages: 2 }\n\
+02 10 = Processing { attempt: 2, stage: 16, stages: 2 }\n\
+03 = Completed\n\
+04 = Canceled\n\
+05 00 = Aborted(FilterFailed)\n\
+05 01 = Aborted(BackendFailed)\n\
+05 02 = Aborted(RetryLimit)\n\
+05 03 = Aborted(AttemptLost)\n\
+05 04 = Aborted(NoFilter)";
+
+// Bytes that spell no row, each before its fault.
+const ROW_FAULTS: &str = "\
+= Length\n\
+0A 00 00 00 01 = Kind\n\
+3F = Kind\n\
+44 = Kind\n\
+40 = Length\n\
+40 80 00 00 00 00 00 00 00 00 00 00 00 = Range\n\
+40 00 00 00 00 00 00 03 A3 52 94 40 01 = Range\n\
+40 00 00 00 00 00 00 00 00 00 00 00 00 00 = Length\n\
+41 00 01 20 = Range\n\
+41 00 01 FF = Utf8\n\
+41 00 02 71 = Length\n\
+42 00 00 00 00 = Range\n\
+42 80 00 00 00 = Range\n\
+42 00 00 00 01 00 01 FF = Utf8\n\
+42 00 00 00 01 00 01 71 00 01 75 00 00 00 01 32 00 00 02 = Range\n\
+42 00 00 00 01 00 01 71 00 01 75 00 00 00 01 32 00 00 01 00 03 61 2F 42 = Range\n\
+42 00 00 00 01 00 01 71 00 01 75 00 00 00 01 32 00 00 00 10 = Range\n\
+42 00 00 00 01 00 01 71 00 01 75 00 00 00 01 32 00 00 00 00 00 00 00 00 00 00 00 00 00 10 00 01 = Range\n\
+43 00 00 00 00 = Range\n\
+43 00 00 00 01 00 00 00 00 = Range\n\
+43 00 00 00 01 00 01 00 01 = Range\n\
+43 00 00 00 01 00 00 00 02 61 = Length\n\
+43 00 00 00 01 00 00 00 01 61 62 = Length";
+
+// What stands behind the message of a queue, with its fault.
+const QUEUE_FAULTS: &str = "\
+= Length\n\
+41 = Range\n\
+01 00 04 6E 6F 6E 65 = Range\n\
+02 00 01 62 00 01 61 = Range\n\
+02 00 01 61 00 01 61 = Range\n\
+03 00 01 62 00 01 61 = Range\n\
+02 00 01 62 00 02 61 = Length\n\
+02 00 01 62 00 01 FF = Utf8\n\
+00 = Length\n\
+00 41 = Range\n\
+00 02 00 01 62 00 00 00 01 61 = Range\n\
+00 02 00 01 61 00 00 00 01 61 00 00 = Range\n\
+00 01 00 01 61 00 01 7F = Range\n\
+00 01 00 01 61 00 = Length\n\
+00 00 00 = Length";
+
+// What stands behind the size of that job, with its fault.
+const PHASE_FAULTS: &str = "\
+= Length\n\
+06 = Range\n\
+00 = Length\n\
+00 03 = Range\n\
+00 01 = Length\n\
+00 01 03 = Range\n\
+00 02 00 = Length\n\
+00 02 00 00 03 A3 52 94 40 01 = Range\n\
+01 00 00 00 00 00 00 00 00 00 = Length\n\
+01 00 00 00 00 00 00 00 00 00 02 = Range\n\
+02 = Length\n\
+02 00 = Range\n\
+02 11 = Range\n\
+03 00 = Length\n\
+05 = Length\n\
+05 05 = Range";
+
 // The bytes that a text in hexadecimal stands for, behind others.
 fn bytes_of(alloc: Global, before: &[u8], text: &str) -> Result<Vec<u8>, Fail> {
     let mut bytes = Vec::from_slice(alloc, before)?;
@@ -122,9 +213,16 @@ fn bytes_of(alloc: Global, before: &[u8], text: &str) -> Result<Vec<u8>, Fail> {
     Ok(bytes)
 }
 
+#[derive(Clone, Copy)]
+enum Codec {
+    Events,
+    Rows,
+}
+
 // Rows, and what stands in each before its bytes, before its text and behind it.
 #[derive(Clone, Copy)]
 struct Table<'a> {
+    codec: Codec,
     before: &'a [u8],
     opening: &'a str,
     closing: &'a str,
@@ -146,12 +244,30 @@ fn shown(rt: &impl Abort, alloc: Global, bytes: &[u8]) -> Result<String, Fail> {
     }
 }
 
+// The same of a row of a listing.
+fn shown_row(rt: &impl Abort, alloc: Global, bytes: &[u8]) -> Result<String, Fail> {
+    match decode_row(alloc, bytes) {
+        Ok(row) => {
+            let text = format!(in alloc; "{row:?}");
+            let again = encode_row(alloc, &row);
+            drop(row);
+            assert_eq!(rt; again?.as_slice(), bytes);
+            Ok(text?)
+        }
+        Err(fault) => Ok(format!(in alloc; "{fault:?}")?),
+    }
+}
+
 fn rows_are_read(rt: &impl Abort, alloc: Global, table: Table) -> Result<(), Fail> {
     for row in table.rows.lines() {
         let (code, text) = row.split_once("= ").ok_or("no row")?;
         let bytes = bytes_of(alloc, table.before, code)?;
         let want = format!(in alloc; "{}{text}{}", table.opening, table.closing)?;
-        assert_eq!(rt; shown(rt, alloc, &bytes)?.as_str(), want.as_str(), "{row}");
+        let read = match table.codec {
+            Codec::Events => shown(rt, alloc, &bytes)?,
+            Codec::Rows => shown_row(rt, alloc, &bytes)?,
+        };
+        assert_eq!(rt; read.as_str(), want.as_str(), "{row}");
     }
     Ok(())
 }
@@ -160,30 +276,79 @@ fn rows_are_read(rt: &impl Abort, alloc: Global, table: Table) -> Result<(), Fai
 const STAGE_SHOWN: &str =
     "Stage(StageEnd { job: JobId { number: 1 }, attempt: Ranged { number: 1 }, stage: Ranged { number: 1 }, exit: Code(0), dropped: 0, effects: Effects { effects: Items { items: [";
 
-const TABLES: [Table; 4] = [
+// A job up to its phase.
+const JOB_SHOWN: &str =
+    "Job(ListedJob { id: JobId { number: 1 }, queue: \"q\", user: \"u\", title: \"\", copies: Ranged { number: 1 }, priority: Ranged { number: 50 }, options: \"\", media: None, filters: Items { items: [\"f\"] }, attempts: 2, pages: 3, size: 1048576, phase: ";
+
+const JOB_BYTES: &[u8] =
+    b"\x42\x00\x00\x00\x01\x00\x01q\x00\x01u\x00\x00\x00\x01\x32\x00\x00\x00\x01\x00\x01f\x00\x00\x00\x02\x00\x00\x00\x03\x00\x10\x00\x00";
+
+const QUEUE_BYTES: &[u8] =
+    b"\x41\x00\x01q\x00\x03s:/\x00\x03a/b\x00\x00\x00\x00\x1E\x00\x05\x00\x00\x00\x00\x01\x00\x00\x00";
+
+const TABLES: [Table; 9] = [
     Table {
+        codec: Codec::Events,
         before: &[],
         opening: "",
         closing: "",
         rows: SPELLED,
     },
     Table {
+        codec: Codec::Events,
         before: &[0x0D, 0, 0, 0, 1, 0, 0, 0, 1, 1, 0, 0, 0, 0, 0, 0, 0, 1],
         opening: STAGE_SHOWN,
         closing: "] } } })",
         rows: EFFECTS,
     },
     Table {
+        codec: Codec::Events,
         before: &[],
         opening: "",
         closing: "",
         rows: FAULTS,
     },
     Table {
+        codec: Codec::Events,
         before: &[0x0D, 0, 0, 0, 1, 0, 0, 0, 1, 1, 1, 0, 0, 0, 0],
         opening: "",
         closing: "",
         rows: EFFECT_FAULTS,
+    },
+    Table {
+        codec: Codec::Rows,
+        before: &[],
+        opening: "",
+        closing: "",
+        rows: ROWS,
+    },
+    Table {
+        codec: Codec::Rows,
+        before: JOB_BYTES,
+        opening: JOB_SHOWN,
+        closing: " })",
+        rows: PHASES,
+    },
+    Table {
+        codec: Codec::Rows,
+        before: &[],
+        opening: "",
+        closing: "",
+        rows: ROW_FAULTS,
+    },
+    Table {
+        codec: Codec::Rows,
+        before: QUEUE_BYTES,
+        opening: "",
+        closing: "",
+        rows: QUEUE_FAULTS,
+    },
+    Table {
+        codec: Codec::Rows,
+        before: JOB_BYTES,
+        opening: "",
+        closing: "",
+        rows: PHASE_FAULTS,
     },
 ];
 
@@ -230,6 +395,39 @@ fn a_spelling_is_added_to_what_is_there(rt: HostRuntime) -> Result<(), Fail> {
     let cancel = Event::Cancel(JobId::new(1).ok_or("no")?);
     encode_onto(&cancel, &mut bytes)?;
     assert_eq!(rt; bytes.as_slice(), [7, 8, 0x0A, 0, 0, 0, 1].as_slice());
+    Ok(())
+}
+
+// The first, third and fifth of the rows above are those of a small table.
+#[test]
+fn rows_of_a_small_table_have_13_31_and_48_bytes(rt: HostRuntime) -> Result<(), Fail> {
+    let alloc = rt.alloc();
+    for (place, want) in [(0, 13), (2, 31), (4, 48)] {
+        let (code, _) = ROWS
+            .lines()
+            .nth(place)
+            .ok_or("no row")?
+            .split_once("= ")
+            .ok_or("no")?;
+        let bytes = bytes_of(alloc, &[], code)?;
+        assert_eq!(rt; bytes.len(), want);
+    }
+    Ok(())
+}
+
+#[test]
+fn a_row_is_added_to_what_is_there(rt: HostRuntime) -> Result<(), Fail> {
+    let alloc = rt.alloc();
+    let mut bytes = Vec::from_slice(alloc, &[7])?;
+    let head = Head {
+        highest: 1,
+        moment: Moment::new(2).ok_or("no")?,
+    };
+    encode_row_onto(&Row::Head(head), &mut bytes)?;
+    assert_eq!(rt;
+        bytes.as_slice(),
+        [7, 0x40, 0, 0, 0, 1, 0, 0, 0, 0, 0, 0, 0, 2].as_slice()
+    );
     Ok(())
 }
 

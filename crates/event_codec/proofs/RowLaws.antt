@@ -1,0 +1,426 @@
+-- The laws of rows: what is read is spelled so, what is spelled so is read, and no row is spelled as an event is.
+use Rattle.std.proofs.Common.{◌≡◌, ℕ, suc, ◌+◌, ◌^◌, ◌<◌, ◌≤◌, cond, eqb, List, [], ◌∷◌, ◌++◌, length, Option, Some, None, Result, Ok, Err, refl, sym, ap, subst, ◌∙◌, arith, inl, inr}
+use Rattle.std.specs.Prelude.{IfOk}
+use Rattle.std.specs.Int.{w8, w16, w32, w64, to_be_bytes}
+use Rattle.std.proofs.lemmas.Bool.{eqb-true}
+use Rattle.std.proofs.lemmas.List.{append-nil, nil_from_length}
+use Rattle.spool_types.specs.declared.phase.Phase.{Phase}
+use Rattle.spool_types.specs.declared.phase.Phase.TheVariants.{Incoming, Waiting, Processing, Completed, Canceled, Aborted}
+use Rattle.spool_types.specs.declared.event.NewQueue.{NewQueue}
+use Rattle.spool_types.specs.declared.event.NewJob.{NewJob}
+use Rattle.spool_types.specs.declared.event.Event.{Event}
+use Rattle.spool_types.specs.declared.event.Event.TheVariants as events
+use Rattle.spool_types.specs.declared.rows.QueueRow.{QueueRow}
+use Rattle.spool_types.specs.declared.listing.Head.{Head as HeadOf}
+use Rattle.spool_types.specs.declared.listing.ListedJob.{ListedJob}
+use Rattle.spool_types.specs.declared.listing.Row.{Row}
+use Rattle.spool_types.specs.declared.listing.Row.TheVariants.{Head, Queue, Job, Piece}
+use Rattle.spool_types.specs.Limits.{greatest_number, greatest_moment, longest_document}
+use Rattle.spool_types.specs.Values.{is_queue_name, is_media_type, is_user_name, is_title, is_options, is_note, is_message}
+use Rattle.event_codec.specs.declared.fault.CodecFault.{CodecFault}
+use Rattle.event_codec.specs.declared.fault.CodecFault.TheVariants.{Kind, Length, Range}
+use Rattle.event_codec.specs.Spelling.{text_code, counted_code, flag_code, queue_code, send_code, spelling, IsIn, IsJobNumber, IsText, IsQueue, IsJob}
+use Rattle.event_codec.specs.RowSpelling.{phase_code, typed_code, attributes_code, head_code, new_queue_of, queue_state_code, queue_row_code, new_job_of, created_code, job_state_code, job_row_code, row_spelling, IsTyped, IsQueueState, IsOrderedQueue, HasMoments, IsPhaseOf, IsRowSpellable}
+use Rattle.event_codec.specs.Reading.{Field, Gives, number_at, ranged_at, text_at, flag_at, filters_at, new_queue_at, piece_at, whole}
+use Rattle.event_codec.specs.RowReading.{some_media_at, flagged_media_at, typed_at, reasons_at, attributes_at, phase_at, head_at, queue_state_at, queue_row_at, created_at, job_row_at, piece_row_at, row_fields_at, row_at, row_reading}
+use Rattle.event_codec.proofs.FieldLaws.{IsBytes, bind_ok, passed_ok, done, ok_is, Takes, Takes-then, Reads, got, again-then, again-step, again-last, wide32, reads_ranged}
+use Rattle.event_codec.proofs.TextLaws.{reads_queue_name, reads_media, reads_user_name, reads_title, reads_options, reads_note, reads_message}
+use Rattle.event_codec.proofs.FilterLaws.{Anything, chosen, refused, reads_byte, AreFew, reads_few}
+use Rattle.event_codec.proofs.HoldLaws.{reads_flag, reads_moment}
+use Rattle.event_codec.proofs.ExitLaws.{Byte, of_byte}
+use Rattle.event_codec.proofs.PhaseLaws.{IsPhaseFor, reads_phase}
+use Rattle.event_codec.proofs.OrderLaws.{AreReasons, AreAttributes, reads_reasons, reads_attributes}
+use Rattle.event_codec.proofs.EventLaws.{reads_job_number, reads_copies, reads_priority, reads_dropped, reads_new_queue, IsPiece, piece_code, reads_piece, behind, nested6, nested7, send_nested, send_taken}
+
+abbrev reads_highest : Reads (ranged_at 0 greatest_number w32) (to_be_bytes w32) (IsIn 0 greatest_number)
+reads_highest = reads_ranged 0 greatest_number w32 (2 ^ 32) wide32 (omega arith)
+
+abbrev reads_size : Reads (ranged_at 0 longest_document w32) (to_be_bytes w32) (IsIn 0 longest_document)
+reads_size = reads_ranged 0 longest_document w32 (2 ^ 32) wide32 (omega arith)
+
+-- a row that was read behind its first byte
+record Spelled (kind : ℕ) (bytes : List ℕ) (x : Row × List ℕ) : Type 0 where
+  taken : Takes (kind ∷ bytes) (row_spelling x.0) x.1
+  legal : IsRowSpellable x.0
+
+-- ---- heads
+
+head_takes : (bytes : List ℕ) (x : Row × List ℕ) → IsBytes bytes → head_at bytes ≡ Ok x → Spelled 0x40 bytes x
+unfolding head_at
+head_takes bytes x fits e =
+    let a = got (ranged_at 0 greatest_number w32) (to_be_bytes w32) (IsIn 0 greatest_number) reads_highest bytes _ x fits e in
+    let b = got (ranged_at 0 greatest_moment w64) (to_be_bytes w64) (IsIn 0 greatest_moment) reads_moment a.rest _ x a.taken.rest_fits a.then in
+    let both = Takes-then bytes (to_be_bytes w32 a.value) a.rest (to_be_bytes w64 b.value) b.rest a.taken b.taken in
+    let h : HeadOf = record { highest = a.value; moment = b.value } in
+    subst (Spelled 0x40 bytes) (ok_is (Head h, b.rest) x b.then) (record { taken = behind 0x40 bytes (head_code h) b.rest both; legal = record { fields = b.legal; legal = a.legal } })
+
+head_again : (h : HeadOf) (rest : List ℕ) → IsRowSpellable (Head h) → head_at (head_code h ++ rest) ≡ Ok (Head h, rest)
+unfolding head_at
+head_again h rest is =
+    again-step (ranged_at 0 greatest_number w32) (to_be_bytes w32) (IsIn 0 greatest_number) reads_highest h.highest (to_be_bytes w64 h.moment) rest _ _ is.legal
+    (again-last (ranged_at 0 greatest_moment w64) (to_be_bytes w64) (IsIn 0 greatest_moment) reads_moment h.moment rest _ is.fields)
+
+-- ---- queues
+
+queue_state_nested : (q : QueueRow) → queue_state_code q ≡ text_code q.info ++ (text_code q.location ++ (flag_code q.accepting ++ (flag_code q.stopped ++ (text_code q.message ++ (counted_code q.reasons ++ attributes_code q.attributes)))))
+queue_state_nested q = nested7 (text_code q.info) (text_code q.location) (flag_code q.accepting) (flag_code q.stopped) (text_code q.message) (counted_code q.reasons) (attributes_code q.attributes)
+
+queue_state_taken : (q : QueueRow) (r0 r1 r2 r3 r4 r5 r6 r7 : List ℕ) → Takes r0 (text_code q.info) r1 → Takes r1 (text_code q.location) r2 → Takes r2 (flag_code q.accepting) r3 → Takes r3 (flag_code q.stopped) r4 → Takes r4 (text_code q.message) r5 → Takes r5 (counted_code q.reasons) r6 → Takes r6 (attributes_code q.attributes) r7 → Takes r0 (queue_state_code q) r7
+queue_state_taken q r0 r1 r2 r3 r4 r5 r6 r7 a b c d f g h =
+    let t5 = counted_code q.reasons ++ attributes_code q.attributes in
+    let t4 = text_code q.message ++ t5 in
+    let t3 = flag_code q.stopped ++ t4 in
+    let t2 = flag_code q.accepting ++ t3 in
+    let t1 = text_code q.location ++ t2 in
+    let p5 = Takes-then r5 (counted_code q.reasons) r6 (attributes_code q.attributes) r7 g h in
+    let p4 = Takes-then r4 (text_code q.message) r5 t5 r7 f p5 in
+    let p3 = Takes-then r3 (flag_code q.stopped) r4 t4 r7 d p4 in
+    let p2 = Takes-then r2 (flag_code q.accepting) r3 t3 r7 c p3 in
+    let p1 = Takes-then r1 (text_code q.location) r2 t2 r7 b p2 in
+    subst (λ (t : List ℕ). Takes r0 t r7) (sym (queue_state_nested q)) (Takes-then r0 (text_code q.info) r1 t1 r7 a p1)
+
+-- the queue of a row, with what was read of it
+record State (n : NewQueue) (bytes : List ℕ) (x : Row × List ℕ) : Type 0 where
+  row : QueueRow
+  is_row : Queue row ≡ x.0
+  added : new_queue_of row ≡ n
+  taken : Takes bytes (queue_state_code row) x.1
+  state : IsQueueState row
+  ordered : IsOrderedQueue row
+
+queue_state_takes : (n : NewQueue) (bytes : List ℕ) (x : Row × List ℕ) → IsBytes bytes → queue_state_at n bytes ≡ Ok x → State n bytes x
+unfolding queue_state_at
+queue_state_takes n bytes x fits e =
+    let a = got (text_at is_note) text_code (IsText is_note) reads_note bytes _ x fits e in
+    let b = got (text_at is_note) text_code (IsText is_note) reads_note a.rest _ x a.taken.rest_fits a.then in
+    let c = got flag_at flag_code Anything reads_flag b.rest _ x b.taken.rest_fits b.then in
+    let d = got flag_at flag_code Anything reads_flag c.rest _ x c.taken.rest_fits c.then in
+    let f = got (text_at is_message) text_code (IsText is_message) reads_message d.rest _ x d.taken.rest_fits d.then in
+    let g = got reasons_at counted_code AreReasons reads_reasons f.rest _ x f.taken.rest_fits f.then in
+    let h = got attributes_at attributes_code AreAttributes reads_attributes g.rest _ x g.taken.rest_fits g.then in
+    let q : QueueRow = record { name = n.name; uri = n.uri; target = n.target; policy = n.policy; interval = n.interval; limit = n.limit; info = a.value; location = b.value; accepting = c.value; stopped = d.value; message = f.value; reasons = g.value; attributes = h.value } in
+    let state : IsQueueState q = record { info = a.legal; location = b.legal; message = f.legal; few_reasons = g.legal.few; reasons = g.legal.each; few_attributes = h.legal.few; attributes = h.legal.each } in
+    let taken = queue_state_taken q bytes a.rest b.rest c.rest d.rest f.rest g.rest h.rest a.taken b.taken c.taken d.taken f.taken g.taken h.taken in
+    subst (State n bytes) (ok_is (Queue q, h.rest) x h.then) (record { row = q; is_row = refl; added = refl; taken = taken; state = state; ordered = record { reasons = g.legal.ascend; attributes = h.legal.ascend } })
+
+queue_row_takes : (bytes : List ℕ) (x : Row × List ℕ) → IsBytes bytes → queue_row_at bytes ≡ Ok x → Spelled 0x41 bytes x
+unfolding queue_row_at
+queue_row_takes bytes x fits e =
+    let n = got new_queue_at queue_code IsQueue reads_new_queue bytes (λ queue. queue_state_at queue.0 queue.1) x fits e in
+    let s = queue_state_takes n.value n.rest x n.taken.rest_fits n.then in
+    let added : Takes bytes (queue_code (new_queue_of s.row)) n.rest = subst (λ (m : NewQueue). Takes bytes (queue_code m) n.rest) (sym s.added) n.taken in
+    let both = Takes-then bytes (queue_code (new_queue_of s.row)) n.rest (queue_state_code s.row) x.1 added s.taken in
+    let legal : IsQueue (new_queue_of s.row) = subst IsQueue (sym s.added) n.legal in
+    let is : IsRowSpellable (Queue s.row) = record { fields = record { added = legal; state = s.state }; legal = s.ordered } in
+    let read : Spelled 0x41 bytes (Queue s.row, x.1) = record { taken = behind 0x41 bytes (queue_row_code s.row) x.1 both; legal = is } in
+    subst (λ (row : Row). Spelled 0x41 bytes (row, x.1)) s.is_row read
+
+queue_state_again : (q : QueueRow) (rest : List ℕ) → IsQueueState q → IsOrderedQueue q → queue_state_at (new_queue_of q) (queue_state_code q ++ rest) ≡ Ok (Queue q, rest)
+unfolding queue_state_at
+queue_state_again q rest state ordered =
+    let t5 = counted_code q.reasons ++ attributes_code q.attributes in
+    let t4 = text_code q.message ++ t5 in
+    let t3 = flag_code q.stopped ++ t4 in
+    let t2 = flag_code q.accepting ++ t3 in
+    let t1 = text_code q.location ++ t2 in
+    ap (λ (t : List ℕ). queue_state_at (new_queue_of q) (t ++ rest)) (queue_state_nested q) ∙
+    again-step (text_at is_note) text_code (IsText is_note) reads_note q.info t1 rest _ _ state.info
+    (again-step (text_at is_note) text_code (IsText is_note) reads_note q.location t2 rest _ _ state.location
+    (again-step flag_at flag_code Anything reads_flag q.accepting t3 rest _ _ tt
+    (again-step flag_at flag_code Anything reads_flag q.stopped t4 rest _ _ tt
+    (again-step (text_at is_message) text_code (IsText is_message) reads_message q.message t5 rest _ _ state.message
+    (again-step reasons_at counted_code AreReasons reads_reasons q.reasons (attributes_code q.attributes) rest _ _ (record { few = state.few_reasons; each = state.reasons; ascend = ordered.reasons })
+    (again-last attributes_at attributes_code AreAttributes reads_attributes q.attributes rest _ (record { few = state.few_attributes; each = state.attributes; ascend = ordered.attributes })))))))
+
+queue_row_again : (q : QueueRow) (rest : List ℕ) → IsRowSpellable (Queue q) → queue_row_at (queue_row_code q ++ rest) ≡ Ok (Queue q, rest)
+unfolding queue_row_at
+queue_row_again q rest is =
+    again-step new_queue_at queue_code IsQueue reads_new_queue (new_queue_of q) (queue_state_code q) rest (λ queue. queue_state_at queue.0 queue.1) _ is.fields.added
+    (queue_state_again q rest is.fields.state is.legal)
+
+-- ---- jobs: as they were created
+
+created_nested : (n : NewJob) → created_code n ≡ to_be_bytes w32 n.job ++ (text_code n.queue ++ (text_code n.user ++ (text_code n.title ++ (to_be_bytes w16 n.copies ++ (to_be_bytes w8 n.priority ++ text_code n.options)))))
+created_nested n = nested7 (to_be_bytes w32 n.job) (text_code n.queue) (text_code n.user) (text_code n.title) (to_be_bytes w16 n.copies) (to_be_bytes w8 n.priority) (text_code n.options)
+
+created_taken : (n : NewJob) (r0 r1 r2 r3 r4 r5 r6 r7 : List ℕ) → Takes r0 (to_be_bytes w32 n.job) r1 → Takes r1 (text_code n.queue) r2 → Takes r2 (text_code n.user) r3 → Takes r3 (text_code n.title) r4 → Takes r4 (to_be_bytes w16 n.copies) r5 → Takes r5 (to_be_bytes w8 n.priority) r6 → Takes r6 (text_code n.options) r7 → Takes r0 (created_code n) r7
+created_taken n r0 r1 r2 r3 r4 r5 r6 r7 a b c d f g h =
+    let t5 = to_be_bytes w8 n.priority ++ text_code n.options in
+    let t4 = to_be_bytes w16 n.copies ++ t5 in
+    let t3 = text_code n.title ++ t4 in
+    let t2 = text_code n.user ++ t3 in
+    let t1 = text_code n.queue ++ t2 in
+    let p5 = Takes-then r5 (to_be_bytes w8 n.priority) r6 (text_code n.options) r7 g h in
+    let p4 = Takes-then r4 (to_be_bytes w16 n.copies) r5 t5 r7 f p5 in
+    let p3 = Takes-then r3 (text_code n.title) r4 t4 r7 d p4 in
+    let p2 = Takes-then r2 (text_code n.user) r3 t3 r7 c p3 in
+    let p1 = Takes-then r1 (text_code n.queue) r2 t2 r7 b p2 in
+    subst (λ (t : List ℕ). Takes r0 t r7) (sym (created_nested n)) (Takes-then r0 (to_be_bytes w32 n.job) r1 t1 r7 a p1)
+
+created_takes : (bytes : List ℕ) (n : NewJob) (rest : List ℕ) → IsBytes bytes → created_at bytes ≡ Ok (n, rest) → Takes bytes (created_code n) rest × IsJob n
+unfolding created_at
+created_takes bytes m rest fits e =
+    let a = got (ranged_at 1 greatest_number w32) (to_be_bytes w32) IsJobNumber reads_job_number bytes _ (m, rest) fits e in
+    let b = got (text_at is_queue_name) text_code (IsText is_queue_name) reads_queue_name a.rest _ (m, rest) a.taken.rest_fits a.then in
+    let c = got (text_at is_user_name) text_code (IsText is_user_name) reads_user_name b.rest _ (m, rest) b.taken.rest_fits b.then in
+    let d = got (text_at is_title) text_code (IsText is_title) reads_title c.rest _ (m, rest) c.taken.rest_fits c.then in
+    let f = got (ranged_at 1 9999 w16) (to_be_bytes w16) (IsIn 1 9999) reads_copies d.rest _ (m, rest) d.taken.rest_fits d.then in
+    let g = got (ranged_at 1 100 w8) (to_be_bytes w8) (IsIn 1 100) reads_priority f.rest _ (m, rest) f.taken.rest_fits f.then in
+    let h = got (text_at is_options) text_code (IsText is_options) reads_options g.rest _ (m, rest) g.taken.rest_fits g.then in
+    let n : NewJob = record { queue = b.value; job = a.value; user = c.value; title = d.value; copies = f.value; priority = g.value; options = h.value } in
+    let is : IsJob n = record { queue = b.legal; job = a.legal; user = c.legal; title = d.legal; copies = f.legal; priority = g.legal; options = h.legal } in
+    subst (λ (y : NewJob × List ℕ). Takes bytes (created_code y.0) y.1 × IsJob y.0) (ok_is (n, h.rest) (m, rest) h.then) (created_taken n bytes a.rest b.rest c.rest d.rest f.rest g.rest h.rest a.taken b.taken c.taken d.taken f.taken g.taken h.taken, is)
+
+created_again : (n : NewJob) (rest : List ℕ) → IsJob n → created_at (created_code n ++ rest) ≡ Ok (n, rest)
+unfolding created_at
+created_again n rest h =
+    let t5 = to_be_bytes w8 n.priority ++ text_code n.options in
+    let t4 = to_be_bytes w16 n.copies ++ t5 in
+    let t3 = text_code n.title ++ t4 in
+    let t2 = text_code n.user ++ t3 in
+    let t1 = text_code n.queue ++ t2 in
+    ap (λ (t : List ℕ). created_at (t ++ rest)) (created_nested n) ∙
+    again-step (ranged_at 1 greatest_number w32) (to_be_bytes w32) IsJobNumber reads_job_number n.job t1 rest _ _ h.job
+    (again-step (text_at is_queue_name) text_code (IsText is_queue_name) reads_queue_name n.queue t2 rest _ _ h.queue
+    (again-step (text_at is_user_name) text_code (IsText is_user_name) reads_user_name n.user t3 rest _ _ h.user
+    (again-step (text_at is_title) text_code (IsText is_title) reads_title n.title t4 rest _ _ h.title
+    (again-step (ranged_at 1 9999 w16) (to_be_bytes w16) (IsIn 1 9999) reads_copies n.copies t5 rest _ _ h.copies
+    (again-step (ranged_at 1 100 w8) (to_be_bytes w8) (IsIn 1 100) reads_priority n.priority (text_code n.options) rest _ _ h.priority
+    (again-last (text_at is_options) text_code (IsText is_options) reads_options n.options rest _ h.options))))))
+
+reads_created : Reads created_at created_code IsJob
+reads_created = record { takes = created_takes; again = created_again }
+
+-- ---- and their media types
+
+record Typed (bytes : List ℕ) (o : Option (List ℕ)) (rest : List ℕ) : Type 0 where
+  taken : Takes bytes (typed_code o) rest
+  legal : IsTyped o
+
+typed_as : (bytes : List ℕ) (y : Option (List ℕ)) (after : List ℕ) (o : Option (List ℕ)) (rest : List ℕ) → done {A = Option (List ℕ) × List ℕ} (y, after) ≡ Ok (o, rest) → Typed bytes y after → Typed bytes o rest
+typed_as bytes y after o rest same this = subst (λ (z : Option (List ℕ) × List ℕ). Typed bytes z.0 z.1) (ok_is (y, after) (o, rest) same) this
+
+some_media_take : (bytes after : List ℕ) (o : Option (List ℕ)) (rest : List ℕ) → Takes bytes (to_be_bytes w8 1) after → some_media_at after ≡ Ok (o, rest) → Typed bytes o rest
+unfolding some_media_at
+some_media_take bytes after o rest t e =
+    let a = got (text_at is_media_type) text_code (IsText is_media_type) reads_media after (λ media. Ok (Some media.0, media.1)) (o, rest) t.rest_fits e in
+    typed_as bytes (Some a.value) a.rest o rest a.then (record { taken = Takes-then bytes (to_be_bytes w8 1) after (text_code a.value) a.rest t a.taken; legal = a.legal })
+
+flagged_media_take : (bytes : List ℕ) (flag : ℕ) (after : List ℕ) (o : Option (List ℕ)) (rest : List ℕ) → Takes bytes (to_be_bytes w8 flag) after → flagged_media_at flag after ≡ Ok (o, rest) → Typed bytes o rest
+unfolding flagged_media_at
+flagged_media_take bytes flag after o rest t e =
+    elim (chosen (eqb flag 0) (Ok (None, after)) _ (Ok (o, rest)) e) [
+      | inl h ↦ typed_as bytes None after o rest h.1 (record { taken = of_byte bytes flag 0 after t h.0; legal = tt })
+      | inr h ↦ elim (chosen (eqb flag 1) (some_media_at after) _ (Ok (o, rest)) h.1) [
+        | inl i ↦ some_media_take bytes after o rest (of_byte bytes flag 1 after t i.0) i.1
+        | inr i ↦ absurd (refused Range (o, rest) i.1)
+      ]
+    ]
+
+typed_takes : (bytes : List ℕ) (o : Option (List ℕ)) (rest : List ℕ) → IsBytes bytes → typed_at bytes ≡ Ok (o, rest) → Takes bytes (typed_code o) rest × IsTyped o
+unfolding typed_at
+typed_takes bytes o rest fits e =
+    let a = got (number_at w8) (to_be_bytes w8) Byte reads_byte bytes (λ flag. flagged_media_at flag.0 flag.1) (o, rest) fits e in
+    let m = flagged_media_take bytes a.value a.rest o rest a.taken a.then in
+    (m.taken, m.legal)
+
+typed_again : (o : Option (List ℕ)) (rest : List ℕ) → IsTyped o → typed_at (typed_code o ++ rest) ≡ Ok (o, rest)
+unfolding typed_at flagged_media_at some_media_at
+typed_again None rest h = again-last (number_at w8) (to_be_bytes w8) Byte reads_byte 0 rest (λ flag. flagged_media_at flag.0 flag.1) (omega arith)
+typed_again (Some media) rest h =
+    again-then (number_at w8) (to_be_bytes w8) Byte reads_byte 1 (text_code media) rest (λ flag. flagged_media_at flag.0 flag.1) (omega arith)
+    ∙ again-last (text_at is_media_type) text_code (IsText is_media_type) reads_media media rest (λ m. Ok (Some m.0, m.1)) h
+
+reads_typed : Reads typed_at typed_code IsTyped
+reads_typed = record { takes = typed_takes; again = typed_again }
+
+-- ---- what became of a job
+
+moments_of : (a n : ℕ) (p : Phase) → IsPhaseFor a n p → HasMoments p
+moments_of a n (Incoming hold) h = h
+moments_of a n (Waiting hold m first) h = h
+moments_of a n (Processing attempt stage stages) h = tt
+moments_of a n Completed h = tt
+moments_of a n Canceled h = tt
+moments_of a n (Aborted reason) h = tt
+
+phase_of : (r : ListedJob) (p : Phase) → IsPhaseFor r.attempts (length r.filters + 1) p → IsPhaseOf r p
+phase_of r (Incoming hold) h = tt
+phase_of r (Waiting hold m first) h = tt
+phase_of r (Processing attempt stage stages) h = record { newest = h.newest; stage_is = h.stage_is; of_all = h.all }
+phase_of r Completed h = tt
+phase_of r Canceled h = tt
+phase_of r (Aborted reason) h = tt
+
+phase_for : (r : ListedJob) (p : Phase) → HasMoments p → IsPhaseOf r p → IsPhaseFor r.attempts (length r.filters + 1) p
+phase_for r (Incoming hold) m h = m
+phase_for r (Waiting hold moment first) m h = m
+phase_for r (Processing attempt stage stages) m h = record { newest = h.newest; stage_is = h.stage_is; all = h.of_all }
+phase_for r Completed m h = tt
+phase_for r Canceled m h = tt
+phase_for r (Aborted reason) m h = tt
+
+job_state_nested : (r : ListedJob) → job_state_code r ≡ typed_code r.media ++ (counted_code r.filters ++ (to_be_bytes w32 r.attempts ++ (to_be_bytes w32 r.pages ++ (to_be_bytes w32 r.size ++ phase_code r.phase))))
+job_state_nested r = nested6 (typed_code r.media) (counted_code r.filters) (to_be_bytes w32 r.attempts) (to_be_bytes w32 r.pages) (to_be_bytes w32 r.size) (phase_code r.phase)
+
+job_state_taken : (r : ListedJob) (r0 r1 r2 r3 r4 r5 r6 : List ℕ) → Takes r0 (typed_code r.media) r1 → Takes r1 (counted_code r.filters) r2 → Takes r2 (to_be_bytes w32 r.attempts) r3 → Takes r3 (to_be_bytes w32 r.pages) r4 → Takes r4 (to_be_bytes w32 r.size) r5 → Takes r5 (phase_code r.phase) r6 → Takes r0 (job_state_code r) r6
+job_state_taken r r0 r1 r2 r3 r4 r5 r6 a b c d f g =
+    let t4 = to_be_bytes w32 r.size ++ phase_code r.phase in
+    let t3 = to_be_bytes w32 r.pages ++ t4 in
+    let t2 = to_be_bytes w32 r.attempts ++ t3 in
+    let t1 = counted_code r.filters ++ t2 in
+    let p4 = Takes-then r4 (to_be_bytes w32 r.size) r5 (phase_code r.phase) r6 f g in
+    let p3 = Takes-then r3 (to_be_bytes w32 r.pages) r4 t4 r6 d p4 in
+    let p2 = Takes-then r2 (to_be_bytes w32 r.attempts) r3 t3 r6 c p3 in
+    let p1 = Takes-then r1 (counted_code r.filters) r2 t2 r6 b p2 in
+    subst (λ (t : List ℕ). Takes r0 t r6) (sym (job_state_nested r)) (Takes-then r0 (typed_code r.media) r1 t1 r6 a p1)
+
+all_wide : (n : ℕ) → n < 2 ^ 32 → IsIn 0 4294967295 n
+all_wide n lt = record { at_least = omega arith; at_most = omega (arith, lt) }
+
+job_row_takes : (bytes : List ℕ) (x : Row × List ℕ) → IsBytes bytes → job_row_at bytes ≡ Ok x → Spelled 0x42 bytes x
+unfolding job_row_at
+job_row_takes bytes x fits e =
+    let n = got created_at created_code IsJob reads_created bytes _ x fits e in
+    let a = got typed_at typed_code IsTyped reads_typed n.rest _ x n.taken.rest_fits n.then in
+    let b = got filters_at counted_code AreFew reads_few a.rest _ x a.taken.rest_fits a.then in
+    let c = got (number_at w32) (to_be_bytes w32) (λ k. k < 2 ^ 32) reads_dropped b.rest _ x b.taken.rest_fits b.then in
+    let d = got (number_at w32) (to_be_bytes w32) (λ k. k < 2 ^ 32) reads_dropped c.rest _ x c.taken.rest_fits c.then in
+    let f = got (ranged_at 0 longest_document w32) (to_be_bytes w32) (IsIn 0 longest_document) reads_size d.rest _ x d.taken.rest_fits d.then in
+    let g = got (phase_at c.value (length b.value + 1)) phase_code (IsPhaseFor c.value (length b.value + 1)) (reads_phase c.value (length b.value + 1)) f.rest _ x f.taken.rest_fits f.then in
+    let r : ListedJob = record { id = n.value.job; queue = n.value.queue; user = n.value.user; title = n.value.title; copies = n.value.copies; priority = n.value.priority; options = n.value.options; media = a.value; filters = b.value; attempts = c.value; pages = d.value; size = f.value; phase = g.value } in
+    let is : IsRowSpellable (Job r) = record {
+      fields = record { created = n.legal; state = record { media = a.legal; filters = b.legal; attempts = all_wide c.value c.legal; pages = all_wide d.value d.legal; phase = moments_of c.value (length b.value + 1) g.value g.legal } };
+      legal = record { size = f.legal; phase = phase_of r g.value g.legal };
+    } in
+    let taken = job_state_taken r n.rest a.rest b.rest c.rest d.rest f.rest g.rest a.taken b.taken c.taken d.taken f.taken g.taken in
+    subst (Spelled 0x42 bytes) (ok_is (Job r, g.rest) x g.then) (record { taken = behind 0x42 bytes (job_row_code r) g.rest (Takes-then bytes (created_code n.value) n.rest (job_state_code r) g.rest n.taken taken); legal = is })
+
+job_row_again : (r : ListedJob) (rest : List ℕ) → IsRowSpellable (Job r) → job_row_at (job_row_code r ++ rest) ≡ Ok (Job r, rest)
+unfolding job_row_at
+job_row_again r rest is =
+    let t4 = to_be_bytes w32 r.size ++ phase_code r.phase in
+    let t3 = to_be_bytes w32 r.pages ++ t4 in
+    let t2 = to_be_bytes w32 r.attempts ++ t3 in
+    let t1 = counted_code r.filters ++ t2 in
+    let state = is.fields.state in
+    ap (λ (t : List ℕ). job_row_at ((created_code (new_job_of r) ++ t) ++ rest)) (job_state_nested r) ∙
+    again-step created_at created_code IsJob reads_created (new_job_of r) (typed_code r.media ++ t1) rest _ _ is.fields.created
+    (again-step typed_at typed_code IsTyped reads_typed r.media t1 rest _ _ state.media
+    (again-step filters_at counted_code AreFew reads_few r.filters t2 rest _ _ state.filters
+    (again-step (number_at w32) (to_be_bytes w32) (λ k. k < 2 ^ 32) reads_dropped r.attempts t3 rest _ _ (omega (arith, state.attempts.at_most))
+    (again-step (number_at w32) (to_be_bytes w32) (λ k. k < 2 ^ 32) reads_dropped r.pages t4 rest _ _ (omega (arith, state.pages.at_most))
+    (again-step (ranged_at 0 longest_document w32) (to_be_bytes w32) (IsIn 0 longest_document) reads_size r.size (phase_code r.phase) rest _ _ is.legal.size
+    (again-last (phase_at r.attempts (length r.filters + 1)) phase_code (IsPhaseFor r.attempts (length r.filters + 1)) (reads_phase r.attempts (length r.filters + 1)) r.phase rest _ (phase_for r r.phase state.phase is.legal.phase)))))))
+
+-- ---- pieces
+
+piece_row_takes : (bytes : List ℕ) (x : Row × List ℕ) → IsBytes bytes → piece_row_at bytes ≡ Ok x → Spelled 0x43 bytes x
+unfolding piece_row_at
+piece_row_takes bytes x fits e =
+    let a = got (ranged_at 1 greatest_number w32) (to_be_bytes w32) IsJobNumber reads_job_number bytes _ x fits e in
+    let b = got (piece_at 1) piece_code (IsPiece 1) (reads_piece 1) a.rest _ x a.taken.rest_fits a.then in
+    let is : IsRowSpellable (Piece a.value b.value) = record { fields = record { job = a.legal; length = b.legal.at_most }; legal = b.legal.at_least } in
+    subst (Spelled 0x43 bytes) (ok_is (Piece a.value b.value, b.rest) x b.then) (record { taken = behind 0x43 bytes (send_code a.value b.value) b.rest (send_taken a.value b.value bytes a.rest b.rest a.taken b.taken); legal = is })
+
+piece_row_again : (j : ℕ) (bytes rest : List ℕ) → IsRowSpellable (Piece j bytes) → piece_row_at (send_code j bytes ++ rest) ≡ Ok (Piece j bytes, rest)
+unfolding piece_row_at
+piece_row_again j bytes rest is =
+    ap (λ (t : List ℕ). piece_row_at (t ++ rest)) (send_nested j bytes) ∙
+    again-step (ranged_at 1 greatest_number w32) (to_be_bytes w32) IsJobNumber reads_job_number j (piece_code bytes) rest _ _ is.fields.job
+    (again-last (piece_at 1) piece_code (IsPiece 1) (reads_piece 1) bytes rest _ (record { at_least = is.legal; at_most = is.fields.length }))
+
+-- ---- rows
+
+-- the fields of one kind, or else those of the others
+by_kind : (kind n : ℕ) (read : List ℕ → Field Row) (others : Field Row) (bytes : List ℕ) (x : Row × List ℕ) → (read bytes ≡ Ok x → Spelled n bytes x) → (others ≡ Ok x → Spelled kind bytes x)
+    → cond (eqb kind n) (read bytes) others ≡ Ok x → Spelled kind bytes x
+by_kind kind n read others bytes x this other e =
+    elim (chosen (eqb kind n) (read bytes) others (Ok x) e) [
+      | inl h ↦ subst (λ (k : ℕ). Spelled k bytes x) (sym (eqb-true kind n h.0)) (this h.1)
+      | inr h ↦ other h.1
+    ]
+
+row_fields_take : (kind : ℕ) (bytes : List ℕ) (x : Row × List ℕ) → IsBytes bytes → row_fields_at kind bytes ≡ Ok x → Spelled kind bytes x
+unfolding row_fields_at
+row_fields_take kind bytes x fits e =
+    by_kind kind 0x40 head_at _ bytes x (head_takes bytes x fits)
+    (by_kind kind 0x41 queue_row_at _ bytes x (queue_row_takes bytes x fits)
+    (by_kind kind 0x42 job_row_at _ bytes x (job_row_takes bytes x fits)
+    (by_kind kind 0x43 piece_row_at _ bytes x (piece_row_takes bytes x fits)
+    (λ refusal. absurd (refused Kind x refusal))))) e
+
+record Found (bytes : List ℕ) (x : Row × List ℕ) : Type 0 where
+  taken : Takes bytes (row_spelling x.0) x.1
+  legal : IsRowSpellable x.0
+
+row_takes : (bytes : List ℕ) (x : Row × List ℕ) → IsBytes bytes → row_at bytes ≡ Ok x → Found bytes x
+unfolding row_at
+row_takes [] x fits e = absurd (refused Length x e)
+row_takes (kind ∷ bytes) x fits e =
+    let s = row_fields_take kind bytes x (λ i. fits (suc i)) e in
+    record { taken = s.taken; legal = s.legal }
+
+pub row_again : (row : Row) (rest : List ℕ) → IsRowSpellable row → row_at (row_spelling row ++ rest) ≡ Ok (row, rest)
+unfolding row_at row_fields_at
+row_again (Head head) rest is = head_again head rest is
+row_again (Queue q) rest is = queue_row_again q rest is
+row_again (Job r) rest is = job_row_again r rest is
+row_again (Piece j bytes) rest is = piece_row_again j bytes rest is
+
+row_reading_takes : (bytes : List ℕ) (row : Row) → IsBytes bytes → row_reading bytes ≡ Ok row → IsRowSpellable row × (bytes ≡ row_spelling row)
+unfolding whole
+row_reading_takes bytes row fits h =
+    let s = bind_ok (row_at bytes) (λ x. cond (eqb (length x.1) 0) (Ok x.0) (Err Length)) row h in
+    let f = row_takes bytes s.value fits s.was in
+    let g = passed_ok (eqb (length s.value.1) 0) Length s.value.0 row s.then in
+    let nothing : s.value.1 ≡ [] = nil_from_length s.value.1 (eqb-true _ _ g.0) in
+    let all : bytes ≡ row_spelling s.value.0 = f.taken.parts ∙ ap (λ (r : List ℕ). row_spelling s.value.0 ++ r) nothing ∙ append-nil (row_spelling s.value.0) in
+    subst (λ (v : Row). IsRowSpellable v × (bytes ≡ row_spelling v)) g.1 (f.legal, all)
+
+pub row_reading_again : (row : Row) → IsRowSpellable row → row_reading (row_spelling row) ≡ Ok row
+unfolding whole
+row_reading_again row h =
+    ap (λ (t : List ℕ). row_reading t) (sym (append-nil (row_spelling row))) ∙ ap whole (row_again row [] h)
+
+pub one_row : (a b : Row) (rest : List ℕ) → IsRowSpellable a → IsRowSpellable b → row_spelling a ++ rest ≡ row_spelling b → (a ≡ b) × (rest ≡ [])
+one_row a b rest h i same =
+    let both : row_at (row_spelling a ++ rest) ≡ row_at (row_spelling b ++ []) = ap row_at (same ∙ sym (append-nil (row_spelling b))) in
+    let pair = ok_is (a, rest) (b, []) (sym (row_again a rest h) ∙ both ∙ row_again b [] i) in
+    (ap (λ (x : Row × List ℕ). x.0) pair, ap (λ (x : Row × List ℕ). x.1) pair)
+
+pub is_found_row : (bytes : List ℕ) (r : Result Row CodecFault) → IsBytes bytes → Gives (λ row. row) r (row_reading bytes) → IfOk r (λ row. IsRowSpellable row × (bytes ≡ row_spelling row))
+is_found_row bytes (Ok row) fits given = row_reading_takes bytes row fits given
+is_found_row bytes (Err f) fits given = tt
+
+-- ---- rows are no events
+
+abbrev kind_of : List ℕ → ℕ
+kind_of [] = 0
+kind_of (kind ∷ rest) = kind
+
+event_kind : (e : Event) (rest : List ℕ) → kind_of (spelling e ++ rest) < 0x40
+event_kind (events.AddQueue q) rest = omega arith
+event_kind (events.Info notes) rest = omega arith
+event_kind (events.SetAccept queue accepting) rest = omega arith
+event_kind (events.SetStop queue stopped) rest = omega arith
+event_kind (events.Create n) rest = omega arith
+event_kind (events.Send j bytes) rest = omega arith
+event_kind (events.Close c) rest = omega arith
+event_kind (events.Hold j until) rest = omega arith
+event_kind (events.Release j) rest = omega arith
+event_kind (events.Cancel j) rest = omega arith
+event_kind (events.Clock m) rest = omega arith
+event_kind (events.Start j) rest = omega arith
+event_kind (events.Stage e) rest = omega arith
+event_kind (events.Abandon j) rest = omega arith
+event_kind events.Reopen rest = omega arith
+
+row_kind : (row : Row) (rest : List ℕ) → 0x40 ≤ kind_of (row_spelling row ++ rest)
+row_kind (Head head) rest = omega arith
+row_kind (Queue q) rest = omega arith
+row_kind (Job r) rest = omega arith
+row_kind (Piece j bytes) rest = omega arith
+
+pub apart : (row : Row) (e : Event) (some more : List ℕ) → row_spelling row ++ some ≡ spelling e ++ more → ⊥
+apart row e some more same = absurd (omega (arith, event_kind e more, row_kind row some, ap kind_of same))

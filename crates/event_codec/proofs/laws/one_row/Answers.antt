@@ -1,0 +1,8 @@
+use Rattle.std.proofs.Common.{[], ◌∙◌}
+use Rattle.std.proofs.lemmas.List.{append-nil}
+use Rattle.event_codec.specs.RowSpelling.{row_spelling}
+use Rattle.event_codec.proofs.RowLaws.{one_row}
+use Rattle.event_codec.proofs.laws.one_row.Goals as goal
+
+pub returns : goal.returns
+returns c = λ a b h i same. (one_row a b [] h i (append-nil (row_spelling a) ∙ same)).0

@@ -1,0 +1,5 @@
+use Rattle.event_codec.proofs.RowLaws.{apart}
+use Rattle.event_codec.proofs.laws.rows_are_no_events.Goals as goal
+
+pub returns : goal.returns
+returns c = λ row e some more same. apart row e some more same

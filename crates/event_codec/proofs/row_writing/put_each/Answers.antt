@@ -1,0 +1,6 @@
+use Rattle.event_codec.specs.Spelling.{attribute_code, IsAttribute}
+use Rattle.event_codec.proofs.Added.{has_place}
+use Rattle.event_codec.proofs.row_writing.put_each.Goals as goal
+
+pub put_attribute-requires : goal.put_attribute-requires
+put_attribute-requires c = record { room = has_place attribute_code IsAttribute c.args.out.now c.loop-attribute.out c.args.attributes.now c.loop-attribute.attribute-index c.attribute-item.result c.attribute-item.is c.loop-attribute-test.true c.loop-attribute.invariant c.requires.room }

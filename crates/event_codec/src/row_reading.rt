@@ -1,0 +1,306 @@
+//! Reading the rows of a listing.
+ghost use Rattle.std.specs.Prelude.{◌≡◌, ◌+◌, ◌≤◌, length, map, is_ok, false, None, Some, IsTrue, IfOk, IfErr, OnOk, Ok};
+ghost use Rattle.spool_types.specs.declared.listing.Row.{Row};
+ghost use Rattle.spool_types.specs.Values.{is_queue_name};
+ghost use Rattle.event_codec.specs.Reading.{Gives, MemoryOnly, text_at, list_at, whole};
+ghost use Rattle.event_codec.specs.RowSpelling.{name_of, row_spelling, IsRowSpellable};
+ghost use Rattle.event_codec.specs.RowReading.{is_above, typed_at, reason_after, attribute_after, reasons_at, attributes_at, head_at, queue_row_at, created_at, job_row_at, piece_row_at, job_row_copies, row_reading, reaches_row_copy, last_of};
+
+use crate::fault::CodecFault;
+use crate::fields::{job_id, moment, ranged, text_at, u8_at, u16_at, u32_at, u64_at};
+use crate::phase_reading::phase_at;
+use crate::reading::{ended, filters_at, flag_at, media_at, new_queue_at, piece_at};
+use spool_types::{
+    Attribute, AttributeName, Attributes, Head, JobId, ListedJob, MOST_KEPT, MediaType, NewJob,
+    QueueRow, Ranged, Reason, Reasons, Row,
+};
+use std::alloc::Global;
+
+/// The media type of a job, where it has one.
+#[tactic(auto, unfolding(crate::specs::RowReading::typed_at, crate::specs::RowReading::flagged_media_at, crate::specs::RowReading::some_media_at))]
+fn typed_at(alloc: Global, bytes: &[u8]) -> Result<(Option<MediaType>, &[u8]), CodecFault>
+    ensures read { Gives (λ x. (x.0, x.1.now)) result (typed_at bytes.now) }
+{
+    let (flag, rest) = u8_at(bytes)?;
+    match flag {
+        0 => Ok((None, rest)),
+        1 => {
+            let (media, rest) = media_at(alloc, rest)?;
+            Ok((Some(media), rest))
+        }
+        _ => Err(CodecFault::Range),
+    }
+}
+
+// Whether a reason is above the last of those that were read.
+fn is_next_reason(read: &[Reason], reason: &Reason) -> bool
+    ensures { result ≡ is_above (last_of read.now) reason.now }
+{
+    match read.last() {
+        Some(before) => before < reason,
+        None => true,
+    }
+}
+
+#[tactic(auto, unfolding(crate::specs::RowReading::reason_after, crate::specs::Reading::checked))]
+fn reason_after<'a>(
+    alloc: Global,
+    read: &[Reason],
+    bytes: &'a [u8],
+) -> Result<(Reason, &'a [u8]), CodecFault>
+    ensures { Gives (λ x. (x.0, (Some x.0, x.1.now))) result (reason_after (last_of read.now, bytes.now)) }
+{
+    let (reason, rest) = text_at(alloc, bytes)?;
+    if !is_next_reason(read, &reason) {
+        return Err(CodecFault::Range);
+    }
+    Ok((reason, rest))
+}
+
+/// So many reasons in ascending order. Each has two bytes at least, so the bytes bound what is reserved for them.
+fn listed_reasons_at(
+    alloc: Global,
+    count: u8,
+    bytes: &[u8],
+) -> Result<(Vec<Reason>, &[u8]), CodecFault>
+    ensures read { Gives (λ x. (x.0.items, (last_of x.0.items, x.1.now))) result (list_at reason_after count (None, bytes.now)) }
+    ensures length { IfOk result (λ x. length x.0.items ≡ count) }
+{
+    let mut reasons = Vec::with_capacity(alloc, (count as usize).min(bytes.len() / 2))?;
+    let mut rest = bytes;
+    for _ in 0..count {
+        let (reason, after) = reason_after(alloc, &reasons, rest)?;
+        reasons.push(reason)?;
+        rest = after;
+    }
+    Ok((reasons, rest))
+}
+
+#[tactic(auto, unfolding(crate::specs::RowReading::reasons_at, crate::specs::RowReading::ascending_at, crate::specs::Reading::ranged_at, crate::specs::Reading::ranged, crate::specs::Reading::checked))]
+fn reasons_at(alloc: Global, bytes: &[u8]) -> Result<(Reasons, &[u8]), CodecFault>
+    ensures { Gives (λ x. (x.0, x.1.now)) result (reasons_at bytes.now) }
+{
+    let (count, rest) = u8_at(bytes)?;
+    if MOST_KEPT < count as usize {
+        return Err(CodecFault::Range);
+    }
+    let (reasons, rest) = listed_reasons_at(alloc, count, rest)?;
+    match Reasons::new(reasons) {
+        Ok(reasons) => Ok((reasons, rest)),
+        Err(_) => Err(CodecFault::Range),
+    }
+}
+
+// Whether a name is above that of the last attribute that was read.
+fn is_next_name(read: &[Attribute], name: &AttributeName) -> bool
+    ensures { result ≡ is_above (last_of (map name_of read.now)) name.now }
+{
+    match read.last() {
+        Some(before) => before.name < *name,
+        None => true,
+    }
+}
+
+#[tactic(auto, unfolding(crate::specs::RowReading::attribute_after, crate::specs::Reading::checked))]
+fn attribute_after<'a>(
+    alloc: Global,
+    read: &[Attribute],
+    bytes: &'a [u8],
+) -> Result<(Attribute, &'a [u8]), CodecFault>
+    ensures { Gives (λ x. (x.0, (Some x.0.name, x.1.now))) result (attribute_after (last_of (map name_of read.now), bytes.now)) }
+{
+    let (name, rest) = text_at(alloc, bytes)?;
+    if !is_next_name(read, &name) {
+        return Err(CodecFault::Range);
+    }
+    let (value, rest) = text_at(alloc, rest)?;
+    Ok((Attribute { name, value }, rest))
+}
+
+/// So many attributes in ascending order of their names. Each has four bytes at least.
+fn listed_attributes_at(
+    alloc: Global,
+    count: u8,
+    bytes: &[u8],
+) -> Result<(Vec<Attribute>, &[u8]), CodecFault>
+    ensures read { Gives (λ x. (x.0.items, (last_of (map name_of x.0.items), x.1.now))) result (list_at attribute_after count (None, bytes.now)) }
+    ensures length { IfOk result (λ x. length x.0.items ≡ count) }
+{
+    let mut attributes = Vec::with_capacity(alloc, (count as usize).min(bytes.len() / 4))?;
+    let mut rest = bytes;
+    for _ in 0..count {
+        let (attribute, after) = attribute_after(alloc, &attributes, rest)?;
+        attributes.push(attribute)?;
+        rest = after;
+    }
+    Ok((attributes, rest))
+}
+
+#[tactic(auto, unfolding(crate::specs::RowReading::attributes_at, crate::specs::RowReading::ascending_at, crate::specs::Reading::ranged_at, crate::specs::Reading::ranged, crate::specs::Reading::checked))]
+fn attributes_at(alloc: Global, bytes: &[u8]) -> Result<(Attributes, &[u8]), CodecFault>
+    ensures { Gives (λ x. (x.0, x.1.now)) result (attributes_at bytes.now) }
+{
+    let (count, rest) = u8_at(bytes)?;
+    if MOST_KEPT < count as usize {
+        return Err(CodecFault::Range);
+    }
+    let (attributes, rest) = listed_attributes_at(alloc, count, rest)?;
+    match Attributes::new(attributes) {
+        Ok(attributes) => Ok((attributes, rest)),
+        Err(_) => Err(CodecFault::Range),
+    }
+}
+
+#[tactic(auto, unfolding(crate::specs::RowReading::head_at, crate::specs::Reading::ranged_at, crate::specs::Reading::whole))]
+fn head_of(fields: &[u8]) -> Result<Row, CodecFault>
+    ensures read { Gives (λ row. row) result (whole (head_at fields.now)) }
+    ensures memory { IfErr result (MemoryOnly false) }
+{
+    let (number, rest) = u32_at(fields)?;
+    let highest: Ranged<0, { JobId::GREATEST }> = ranged(number)?;
+    let (seconds, rest) = u64_at(rest)?;
+    let moment = moment(seconds)?;
+    ended(rest)?;
+    Ok(Row::Head(Head {
+        highest: highest.get(),
+        moment,
+    }))
+}
+
+#[tactic(auto, unfolding(crate::specs::RowReading::queue_row_at, crate::specs::RowReading::queue_state_at, crate::specs::Reading::whole))]
+fn queue_row_of(alloc: Global, fields: &[u8]) -> Result<Row, CodecFault>
+    ensures read { Gives (λ row. row) result (whole (queue_row_at fields.now)) }
+    ensures memory { IfErr result (MemoryOnly (is_ok (text_at is_queue_name fields.now))) }
+{
+    let (queue, rest) = new_queue_at(alloc, fields)?;
+    let (info, rest) = text_at(alloc, rest)?;
+    let (location, rest) = text_at(alloc, rest)?;
+    let (accepting, rest) = flag_at(rest)?;
+    let (stopped, rest) = flag_at(rest)?;
+    let (message, rest) = text_at(alloc, rest)?;
+    let (reasons, rest) = reasons_at(alloc, rest)?;
+    let (attributes, rest) = attributes_at(alloc, rest)?;
+    ended(rest)?;
+    Ok(Row::Queue(QueueRow {
+        name: queue.name,
+        uri: queue.uri,
+        target: queue.target,
+        policy: queue.policy,
+        interval: queue.interval,
+        limit: queue.limit,
+        info,
+        location,
+        accepting,
+        stopped,
+        message,
+        reasons,
+        attributes,
+    }))
+}
+
+/// A job as it was created.
+#[tactic(auto, unfolding(crate::specs::RowReading::created_at, crate::specs::RowReading::job_row_copies, crate::specs::Reading::ranged_at))]
+fn created_at(alloc: Global, bytes: &[u8]) -> Result<(NewJob, &[u8]), CodecFault>
+    ensures read { Gives (λ x. (x.0, x.1.now)) result (created_at bytes.now) }
+    ensures copied { OnOk result (IsTrue (job_row_copies bytes.now)) }
+    ensures memory { IfErr result (MemoryOnly (job_row_copies bytes.now)) }
+{
+    let (number, rest) = u32_at(bytes)?;
+    let job = job_id(number)?;
+    let (queue, rest) = text_at(alloc, rest)?;
+    let (user, rest) = text_at(alloc, rest)?;
+    let (title, rest) = text_at(alloc, rest)?;
+    let (copies, rest) = u16_at(rest)?;
+    let copies = ranged(copies as u32)?;
+    let (priority, rest) = u8_at(rest)?;
+    let priority = ranged(priority as u32)?;
+    let (options, rest) = text_at(alloc, rest)?;
+    let created = NewJob {
+        queue,
+        job,
+        user,
+        title,
+        copies,
+        priority,
+        options,
+    };
+    Ok((created, rest))
+}
+
+#[tactic(auto, unfolding(crate::specs::RowReading::job_row_at, crate::specs::Reading::ranged_at, crate::specs::Reading::whole))]
+fn job_row_of(alloc: Global, fields: &[u8]) -> Result<Row, CodecFault>
+    ensures read { Gives (λ row. row) result (whole (job_row_at fields.now)) }
+    ensures memory { IfErr result (MemoryOnly (job_row_copies fields.now)) }
+{
+    let (created, rest) = created_at(alloc, fields)?;
+    let (media, rest) = typed_at(alloc, rest)?;
+    let (filters, rest) = filters_at(alloc, rest)?;
+    let (attempts, rest) = u32_at(rest)?;
+    let (pages, rest) = u32_at(rest)?;
+    let (size, rest) = u32_at(rest)?;
+    let size: Ranged<0, 1_048_576> = ranged(size)?;
+    let stages = filters.as_slice().len() as u8 + 1;
+    // `?` isn't proved here: a phase, which may have a moment, stands beside a slice.
+    match phase_at(attempts, stages, rest) {
+        Ok((phase, rest)) => {
+            ended(rest)?;
+            Ok(Row::Job(ListedJob {
+                id: created.job,
+                queue: created.queue,
+                user: created.user,
+                title: created.title,
+                copies: created.copies,
+                priority: created.priority,
+                options: created.options,
+                media,
+                filters,
+                attempts,
+                pages,
+                size: size.get(),
+                phase,
+            }))
+        }
+        Err(fault) => Err(fault),
+    }
+}
+
+#[tactic(auto, unfolding(crate::specs::RowReading::piece_row_at, crate::specs::Reading::ranged_at, crate::specs::Reading::whole))]
+fn piece_of(alloc: Global, fields: &[u8]) -> Result<Row, CodecFault>
+    ensures read { Gives (λ row. row) result (whole (piece_row_at fields.now)) }
+    ensures memory { IfErr result (MemoryOnly (is_ok (piece_row_at fields.now))) }
+{
+    let (number, rest) = u32_at(fields)?;
+    let job = job_id(number)?;
+    let (bytes, rest) = piece_at(alloc, 1, rest)?;
+    ended(rest)?;
+    Ok(Row::Piece { job, bytes })
+}
+
+#[tactic(auto, unfolding(crate::specs::RowReading::row_at, crate::specs::RowReading::row_fields_at, crate::specs::Reading::whole, crate::specs::RowReading::reaches_row_copy, crate::specs::RowReading::row_fields_copy))]
+fn row_of(alloc: Global, payload: &[u8]) -> Result<Row, CodecFault>
+    ensures read { Gives (λ row. row) result (row_reading payload.now) }
+    ensures memory { IfErr result (MemoryOnly (reaches_row_copy payload.now)) }
+{
+    match payload {
+        [] => Err(CodecFault::Length),
+        [0x40, fields @ ..] => head_of(fields),
+        [0x41, fields @ ..] => queue_row_of(alloc, fields),
+        [0x42, fields @ ..] => job_row_of(alloc, fields),
+        [0x43, fields @ ..] => piece_of(alloc, fields),
+        [_, ..] => Err(CodecFault::Kind),
+    }
+}
+
+/// The row that all of the bytes spell. A field is copied once, and nothing is kept of bytes that spell none.
+pub fn decode_row(alloc: Global, payload: &[u8]) -> Result<Row, CodecFault>
+    // What is read is spelled so.
+    ensures sound { IfOk result (λ row. IsRowSpellable row × (payload.now ≡ row_spelling row)) }
+    // What is spelled so is read, unless memory runs out.
+    ensures complete { (row : Row) → IsRowSpellable row → payload.now ≡ row_spelling row → Gives (λ r. r) result (Ok row) }
+    // Which fault it is.
+    ensures exact { Gives (λ r. r) result (row_reading payload.now) }
+    // Memory is wanted only where a value is copied.
+    ensures memory { IfErr result (MemoryOnly (reaches_row_copy payload.now)) }
+{
+    row_of(alloc, payload)
+}

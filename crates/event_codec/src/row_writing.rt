@@ -1,0 +1,399 @@
+//! Writing the rows of a listing.
+ghost use Rattle.std.specs.Prelude.{◌≡◌, ◌+◌, ◌*◌, ◌<◌, ◌≤◌, ◌^◌, ◌∷◌, ◌++◌, List, ℕ, [], length, take, IsOk, IfOk, OnOk, OnErr, vec_len, vec_capacity};
+ghost use Rattle.std.specs.Int.{w8, w16, w32, w64, to_be_bytes};
+ghost use Rattle.std.specs.List.{flat_map, AllByRecursion};
+ghost use Rattle.spool_types.specs.Limits.{greatest_moment};
+ghost use Rattle.event_codec.specs.Spelling.{attribute_code, queue_code, IsIn, IsQueue, IsJob, IsAttribute};
+ghost use Rattle.event_codec.specs.RowSpelling.{hold_reason_number, holding_code, abort_reason_number, waiting_code, phase_code, typed_code, attributes_code, head_code, new_queue_of, queue_state_code, queue_row_code, new_job_of, created_code, job_state_code, job_row_code, row_spelling, IsHolding, IsWaitingFor, HasMoments, IsTyped, IsQueueState, HasQueueFields, IsJobState, HasJobFields, HasFields, IsLegalRow, IsRowSpellable};
+
+use crate::effect_writing::put_attribute;
+use crate::field_writing::{
+    counted_len, media_len, put, put_counted, put_flag, put_media, put_text, text_len,
+};
+use crate::writing::{policy_byte, put_send};
+use spool_types::{
+    AbortReason, Attribute, Attributes, Head, Hold, HoldReason, ListedJob, MediaType, Moment,
+    Phase, QueueRow, Row,
+};
+use std::alloc::{AllocError, Global};
+
+fn hold_reason_byte(reason: HoldReason) -> u8
+    ensures { result ≡ hold_reason_number reason }
+{
+    match reason {
+        HoldReason::Unspecified => 0,
+        HoldReason::Authentication => 1,
+        HoldReason::Backend => 2,
+    }
+}
+
+fn abort_reason_byte(reason: AbortReason) -> u8
+    ensures { result ≡ abort_reason_number reason }
+{
+    match reason {
+        AbortReason::FilterFailed => 0,
+        AbortReason::BackendFailed => 1,
+        AbortReason::RetryLimit => 2,
+        AbortReason::AttemptLost => 3,
+        AbortReason::NoFilter => 4,
+    }
+}
+
+fn put_holding(out: &mut Vec<u8>, hold: Hold)
+    requires room { vec_len out.old + length (holding_code hold) ≤ vec_capacity out.old }
+    ensures written { out.new.items ≡ out.old.items ++ holding_code hold }
+    ensures len { vec_len out.new ≡ vec_len out.old + length (holding_code hold) }
+    ensures grown { vec_capacity out.old ≤ vec_capacity out.new }
+    ensures legal { IsHolding hold }
+{
+    match hold {
+        Hold::Free => put(out, &0u8.to_be_bytes()),
+        Hold::Indefinite(reason) => {
+            put(out, &1u8.to_be_bytes());
+            put(out, &hold_reason_byte(reason).to_be_bytes())
+        }
+        Hold::Until(moment) => {
+            put(out, &2u8.to_be_bytes());
+            put(out, &moment.get().to_be_bytes())
+        }
+    }
+}
+
+fn put_waiting(out: &mut Vec<u8>, hold: Hold, not_before: Moment, first: bool)
+    requires room { vec_len out.old + length (waiting_code hold not_before first) ≤ vec_capacity out.old }
+    ensures written { out.new.items ≡ out.old.items ++ waiting_code hold not_before first }
+    ensures len { vec_len out.new ≡ vec_len out.old + length (waiting_code hold not_before first) }
+    ensures grown { vec_capacity out.old ≤ vec_capacity out.new }
+    ensures legal { IsWaitingFor hold not_before }
+{
+    put_holding(out, hold);
+    put(out, &not_before.get().to_be_bytes());
+    put_flag(out, first);
+}
+
+// The byte that a phase's code begins with.
+fn phase_byte(phase: &Phase) -> u8
+    ensures first { take 1 (phase_code phase.now) ≡ result ∷ [] }
+{
+    match phase {
+        Phase::Incoming(_) => 0,
+        Phase::Waiting { .. } => 1,
+        Phase::Processing { .. } => 2,
+        Phase::Completed => 3,
+        Phase::Canceled => 4,
+        Phase::Aborted(_) => 5,
+    }
+}
+
+fn put_phase(out: &mut Vec<u8>, phase: &Phase)
+    requires room { vec_len out.old + length (phase_code phase.now) ≤ vec_capacity out.old }
+    ensures written { out.new.items ≡ out.old.items ++ phase_code phase.now }
+    ensures len { vec_len out.new ≡ vec_len out.old + length (phase_code phase.now) }
+    ensures grown { vec_capacity out.old ≤ vec_capacity out.new }
+    ensures legal { HasMoments phase.now }
+{
+    put(out, &phase_byte(phase).to_be_bytes());
+    match phase {
+        Phase::Incoming(hold) => put_holding(out, *hold),
+        Phase::Waiting {
+            hold,
+            not_before,
+            first,
+        } => put_waiting(out, *hold, *not_before, *first),
+        Phase::Processing { stage, .. } => put(out, &stage.to_be_bytes()),
+        Phase::Completed | Phase::Canceled => {}
+        Phase::Aborted(reason) => put(out, &abort_reason_byte(*reason).to_be_bytes()),
+    }
+}
+
+fn put_typed(out: &mut Vec<u8>, media: &Option<MediaType>)
+    requires room { vec_len out.old + length (typed_code media.now) ≤ vec_capacity out.old }
+    ensures written { out.new.items ≡ out.old.items ++ typed_code media.now }
+    ensures len { vec_len out.new ≡ vec_len out.old + length (typed_code media.now) }
+    ensures grown { vec_capacity out.old ≤ vec_capacity out.new }
+    ensures legal { IsTyped media.now }
+{
+    match media {
+        None => put(out, &0u8.to_be_bytes()),
+        Some(media) => {
+            put(out, &1u8.to_be_bytes());
+            put_media(out, media)
+        }
+    }
+}
+
+fn put_each(out: &mut Vec<u8>, attributes: &[Attribute])
+    requires room { vec_len out.old + length (flat_map attribute_code attributes.now) ≤ vec_capacity out.old }
+    ensures written { out.new.items ≡ out.old.items ++ flat_map attribute_code attributes.now }
+    ensures len { vec_len out.new ≡ vec_len out.old + length (flat_map attribute_code attributes.now) }
+    ensures grown { vec_capacity out.old ≤ vec_capacity out.new }
+    ensures legal { AllByRecursion IsAttribute attributes.now }
+{
+    for attribute in attributes {
+        put_attribute(out, attribute);
+    }
+}
+
+fn put_attributes(out: &mut Vec<u8>, attributes: &Attributes)
+    requires room { vec_len out.old + length (attributes_code attributes.now) ≤ vec_capacity out.old }
+    ensures written { out.new.items ≡ out.old.items ++ attributes_code attributes.now }
+    ensures len { vec_len out.new ≡ vec_len out.old + length (attributes_code attributes.now) }
+    ensures grown { vec_capacity out.old ≤ vec_capacity out.new }
+    ensures few { length attributes.now ≤ 64 }
+    ensures legal { AllByRecursion IsAttribute attributes.now }
+{
+    let attributes = attributes.as_slice();
+    put(out, &(attributes.len() as u8).to_be_bytes());
+    put_each(out, attributes);
+}
+
+fn put_head(out: &mut Vec<u8>, head: &Head)
+    requires room { vec_len out.old + length (head_code head.now) ≤ vec_capacity out.old }
+    ensures written { out.new.items ≡ out.old.items ++ head_code head.now }
+    ensures len { vec_len out.new ≡ vec_len out.old + length (head_code head.now) }
+    ensures grown { vec_capacity out.old ≤ vec_capacity out.new }
+    ensures legal { IsIn 0 greatest_moment head.now.moment }
+{
+    put(out, &head.highest.to_be_bytes());
+    put(out, &head.moment.get().to_be_bytes());
+}
+
+// What a queue was added with.
+fn put_added(out: &mut Vec<u8>, queue: &QueueRow)
+    requires room { vec_len out.old + length (queue_code (new_queue_of queue.now)) ≤ vec_capacity out.old }
+    ensures written { out.new.items ≡ out.old.items ++ queue_code (new_queue_of queue.now) }
+    ensures len { vec_len out.new ≡ vec_len out.old + length (queue_code (new_queue_of queue.now)) }
+    ensures grown { vec_capacity out.old ≤ vec_capacity out.new }
+    ensures legal { IsQueue (new_queue_of queue.now) }
+{
+    put_text(out, &queue.name);
+    put_text(out, &queue.uri);
+    put_media(out, &queue.target);
+    put(out, &policy_byte(queue.policy).to_be_bytes());
+    put(out, &queue.interval.get().to_be_bytes());
+    put(out, &queue.limit.to_be_bytes());
+}
+
+// What is told of a queue, and what became of it.
+fn put_queue_state(out: &mut Vec<u8>, queue: &QueueRow)
+    requires room { vec_len out.old + length (queue_state_code queue.now) ≤ vec_capacity out.old }
+    ensures written { out.new.items ≡ out.old.items ++ queue_state_code queue.now }
+    ensures len { vec_len out.new ≡ vec_len out.old + length (queue_state_code queue.now) }
+    ensures grown { vec_capacity out.old ≤ vec_capacity out.new }
+    ensures legal { IsQueueState queue.now }
+{
+    put_text(out, &queue.info);
+    put_text(out, &queue.location);
+    put_flag(out, queue.accepting);
+    put_flag(out, queue.stopped);
+    put_text(out, &queue.message);
+    put_counted(out, queue.reasons.as_slice());
+    put_attributes(out, &queue.attributes);
+}
+
+fn put_queue_row(out: &mut Vec<u8>, queue: &QueueRow)
+    requires room { vec_len out.old + length (queue_row_code queue.now) ≤ vec_capacity out.old }
+    ensures written { out.new.items ≡ out.old.items ++ queue_row_code queue.now }
+    ensures len { vec_len out.new ≡ vec_len out.old + length (queue_row_code queue.now) }
+    ensures grown { vec_capacity out.old ≤ vec_capacity out.new }
+    ensures legal { HasQueueFields queue.now }
+{
+    put_added(out, queue);
+    put_queue_state(out, queue);
+}
+
+// What a job was created with.
+fn put_created(out: &mut Vec<u8>, job: &ListedJob)
+    requires room { vec_len out.old + length (created_code (new_job_of job.now)) ≤ vec_capacity out.old }
+    ensures written { out.new.items ≡ out.old.items ++ created_code (new_job_of job.now) }
+    ensures len { vec_len out.new ≡ vec_len out.old + length (created_code (new_job_of job.now)) }
+    ensures grown { vec_capacity out.old ≤ vec_capacity out.new }
+    ensures legal { IsJob (new_job_of job.now) }
+{
+    put(out, &job.id.get().to_be_bytes());
+    put_text(out, &job.queue);
+    put_text(out, &job.user);
+    put_text(out, &job.title);
+    put(out, &(job.copies.get() as u16).to_be_bytes());
+    put(out, &(job.priority.get() as u8).to_be_bytes());
+    put_text(out, &job.options);
+}
+
+// What became of a job.
+fn put_job_state(out: &mut Vec<u8>, job: &ListedJob)
+    requires room { vec_len out.old + length (job_state_code job.now) ≤ vec_capacity out.old }
+    ensures written { out.new.items ≡ out.old.items ++ job_state_code job.now }
+    ensures len { vec_len out.new ≡ vec_len out.old + length (job_state_code job.now) }
+    ensures grown { vec_capacity out.old ≤ vec_capacity out.new }
+    ensures legal { IsJobState job.now }
+{
+    put_typed(out, &job.media);
+    put_counted(out, job.filters.as_slice());
+    put(out, &job.attempts.to_be_bytes());
+    put(out, &job.pages.to_be_bytes());
+    put(out, &job.size.to_be_bytes());
+    put_phase(out, &job.phase);
+}
+
+fn put_job_row(out: &mut Vec<u8>, job: &ListedJob)
+    requires room { vec_len out.old + length (job_row_code job.now) ≤ vec_capacity out.old }
+    ensures written { out.new.items ≡ out.old.items ++ job_row_code job.now }
+    ensures len { vec_len out.new ≡ vec_len out.old + length (job_row_code job.now) }
+    ensures grown { vec_capacity out.old ≤ vec_capacity out.new }
+    ensures legal { HasJobFields job.now }
+{
+    put_created(out, job);
+    put_job_state(out, job);
+}
+
+// The byte that a row's spelling begins with.
+fn row_byte(row: &Row) -> u8
+    ensures first { take 1 (row_spelling row.now) ≡ result ∷ [] }
+{
+    match row {
+        Row::Head(_) => 0x40,
+        Row::Queue(_) => 0x41,
+        Row::Job(_) => 0x42,
+        Row::Piece { .. } => 0x43,
+    }
+}
+
+fn put_row(out: &mut Vec<u8>, row: &Row)
+    requires room { vec_len out.old + length (row_spelling row.now) ≤ vec_capacity out.old }
+    ensures written { out.new.items ≡ out.old.items ++ row_spelling row.now }
+    ensures len { vec_len out.new ≡ vec_len out.old + length (row_spelling row.now) }
+    ensures grown { vec_capacity out.old ≤ vec_capacity out.new }
+    ensures fields { HasFields row.now }
+{
+    put(out, &row_byte(row).to_be_bytes());
+    match row {
+        Row::Head(head) => put_head(out, head),
+        Row::Queue(queue) => put_queue_row(out, queue),
+        Row::Job(job) => put_job_row(out, job),
+        Row::Piece { job, bytes } => put_send(out, *job, bytes),
+    }
+}
+
+fn holding_len(hold: Hold) -> usize
+    ensures value { result ≡ length (holding_code hold) }
+    ensures small { result ≤ 9 }
+{
+    match hold {
+        Hold::Free => 1,
+        Hold::Indefinite(_) => 2,
+        Hold::Until(_) => 9,
+    }
+}
+
+fn phase_len(phase: Phase) -> usize
+    ensures value { result ≡ length (phase_code phase) }
+    ensures small { result ≤ 20 }
+{
+    match phase {
+        Phase::Incoming(hold) => 1 + holding_len(hold),
+        Phase::Waiting { hold, .. } => 10 + holding_len(hold),
+        Phase::Processing { .. } | Phase::Aborted(_) => 2,
+        Phase::Completed | Phase::Canceled => 1,
+    }
+}
+
+fn typed_len(media: &Option<MediaType>) -> usize
+    ensures value { result ≡ length (typed_code media.now) }
+    ensures small { result ≤ 2051 }
+{
+    match media {
+        None => 1,
+        Some(media) => 1 + media_len(media),
+    }
+}
+
+fn attributes_len(attributes: &[Attribute]) -> usize
+    requires few { length attributes.now ≤ 64 }
+    ensures value { result ≡ length (flat_map attribute_code attributes.now) }
+    ensures small { result ≤ length attributes.now * 4100 }
+{
+    let mut len = 0;
+    for attribute in attributes {
+        len += text_len(&attribute.name) + text_len(&attribute.value);
+    }
+    len
+}
+
+fn added_len(queue: &QueueRow) -> usize
+    ensures value { result ≡ length (queue_code (new_queue_of queue.now)) }
+    ensures small { result < 2 ^ 14 }
+{
+    text_len(&queue.name) + text_len(&queue.uri) + media_len(&queue.target) + 7
+}
+
+fn queue_state_len(queue: &QueueRow) -> usize
+    ensures value { result ≡ length (queue_state_code queue.now) }
+    ensures small { result ≤ 400000 }
+{
+    text_len(&queue.info)
+        + text_len(&queue.location)
+        + 2
+        + text_len(&queue.message)
+        + counted_len(queue.reasons.as_slice())
+        + 1
+        + attributes_len(queue.attributes.as_slice())
+}
+
+fn created_len(job: &ListedJob) -> usize
+    ensures value { result ≡ length (created_code (new_job_of job.now)) }
+    ensures small { result < 2 ^ 14 }
+{
+    4 + text_len(&job.queue)
+        + text_len(&job.user)
+        + text_len(&job.title)
+        + 3
+        + text_len(&job.options)
+}
+
+fn job_state_len(job: &ListedJob) -> usize
+    ensures value { result ≡ length (job_state_code job.now) }
+    ensures small { result < 2 ^ 16 }
+{
+    typed_len(&job.media) + counted_len(job.filters.as_slice()) + 12 + phase_len(job.phase)
+}
+
+/// How many bytes the spelling of a row has.
+fn spelled_row_len(row: &Row) -> usize
+    ensures value { result ≡ length (row_spelling row.now) }
+    ensures small { result < 2 ^ 19 }
+{
+    match row {
+        Row::Head(_) => 13,
+        Row::Queue(queue) => 1 + added_len(queue) + queue_state_len(queue),
+        Row::Job(job) => 1 + created_len(job) + job_state_len(job),
+        Row::Piece { bytes, .. } => 9 + bytes.as_slice().len(),
+    }
+}
+
+/// The one spelling of a row, in memory that is reserved once. A row that no table lists is written, too, as by its
+/// fields. No bytes are read as it then.
+pub fn encode_row(alloc: Global, row: &Row) -> Result<Vec<u8>, AllocError>
+    ensures spelled { IfOk result (λ bytes. bytes.items ≡ row_spelling row.now) }
+    ensures spellable { OnOk result (IsLegalRow row.now → IsRowSpellable row.now) }
+    ensures short { length (row_spelling row.now) < 2 ^ 19 }
+{
+    let mut out = Vec::with_capacity(alloc, spelled_row_len(row))?;
+    put_row(&mut out, row);
+    Ok(out)
+}
+
+/// Adds the one spelling of a row to bytes that are there already, whose memory is made ready for all of it first.
+pub fn encode_row_onto(row: &Row, out: &mut Vec<u8>) -> Result<(), AllocError>
+    ensures spelled { OnOk result (out.new.items ≡ out.old.items ++ row_spelling row.now) }
+    ensures spellable { OnOk result (IsLegalRow row.now → IsRowSpellable row.now) }
+    ensures short { length (row_spelling row.now) < 2 ^ 19 }
+
+    // It fails only where the room was missing, and then the bytes are those that were there.
+    ensures fits { vec_len out.old + length (row_spelling row.now) ≤ vec_capacity out.old → IsOk result }
+    ensures kept { OnErr result (out.new.items ≡ out.old.items) }
+    ensures grown { vec_capacity out.old ≤ vec_capacity out.new }
+{
+    out.reserve(spelled_row_len(row))?;
+    put_row(out, row);
+    Ok(())
+}
