@@ -29,7 +29,7 @@ use Rattle.job_table.specs.Loading.{Progress, IsAbove, begin_loading, headed, wi
 use Rattle.job_table.proofs.Above.{entries_above}
 use Rattle.job_table.proofs.Rows.{t_from, first_of, second_of, less_from, true_from, map_none}
 use Rattle.job_table.proofs.Choice.{passing, value_found}
-use Rattle.job_table.proofs.Listed.{append_none, entries_none, values_none}
+use Rattle.job_table.proofs.Taken.{append_none, entries_none, values_none}
 use Rattle.job_table.proofs.Pieces.{take_all}
 use Rattle.job_table.proofs.Changes.{apart, not_both, at_most_highest}
 

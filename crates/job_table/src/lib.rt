@@ -72,9 +72,11 @@
 #![tactic(auto)]
 
 mod laws;
+mod listing;
 mod loading;
 mod table;
 
 pub use laws::{ended_jobs_stay, legal_tables_stay_legal, listings_are_loaded, reopening};
+pub use listing::listed;
 pub use loading::{LoadFault, Loading};
 pub use table::{PrepareFault, Table, is_in_stage};

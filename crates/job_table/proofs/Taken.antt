@@ -47,8 +47,8 @@ partial_rows (Some r) = job_rows r
 abbrev rows_of : Progress → List Row
 rows_of p = cond p.begun (listing p.state ++ partial_rows p.partial) []
 
-abbrev head_of : State → Row
-head_of s = HeadRow (record { highest = s.highest; moment = s.moment })
+abbrev head_row : State → Row
+head_row s = HeadRow (record { highest = s.highest; moment = s.moment })
 
 queue_row : QueueRow → Row
 queue_row q = Queue q
@@ -56,17 +56,17 @@ queue_row q = Queue q
 -- a queue more, where no jobs are
 queue_more : (s : State) (q : QueueRow) → IsAbove (slice_cmp nat_cmp) q.name (finite.keys s.queues) → finite.values s.jobs ≡ [] → listing (with_queue s q) ≡ listing s ++ Queue q ∷ []
 queue_more s q above none =
-    ap (λ js. head_of s ∷ (map (λ q. Queue q) (finite.values (finite.insert s.queues q.name q)) ++ flat_map job_rows js)) none
-    ∙ ap (λ qs. head_of s ∷ (map (λ q. Queue q) qs ++ [])) (values_above (slice_cmp nat_cmp) nat_list_cmp_total s.queues q.name q above)
-    ∙ ap (λ rows. head_of s ∷ rows) (append_none _ ∙ map-append (λ q. Queue q) (finite.values s.queues) (q ∷ []) ∙ ap (λ rows. rows ++ Queue q ∷ []) (sym (append_none (map (λ q. Queue q) (finite.values s.queues)))))
-    ∙ ap (λ js. (head_of s ∷ (map (λ q. Queue q) (finite.values s.queues) ++ flat_map job_rows js)) ++ Queue q ∷ []) (sym none)
+    ap (λ js. head_row s ∷ (map (λ q. Queue q) (finite.values (finite.insert s.queues q.name q)) ++ flat_map job_rows js)) none
+    ∙ ap (λ qs. head_row s ∷ (map (λ q. Queue q) qs ++ [])) (values_above (slice_cmp nat_cmp) nat_list_cmp_total s.queues q.name q above)
+    ∙ ap (λ rows. head_row s ∷ rows) (append_none _ ∙ map-append (λ q. Queue q) (finite.values s.queues) (q ∷ []) ∙ ap (λ rows. rows ++ Queue q ∷ []) (sym (append_none (map (λ q. Queue q) (finite.values s.queues)))))
+    ∙ ap (λ js. (head_row s ∷ (map (λ q. Queue q) (finite.values s.queues) ++ flat_map job_rows js)) ++ Queue q ∷ []) (sym none)
 
 -- a job more
 job_more : (s : State) (r : Job) → IsAbove nat_cmp r.id (finite.keys s.jobs) → listing (with_job s r) ≡ listing s ++ job_rows r
 job_more s r above =
-    ap (λ js. head_of s ∷ (map (λ q. Queue q) (finite.values s.queues) ++ flat_map job_rows js)) (values_above nat_cmp nat_cmp_total s.jobs r.id r above)
-    ∙ ap (λ rows. head_of s ∷ (map (λ q. Queue q) (finite.values s.queues) ++ rows)) (flat_map-append job_rows (finite.values s.jobs) (r ∷ []) ∙ ap (λ rows. flat_map job_rows (finite.values s.jobs) ++ rows) (append_none (job_rows r)))
-    ∙ ap (λ rows. head_of s ∷ rows) (sym (append_assoc (map (λ q. Queue q) (finite.values s.queues)) (flat_map job_rows (finite.values s.jobs)) (job_rows r)))
+    ap (λ js. head_row s ∷ (map (λ q. Queue q) (finite.values s.queues) ++ flat_map job_rows js)) (values_above nat_cmp nat_cmp_total s.jobs r.id r above)
+    ∙ ap (λ rows. head_row s ∷ (map (λ q. Queue q) (finite.values s.queues) ++ rows)) (flat_map-append job_rows (finite.values s.jobs) (r ∷ []) ∙ ap (λ rows. flat_map job_rows (finite.values s.jobs) ++ rows) (append_none (job_rows r)))
+    ∙ ap (λ rows. head_row s ∷ rows) (sym (append_assoc (map (λ q. Queue q) (finite.values s.queues)) (flat_map job_rows (finite.values s.jobs)) (job_rows r)))
 
 -- the last job, wherever it is
 last_more : (p : Progress) (r : Job) → p.begun ≡ true → IsAbove nat_cmp r.id (finite.keys p.state.jobs) → rows_of (with_last p r) ≡ listing p.state ++ job_rows r
