@@ -1,5 +1,5 @@
 -- The rows that were taken are the listing of what they made.
-use Rattle.std.proofs.Common.{◌≡◌, ◌≢◌, ℕ, ◌+◌, ◌-◌, ◌<◌, ◌≤◌, Bool, true, false, cond, ◌==◌, List, [], ◌∷◌, ◌++◌, length, map, min, Some, None, Option, refl, sym, ap, subst, ◌∙◌, arith, append_assoc}
+use Rattle.std.proofs.Common.{◌≡◌, ◌≢◌, ℕ, Bool, true, false, cond, ◌==◌, List, [], ◌∷◌, ◌++◌, length, map, Some, None, Option, refl, sym, ap, subst, ◌∙◌, arith, append_assoc}
 use Rattle.std.proofs.lemmas.List.{map-append}
 use Rattle.std.proofs.lemmas.Grind.{flat_map-append}
 use Rattle.std.specs.List.{flat_map}
@@ -8,17 +8,15 @@ use Rattle.std.specs.Ordering.{nat_cmp}
 use Rattle.std.specs.Cmp.{IsTotalOrder, nat_cmp_total}
 use Rattle.std.specs.Cmp.Lexicographic.{slice_cmp, nat_list_cmp_total}
 use Rattle.std.specs.FinMap as finite
-use Rattle.spool_types.specs.Limits.{longest_send}
-use Rattle.spool_types.specs.State.{State, Job, nothing}
+use Rattle.spool_types.specs.State.{State, Job}
 use Rattle.spool_types.specs.declared.rows.QueueRow.{QueueRow}
 use Rattle.spool_types.specs.declared.listing.Head.{Head}
-use Rattle.spool_types.specs.declared.listing.ListedJob.{ListedJob}
 use Rattle.spool_types.specs.declared.listing.Row.{Row}
 use Rattle.spool_types.specs.declared.listing.Row.TheVariants.{Head as HeadRow, Queue, Job as JobRow, Piece}
 use Rattle.job_table.specs.Legal.{IsLegal}
 use Rattle.job_table.specs.Listing.{listing, job_rows}
-use Rattle.job_table.specs.Loading.{Progress, IsAbove, begin_loading, headed, with_queue, with_job, with_piece, document_len, with_last, loaded, unlisted, IsWhole, IsNewJob, IsNextQueue, IsNextPiece, IsPieceOf, IsPlaced, ArePlaced, loaded_all}
-use Rattle.job_table.specs.Reading.{IsPartial, IsPartialIn, IsFresh, IsReading}
+use Rattle.job_table.specs.Loading.{Progress, IsAbove, begin_loading, headed, with_queue, with_job, with_piece, document_len, with_last, loaded, unlisted, IsWhole, IsPieceOf, IsPlaced, ArePlaced, loaded_all}
+use Rattle.job_table.specs.Reading.{IsPartial, IsPartialIn, IsReading}
 use Rattle.job_table.proofs.Above.{entries_above}
 use Rattle.job_table.proofs.Rows.{map_none}
 use Rattle.job_table.proofs.Loaded.{reading_begin, reading_loaded, begun_with}
