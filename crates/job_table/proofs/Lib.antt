@@ -17,5 +17,5 @@ pub mod Loaded
 pub mod Pushed
 pub mod Ascending
 pub mod Pieces
-pub mod Listed
+pub mod Taken
 pub mod Reloaded

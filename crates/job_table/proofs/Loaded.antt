@@ -1,13 +1,13 @@
 -- What the rows of a listing lead to: the table is legal, and the job that is still to come into it may do so.
-use Rattle.std.proofs.Common.{◌≡◌, ℕ, ◌+◌, ◌-◌, ◌*◌, ◌<◌, ◌≤◌, Bool, true, false, cond, ◌&&◌, ◌==◌, List, [], ◌∷◌, ◌++◌, length, min, Some, None, Option, refl, sym, ap, subst, ◌∙◌, arith, rules}
+use Rattle.std.proofs.Common.{◌≡◌, ℕ, ◌+◌, ◌-◌, ◌*◌, ◌<◌, Bool, true, false, cond, ◌==◌, List, ◌++◌, length, min, Some, None, Option, refl, sym, ap, subst, ◌∙◌, arith, rules}
 use Rattle.std.specs.Option.{option_map}
 use Rattle.std.specs.FinMap as finite
 use Rattle.std.specs.Ordering.{nat_cmp}
 use Rattle.std.proofs.lemmas.List.{length-append}
-use Rattle.spool_types.specs.Busy.{is_of, is_busy}
-use Rattle.spool_types.specs.Limits.{longest_send, longest_document}
-use Rattle.spool_types.specs.Phases.{has_ended, is_processing}
-use Rattle.spool_types.specs.State.{State, Job, nothing, job_at}
+use Rattle.spool_types.specs.Busy.{is_busy}
+use Rattle.spool_types.specs.Limits.{longest_send}
+use Rattle.spool_types.specs.Phases.{has_ended}
+use Rattle.spool_types.specs.State.{State, Job}
 use Rattle.spool_types.specs.declared.phase.Phase.{Phase}
 use Rattle.spool_types.specs.declared.phase.Phase.TheVariants.{Incoming, Waiting, Processing, Completed, Canceled, Aborted}
 use Rattle.spool_types.specs.declared.rows.QueueRow.{QueueRow}
@@ -16,7 +16,7 @@ use Rattle.spool_types.specs.declared.listing.ListedJob.{ListedJob}
 use Rattle.spool_types.specs.declared.listing.Row.{Row}
 use Rattle.spool_types.specs.declared.listing.Row.TheVariants.{Head as HeadRow, Queue, Job as JobRow, Piece}
 use Rattle.job_table.specs.Legal.{IsLegal, Fits}
-use Rattle.job_table.specs.Loading.{Progress, begin_loading, headed, with_queue, with_job, with_piece, document_len, with_last, with_next_piece, loaded, unlisted, IsNewJob, IsNextHead, IsNextQueue, IsNextJob, IsNextPiece, IsPieceOf, IsPlaced, ArePlaced, loaded_all}
+use Rattle.job_table.specs.Loading.{Progress, begin_loading, headed, with_queue, with_job, with_piece, document_len, with_last, with_next_piece, loaded, unlisted, IsNewJob, IsNextQueue, IsNextPiece, IsPieceOf, IsPlaced}
 use Rattle.job_table.specs.Reading.{IsPartial, IsPartialIn, IsFresh, IsReading}
 use Rattle.job_table.proofs.Changes.{apart, some_same, one_more, legal_queue, legal_put}
 use Rattle.job_table.proofs.Legal.{legal_nothing}

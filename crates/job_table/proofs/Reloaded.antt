@@ -1,6 +1,6 @@
 -- The listing of a legal table is taken row by row, and makes the table again.
-use Rattle.std.proofs.Common.{◌≡◌, ℕ, zero, suc, ◌+◌, ◌-◌, ◌*◌, ◌/◌, ◌<◌, ◌≤◌, Bool, true, false, cond, ◌&&◌, ◌==◌, ◌%◌, List, [], ◌∷◌, ◌++◌, length, take, drop, map, min, Some, None, Option, IsSome, refl, sym, ap, subst, ◌∙◌, arith, rules, append_assoc, length-append, length-drop}
-use Rattle.std.specs.Prelude.{T, is_some}
+use Rattle.std.proofs.Common.{◌≡◌, ℕ, zero, suc, ◌+◌, ◌-◌, ◌*◌, ◌/◌, ◌<◌, ◌≤◌, Bool, true, false, cond, ◌&&◌, ◌==◌, ◌%◌, List, [], ◌∷◌, ◌++◌, length, take, drop, map, min, Some, None, Option, refl, sym, ap, subst, ◌∙◌, arith, rules, append_assoc, length-append, length-drop}
+use Rattle.std.specs.Prelude.{T}
 use Rattle.std.proofs.lemmas.List.{take-append-drop, length-take}
 use Rattle.std.proofs.lemmas.Nat.{div-mul-add, div-add-mod'}
 use Rattle.std.proofs.Math.Nat.{mod-lt}
@@ -8,8 +8,8 @@ use Rattle.std.proofs.lemmas.Bool.{and_parts}
 use Rattle.std.proofs.lemmas.Slice.Eq.{bytes_eq-Decides}
 use Rattle.std.specs.List.{flat_map, Contains}
 use Rattle.std.specs.declared.cmp.Ordering.{Ordering}
-use Rattle.std.specs.declared.cmp.Ordering.TheVariants.{Less, Equal, Greater}
-use Rattle.std.specs.Ordering.{nat_cmp, is_eq, is_lt, eq_by_cmp, ordering_reverse}
+use Rattle.std.specs.declared.cmp.Ordering.TheVariants.{Less}
+use Rattle.std.specs.Ordering.{nat_cmp, is_eq, eq_by_cmp, ordering_reverse}
 use Rattle.std.specs.Cmp.{IsTotalOrder, nat_cmp_total, tied_itself}
 use Rattle.std.specs.Cmp.Lexicographic.{slice_cmp, nat_list_cmp_total}
 use Rattle.std.specs.FinMap as finite
@@ -17,21 +17,21 @@ use Rattle.std.specs.FinMap.Entries.{find, is_sorted, below_all}
 use Rattle.spool_types.specs.Busy.{is_of, is_busy}
 use Rattle.spool_types.specs.Limits.{longest_send, greatest_number, most_queues}
 use Rattle.spool_types.specs.Phases.{has_ended, is_processing}
-use Rattle.spool_types.specs.State.{State, Job, Queues, Jobs, nothing, queue_at, job_at}
+use Rattle.spool_types.specs.State.{State, Job, Queues, Jobs, queue_at, job_at}
 use Rattle.spool_types.specs.declared.phase.Phase.{Phase}
 use Rattle.spool_types.specs.declared.phase.Phase.TheVariants.{Incoming, Waiting, Processing, Completed, Canceled, Aborted}
 use Rattle.spool_types.specs.declared.rows.QueueRow.{QueueRow}
 use Rattle.spool_types.specs.declared.listing.Row.{Row}
 use Rattle.spool_types.specs.declared.listing.Row.TheVariants.{Head as HeadRow, Queue, Job as JobRow, Piece}
-use Rattle.job_table.specs.Legal.{IsLegal, IsLegalJob, Fits}
+use Rattle.job_table.specs.Legal.{IsLegal, Fits}
 use Rattle.job_table.specs.Listing.{listing, listed, parts, pieces, job_rows}
-use Rattle.job_table.specs.Loading.{Progress, IsAbove, begin_loading, headed, with_queue, with_job, with_piece, document_len, with_last, loaded, unlisted, IsWhole, IsNewQueue, IsNewJob, IsNextQueue, IsNextJob, IsNextPiece, IsPlaced, ArePlaced, loaded_all}
+use Rattle.job_table.specs.Loading.{Progress, IsAbove, begin_loading, with_job, document_len, with_last, loaded, unlisted, IsWhole, IsNewJob, IsPlaced, ArePlaced, loaded_all}
 use Rattle.job_table.proofs.Above.{entries_above}
-use Rattle.job_table.proofs.Rows.{t_from, first_of, second_of, less_from, true_from, map_none}
+use Rattle.job_table.proofs.Rows.{first_of, second_of, less_from, true_from}
 use Rattle.job_table.proofs.Choice.{passing, value_found}
-use Rattle.job_table.proofs.Listed.{append_none, entries_none, values_none}
+use Rattle.job_table.proofs.Taken.{append_none, entries_none, values_none}
 use Rattle.job_table.proofs.Pieces.{take_all}
-use Rattle.job_table.proofs.Changes.{apart, not_both, at_most_highest}
+use Rattle.job_table.proofs.Changes.{not_both, at_most_highest}
 
 -- ## Rows in turn
 

@@ -4,6 +4,7 @@ use Rattle.std.specs.List.{flat_map}
 use Rattle.std.specs.FinMap as finite
 use Rattle.spool_types.specs.Limits.{longest_send}
 use Rattle.spool_types.specs.State.{State, Job}
+use Rattle.spool_types.specs.declared.listing.Head.{Head as HeadRow}
 use Rattle.spool_types.specs.declared.listing.ListedJob.{ListedJob}
 use Rattle.spool_types.specs.declared.listing.Row.{Row}
 use Rattle.spool_types.specs.declared.listing.Row.TheVariants.{Head, Queue, Job as JobRow, Piece}
@@ -39,9 +40,12 @@ pieces bytes = parts longest_send ((length bytes + 65535) / longest_send) bytes
 abbrev pub job_rows : Job → List Row
 job_rows r = JobRow (listed r) ∷ map (λ bytes. Piece r.id bytes) (pieces r.document)
 
+abbrev pub head_of : State → HeadRow
+head_of s = record { highest = s.highest; moment = s.moment }
+
 -- The head; the queues in ascending order of name; the jobs in ascending order of number, each followed by its document's
 -- pieces.
 abbrev pub listing : State → List Row
 listing s =
-    Head (record { highest = s.highest; moment = s.moment })
+    Head (head_of s)
     ∷ (map (λ q. Queue q) (finite.values s.queues) ++ flat_map job_rows (finite.values s.jobs))

@@ -1,5 +1,5 @@
 -- What the fields of a loading mean.
-use Rattle.std.specs.Prelude.{◌≡◌, ℕ, ◌*◌, ◌<◌, ◌≤◌, false, length, vec_capacity, Option, None, Some}
+use Rattle.std.specs.Prelude.{◌≡◌, ℕ, ◌*◌, ◌<◌, false, length, Option, None, Some}
 use Rattle.std.specs.Option.{option_map}
 use Rattle.spool_types.specs.Limits.{longest_send}
 use Rattle.spool_types.specs.Phases.{has_ended}

@@ -74,6 +74,7 @@
 #![tactic(auto)]
 
 mod laws;
+mod listing;
 mod loading;
 mod table;
 
@@ -81,5 +82,6 @@ pub use laws::{
     ended_jobs_stay, legal_tables_stay_legal, listings_are_loaded, reopening,
     spent_stages_stay_spent,
 };
+pub use listing::listed;
 pub use loading::{LoadFault, Loading};
 pub use table::{PrepareFault, Table, is_in_stage};

@@ -2,7 +2,11 @@
 #![tactic(auto)]
 
 #[cfg(test)]
+mod loading;
+#[cfg(test)]
 mod test_answers;
+#[cfg(test)]
+mod test_rows;
 #[cfg(test)]
 mod test_words;
 #[cfg(test)]

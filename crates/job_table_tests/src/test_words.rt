@@ -13,7 +13,7 @@ pub(super) fn word<'a>(words: &[&'a str], at: usize) -> Result<&'a str, Fail> {
     Ok(*words.get(at).ok_or("a word is missing")?)
 }
 
-fn small(words: &[&str], at: usize) -> Result<u32, Fail> {
+pub(super) fn small(words: &[&str], at: usize) -> Result<u32, Fail> {
     Ok(word(words, at)?.parse::<u32>()?)
 }
 

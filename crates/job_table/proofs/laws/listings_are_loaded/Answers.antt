@@ -1,4 +1,4 @@
-use Rattle.job_table.proofs.Listed.{only_listings}
+use Rattle.job_table.proofs.Taken.{only_listings}
 use Rattle.job_table.proofs.Reloaded.{listed_again}
 use Rattle.job_table.proofs.laws.listings_are_loaded.Goals as goal
 

@@ -1,5 +1,5 @@
 -- the next piece of the last job
-use Rattle.std.proofs.Common.{refl, sym, ap, subst, ◌∙◌}
+use Rattle.std.proofs.Common.{rules, refl, sym, ap, subst, ◌∙◌}
 use Rattle.std.specs.Option.{option_map}
 use Rattle.spool_types.specs.State.{job_of}
 use Rattle.spool_types.specs.declared.listing.Row.TheVariants.{Piece}
@@ -7,7 +7,6 @@ use Rattle.job_table.specs.Loading.{IsPieceOf, with_next_piece}
 use Rattle.job_table.specs.Reading.{progress_of}
 use Rattle.job_table.proofs.Loaded.{settled_piece, read_on}
 use Rattle.job_table.proofs.loading.Loading.load_piece.Goals as goal
-use Rattle.job_table.proofs.loading.Loading.load_piece.Goals.{in-Some-1, in-None-2}
 
 pub invariant_of-self-in-Some-2 : goal.invariant_of-self-in-Some-2
 invariant_of-self-in-Some-2 c =
@@ -20,4 +19,4 @@ returns-in-Some-clause-loaded c =
     let next = (settled_piece (progress_of c.self.inside) _ (job_of c.in-Some.row) _ _ c.in_ok-reserve_job.ensures.same c.settle.ensures.state c.settle.ensures.rest c.args.bytes.now (option_map job_of c.self.inside.partial)
     (ap (option_map job_of) c.in-Some.ensures.value ∙ c.in_ok-append_piece.ensures.added))
     ∙ ap (λ p. with_next_piece p c.args.bytes.now p.partial) c.self.view_is in
-    elim c.match-self-settle.branch [ in-Some-1 w ↦ w.self-is ∙ next | in-None-2 w ↦ w.self-is ∙ next ]
+    search (rules, next)

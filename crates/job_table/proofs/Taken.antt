@@ -1,5 +1,5 @@
 -- The rows that were taken are the listing of what they made.
-use Rattle.std.proofs.Common.{◌≡◌, ◌≢◌, ℕ, ◌+◌, ◌-◌, ◌<◌, ◌≤◌, Bool, true, false, cond, ◌==◌, List, [], ◌∷◌, ◌++◌, length, map, min, Some, None, Option, refl, sym, ap, subst, ◌∙◌, arith, append_assoc}
+use Rattle.std.proofs.Common.{◌≡◌, ◌≢◌, ℕ, Bool, true, false, cond, ◌==◌, List, [], ◌∷◌, ◌++◌, length, map, Some, None, Option, refl, sym, ap, subst, ◌∙◌, arith, append_assoc}
 use Rattle.std.proofs.lemmas.List.{map-append}
 use Rattle.std.proofs.lemmas.Grind.{flat_map-append}
 use Rattle.std.specs.List.{flat_map}
@@ -8,17 +8,15 @@ use Rattle.std.specs.Ordering.{nat_cmp}
 use Rattle.std.specs.Cmp.{IsTotalOrder, nat_cmp_total}
 use Rattle.std.specs.Cmp.Lexicographic.{slice_cmp, nat_list_cmp_total}
 use Rattle.std.specs.FinMap as finite
-use Rattle.spool_types.specs.Limits.{longest_send}
-use Rattle.spool_types.specs.State.{State, Job, nothing}
+use Rattle.spool_types.specs.State.{State, Job}
 use Rattle.spool_types.specs.declared.rows.QueueRow.{QueueRow}
 use Rattle.spool_types.specs.declared.listing.Head.{Head}
-use Rattle.spool_types.specs.declared.listing.ListedJob.{ListedJob}
 use Rattle.spool_types.specs.declared.listing.Row.{Row}
 use Rattle.spool_types.specs.declared.listing.Row.TheVariants.{Head as HeadRow, Queue, Job as JobRow, Piece}
 use Rattle.job_table.specs.Legal.{IsLegal}
 use Rattle.job_table.specs.Listing.{listing, job_rows}
-use Rattle.job_table.specs.Loading.{Progress, IsAbove, begin_loading, headed, with_queue, with_job, with_piece, document_len, with_last, loaded, unlisted, IsWhole, IsNewJob, IsNextQueue, IsNextPiece, IsPieceOf, IsPlaced, ArePlaced, loaded_all}
-use Rattle.job_table.specs.Reading.{IsPartial, IsPartialIn, IsFresh, IsReading}
+use Rattle.job_table.specs.Loading.{Progress, IsAbove, begin_loading, headed, with_queue, with_job, with_piece, document_len, with_last, loaded, unlisted, IsWhole, IsPieceOf, IsPlaced, ArePlaced, loaded_all}
+use Rattle.job_table.specs.Reading.{IsPartial, IsPartialIn, IsReading}
 use Rattle.job_table.proofs.Above.{entries_above}
 use Rattle.job_table.proofs.Rows.{map_none}
 use Rattle.job_table.proofs.Loaded.{reading_begin, reading_loaded, begun_with}
@@ -47,8 +45,8 @@ partial_rows (Some r) = job_rows r
 abbrev rows_of : Progress → List Row
 rows_of p = cond p.begun (listing p.state ++ partial_rows p.partial) []
 
-abbrev head_of : State → Row
-head_of s = HeadRow (record { highest = s.highest; moment = s.moment })
+abbrev head_row : State → Row
+head_row s = HeadRow (record { highest = s.highest; moment = s.moment })
 
 queue_row : QueueRow → Row
 queue_row q = Queue q
@@ -56,17 +54,17 @@ queue_row q = Queue q
 -- a queue more, where no jobs are
 queue_more : (s : State) (q : QueueRow) → IsAbove (slice_cmp nat_cmp) q.name (finite.keys s.queues) → finite.values s.jobs ≡ [] → listing (with_queue s q) ≡ listing s ++ Queue q ∷ []
 queue_more s q above none =
-    ap (λ js. head_of s ∷ (map (λ q. Queue q) (finite.values (finite.insert s.queues q.name q)) ++ flat_map job_rows js)) none
-    ∙ ap (λ qs. head_of s ∷ (map (λ q. Queue q) qs ++ [])) (values_above (slice_cmp nat_cmp) nat_list_cmp_total s.queues q.name q above)
-    ∙ ap (λ rows. head_of s ∷ rows) (append_none _ ∙ map-append (λ q. Queue q) (finite.values s.queues) (q ∷ []) ∙ ap (λ rows. rows ++ Queue q ∷ []) (sym (append_none (map (λ q. Queue q) (finite.values s.queues)))))
-    ∙ ap (λ js. (head_of s ∷ (map (λ q. Queue q) (finite.values s.queues) ++ flat_map job_rows js)) ++ Queue q ∷ []) (sym none)
+    ap (λ js. head_row s ∷ (map (λ q. Queue q) (finite.values (finite.insert s.queues q.name q)) ++ flat_map job_rows js)) none
+    ∙ ap (λ qs. head_row s ∷ (map (λ q. Queue q) qs ++ [])) (values_above (slice_cmp nat_cmp) nat_list_cmp_total s.queues q.name q above)
+    ∙ ap (λ rows. head_row s ∷ rows) (append_none _ ∙ map-append (λ q. Queue q) (finite.values s.queues) (q ∷ []) ∙ ap (λ rows. rows ++ Queue q ∷ []) (sym (append_none (map (λ q. Queue q) (finite.values s.queues)))))
+    ∙ ap (λ js. (head_row s ∷ (map (λ q. Queue q) (finite.values s.queues) ++ flat_map job_rows js)) ++ Queue q ∷ []) (sym none)
 
 -- a job more
 job_more : (s : State) (r : Job) → IsAbove nat_cmp r.id (finite.keys s.jobs) → listing (with_job s r) ≡ listing s ++ job_rows r
 job_more s r above =
-    ap (λ js. head_of s ∷ (map (λ q. Queue q) (finite.values s.queues) ++ flat_map job_rows js)) (values_above nat_cmp nat_cmp_total s.jobs r.id r above)
-    ∙ ap (λ rows. head_of s ∷ (map (λ q. Queue q) (finite.values s.queues) ++ rows)) (flat_map-append job_rows (finite.values s.jobs) (r ∷ []) ∙ ap (λ rows. flat_map job_rows (finite.values s.jobs) ++ rows) (append_none (job_rows r)))
-    ∙ ap (λ rows. head_of s ∷ rows) (sym (append_assoc (map (λ q. Queue q) (finite.values s.queues)) (flat_map job_rows (finite.values s.jobs)) (job_rows r)))
+    ap (λ js. head_row s ∷ (map (λ q. Queue q) (finite.values s.queues) ++ flat_map job_rows js)) (values_above nat_cmp nat_cmp_total s.jobs r.id r above)
+    ∙ ap (λ rows. head_row s ∷ (map (λ q. Queue q) (finite.values s.queues) ++ rows)) (flat_map-append job_rows (finite.values s.jobs) (r ∷ []) ∙ ap (λ rows. flat_map job_rows (finite.values s.jobs) ++ rows) (append_none (job_rows r)))
+    ∙ ap (λ rows. head_row s ∷ rows) (sym (append_assoc (map (λ q. Queue q) (finite.values s.queues)) (flat_map job_rows (finite.values s.jobs)) (job_rows r)))
 
 -- the last job, wherever it is
 last_more : (p : Progress) (r : Job) → p.begun ≡ true → IsAbove nat_cmp r.id (finite.keys p.state.jobs) → rows_of (with_last p r) ≡ listing p.state ++ job_rows r
