@@ -1,6 +1,6 @@
 -- What is printed of the lines of backends.
-use Rattle.std.specs.Prelude.{◌≡◌, ℕ, ◌⊎◌, ◌==◌, List, [], ◌∷◌, ◌++◌, Option, IsUtf8}
-use Rattle.std.specs.List.{slice_split}
+use Rattle.std.specs.Prelude.{◌≡◌, ℕ, ◌⊎◌, ◌≤◌, ◌==◌, List, [], ◌∷◌, ◌++◌, length, Option, IsUtf8}
+use Rattle.std.specs.List.{flat_map, slice_split}
 use Rattle.std.specs.Io.KnownBytes.{Appends}
 use Rattle.device_uri.specs.Lines.{IsDeviceLine}
 use Rattle.device_uri.specs.declared.line.DeviceLine.{DeviceLine}
@@ -37,6 +37,12 @@ pub record PrintsDevices (lines : List (List ℕ)) (old new : Option (List ℕ))
   pub text : List ℕ
   pub are : ArePrinted lines text
   pub wrote : Appends old new text
+
+-- at most so many backends told a text, and the devices among the lines of all were printed in their order
+pub record PrintsTold (backends : ℕ) (old new : Option (List ℕ)) : Type 0 where
+  pub texts : List (List ℕ)
+  pub each : length texts ≤ backends
+  pub printed : PrintsDevices (flat_map lines_of texts) old new
 
 -- one line was, if it reads so
 abbrev pub PrintsIfDevice : List ℕ → Option (List ℕ) → Option (List ℕ) → Type 0

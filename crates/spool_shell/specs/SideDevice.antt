@@ -8,35 +8,18 @@ use Rattle.url.specs.Parts.{Parts}
 use Rattle.url.specs.Parser.{parse_url}
 use Rattle.url.specs.declared.error.ParseError.{ParseError}
 use Rattle.spool_types.specs.Values.{is_uri}
-use Rattle.device_uri.specs.Options.{pairs_of, options_of, is_bad}
+use Rattle.device_options.specs.Options.{Pair, last_value, options_or_none}
 use Rattle.side_channel.specs.declared.devices.Device.{Device}
-
--- a name and its value
-abbrev pub Pair : Type 0
-Pair = List ℕ × List ℕ
 
 -- ---- the options
 
--- those of a URL, and none where one of them is bad
-abbrev pub readable : Parts → List Pair
-readable url = cond (is_bad (pairs_of url)) [] (options_of url)
-
 abbrev pub of_parsed : Result Parts ParseError → List Pair
-of_parsed (Ok url) = readable url
+of_parsed (Ok url) = options_or_none url
 of_parsed (Err e) = []
 
 -- those of a text, and none where it is no URI
 abbrev pub options_in : List ℕ → List Pair
 options_in text = cond (is_uri text) (of_parsed (parse_url None text)) []
-
--- the last value of a name, where `found` came before these
-abbrev pub last_behind : List ℕ → Option (List ℕ) → List Pair → Option (List ℕ)
-last_behind name found [] = found
-last_behind name found (q ∷ qs) = last_behind name (cond (bytes_eq q.0 name) (Some q.1) found) qs
-
--- the last value of a name
-abbrev pub last_value : List ℕ → List Pair → Option (List ℕ)
-last_value name options = last_behind name None options
 
 -- ---- their values
 

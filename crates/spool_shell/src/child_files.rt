@@ -1,5 +1,5 @@
 //! The files of a child, in the spool's folder.
-ghost use Rattle.std.specs.Prelude.{◌≡◌, IfOk};
+ghost use Rattle.std.specs.Prelude.{◌≡◌, IfOk, IfSome, take};
 ghost use Rattle.std.specs.String.{string_bytes};
 ghost use Rattle.spool_shell.specs.ChildFiles.{file_of};
 ghost use Rattle.filter_args.specs.declared.files.ChildFile.TheVariants as files;
@@ -76,12 +76,14 @@ pub(crate) fn make_file_of<R: Files<File = File>>(
     make_file(rt, path)?.write_all(bytes)
 }
 
-/// Reads up to so many bytes.
+/// Reads up to so many bytes. Where the reader fails before them this is its error.
 pub(crate) fn read_at_most<R: Read + Drop>(
     alloc: Global,
     reader: R,
     most: u64,
-) -> io::Result<Vec<u8>> {
+) -> io::Result<Vec<u8>>
+    ensures { IfOk result (λ bytes. IfSome (R.remaining reader) (λ told. bytes.items ≡ take most told)) }
+{
     let mut bytes = Vec::new(alloc);
     reader.take(most).read_to_end(&mut bytes)?;
     Ok(bytes)

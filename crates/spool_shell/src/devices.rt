@@ -5,6 +5,10 @@
 //! one that hangs is the user's to stop. Its standard error goes nowhere, and so does what it prints behind its first
 //! 1,048,576 bytes.
 
+ghost use Rattle.std.specs.Prelude.{◌≡◌, ◌≢◌, Err, IfErr, IfOk, IsOk, OnErr, OnOk, length};
+ghost use Rattle.std.specs.IoError.{error_kind};
+ghost use Rattle.spool_shell.specs.DeviceLines.{PrintsDevices, PrintsTold, lines_of};
+
 use crate::child_files::read_at_most;
 use crate::device_lines::print_lines;
 use crate::fault::ShellFault;
@@ -21,21 +25,37 @@ const ENV: &str = "/usr/bin/env";
 // How many bytes of a backend's lines are read.
 const MOST_LINES: u64 = 1_048_576;
 
-/// Prints the devices of each backend, in the file's order.
+/// Prints the devices of each backend, in the file's order. A backend that can't be run, or read, tells none.
 pub(crate) fn print_devices<R: Processes + AllocGlobal, W: Write>(
     rt: &R,
     list: &ProgramList,
     writer: &mut W,
-) -> Result<(), ShellFault> {
+) -> Result<(), ShellFault>
+    ensures { OnOk result (PrintsTold (length list.now.backends) (W.contents writer.old) (W.contents writer.new)) }
+{
     for backend in list.backends() {
-        let told = match told_by(rt, &backend.program) {
-            Ok(told) => told,
-            Err(error) if error.kind() == ErrorKind::OutOfMemory => return Err(ShellFault::Memory),
-            Err(_) => continue,
-        };
-        print_lines(rt.alloc(), &told, writer)?;
+        let told = told_by(rt, &backend.program);
+        print_told(rt.alloc(), told, writer)?;
     }
     Ok(())
+}
+
+// Prints the devices of what a backend told. Only where it found no memory this is a fault.
+fn print_told<W: Write>(
+    alloc: Global,
+    told: io::Result<Vec<u8>>,
+    writer: &mut W,
+) -> Result<(), ShellFault>
+    ensures lines { OnOk result (IfOk told (λ text. PrintsDevices (lines_of text.items) (W.contents writer.old) (W.contents writer.new))) }
+    ensures nothing { OnOk result (OnErr told (W.contents writer.new ≡ W.contents writer.old)) }
+    ensures memory { IfErr told (λ error. error_kind error ≡ ErrorKind.OutOfMemory → result ≡ Err ShellFault.Memory) }
+    ensures passed { IfErr told (λ error. error_kind error ≢ ErrorKind.OutOfMemory → IsOk result) }
+{
+    match told {
+        Ok(text) => print_lines(alloc, &text, writer),
+        Err(error) if error.kind() == ErrorKind::OutOfMemory => Err(ShellFault::Memory),
+        Err(_) => Ok(()),
+    }
 }
 
 // What a backend prints.

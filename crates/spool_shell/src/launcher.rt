@@ -17,9 +17,9 @@
 //! All are [`ChildFault`]. Of `start`: the program isn't in the list, or no file that can be run lies there; a file can't
 //! be made, or filled; there is no process or no memory left. What was made is removed then. Of `finish`: the end can't
 //! be known, or what the child wrote can't be read. A status is never made up. The child is waited for in any case.
-ghost use Rattle.std.specs.Prelude.{◌≡◌, None, IfOk, IsErr, IsOkAnd, string_bytes};
+ghost use Rattle.std.specs.Prelude.{◌≡◌, None, Some, IfOk, IsErr, IsOkAnd, string_bytes};
 ghost use Rattle.std.specs.Option.{option_map};
-ghost use Rattle.spool_shell.specs.Launching.{IsExitOf, device_for, input_name, program_for};
+ghost use Rattle.spool_shell.specs.Launching.{device_for, exit_of, input_name, program_for};
 
 use crate::child_files::{ChildPaths, make_file, make_file_of, read_at_most};
 use crate::script::Call;
@@ -223,9 +223,11 @@ fn finish_of(
     output: File,
     errors: File,
 ) -> io::Result<Finish>
-    ensures { IfOk result (λ finish. IsOkAnd ended (λ status. IsExitOf status finish.exit)) }
+    ensures { IfOk result (λ finish. IsOkAnd ended (λ status. exit_of status ≡ Some finish.exit)) }
 {
-    let exit = exit_of(ended?)?;
+    let Some(exit) = exit_of(ended?) else {
+        return Err(io::Error::from(io::ErrorKind::Other));
+    };
     let output = read_at_most(alloc, output, MOST_OUTPUT)?;
     let errors = read_at_most(alloc, errors, MOST_ERRORS)?;
     Ok(Finish {
@@ -235,15 +237,15 @@ fn finish_of(
     })
 }
 
-// How a child ended.
-fn exit_of(status: ExitStatus) -> io::Result<Exit>
-    ensures { IfOk result (IsExitOf status) }
+// How a child ended, where its status tells an end.
+fn exit_of(status: ExitStatus) -> Option<Exit>
+    ensures { result ≡ exit_of status }
 {
     if let Some(code) = status.code() {
-        return Ok(Exit::Code(code as u8));
+        return Some(Exit::Code(code as u8));
     }
     match status.signal() {
-        Some(_) => Ok(Exit::Signal),
-        None => Err(io::Error::from(io::ErrorKind::Other)),
+        Some(_) => Some(Exit::Signal),
+        None => None,
     }
 }

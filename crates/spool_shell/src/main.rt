@@ -22,7 +22,7 @@
 //!   channel, the variables, the program and its words, in this order (`arguments_of`). So nothing of a job is ever part
 //!   of the script's text. The files are those that the engine's words name (`file_of`).
 //! - [`launcher`] looks up exactly the program that an order names (`program_for`), hands a document over by its name
-//!   alone (`input_name`), and tells an end only as the system did (`IsExitOf`).
+//!   alone (`input_name`), and tells an end exactly as the system did (`exit_of`), and none else.
 //! - [`side_device::device_of`] is exactly the device of a URI's options, with their defaults (`device_in`).
 //! - [`device_lines::print_lines`] prints exactly the lines that read as a device's (`ArePrinted`).
 //! - [`memory_device`] is a spool with an empty table, of exactly the bytes that the words say.

@@ -10,9 +10,10 @@
 //! its options can't be read.
 ghost use Rattle.std.specs.Prelude.{◌≡◌, IfOk, map, string_bytes};
 ghost use Rattle.std.specs.Option.{option_map};
-ghost use Rattle.spool_shell.specs.SideDevice.{device_in, flag_in, id_in, last_value, options_in, state_in, state_number, uri_among, uri_behind};
+ghost use Rattle.spool_shell.specs.SideDevice.{device_in, flag_in, id_in, options_in, state_in, state_number, uri_among, uri_behind};
 
-use device_uri::{DeviceOption, DeviceUri, OptionsFault, UriFault};
+use device_options::{last_value, options_or_none};
+use device_uri::{DeviceOption, DeviceUri, UriFault};
 use side_channel::{Device, DeviceId};
 use std::alloc::{AllocError, Global};
 
@@ -46,42 +47,24 @@ pub(crate) fn device_of(alloc: Global, uri: &str) -> Result<Device, AllocError>
     ensures { IfOk result (λ device. device ≡ device_in uri.now) }
 {
     let options = options_of(alloc, uri)?;
-    let id = id_of(alloc, value_of(&options, "id"))?;
+    let id = id_of(alloc, last_value(&options, "id"))?;
     Ok(Device {
-        bidi: flag_of(value_of(&options, "bidi")),
-        connected: flag_of(value_of(&options, "connected")),
-        state: state_of(value_of(&options, "state")),
+        bidi: flag_of(last_value(&options, "bidi")),
+        connected: flag_of(last_value(&options, "connected")),
+        state: state_of(last_value(&options, "state")),
         id,
     })
 }
 
-// The options of a URI, and none where they can't be read.
+// The options of a URI, and none where it is no URI or they can't be read.
 fn options_of(alloc: Global, uri: &str) -> Result<Vec<DeviceOption>, AllocError>
     ensures { IfOk result (λ options. options.items ≡ options_in uri.now) }
 {
-    let uri = match DeviceUri::parse(alloc, uri) {
-        Ok(uri) => uri,
-        Err(UriFault::BadUri) => return Ok(Vec::new(alloc)),
-        Err(UriFault::Memory) => return Err(AllocError),
-    };
-    match uri.options() {
-        Ok(options) => Ok(options),
-        Err(OptionsFault::BadOption) => Ok(Vec::new(alloc)),
-        Err(OptionsFault::Memory) => Err(AllocError),
+    match DeviceUri::parse(alloc, uri) {
+        Ok(uri) => options_or_none(alloc, &uri),
+        Err(UriFault::BadUri) => Ok(Vec::new(alloc)),
+        Err(UriFault::Memory) => Err(AllocError),
     }
-}
-
-// The last value of a name.
-fn value_of<'a>(options: &'a [DeviceOption], name: &str) -> Option<&'a str>
-    ensures { option_map (λ value. value.now) result ≡ last_value name.now options.now }
-{
-    let mut found = None;
-    for option in options {
-        if option.name() == name {
-            found = Some(option.value());
-        }
-    }
-    found
 }
 
 fn flag_of(value: Option<&str>) -> bool

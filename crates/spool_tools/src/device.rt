@@ -2,12 +2,13 @@
 ghost use Rattle.std.specs.Prelude.{◌≡◌, ◌⊎◌, IfErr, IfOk, IsErrOf, IsUtf8};
 ghost use Rattle.std.specs.String.{string_bytes};
 ghost use Rattle.percent_encoding.specs.Percent.{percent_decode};
-ghost use Rattle.spool_tools.specs.Devices.{IsDevice, IsNoDevice, options_in};
+ghost use Rattle.spool_tools.specs.Devices.{IsDevice, IsNoDevice};
 
 use crate::fault::ToolFault;
-use device_uri::{DeviceOption, DeviceUri, OptionsFault, UriFault};
+use device_options::options_or_none;
+use device_uri::{DeviceOption, DeviceUri, UriFault};
 use percent_encoding::{DecodeError, percent_decode};
-use std::alloc::{AllocError, Global};
+use std::alloc::Global;
 
 /// The file and the options that a device's URI names.
 #[derive(Drop)]
@@ -30,7 +31,7 @@ pub fn read_device(alloc: Global, text: &str) -> Result<Device, ToolFault>
         Err(UriFault::Memory) => return Err(ToolFault::Memory),
     };
     let path = read_path(alloc, uri.path())?;
-    let options = read_options(alloc, &uri)?;
+    let options = options_or_none(alloc, &uri)?;
     Ok(Device { path, options })
 }
 
@@ -44,16 +45,5 @@ fn read_path(alloc: Global, path: &str) -> Result<String, ToolFault>
         Ok(name) => Ok(name.into_owned(alloc)?),
         Err(DecodeError::Utf8(_)) => Err(ToolFault::Device),
         Err(DecodeError::OutOfMemory) => Err(ToolFault::Memory),
-    }
-}
-
-// The options of a device, or none where they can't be read.
-fn read_options(alloc: Global, uri: &DeviceUri) -> Result<Vec<DeviceOption>, AllocError>
-    ensures { IfOk result (λ options. options.items ≡ options_in uri.now.url) }
-{
-    match uri.options() {
-        Ok(options) => Ok(options),
-        Err(OptionsFault::BadOption) => Ok(Vec::new(alloc)),
-        Err(OptionsFault::Memory) => Err(AllocError),
     }
 }

@@ -28,7 +28,8 @@
 //! - [`results::write_copies`] writes the results of a document that tells its bytes, and counts the form feeds written of
 //!   any (`Copied`): no byte is lost where two pieces meet.
 //! - The status is 0 after a tool's work and 1 after a fault ([`tell_end`], [`end_silently`]). That of `spoolfile` is its
-//!   option, or 0 without one (`exit_of`), and each option has its default (`turns_of`, `last_of`).
+//!   option, or 0 without one (`exit_of`), and each option has its default (`turns_of`). Of options with one name the last
+//!   counts (`last_value` of `device_options`).
 //! - A device has the path and the options of its URI, and is refused only where that is no URI or its path no text
 //!   ([`device::read_device`]).
 //! - [`side::ask_id`] writes 04 00 00 00 and gives the packet that comes first, and only an answer that is OK and holds its

@@ -9,9 +9,11 @@
 //! Of two options with one name the last counts. A value that is no number of its range is the default.
 ghost use Rattle.std.specs.Prelude.{◌≡◌, codes, unwrap_or};
 ghost use Rattle.std.specs.Option.{option_map};
-ghost use Rattle.spool_tools.specs.Options.{exit_of, last_of, number_of, turns_of};
+ghost use Rattle.device_options.specs.Options.{last_value};
+ghost use Rattle.spool_tools.specs.Options.{exit_of, number_of, turns_of};
 
 use crate::numbers::ranged;
+use device_options::last_value;
 use device_uri::DeviceOption;
 
 /// The status that `spoolfile` ends with.
@@ -30,30 +32,17 @@ pub fn turns_of(options: &[DeviceOption]) -> u32
 
 /// The file that `meet` looks for.
 pub fn partner_of(options: &[DeviceOption]) -> Option<&str>
-    ensures { option_map (λ name. name.now) result ≡ last_of (codes "partner") options.now }
+    ensures { option_map (λ name. name.now) result ≡ last_value (codes "partner") options.now }
 {
-    last_of(options, "partner")
+    last_value(options, "partner")
 }
 
 // The number that the option of this name has, or the default.
 fn number_of(options: &[DeviceOption], name: &str, most: u32, default: u32) -> u32
     ensures { result ≡ number_of name.now most default options.now }
 {
-    match last_of(options, name) {
+    match last_value(options, name) {
         Some(value) => ranged(value, 0, most).unwrap_or(default),
         None => default,
     }
-}
-
-// The value of the last option of this name.
-fn last_of<'a>(options: &'a [DeviceOption], name: &str) -> Option<&'a str>
-    ensures { option_map (λ value. value.now) result ≡ last_of name.now options.now }
-{
-    let mut found = None;
-    for option in options {
-        if option.name() == name {
-            found = Some(option.value());
-        }
-    }
-    found
 }

@@ -1,0 +1,6 @@
+-- what the backends so far told was printed
+use Rattle.spool_shell.specs.DeviceLines.{PrintsTold}
+use Rattle.spool_shell.proofs.devices.print_devices.Given as goal
+
+abbrev pub invariant-loop-backend : goal.invariant-loop-backend
+invariant-loop-backend g l = PrintsTold l.backend-index (g.W.Write.contents l.initial.writer) (g.W.Write.contents l.writer)
