@@ -1,5 +1,5 @@
 use crate::test_answers::{check_rows, said};
-use crate::test_rows::{check_loading, loaded_again};
+use crate::test_rows::{check_loading, loaded_again, table_of};
 use job_table::{Loading, Table};
 use std::test::Fail;
 
@@ -19,7 +19,7 @@ fn no_rows_are_the_empty_table(rt: HostRuntime) -> Result<(), Fail> {
             ("whole?", "yes"),
         ],
     )?;
-    let mut table = loading.into_table();
+    let mut table = table_of(loading)?;
     check_rows(
         &rt,
         alloc,
@@ -72,7 +72,7 @@ fn rows_come_in_their_order(rt: HostRuntime) -> Result<(), Fail> {
             ("whole?", "yes"),
         ],
     )?;
-    let mut table = loading.into_table();
+    let mut table = table_of(loading)?;
     check_rows(
         &rt,
         alloc,
@@ -126,7 +126,7 @@ fn pieces_make_the_document(rt: HostRuntime) -> Result<(), Fail> {
             ("whole?", "yes"),
         ],
     )?;
-    let mut table = loading.into_table();
+    let mut table = table_of(loading)?;
     check_rows(
         &rt,
         alloc,

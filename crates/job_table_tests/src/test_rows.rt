@@ -177,6 +177,10 @@ pub(super) fn loaded_again(alloc: Global, table: &Table) -> Result<Table, Fail> 
     for job in table.jobs() {
         take_job(alloc, &mut loading, job)?;
     }
+    table_of(loading)
+}
+
+pub(super) fn table_of(loading: Loading) -> Result<Table, Fail> {
     if !loading.is_whole() {
         return Err(Fail::from("a document is short"));
     }
