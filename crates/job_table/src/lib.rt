@@ -64,7 +64,7 @@
 //!
 //! 6. The table of a loading is legal. Its last job stands beside it while the document is short: whole pieces of it are
 //!    there, and the job may be put in as the table's last row (`IsReading`). The memory for the row and for the whole
-//!    document was found when the job came, so no piece moves the document.
+//!    document is asked for when the job comes, so that no piece has to move the document. No clause says so.
 //!
 //! # Faults
 //!
