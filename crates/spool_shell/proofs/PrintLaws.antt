@@ -1,5 +1,5 @@
 -- Lines that are printed one after another.
-use Rattle.std.proofs.Common.{◌≡◌, ◌∙◌, ℕ, ◌+◌, ◌≤◌, List, [], ◌∷◌, ◌++◌, length, Option, refl, sym, ap, subst, inl, inr, arith}
+use Rattle.std.proofs.Common.{◌≡◌, ◌∙◌, ℕ, ◌+◌, ◌≤◌, List, [], ◌∷◌, ◌++◌, Option, Result, Ok, Err, IfOk, OnErr, refl, sym, ap, subst, inl, inr, arith}
 use Rattle.std.proofs.lemmas.List.{append_assoc, append-nil, flat_map_more, length-append}
 use Rattle.std.specs.List.{flat_map}
 use Rattle.std.specs.Io.KnownBytes.{Appends}
@@ -31,7 +31,7 @@ both (x ∷ xs) ys s t (inl (is, g)) h = inl (is, record { rest = g.rest ++ t; w
 both (x ∷ xs) ys s t (inr (none, g)) h = inr (none, both xs ys s t g h)
 
 -- one backend more told this text
-pub tells_more : (count : ℕ) (text : List ℕ) (a b c : Option (List ℕ)) → PrintsTold count a b → PrintsDevices (lines_of text) b c → PrintsTold (count + 1) a c
+tells_more : (count : ℕ) (text : List ℕ) (a b c : Option (List ℕ)) → PrintsTold count a b → PrintsDevices (lines_of text) b c → PrintsTold (count + 1) a c
 tells_more count text a b c h more =
     let lines : flat_map lines_of h.texts ++ lines_of text ≡ flat_map lines_of (h.texts ++ text ∷ []) = flat_map_more lines_of [] h.texts text in
     record {
@@ -45,5 +45,11 @@ tells_more count text a b c h more =
     }
 
 -- one backend more told nothing
-pub tells_nothing : (count : ℕ) (a b c : Option (List ℕ)) → PrintsTold count a b → c ≡ b → PrintsTold (count + 1) a c
+tells_nothing : (count : ℕ) (a b c : Option (List ℕ)) → PrintsTold count a b → c ≡ b → PrintsTold (count + 1) a c
 tells_nothing count a b c h e = subst (PrintsTold (count + 1) a) (sym e) (record { texts = h.texts; each = let e = h.each in omega arith; printed = h.printed })
+
+-- one backend more told a text, or could not be read
+pub tells : {V E : Type 0} (text_of : V → List ℕ) (told : Result V E) (count : ℕ) (a b c : Option (List ℕ)) → PrintsTold count a b
+    → IfOk told (λ v. PrintsDevices (lines_of (text_of v)) b c) → OnErr told (c ≡ b) → PrintsTold (count + 1) a c
+tells text_of (Ok v) count a b c h lines nothing = tells_more count (text_of v) a b c h lines
+tells text_of (Err e) count a b c h lines nothing = tells_nothing count a b c h nothing

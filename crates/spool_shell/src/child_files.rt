@@ -4,12 +4,12 @@ ghost use Rattle.std.specs.String.{string_bytes};
 ghost use Rattle.spool_shell.specs.ChildFiles.{file_of};
 ghost use Rattle.filter_args.specs.declared.files.ChildFile.TheVariants as files;
 
-use crate::device::{new_file, remove_if_there};
+use crate::device::new_file;
 use child_pipeline::Order;
 use filter_args::{ChildFile, Place};
 use std::alloc::{AllocError, Global};
 use std::fs::{File, Files};
-use std::io::{Read, Write};
+use std::io::{ErrorKind, Read, Write};
 use std::path::Path;
 use std::{fs, io};
 
@@ -39,10 +39,13 @@ impl ChildPaths {
         })
     }
 
-    /// Removes those that are there.
-    pub fn remove<R: Files>(&self, rt: &R) {
-        for path in [&self.input, &self.output, &self.errors, &self.side] {
+    /// Removes those that are there, and the socket where there may be one.
+    pub fn remove<R: Files>(&self, rt: &R, side: bool) {
+        for path in [&self.input, &self.output, &self.errors] {
             let _ = fs::remove_file(rt, path.as_str());
+        }
+        if side {
+            let _ = fs::remove_file(rt, self.side.as_str());
         }
     }
 }
@@ -60,11 +63,16 @@ fn path_of(
 }
 
 /// Makes a file, which its owner alone may read. What a crash left under this name goes first, and so does a link, which
-/// is never followed.
+/// is never followed. Mostly nothing is there, so that is tried first.
 pub(crate) fn make_file<R: Files<File = File>>(rt: &R, path: &str) -> io::Result<File> {
     let path = Path::new(path);
-    remove_if_there(rt, path)?;
-    new_file(rt, path)
+    match new_file(rt, path) {
+        Err(error) if error.kind() == ErrorKind::AlreadyExists => {
+            fs::remove_file(rt, path)?;
+            new_file(rt, path)
+        }
+        made => made,
+    }
 }
 
 /// Makes a file of these bytes.

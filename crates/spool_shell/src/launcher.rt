@@ -120,7 +120,7 @@ impl<'a, R: Files<File = File> + Net + Processes + AllocGlobal> Launcher<'a, R> 
                 side,
             }),
             Err(_) => {
-                paths.remove(self.rt);
+                paths.remove(self.rt, self.list.side().is_some());
                 Err(ChildFault)
             }
         }
@@ -208,7 +208,7 @@ impl<'a, R: Files<File = File> + Net + Processes + AllocGlobal> Children for Lau
         };
         let ended = child.wait();
         let finish = finish_of(alloc, ended, output, errors);
-        paths.remove(self.rt);
+        paths.remove(self.rt, self.list.side().is_some());
         match finish {
             Ok(finish) => Ok(finish),
             Err(_) => Err(ChildFault),
