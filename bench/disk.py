@@ -1,11 +1,12 @@
 #!/usr/bin/env python3
-"""What an event costs on a disk, and what an opening costs: disk.py [FOLDER]
+"""What an event and a checkpoint cost on a disk: disk.py [FOLDER]
 
 It runs crates/spool_shell/out/spool_shell (made by `rt run` in that folder) with `--root` in a new folder under FOLDER
 (here, where none is given), and prints
 
 - the time of an event, and its ratio to the floor: two writes and two syncs an event by a plain program (floor.c);
-- the time of an opening as its journal grows. A ratio near 1 says that it is linear.
+- the time of a checkpoint as the table grows, and its ratio to the floor: a checkpoint appends each row as an event is
+  appended. Beside it stands the time in which the same bytes are written and synced at once.
 
 Times depend on the machine and its disk; only the ratios are of interest, and no test reads them.
 """
@@ -15,6 +16,8 @@ import subprocess
 import sys
 import tempfile
 import time
+
+from opening import rows, spool
 
 here = os.path.dirname(os.path.abspath(__file__))
 shell = os.path.join(here, "..", "crates", "spool_shell", "out", "spool_shell")
@@ -53,11 +56,11 @@ def journal_end(root):
     return at
 
 
-def floor(folder, bytes_each):
-    """The seconds of as many events by the plain program."""
+def floor(folder, count, bytes_each):
+    """The seconds of so many events by the plain program."""
     program = os.path.join(folder, "floor")
     subprocess.run(["cc", "-O2", "-o", program, os.path.join(here, "floor.c")], check=True)
-    words = [program, os.path.join(folder, "floor.disk"), str(EVENTS), str(bytes_each)]
+    words = [program, os.path.join(folder, "floor.disk"), str(count), str(bytes_each)]
     return float(subprocess.run(words, stdout=subprocess.PIPE, check=True).stdout)
 
 
@@ -71,36 +74,40 @@ def events(folder):
         before = journal_end(root)
         took = run(root, CREATE * EVENTS)
         bytes_each = (journal_end(root) - before) // EVENTS
-        least = floor(folder, bytes_each)
+        least = floor(folder, EVENTS, bytes_each)
         print(
             f"  {EVENTS / took:8.0f} a second of {bytes_each} bytes, the floor {EVENTS / least:8.0f},"
             f" ratio {took / least:5.2f}"
         )
 
 
-def journal(count):
-    """The bytes of a disk whose journal has so many clock events."""
-    record = GATE + struct.pack(">I", 9)
-    area = bytearray(GATE + b"\x01" + struct.pack(">Q", 1) + bytes(6))
-    for moment in range(count):
-        area += record + b"\x0b" + struct.pack(">Q", moment)
-    area += bytes(4096)
-    return bytes(area) + bytes(len(area))
+def written(folder, size):
+    """The seconds in which so many bytes are written and synced at once."""
+    there = bytes(size)
+    with open(os.path.join(folder, "written"), "wb") as file:
+        start = time.perf_counter()
+        file.write(there)
+        file.flush()
+        os.fsync(file.fileno())
+        return time.perf_counter() - start
 
 
-def openings(folder):
-    """Openings of longer and longer journals."""
-    print("openings")
-    first = None
-    for count in (1000, 10000, 100000, 1000000):
-        root = os.path.join(folder, f"opening-{count}")
+def checkpoints(folder):
+    """Checkpoints of longer and longer tables, of jobs without documents."""
+    print("checkpoints")
+    for count in (1000, 10000, 100000):
+        root = os.path.join(folder, f"checkpoint-{count}")
         os.mkdir(root)
+        size = sum(record_length(len(row)) for row in rows(count))
         with open(os.path.join(root, "spool.disk"), "wb") as file:
-            file.write(journal(count))
-        took = min(run(root, b"") for _ in range(3))
-        each = took / count
-        first = first or each
-        print(f"  {count:8} events: {took:8.3f} s, {each * 1e6:8.3f} us an event, ratio {each / first:5.2f}")
+            file.write(spool(rows(count)))
+        opened = min(run(root, b"") for _ in range(3))
+        took = run(root, b"checkpoint\n") - opened
+        least = floor(folder, count, size // count)
+        print(
+            f"  {count:8} rows: {took:8.3f} s, the floor {least:8.3f}, ratio {took / least:5.2f};"
+            f" {size} bytes at once {written(folder, size):8.3f} s"
+        )
 
 
 def main():
@@ -108,7 +115,7 @@ def main():
         sys.exit("no program: run `rt run` in crates/spool_shell first")
     with tempfile.TemporaryDirectory(dir=sys.argv[1] if len(sys.argv) > 1 else ".") as folder:
         events(folder)
-        openings(folder)
+        checkpoints(folder)
 
 
 main()

@@ -24,14 +24,15 @@ static void put(int file, const void *bytes, size_t count, off_t at)
         fail("fdatasync");
 }
 
-/* A file of the size that the spool's disk has by default, whose blocks are there. */
-static int laid_out(const char *name)
+/* A file with room for so many bytes, whose blocks are there: of the size that the spool's disk has by default, or longer. */
+static int laid_out(const char *name, off_t bytes)
 {
     static char zeros[4194304];
     int file = open(name, O_RDWR | O_CREAT | O_TRUNC, 0600);
     if (file < 0)
         fail(name);
-    put(file, zeros, sizeof zeros, 0);
+    for (off_t at = 0; at == 0 || at < bytes; at += (off_t)sizeof zeros)
+        put(file, zeros, sizeof zeros, at);
     return file;
 }
 
@@ -49,7 +50,7 @@ int main(int count, char **words)
     long events = atol(words[2]);
     size_t bytes = (size_t)atol(words[3]);
     char *record = calloc(bytes, 1);
-    int file = laid_out(words[1]);
+    int file = laid_out(words[1], 17 + events * (off_t)bytes);
     double start = now();
     for (long i = 0; i < events; i++) {
         put(file, record, bytes, 16 + i * (off_t)bytes + 1);

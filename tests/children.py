@@ -4,7 +4,8 @@
 SHELL is the program, and crates/spool_shell/out/spool_shell (made by `rt run` in that folder) where none is given. No clause
 can say what a file, a socket or a process does, so these are the tests of the launcher, the side channel's sockets and
 `--devices`. Its filters and backends are small programs of sh and Python, which it writes into a fresh folder for each test.
-Each TEST is the name of a function below; without one all are run.
+Each TEST is the name of a function below; without one all are run. Two want more than Python, and say so where it is
+missing: a full folder is a file system that is mounted (as root), and what the system refuses is refused by `strace`.
 
 The last line is `N of N`, with status 0, or the first difference, with status 1. The folder of that test stays then, and is
 named. The whole takes about a minute.
@@ -255,6 +256,30 @@ def no_descriptors_left(folder):
     same("files", folder.left(), ["spool.disk"])
 
 
+def refused_by_the_system(folder):
+    """No process left, and files that can't be read: NoStart or Lost, whatever the child would have ended with."""
+    strace = shutil.which("strace")
+    if not strace:
+        print("refused_by_the_system: left out, since it wants strace (Debian's package strace)")
+        return
+    folder.program("backend", "says", "#!/bin/sh\necho said\necho told >&2\nexit 3\n")
+    root = os.path.realpath(folder.at(folder.root))
+    no_process = ["-e", "inject=clone,clone3,fork,vfork:error=EAGAIN"]
+    no_output = ["-P", f"{root}/out-2-1-1", "-e", "inject=read,pread64,readv:error=EIO"]
+    no_errors = ["-P", f"{root}/err-3-1-1", "-e", "inject=read,pread64,readv:error=EIO"]
+    script = b"queue lab says:/x a/a abort-job\n"
+    for number, (refusal, end) in enumerate([(no_process, b"\x02"), (no_output, b"\x03"), (no_errors, b"\x03")], 1):
+        script += b'create lab ann "" 1 50 ""\nclose %d page.txt\nround\njobs\n' % number
+        words = [strace, "-qq", "-o", folder.at("calls"), *refusal, *folder.words()]
+        run = subprocess.run(words, input=script, cwd=folder.path, capture_output=True, timeout=60)
+        same("status", (run.returncode, run.stderr), (0, b""))
+        same(f"job {number}", states(run.stdout.decode().splitlines())[number], "8 backend-failed")
+        same(f"end of {number}", stage_event(number, 1, 1, end) in folder.read("spool/spool.disk"), True)
+        same("files", folder.left(), ["spool.disk"])
+        script = b""
+    same("none is refused any more", states(folder.run(b'create lab ann "" 1 50 ""\nclose 4 page.txt\nround\njobs\n'))[4], "4 held-by-backend")
+
+
 # ---- what children are given
 
 GIVEN = PYTHON + """
@@ -324,6 +349,10 @@ def odd_words(folder):
     for number, (text, report) in enumerate(zip(ODD, folder.report("words")), 1):
         options = "x=" + "".join("\\" + c if c in " '\"\\" else c for c in text)
         same("words", report, repr([str(number), text or "u", text, "1", options, f"spool/in-{number}-1-1"]))
+    # A line feed is in no text: the line ends there, and neither half is a command.
+    replies = folder.run(b'create lab ann "a\nb" 1 50 ""\ncreate lab ann "" 1 50 "x=a\nb"\njobs\n')
+    same("line feeds", replies[:4], ["error syntax"] * 4)
+    same("no job of them", replies[4:], [*[line for line in replies if line.startswith("job ")], f"ok {len(ODD)}"])
     same("nothing else ran", os.path.exists(folder.at("hit")) or os.path.exists(folder.at("spool", "hit")), False)
 
 
@@ -371,6 +400,18 @@ def documents(folder):
     same("document", folder.read("backend-keep.kept") == document, True)
 
 
+def files_taken_away(folder):
+    """A child that removes its output, and renames its standard error, loses nothing of them."""
+    text = '#!/bin/sh\ncd "$TMPDIR"\nrm out-*\nmv err-* "$0.err"\necho kept\necho "INFO: told" >&2\n'
+    folder.program("filter", "first", text)
+    folder.program("backend", "keep", '#!/bin/sh\ncat >"$0.kept"\n')
+    replies = folder.run(printed("q", "keep:/x", "b/b") + b"drain 5\njobs\nqueues\n")
+    same("jobs", states(replies), {1: "9 job-completed-successfully"})
+    same("output", folder.read("backend-keep.kept"), b"kept\n")
+    same("message", [line.split(" ")[9:] for line in replies if line.startswith("queue ")], [['"told"']])
+    same("files", folder.left(), ["spool.disk"])
+
+
 def standard_error(folder):
     text = '#!/bin/sh\necho "STATE: +toner-low" >&2\nyes "DEBUG: on and on" | head -c 3000000 >&2\necho "STATE: +media-jam" >&2\n'
     folder.program("backend", "loud", text)
@@ -398,6 +439,9 @@ def at_once(folder):
 SLOW = '#!/bin/sh\necho "$1 $SPOOL_ATTEMPT" >>"$0.ran"\nsleep 0.03\n'
 KILLS = 40
 
+# What is shown of a job whose end nobody saw, under each policy.
+LOST = [("abort-job", "8 attempt-lost"), ("retry-current-job", "3 none"), ("retry-job", "3 retry-later"), ("stop-printer", "3 none")]
+
 
 def wait_for_children(folder):
     """Waits until nothing runs in the folder any more: the child of a shell that was killed goes on."""
@@ -419,7 +463,7 @@ def killed(folder):
     folder.program("backend", "slow", SLOW)
     within = 0
     for trial in range(KILLS):
-        policy, shown = [("abort-job", "8 attempt-lost"), ("retry-current-job", "3 none"), ("retry-job", "3 retry-later")][trial % 3]
+        policy, shown = LOST[trial % len(LOST)]
         shutil.rmtree(folder.at("spool"))
         os.mkdir(folder.at("spool"))
         ran = folder.at("backend-slow.ran")
@@ -438,13 +482,19 @@ def killed(folder):
         for line in open(ran):
             number, attempt = map(int, line.split())
             attempts[number] = max(attempt, attempts.get(number, 0))
-        after = states(folder.run(b"jobs\n"))
+        replies = folder.run(b"jobs\nqueues\n")
+        after = states(replies)
         for number in ended:
             same(f"job {number} that had ended", after[number], before[number])
-        within += any(after[number] == shown for number in set(attempts) - ended)
+        lost = any(after[number] == shown for number in set(attempts) - ended)
+        within += lost
+        # Where no child ran, a start may be on the disk all the same.
+        allowed = ("5",) if lost else ("3", "5")
+        allowed = allowed if policy == "stop-printer" else ("3",)
+        same("the queue", queue_states(replies).get("lab", "3") in allowed, True)
         for number in set(attempts) - ended:
             same(f"job {number} that was started", after[number] in (shown, "9 job-completed-successfully"), True)
-        last = states(folder.run(b"clock 100\ndrain 100\njobs\n"))
+        last = states(folder.run(b"enable lab\nclock 100\ndrain 100\njobs\n"))
         closed = {number: state for number, state in last.items() if after[number] != "4 job-incoming"}
         same("all that were closed end", {state[0] for state in closed.values()} <= {"8", "9"}, True)
         for line in open(ran):
@@ -595,11 +645,13 @@ TESTS = [
     signals,
     programs_that_cannot_run,
     no_descriptors_left,
+    refused_by_the_system,
     given,
     odd_words,
     links,
     outputs,
     documents,
+    files_taken_away,
     standard_error,
     full_folder,
     at_once,

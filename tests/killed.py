@@ -9,8 +9,8 @@ a whole making takes. Such a life gets a folder that is fresh, or has what a kil
 has to make or open the spool there, with what was answered.
 
 Several lives follow in the last of these folders. A life gets one command at a time, and is killed after some reply,
-inside the text of a command, or with a command under way. The next life's `jobs` has to list exactly what was answered,
-and beside it at most the command that was under way.
+inside the text of a command, or with a command under way. One command in five is a checkpoint. The next life's `jobs`
+has to list exactly what was answered, and beside it at most the command that was under way.
 
 What has to be listed is told by a table of this script's own. The last line is `50 of 50`, with status 0, or the first
 difference, with status 1.
@@ -66,6 +66,8 @@ class Table:
         return table, table.change(*command)
 
     def change(self, name, *words):
+        if name == "checkpoint":
+            return "ok"
         if name == "queue":
             self.queues.append(words[0])
             return "ok"
@@ -93,6 +95,8 @@ def text_of(name, *words):
         return f"send {words[0]} {words[1]}\n{'x' * words[1]}\n"
     if name == "close":
         return f"close {words[0]} page.txt\n"
+    if name == "checkpoint":
+        return "checkpoint\n"
     return f"cancel {words[0]}\n"
 
 
@@ -100,6 +104,8 @@ def next_command(table, chance):
     """A command that the table accepts."""
     if not table.queues:
         return FIRST
+    if chance.random() < 0.2:
+        return ("checkpoint",)
     number = chance.randrange(len(table.jobs) + 1)
     if number == 0:
         return ("create", f"Job {len(table.jobs) + 1}")

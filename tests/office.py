@@ -6,8 +6,9 @@ It runs the built programs, crates/spool_shell/out/spool_shell and crates/spool_
 1. examples/office/print.sh prints a letter through a filter into a file, whose bytes are compared.
 2. Two backends `meet` find each other, so the children of a round run at once; and `sideask` learns the device's id by
    the side channel.
-3. A document goes through CUPS's own backend `socket` to a printer that listens on the loopback address. Where that
-   backend isn't installed (Debian's package `cups`) this part is left out, and said to be.
+3. The same letter, and then a document of all bytes, go through CUPS's own backend `socket` to a printer that listens on
+   the loopback address. Where that backend isn't installed (Debian's package `cups`) this part is left out, and said to
+   be.
 
 The last line is `N checks, 0 failed`, with status 0, or names how many failed, with status 1.
 """
@@ -46,15 +47,21 @@ def check(name, found, wanted):
         print(f"{name}: {found!r}, and not {wanted!r}")
 
 
-def print_letter(room):
-    folder = os.path.join(room, "office")
-    ran = subprocess.run([os.path.join(ROOT, "examples/office/print.sh"), folder], capture_output=True, timeout=60)
+def print_letter(room, name="office", *printer):
+    """Prints the letter into a file, or to this printer."""
+    folder = os.path.join(room, name)
+    words = [os.path.join(ROOT, "examples/office/print.sh"), folder, *printer]
+    ran = subprocess.run(words, capture_output=True, timeout=60)
     check("the status of print.sh", (ran.returncode, ran.stderr), (0, b""))
     check("the replies of print.sh", ran.stdout.decode(), REPLIES)
-    with open(os.path.join(folder, "letter.prn"), "rb") as file:
-        check("the printed letter", file.read(), 2 * LETTER)
     left = sorted(os.listdir(os.path.join(folder, "spool")))
     check("the files of the children", [name for name in left if "-" in name], [])
+
+
+def print_letter_to_file(room):
+    print_letter(room)
+    with open(os.path.join(room, "office", "letter.prn"), "rb") as file:
+        check("the printed letter", file.read(), 2 * LETTER)
 
 
 def served(room, name, programs, script):
@@ -115,19 +122,37 @@ ok 1
     check("its devices", (ran.returncode, ran.stdout), (0, b'file spoolfile "Unknown" "spoolfile"\n'))
 
 
-def print_to_socket(room):
-    printer = socket.create_server(("127.0.0.1", 0))
-    printer.settimeout(30)
-    taken = []
+class Printer:
+    """A printer that listens on the loopback address, and takes one connection."""
 
-    def take():
-        connection, _ = printer.accept()
+    def __init__(self):
+        self.listener = socket.create_server(("127.0.0.1", 0))
+        self.listener.settimeout(30)
+        self.port = self.listener.getsockname()[1]
+        self.taken = []
+        self.listening = threading.Thread(target=self.take)
+        self.listening.start()
+
+    def take(self):
+        connection, _ = self.listener.accept()
         while piece := connection.recv(65536):
-            taken.append(piece)
+            self.taken.append(piece)
         connection.close()
 
-    listening = threading.Thread(target=take)
-    listening.start()
+    def got(self):
+        self.listening.join()
+        self.listener.close()
+        return b"".join(self.taken)
+
+
+def print_letter_to_socket(room):
+    printer = Printer()
+    print_letter(room, "network", f"127.0.0.1:{printer.port}")
+    check("the letter that the printer took", printer.got(), 2 * LETTER)
+
+
+def print_to_socket(room):
+    printer = Printer()
     folder = os.path.join(room, "socket")
     os.mkdir(folder)
     programs = os.path.join(room, "programs")
@@ -137,10 +162,9 @@ def print_to_socket(room):
     with open(convs, "w") as file:
         file.write("application/octet-stream application/x-prn 1 prncount\n")
     page = bytes(range(256)) * 200
-    port = printer.getsockname()[1]
     script = b"".join(
         [
-            b"queue net socket://127.0.0.1:%d/?waiteof=false application/x-prn retry-job\n" % port,
+            b"queue net socket://127.0.0.1:%d/?waiteof=false application/x-prn retry-job\n" % printer.port,
             b'create net ann "Bytes" 1 50 ""\n',
             b"send 1 %d\n%s\n" % (len(page), page),
             b"close 1 page\ndrain 9\njobs\n",
@@ -148,11 +172,10 @@ def print_to_socket(room):
     )
     words = [SHELL, "--root", folder, "--convs", convs, "--programs", programs]
     ran = subprocess.run(words, input=script, capture_output=True, timeout=60)
-    listening.join()
     check("the status of the run to the socket", (ran.returncode, ran.stderr), (0, b""))
     done = b'job 1 net 9 job-completed-successfully "ann" 51200 200 "Bytes"\nok 1\n'
     check("the end of the job to the socket", ran.stdout[-len(done) :], done)
-    check("what the printer took", b"".join(taken), page)
+    check("what the printer took", printer.got(), page)
 
 
 def main():
@@ -161,11 +184,12 @@ def main():
             print(f"office.py wants the built program {program}: run rt all check, or rt ci")
             return 1
     with tempfile.TemporaryDirectory(prefix="office-", dir="/tmp") as room:
-        print_letter(room)
+        print_letter_to_file(room)
         first_script(room)
         meet_each_other(room)
         ask_the_device(room)
         if os.path.isfile(SOCKET):
+            print_letter_to_socket(room)
             print_to_socket(room)
         else:
             print(f"left out: {SOCKET} isn't there (Debian's package cups)")

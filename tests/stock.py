@@ -141,6 +141,7 @@ DEVICES = {
     "driverless": "nothing, but it lists devices alone",
     "driverless-fax": "nothing, but it lists devices alone",
     "snmp": "nothing, but it lists devices alone",
+    "implicitclass": "a running CUPS, with a queue of cups-browsed",
 }
 
 KEEP = """#!/bin/sh

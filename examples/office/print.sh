@@ -1,12 +1,19 @@
 #!/bin/sh
-# Prints a letter through a filter into the file letter.prn of a new folder: print.sh FOLDER
+# Prints a letter through a filter, and keeps its spool in a new folder: print.sh FOLDER [HOST:PORT]
+#
+# It goes into the file letter.prn of that folder, or to the printer that listens at HOST:PORT (mostly port 9100). The
+# latter is done by CUPS's backend `socket` (Debian's package cups).
 #
 # The folder's name is absolute, of at most 58 bytes, without blanks, `=` and what a URI can't have.
 set -eu
 folder=$1
+printer=${2:-}
 here=$(cd "$(dirname "$0")" && pwd)
 crates=$(cd "$here/../../crates" && pwd)
+# A printer that is away for ten seconds is tried again by a later round.
+device=${printer:+socket://$printer/?waiteof=false\\&contimeout=10}
 mkdir "$folder" "$folder/spool"
 sed "s|TOOLS|$crates/spool_tools/out/spool_tools|" "$here/programs" > "$folder/programs"
-sed "s|FOLDER|$folder|" "$here/letter.spool" | "$crates/spool_shell/out/spool_shell" --root "$folder/spool" \
-    --types "$here/office.types" --convs "$here/office.convs" --programs "$folder/programs"
+sed "s|DEVICE|${device:-spoolfile:$folder/letter.prn}|" "$here/letter.spool" |
+    "$crates/spool_shell/out/spool_shell" --root "$folder/spool" --types "$here/office.types" \
+        --convs "$here/office.convs" --programs "$folder/programs"

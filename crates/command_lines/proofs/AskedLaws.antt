@@ -12,7 +12,7 @@ use Rattle.spool_types.specs.declared.event.Event.TheVariants.{SetAccept, SetSto
 use Rattle.command_lines.specs.Asked.{is_line_event, AsksForLineEvent}
 use Rattle.command_lines.specs.Lines.{first_line, after_line}
 use Rattle.command_lines.specs.Words.{words_of}
-use Rattle.command_lines.specs.Grammar.{is_word, policy_in, interval_in, limit_in, copies_in, priority_in, count_in, until_in, job_in, moment_in, queue_in, one_word, one_word_line, new_queue_of, queue_line, info_of, info_line, creation_of, create_line, send_of, send_line, close_of, close_line, hold_of, hold_line, jobs_line, queues_line, rounds_in, round_line, drain_line, line_of, or_malformed, kind_of_words, is_remark, kind_of}
+use Rattle.command_lines.specs.Grammar.{is_word, policy_in, interval_in, limit_in, copies_in, priority_in, count_in, until_in, job_in, moment_in, queue_in, one_word, one_word_line, new_queue_of, queue_line, info_of, info_line, creation_of, create_line, send_of, send_line, close_of, close_line, hold_of, hold_line, jobs_line, queues_line, rounds_in, round_line, drain_line, checkpoint_line, line_of, or_malformed, kind_of_words, is_remark, kind_of}
 use Rattle.command_lines.specs.Text.{is_lf_at, sent, after_bytes, after_kind, commands_within, commands_of}
 use Rattle.command_lines.specs.declared.command.Command.{Command}
 use Rattle.command_lines.specs.declared.command.Command.TheVariants.{Apply, Drain, Malformed}
@@ -169,6 +169,10 @@ drain_line_asks [] = tt
 drain_line_asks (a ∷ []) = drain_asks (rounds_in a)
 drain_line_asks (a ∷ b ∷ words) = tt
 
+checkpoint_line_asks : (words : List (List ℕ)) → MayAsk (checkpoint_line words)
+checkpoint_line_asks [] = tt
+checkpoint_line_asks (a ∷ words) = tt
+
 -- ## The table, and the text
 
 line_asks : (name : List ℕ) (words : List (List ℕ)) → MayAsk (line_of name words)
@@ -177,13 +181,14 @@ line_asks name words =
     (either MayAsk (is_word name (codes "queues")) _ _ (queues_line_asks words)
     (either MayAsk (is_word name (codes "round")) _ _ (round_line_asks words)
     (either MayAsk (is_word name (codes "drain")) _ _ (drain_line_asks words)
+    (either MayAsk (is_word name (codes "checkpoint")) _ _ (checkpoint_line_asks words)
     (either MayAsk (is_word name (codes "queue")) _ _ (queue_line_asks words)
     (either MayAsk (is_word name (codes "info")) _ _ (info_line_asks words)
     (either MayAsk (is_word name (codes "create")) _ _ (create_line_asks words)
     (either MayAsk (is_word name (codes "send")) _ _ (send_line_asks words)
     (either MayAsk (is_word name (codes "close")) _ _ (close_line_asks words)
     (either MayAsk (is_word name (codes "hold")) _ _ (hold_line_asks words)
-    (one_word_line_asks name words))))))))))
+    (one_word_line_asks name words)))))))))))
 
 words_ask : (words : Option (List (List ℕ))) → Asks (kind_of_words words)
 words_ask None = tt

@@ -40,6 +40,8 @@ pub enum Command {
     Round,
     /// Runs rounds until one has nothing to do, or these were run.
     Drain(Rounds),
+    /// Makes room for further events: the table takes the place of those that made it.
+    Checkpoint,
     /// A line that is no command, or bytes of a send that no line feed follows.
     Malformed,
 }

@@ -6,7 +6,7 @@ ghost use Rattle.command_lines.specs.declared.command.Command.{Command};
 ghost use Rattle.command_lines.specs.declared.command.Kind.{Kind};
 ghost use Rattle.spool_types.specs.Values.{is_queue_name, is_uri, is_user_name, is_title, is_options, is_note, text_in, media_in};
 ghost use Rattle.line_words.specs.Seen.{bytes_of};
-ghost use Rattle.command_lines.specs.Grammar.{kind_of, is_remark, kind_in, line_of, one_word, one_word_line, queue_line, new_queue_of, info_line, info_of, create_line, creation_of, send_line, send_of, close_line, close_of, hold_line, jobs_line, queues_line, round_line, drain_line, rounds_in, queue_in, copies_in, priority_in, policy_in};
+ghost use Rattle.command_lines.specs.Grammar.{kind_of, is_remark, kind_in, line_of, one_word, one_word_line, queue_line, new_queue_of, info_line, info_of, create_line, creation_of, send_line, send_of, close_line, close_of, hold_line, jobs_line, queues_line, round_line, drain_line, checkpoint_line, rounds_in, queue_in, copies_in, priority_in, policy_in};
 
 use crate::command::{Command, Creation, Kind, Rounds};
 use crate::numbers::{job_number, moment_number, ranged_number, short_number, small_number};
@@ -95,6 +95,9 @@ fn line_of_command(
     }
     if name == b"drain".as_slice() {
         return Ok(drain_line(words));
+    }
+    if name == b"checkpoint".as_slice() {
+        return Ok(checkpoint_line(words));
     }
     if name == b"queue".as_slice() {
         return queue_line(alloc, words);
@@ -408,6 +411,16 @@ fn drain_line(words: &[Word<'_>]) -> Option<Kind>
     };
     let most: Rounds = ranged_number(count.bytes())?;
     Some(Kind::Says(Command::Drain(most)))
+}
+
+// `checkpoint`
+fn checkpoint_line(words: &[Word<'_>]) -> Option<Kind>
+    ensures { result ≡ checkpoint_line (map bytes_of words.now) }
+{
+    match words {
+        [] => Some(Kind::Says(Command::Checkpoint)),
+        _ => None,
+    }
 }
 
 fn policy_of(word: &[u8]) -> Option<Policy>

@@ -48,10 +48,12 @@ pub enum Answer<'a> {
     /// The spool has failed, and has to be opened again.
     Dead,
     NoMemory,
-    /// There is no room for the event.
+    /// There is no room for the event, or for a listing of the table.
     Full,
     /// The device has failed.
     Disk,
+    /// Checkpoints are numbered, and no number is left.
+    EpochEnd,
 }
 
 /// The text of a reply.
@@ -75,6 +77,7 @@ pub fn print_reply(alloc: Global, answer: &Answer<'_>) -> Result<Vec<u8>, AllocE
         Answer::NoMemory => Vec::from_slice(alloc, b"error memory\n"),
         Answer::Full => Vec::from_slice(alloc, b"error full\n"),
         Answer::Disk => Vec::from_slice(alloc, b"error disk\n"),
+        Answer::EpochEnd => Vec::from_slice(alloc, b"error epoch\n"),
     }
 }
 

@@ -71,6 +71,7 @@ cancel 1\n\
 clock 7\n\
 round\n\
 drain 5\n\
+checkpoint\n\
 queues\n\
 jobs";
 
@@ -91,11 +92,12 @@ Apply(Cancel(JobId { number: 1 }))\n\
 Apply(Clock(Moment { seconds: 7 }))\n\
 Round\n\
 Drain(Ranged { number: 5 })\n\
+Checkpoint\n\
 Queues\n\
 Jobs\n";
 
 // What a text shows, the text, and a line for each of its commands.
-const TEXTS: [(&str, &[u8], &str); 16] = [
+const TEXTS: [(&str, &[u8], &str); 17] = [
     (
         "queues with interval and limit",
         b"queue q s:/ a/b stop-printer 86400 65535\n\
@@ -191,6 +193,11 @@ Malformed\n",
         "drains have 1 to 1000 rounds",
         b"round\nround 1\ndrain\ndrain 0\ndrain 1\ndrain 1000\ndrain 1001\ndrain 1 1\n",
         "Round\nMalformed\nMalformed\nMalformed\nDrain(Ranged { number: 1 })\nDrain(Ranged { number: 1000 })\nMalformed\nMalformed\n",
+    ),
+    (
+        "a checkpoint takes no words",
+        b"checkpoint\ncheckpoint 1\n\"checkpoint\"\ncheckpoints\n",
+        "Checkpoint\nMalformed\nCheckpoint\nMalformed\n",
     ),
     (
         "limits of a creation",
@@ -336,6 +343,7 @@ fn replies_are_printed_line_by_line(rt: HostRuntime) -> Result<(), Fail> {
         (Answer::Dead, "error dead\n"),
         (Answer::Full, "error full\n"),
         (Answer::Disk, "error disk\n"),
+        (Answer::EpochEnd, "error epoch\n"),
     ] {
         assert_eq!(rt; printed(alloc, &answer)?.as_str(), want);
     }

@@ -20,6 +20,8 @@
 //! 4. `next_entry` is the entry at a place (`exact`): an entry, the end, or damage where a record leaves the area. From
 //!    the base on it gives the entries one after another, and then the end (`entry`, `at_end`), and what it gives are
 //!    the entries (`goes_on`). It changes nothing.
+//! 5. `Window::read` reads as the disk does (`data`, `same`, `cause`), and a whole block at a time: what the window has is
+//!    what the disk tells (`Holds`), before and after (`held`). Whoever writes to the disk clears the window first.
 //!
 //! 2 to 4 hold for every list of entries, so a caller needn't know them. They speak of disks that tell their bytes; on
 //! any other the calls have the same answers and faults.
@@ -32,7 +34,7 @@
 //! record either way. After the second sync it is A5 for certain, and only then is the record acknowledged.
 //!
 //! The invariants: `place` is below `end`, and, unless the journal is dead, the gate at `place` is closed in every
-//! image.
+//! image. A window has the memory of one block from its making on, so no read has an answer for want of memory.
 //!
 //! # Faults and what they leave
 //!
@@ -41,7 +43,8 @@
 //!   before the area's end. Nothing has changed: not the journal, the disk or the frame.
 //! - `Disk` only where the device's count of faults rose during the call. Each image has the old entries, or these and
 //!   this one. The journal is dead from then on.
-//! - `DeviceFault` from `begin` and `next_entry`, only where that count rose.
+//! - `DeviceFault` from `begin`, `next_entry` and `Window::read`, only where that count rose. A window that was to be filled
+//!   has no bytes then.
 #![tactic(auto)]
 
 mod add;
@@ -50,11 +53,13 @@ mod frame;
 mod journal;
 mod law;
 mod layout;
+mod window;
 
 pub use entry::{Found, next_entry};
 pub use journal::{Journal, JournalFault};
 pub use law::entries_law;
 pub use layout::{HEAD_LEN, KEPT_ROOM, OPEN_GATE};
+pub use window::Window;
 
 #[cfg(test)]
 mod tests;

@@ -382,8 +382,8 @@ fn each_child_is_finished_after_the_device_failed(rt: HostRuntime) -> Result<(),
             ("job a 1 50 0", "ok"),
             ("job b 2 50 0", "ok"),
             ("job c 3 50 0", "ok"),
-            // The opening takes 40 calls, and each of three starts 4.
-            ("open 52", ""),
+            // The opening takes 4 calls, and so does each of three starts.
+            ("open 16", ""),
             ("round", "disk"),
             ("1?", "processing 1 1"),
             (

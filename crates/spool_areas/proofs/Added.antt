@@ -13,6 +13,7 @@ use Rattle.gate_journal.specs.declared.journal.Journal.{Journal}
 use Rattle.gate_journal.specs.declared.journal.JournalFault.{JournalFault}
 use Rattle.gate_journal.specs.declared.journal.JournalFault.TheVariants.{Full, Disk, Dead}
 use Rattle.gate_journal.specs.Frame.{payload_of}
+use Rattle.gate_journal.specs.Window.{Stretch}
 use Rattle.gate_journal.proofs.Steps.{length-records-push}
 use Rattle.spool_areas.specs.Header.{half, header_len, header_at, epoch_of}
 use Rattle.spool_areas.specs.Payloads.{HasPayloads, HasBeforeOrAfter, gate_after}
@@ -122,10 +123,10 @@ same_test false true one other = absurd (cc (other refl))
 
 -- an append to the journal behind a header is one to the areas
 module _ {D : Type 0} (v : DiskView D) (lawful : IsLawful v) (room : ℕ) (some : 1 ≤ room) (old : Inside D) (inv : IsInside v old) (alive : old.dead ≡ false)
-    (after : D) (journal : Journal) (dead : Bool) (frame filled : List ℕ) (whole : 5 ≤ length frame) (result : Result ℕ JournalFault)
+    (after : D) (journal : Journal) (dead : Bool) (window : Stretch) (frame filled : List ℕ) (whole : 5 ≤ length frame) (result : Result ℕ JournalFault)
     (step : Appends v room (state_of old.journal) (state_of journal) old.disk after frame filled result) (dies : IsTrue dead ↔ IsErrOf result Disk) where
   abbrev new : Inside D
-  new = record { disk = after; base = old.base; len = old.len; epoch = old.epoch; journal = journal; dead = dead }
+  new = record { disk = after; base = old.base; len = old.len; epoch = old.epoch; journal = journal; dead = dead; window = window }
 
   old_state : state_of old.journal ≡ journal_of (current_of old)
   old_state = λ i. record { base = inv.journal i; end = old.journal.end; place = old.journal.place; dead = (inv.alive alive ∙ sym alive) i }

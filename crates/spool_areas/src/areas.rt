@@ -2,6 +2,7 @@
 ghost use Rattle.std.specs.Prelude.{◌≡◌, ◌≢◌, ◌<◌, ◌≤◌, ◌+◌, ◌^◌, ◌↔◌, ◌⊎◌, [], List, ℕ, false, length, Err, OnOk, OnErr, IsErrOf, IsTrue};
 ghost use Rattle.spool_disk.specs.Disk.{Blames, Reads, IsSynced, ChangesNothing, ChangesOnly};
 ghost use Rattle.gate_journal.specs.Appends.{kept_room};
+ghost use Rattle.gate_journal.specs.Window.{Holds};
 ghost use Rattle.spool_areas.specs.Header.{header_len};
 ghost use Rattle.spool_areas.specs.Seen.{IsArea};
 ghost use Rattle.spool_areas.specs.AreaAppends.{AreaAppends};
@@ -11,7 +12,7 @@ ghost use Rattle.spool_areas.specs.Checkpoint.{plan_of, frames_of, AreFrames, pa
 use crate::checkpoint::{change_over, have_room, rows_have_room};
 use crate::fault::{AreaFault, ReadFault};
 use crate::header::{HEADER_LEN, LAST_EPOCH};
-use gate_journal::{Journal, JournalFault};
+use gate_journal::{Journal, JournalFault, Window};
 use spool_disk::Disk;
 use std::marker::Model;
 
@@ -25,6 +26,8 @@ pub struct Areas<D: Disk> {
     epoch: u64,
     journal: Journal,
     dead: bool,
+    // What was read last. Each call that may write clears it first.
+    window: Window,
 }
 
 impl<D: Disk> Model for Areas<D> {
@@ -41,8 +44,16 @@ impl<D: Disk> Model for Areas<D> {
 
 impl<D: Disk> Areas<D> {
     /// The areas of a disk whose current area lies from `base` up to `end` and has this epoch, with the gate behind its
-    /// records at `gate`. It calls no device.
-    pub(crate) fn resume(disk: D, base: u64, end: u64, epoch: u64, gate: u64) -> Areas<D>
+    /// records at `gate`. The window is on this disk. It calls no device.
+    pub(crate) fn resume(
+        disk: D,
+        window: Window,
+        base: u64,
+        end: u64,
+        epoch: u64,
+        gate: u64,
+    ) -> Areas<D>
+        requires held { Holds D.device disk window }
         requires area { IsArea base end (D.device.size disk) }
         requires header { base + header_len ≤ gate }
         requires inside { gate < end }
@@ -56,6 +67,7 @@ impl<D: Disk> Areas<D> {
             epoch,
             journal: Journal::resume(first, end - first, gate),
             dead: false,
+            window,
         }
     }
 
@@ -71,6 +83,7 @@ impl<D: Disk> Areas<D> {
         if self.dead {
             return Err(JournalFault::Dead);
         }
+        self.window.clear();
         let added = self.journal.append(&mut self.disk, frame);
         self.dead = added == Err(JournalFault::Disk);
         added
@@ -86,6 +99,7 @@ impl<D: Disk> Areas<D> {
         if self.dead {
             return Err(JournalFault::Dead);
         }
+        self.window.clear();
         let added = self.journal.append_kept(&mut self.disk, frame);
         self.dead = added == Err(JournalFault::Disk);
         added
@@ -149,6 +163,7 @@ impl<D: Disk> Areas<D> {
     {
         let first = self.gate_for(rows)?;
         let other = first - HEADER_LEN;
+        self.window.clear();
         match change_over(&mut self.disk, other, self.len, self.epoch + 1, rows) {
             Ok(journal) => {
                 self.base = other;
@@ -176,7 +191,7 @@ impl<D: Disk> Areas<D> {
         }
     }
 
-    /// Reads bytes of the current area, behind its header.
+    /// Reads bytes of the current area, behind its header. Small reads one behind the other are served from one block.
     pub fn read_extent(&mut self, place: u64, into: &mut [u8]) -> Result<(), ReadFault>
         requires behind { self.old.base + header_len ≤ place }
         requires inside { place + length into.old ≤ self.old.end }
@@ -193,7 +208,7 @@ impl<D: Disk> Areas<D> {
         if self.dead {
             return Err(ReadFault::Dead);
         }
-        match self.disk.read(place, into) {
+        match self.window.read(&mut self.disk, place, into) {
             Ok(()) => Ok(()),
             Err(_) => {
                 self.dead = true;

@@ -32,7 +32,8 @@
 //! # The invariants
 //!
 //! The current area is one of the two, which lie on the device. Its journal lies right behind its header and ends with the
-//! area. Unless the areas are dead, the journal is alive (`IsInside`).
+//! area. Unless the areas are dead, the journal is alive. What was read last, a block at a time, is what the disk tells
+//! (`IsInside`).
 //!
 //! # Faults and what they leave
 //!

@@ -5,7 +5,7 @@ use spool_disk::{FuseDisk, MemDisk};
 use std::alloc::Global;
 use std::test::*;
 
-// The calls of a device that opening an empty spool takes: a sync, two headers and one gate.
+// The calls of a device that opening an empty spool takes: a sync, two headers and one block.
 const CALLS_OF_OPEN: u64 = 4;
 
 // An empty spool whose areas have room for one record of one byte.
@@ -59,6 +59,25 @@ fn reads_what_was_appended(rt: HostRuntime) -> Result<(), Fail> {
     Ok(())
 }
 
+// Each append makes the next read one of the device; a read of what was read before takes no call.
+#[test]
+fn reads_on_in_one_block(rt: HostRuntime) -> Result<(), Fail> {
+    let mut areas = failing_areas(rt.alloc(), 10)?;
+    let mut got = [7; 1];
+    assert_eq!(rt; areas.read_extent(21, &mut got), Ok(()));
+    assert_eq!(rt; got, [0]);
+    assert_eq!(rt; areas.append(&mut [0, 0, 0, 0, 8, 0]), Ok(21));
+    assert_eq!(rt; areas.read_extent(21, &mut got), Ok(()));
+    assert_eq!(rt; got, [8]);
+    assert_eq!(rt; areas.append(&mut [0, 0, 0, 0, 9, 0]), Ok(27));
+    assert_eq!(rt; areas.read_extent(27, &mut got), Ok(()));
+    assert_eq!(rt; got, [9]);
+    assert_eq!(rt; areas.read_extent(28, &mut got), Ok(()));
+    assert_eq!(rt; got, [0]);
+    assert_eq!(rt; areas.read_extent(21, &mut got), Err(ReadFault::Disk));
+    Ok(())
+}
+
 #[test]
 fn failed_append_ends_it(rt: HostRuntime) -> Result<(), Fail> {
     let mut areas = failing_areas(rt.alloc(), 0)?;
@@ -73,8 +92,9 @@ fn failed_append_ends_it(rt: HostRuntime) -> Result<(), Fail> {
 
 #[test]
 fn failed_read_ends_it(rt: HostRuntime) -> Result<(), Fail> {
-    let mut areas = failing_areas(rt.alloc(), 0)?;
+    let mut areas = failing_areas(rt.alloc(), 4)?;
     let mut frame = [0; 6];
+    assert_eq!(rt; areas.append(&mut frame), Ok(21));
     assert_eq!(rt; areas.read_extent(21, &mut frame), Err(ReadFault::Disk));
     assert_eq!(rt; areas.append(&mut frame), Err(JournalFault::Dead));
     assert_eq!(rt; areas.is_dead(), true);

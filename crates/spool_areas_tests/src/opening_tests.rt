@@ -162,18 +162,41 @@ fn the_higher_epoch_wins(rt: HostRuntime) -> Result<(), Fail> {
     Ok(())
 }
 
-// A sync, two headers, the gate and the length of each record, and the closed gate: eight calls.
+// A sync, two headers, and one block with all records: four calls.
 #[test]
 fn each_device_call_of_an_opening_may_fail(rt: HostRuntime) -> Result<(), Fail> {
     let before = disk_of_two(rt.alloc())?;
-    for calls in 0..8 {
+    for calls in 0..4 {
         let fuse = FuseDisk::new(disk_of_two(rt.alloc())?, calls);
         let error = Areas::open(rt.alloc(), fuse).err().ok_or("opened")?;
         assert_eq!(rt; error.fault, OpenFault::Disk);
         let disk = error.disk.into_disk();
         assert_eq!(rt; disk.bytes(), before.bytes());
     }
-    let fuse = FuseDisk::new(before, 8);
+    let fuse = FuseDisk::new(before, 4);
     assert_eq!(rt; Areas::open(rt.alloc(), fuse).is_ok(), true);
+    Ok(())
+}
+
+// 12,000 records of one byte are longer than a block: a sync, two headers and two blocks.
+#[test]
+fn a_journal_is_read_in_blocks(rt: HostRuntime) -> Result<(), Fail> {
+    let mut disk = MemDisk::new(rt.alloc(), 200_000)?;
+    assert_eq!(rt; make(&mut disk), Ok(()));
+    let mut areas = Areas::open(rt.alloc(), disk).ok().ok_or("open")?.areas;
+    for _ in 0..12_000 {
+        let _ = areas.append(&mut [0, 0, 0, 0, 7, 0]).ok().ok_or("append")?;
+    }
+    let fuse = FuseDisk::new(areas.into_disk(), 5);
+    let opened = Areas::open(rt.alloc(), fuse).ok().ok_or("open")?;
+    assert_eq!(rt; opened.payloads.len(), 12_000);
+    assert_eq!(rt;
+        opened.payloads.last(),
+        Some(&Extent {
+            place: 72_015,
+            len: 1
+        })
+    );
+    assert_eq!(rt; (opened.gate, opened.room), (72_016, 27_984));
     Ok(())
 }

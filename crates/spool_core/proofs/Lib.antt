@@ -10,3 +10,5 @@ pub mod DriveLaws
 pub mod TurnLaws
 pub mod Restarts
 pub mod LifeLaws
+pub mod ListingLaws
+pub mod CheckpointLaws

@@ -1,5 +1,5 @@
 -- One payload that is read.
-use Rattle.std.proofs.Common.{◌≡◌, ℕ, ◌+◌, ◌-◌, List, length, take, drop, Option, Some, Result, Ok, Err, refl, sym, ap, ◌∙◌, arith}
+use Rattle.std.proofs.Common.{◌≡◌, ℕ, ◌+◌, ◌-◌, List, length, take, drop, Option, None, Some, Result, Ok, Err, refl, sym, subst, ap, ◌∙◌, arith}
 use Rattle.spool_types.specs.declared.event.Event.{Event}
 use Rattle.event_codec.specs.Spelling.{spelling, IsSpellable}
 use Rattle.event_codec.specs.Reading.{Fails}
@@ -10,12 +10,12 @@ use Rattle.gate_journal.proofs.Places.{read_told}
 use Rattle.spool_areas.specs.declared.extent.Extent.{Extent}
 use Rattle.spool_areas.specs.declared.fault.OpenFault.TheVariants as open_fault
 use Rattle.spool_areas.specs.Extents.{bytes_of}
-use Rattle.spool_core.specs.Folding.{IsEventAt, IsReadFault, decode_fault}
-
--- the buffer holds the bytes of the extent
-pub record IsPayloadAt (bytes : List ℕ) (x : Extent) (payload : List ℕ) : Type 0 where
-  pub same : bytes_of bytes x ≡ payload
-  pub long : length payload ≡ x.len
+use Rattle.spool_areas.specs.declared.fault.OpenFault.{OpenFault}
+use Rattle.spool_types.specs.declared.listing.Row.{Row}
+use Rattle.spool_types.specs.State.{State}
+use Rattle.job_table.specs.Step.{refusal_of, after}
+use Rattle.event_codec.specs.RowSpelling.{row_spelling, IsRowSpellable}
+use Rattle.spool_core.specs.Folding.{IsPayloadAt, IsRowIn, IsAfterEvent, IsCommitFault, IsEventFault, decode_fault}
 
 pub payload_at : (told : Option (List ℕ)) (bytes got payload : List ℕ) (x : Extent) → told ≡ Some bytes → length got ≡ x.len → Reads told x.place got → payload ≡ got → IsPayloadAt bytes x payload
 payload_at told bytes got payload x tells long reads is =
@@ -25,41 +25,37 @@ payload_at told bytes got payload x tells long reads is =
       long = ap length is ∙ long;
     }
 
-same_event : (d e : Event) → ◌≡◌ {A = Result Event CodecFault} (Ok d) (Ok e) → d ≡ e
-same_event d e is = cc
-
-pub event_at : (bytes : List ℕ) (x : Extent) (payload : List ℕ) (e : Event) → IsPayloadAt bytes x payload → IsSpellable e → payload ≡ spelling e
-    → ((d : Event) → IsSpellable d → payload ≡ spelling d → ◌≡◌ {A = Result Event CodecFault} (Ok d) (Ok e)) → IsEventAt bytes x e
-event_at bytes x payload e at spellable spelt only = record {
-  whole = ap length at.same ∙ at.long;
-  spellable = spellable;
-  spelt = at.same ∙ spelt;
-  only = λ d is spelt_as. same_event d e (only d is (sym at.same ∙ spelt_as));
-}
+same_ok : {X Y : Type 0} (x y : X) → ◌≡◌ {A = Result X Y} (Ok x) (Ok y) → x ≡ y
+same_ok x y is = cc
 
 other : {X Y : Type 0} (x : X) (y : Y) → ◌≡◌ {A = Result X Y} (Ok x) (Err y) → ⊥
 other x y is = cc
 
-pub none_at : (bytes : List ℕ) (x : Extent) (payload : List ℕ) (fault : CodecFault) → IsPayloadAt bytes x payload
-    → ((d : Event) → IsSpellable d → payload ≡ spelling d → Fails {Y = Event} fault (Ok d)) → IsReadFault bytes x (decode_fault x fault)
-none_at bytes x payload Kind at none = record { gate_at = refl; none = λ d is spelt_as. other d Kind (none d is (sym at.same ∙ spelt_as)) }
-none_at bytes x payload Length at none = record { gate_at = refl; none = λ d is spelt_as. other d Length (none d is (sym at.same ∙ spelt_as)) }
-none_at bytes x payload Range at none = record { gate_at = refl; none = λ d is spelt_as. other d Range (none d is (sym at.same ∙ spelt_as)) }
-none_at bytes x payload Utf8 at none = record { gate_at = refl; none = λ d is spelt_as. other d Utf8 (none d is (sym at.same ∙ spelt_as)) }
-none_at bytes x payload Memory at none = tt
+-- the row that was decoded
+pub row_in : (payload : List ℕ) (row : Row) → IsRowSpellable row → payload ≡ row_spelling row
+    → ((q : Row) → IsRowSpellable q → payload ≡ row_spelling q → ◌≡◌ {A = Result Row CodecFault} (Ok q) (Ok row)) → IsRowIn payload row
+row_in payload row spellable spelt only = record { spellable = spellable; spelt = spelt; only = λ q is same. same_ok q row (only q is same) }
 
--- no fault of the bytes is one of the device
-damage_is_not : (n : ℕ) → open_fault.Damaged n ≡ open_fault.Disk → ⊥
-damage_is_not n is = cc
+pub no_row : (payload : List ℕ) (fault : CodecFault) → ((q : Row) → IsRowSpellable q → payload ≡ row_spelling q → ◌≡◌ {A = Result Row CodecFault} (Ok q) (Err fault)) → (q : Row) → IsRowSpellable q → payload ≡ row_spelling q → ⊥
+no_row payload fault none q is same = other q fault (none q is same)
 
-memory_is_not : open_fault.Memory ≡ open_fault.Disk → ⊥
-memory_is_not is = cc
+-- the event that was decoded is accepted
+pub event_in : (payload : List ℕ) (s t : State) (e : Event) → IsSpellable e → payload ≡ spelling e → refusal_of s e ≡ None → t ≡ after s e → IsAfterEvent s payload t
+event_in payload s t e spellable spelt accepted next = record { event = e; spellable = spellable; spelt = spelt; accepted = accepted; table = next }
 
-pub never_disk : (x : Extent) (fault : CodecFault) → decode_fault x fault ≡ open_fault.Disk → ⊥
-never_disk x Kind is = damage_is_not _ is
-never_disk x Length is = damage_is_not _ is
-never_disk x Range is = damage_is_not _ is
-never_disk x Utf8 is = damage_is_not _ is
-never_disk x Memory is = memory_is_not is
+-- or refused
+pub refused_event : (payload : List ℕ) (s : State) (e : Event) (x : Extent) (fault : OpenFault) → ((d : Event) → IsSpellable d → payload ≡ spelling d → ◌≡◌ {A = Result Event CodecFault} (Ok d) (Ok e))
+    → IsCommitFault s e x fault → IsEventFault s payload x fault
+refused_event payload s e x open_fault.NotASpool only is = is
+refused_event payload s e x (open_fault.Damaged gate) only is =
+    (is.0, λ d spellable spelt accepted. is.1 (subst (λ (c : Event). refusal_of s c ≡ None) (same_ok d e (only d spellable spelt)) accepted))
+refused_event payload s e x open_fault.Memory only is = tt
+refused_event payload s e x open_fault.Disk only is = is
 
--- a run of reads after a run of reads
+-- and a payload that wasn't decoded is none
+pub none_in : (payload : List ℕ) (s : State) (x : Extent) (fault : CodecFault) → ((d : Event) → IsSpellable d → payload ≡ spelling d → Fails {Y = Event} fault (Ok d)) → IsEventFault s payload x (decode_fault x fault)
+none_in payload s x Kind none = (refl, λ d is spelt accepted. other d Kind (none d is spelt))
+none_in payload s x Length none = (refl, λ d is spelt accepted. other d Length (none d is spelt))
+none_in payload s x Range none = (refl, λ d is spelt accepted. other d Range (none d is spelt))
+none_in payload s x Utf8 none = (refl, λ d is spelt accepted. other d Utf8 (none d is spelt))
+none_in payload s x Memory none = tt

@@ -1,10 +1,14 @@
--- The payloads of an area, read as events one after another.
+-- The payloads of an area, read one after another: rows first, and then events.
 use Rattle.spool_disk.specs.Disk.{DiskView, ChangesNothing}
-use Rattle.std.specs.Prelude.{◌≡◌, ℕ, ◌-◌, List, ◌∷◌, ◌++◌, length, take, drop, ⊤, None}
+use Rattle.std.specs.Prelude.{◌≡◌, ◌⊎◌, ℕ, ◌-◌, List, [], ◌∷◌, ◌++◌, length, take, drop, ⊤, Option, Some, None}
 use Rattle.spool_types.specs.declared.event.Event.{Event}
+use Rattle.spool_types.specs.declared.listing.Row.{Row}
 use Rattle.spool_types.specs.State.{State}
-use Rattle.job_table.specs.Step.{refusal_of}
+use Rattle.job_table.specs.Step.{refusal_of, after}
+use Rattle.job_table.specs.Fold.{after_all}
+use Rattle.job_table.specs.Loading.{Progress, IsWhole}
 use Rattle.event_codec.specs.Spelling.{spelling, IsSpellable}
+use Rattle.event_codec.specs.RowSpelling.{row_spelling, IsRowSpellable}
 use Rattle.event_codec.specs.declared.fault.CodecFault.{CodecFault}
 use Rattle.event_codec.specs.declared.fault.CodecFault.TheVariants as codec
 use Rattle.spool_areas.specs.declared.extent.Extent.{Extent}
@@ -13,20 +17,69 @@ use Rattle.spool_areas.specs.declared.fault.OpenFault.TheVariants.{NotASpool, Da
 use Rattle.spool_areas.specs.Payloads.{gate_after}
 use Rattle.spool_areas.specs.Current.{Current}
 use Rattle.spool_areas.specs.Extents.{bytes_of, payloads_at, Follow}
-use Rattle.spool_core.specs.History.{IsHistory}
-use Rattle.spool_core.specs.Image.{IsNoEvent}
+use Rattle.spool_core.specs.Image.{Begins, IsNoNext}
+use Rattle.spool_core.specs.declared.fold.Reading.{Reading}
+use Rattle.spool_core.specs.declared.fold.Reading.TheVariants.{Rows, Events}
 
--- the extent lies in the bytes, and they spell this event there and no other
-pub record IsEventAt (bytes : List ℕ) (x : Extent) (e : Event) : Type 0 where
-  pub whole : length (bytes_of bytes x) ≡ x.len
-  pub spellable : IsSpellable e
-  pub spelt : bytes_of bytes x ≡ spelling e
-  pub only : (d : Event) → IsSpellable d → bytes_of bytes x ≡ spelling d → d ≡ e
+-- these bytes lie in the extent
+pub record IsPayloadAt (bytes : List ℕ) (x : Extent) (payload : List ℕ) : Type 0 where
+  pub same : bytes_of bytes x ≡ payload
+  pub long : length payload ≡ x.len
 
--- there the bytes spell no event, and the gate before them is told
-pub record IsNoEventAt (bytes : List ℕ) (x : Extent) (gate : ℕ) : Type 0 where
-  pub gate_at : gate ≡ x.place - 5
-  pub none : (e : Event) → IsSpellable e → ¬ (bytes_of bytes x ≡ spelling e)
+-- The payloads are the rows of a whole listing and at least one event, and lead to this table.
+pub record IsBeyondRows (payloads : List (List ℕ)) (s : State) : Type 0 where
+  pub progress : Progress
+  pub events : List Event
+  pub begins : Begins payloads progress events
+  pub whole : IsWhole progress
+  pub some : ¬ (events ≡ [])
+  pub table : s ≡ after_all progress.state events
+
+-- what was read so far are these payloads
+abbrev pub HasRead : Reading → List (List ℕ) → Type 0
+HasRead (Rows p) payloads = Begins payloads p []
+HasRead (Events t) payloads = IsBeyondRows payloads t.state
+
+-- the payload is the spelling of this row and of no other
+pub record IsRowIn (payload : List ℕ) (row : Row) : Type 0 where
+  pub spellable : IsRowSpellable row
+  pub spelt : payload ≡ row_spelling row
+  pub only : (other : Row) → IsRowSpellable other → payload ≡ row_spelling other → other ≡ row
+
+-- the payload is the spelling of this row, or of none
+abbrev pub IsRowOrNone : List ℕ → Option Row → Type 0
+IsRowOrNone payload (Some row) = IsRowIn payload row
+IsRowOrNone payload None = (row : Row) → IsRowSpellable row → payload ≡ row_spelling row → ⊥
+
+-- The payload is the spelling of an event that this table accepts, and that leads to this reading.
+pub record IsAfterEvent (s : State) (payload : List ℕ) (t : State) : Type 0 where
+  pub event : Event
+  pub spellable : IsSpellable event
+  pub spelt : payload ≡ spelling event
+  pub accepted : refusal_of s event ≡ None
+  pub table : t ≡ after s event
+
+abbrev pub IsNextEvent : State → List ℕ → Reading → Type 0
+IsNextEvent s payload (Rows p) = ⊥
+IsNextEvent s payload (Events t) = IsAfterEvent s payload t.state
+
+-- the payload isn't the spelling of an event that this table accepts
+abbrev pub IsNoEvent : State → List ℕ → Type 0
+IsNoEvent s payload = (e : Event) → IsSpellable e → payload ≡ spelling e → ¬ (refusal_of s e ≡ None)
+
+-- why no event was taken
+abbrev pub IsEventFault : State → List ℕ → Extent → OpenFault → Type 0
+IsEventFault s payload x NotASpool = ⊥
+IsEventFault s payload x (Damaged gate) = (gate ≡ x.place - 5) × IsNoEvent s payload
+IsEventFault s payload x Memory = ⊤
+IsEventFault s payload x Disk = ⊥
+
+-- why the event that was read was not taken
+abbrev pub IsCommitFault : State → Event → Extent → OpenFault → Type 0
+IsCommitFault s e x NotASpool = ⊥
+IsCommitFault s e x (Damaged gate) = (gate ≡ x.place - 5) × ¬ (refusal_of s e ≡ None)
+IsCommitFault s e x Memory = ⊤
+IsCommitFault s e x Disk = ⊥
 
 -- a payload that wasn't decoded is damage at its gate, unless memory ran out
 abbrev pub decode_fault : Extent → CodecFault → OpenFault
@@ -36,41 +89,64 @@ decode_fault x codec.Range = Damaged (x.place - 5)
 decode_fault x codec.Utf8 = Damaged (x.place - 5)
 decode_fault x codec.Memory = Memory
 
--- why no event was read
-abbrev pub IsReadFault : List ℕ → Extent → OpenFault → Type 0
-IsReadFault bytes x NotASpool = ⊥
-IsReadFault bytes x (Damaged gate) = IsNoEventAt bytes x gate
-IsReadFault bytes x Memory = ⊤
-IsReadFault bytes x Disk = ⊤
+-- behind these payloads this one may not come next
+pub record IsStopped (payloads : List (List ℕ)) (payload : List ℕ) : Type 0 where
+  pub progress : Progress
+  pub events : List Event
+  pub begins : Begins payloads progress events
+  pub strange : IsNoNext progress events payload
 
--- why the event that was read was not taken
-abbrev pub IsTakeFault : State → Event → Extent → OpenFault → Type 0
-IsTakeFault s e x NotASpool = ⊥
-IsTakeFault s e x (Damaged gate) = (gate ≡ x.place - 5) × ¬ (refusal_of s e ≡ None)
-IsTakeFault s e x Memory = ⊤
-IsTakeFault s e x Disk = ⊥
+-- why a payload was not taken behind these
+abbrev pub IsTakeFault : List (List ℕ) → List ℕ → Extent → OpenFault → Type 0
+IsTakeFault payloads payload x NotASpool = ⊥
+IsTakeFault payloads payload x (Damaged gate) = (gate ≡ x.place - 5) × IsStopped payloads payload
+IsTakeFault payloads payload x Memory = ⊤
+IsTakeFault payloads payload x Disk = ⊥
 
--- The first of the extents that holds no event that is accepted in turn has its gate at this place.
+-- the rows end before a document is whole
+pub record IsCutShort (payloads : List (List ℕ)) : Type 0 where
+  pub progress : Progress
+  pub begins : Begins payloads progress []
+  pub short : ¬ (IsWhole progress)
+
+-- why the payloads lead to no table where they end at this gate
+abbrev pub IsFinishFault : List (List ℕ) → ℕ → OpenFault → Type 0
+IsFinishFault payloads gate NotASpool = ⊥
+IsFinishFault payloads gate (Damaged place) = (place ≡ gate) × IsCutShort payloads
+IsFinishFault payloads gate Memory = ⊥
+IsFinishFault payloads gate Disk = ⊥
+
+-- why no payload was read
+abbrev pub IsReadFault : OpenFault → Type 0
+IsReadFault NotASpool = ⊥
+IsReadFault (Damaged gate) = ⊥
+IsReadFault Memory = ⊤
+IsReadFault Disk = ⊤
+
+-- The first of the extents that may not come in its turn has its gate at this place.
 pub record StopsAt (base : ℕ) (extents : List Extent) (bytes : List ℕ) (place : ℕ) : Type 0 where
   pub front : List Extent
   pub extent : Extent
   pub rest : List Extent
   pub parts : extents ≡ front ++ extent ∷ rest
-  pub table : State
-  pub history : IsHistory (payloads_at bytes front) table
+  pub stopped : IsStopped (payloads_at bytes front) (bytes_of bytes extent)
   pub gate : place ≡ gate_after base (payloads_at bytes front)
-  pub strange : IsNoEvent table (bytes_of bytes extent)
+
+-- The extents end at this place, before a document is whole.
+pub record EndsShort (base : ℕ) (extents : List Extent) (bytes : List ℕ) (place : ℕ) : Type 0 where
+  pub cut : IsCutShort (payloads_at bytes extents)
+  pub gate : place ≡ gate_after base (payloads_at bytes extents)
 
 -- why the extents lead to no table
 abbrev pub IsFoldFault : ℕ → List Extent → List ℕ → OpenFault → Type 0
 IsFoldFault base extents bytes NotASpool = ⊥
-IsFoldFault base extents bytes (Damaged place) = StopsAt base extents bytes place
+IsFoldFault base extents bytes (Damaged place) = StopsAt base extents bytes place ⊎ EndsShort base extents bytes place
 IsFoldFault base extents bytes Memory = ⊤
 IsFoldFault base extents bytes Disk = ⊤
 
--- The first n extents hold events that lead to this table, and the others follow behind them.
-pub record IsFolded (base end : ℕ) (extents : List Extent) (n : ℕ) (bytes : List ℕ) (s : State) : Type 0 where
-  pub history : IsHistory (payloads_at bytes (take n extents)) s
+-- The first n extents were read, and the others follow behind them.
+pub record IsFolded (base end : ℕ) (extents : List Extent) (n : ℕ) (bytes : List ℕ) (reading : Reading) : Type 0 where
+  pub read : HasRead reading (payloads_at bytes (take n extents))
   pub follow : Follow (gate_after base (payloads_at bytes (take n extents))) (drop n extents) end
 
 -- The areas were read, and are as they were.

@@ -2,6 +2,7 @@ pub mod History
 pub mod Image
 pub mod Standing
 pub mod Seen
+pub mod Checkpointing
 pub mod Folding
 pub mod Driving
 pub mod Turns

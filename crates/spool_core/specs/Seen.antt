@@ -12,7 +12,7 @@ use Rattle.spool_core.specs.declared.spool.Spool.TheInside.{Inside}
 
 -- the areas and the table beside them
 abbrev pub standing_at : {D : Type 0} → Current D → State → Standing D
-standing_at areas s = record { disk = areas.disk; state = s; room = areas.end - areas.gate; dead = areas.dead }
+standing_at areas s = record { disk = areas.disk; state = s; room = areas.end - areas.gate; epoch = areas.epoch; dead = areas.dead }
 
 abbrev pub standing_of : {D : Type 0} → Inside D → Standing D
 standing_of a = standing_at a.areas a.table.state

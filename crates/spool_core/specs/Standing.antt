@@ -13,11 +13,13 @@ use Rattle.gate_journal.specs.Frame.{payload_of}
 use Rattle.spool_core.specs.declared.spool.apply_fault.ApplyFault.{ApplyFault}
 use Rattle.spool_core.specs.declared.spool.apply_fault.ApplyFault.TheVariants.{Dead, Refused, Memory, Full, Disk}
 
--- the disk, the table, how many bytes there are from the closed gate to the area's end, and whether the device has failed
+-- the disk, the table, how many bytes there are from the closed gate to the area's end, the area's epoch, and whether the
+-- device has failed
 pub record Standing (D : Type 0) : Type 0 where
   pub disk : D
   pub state : State
   pub room : ℕ
+  pub epoch : ℕ
   pub dead : Bool
 
 -- how many bytes a record of this event takes

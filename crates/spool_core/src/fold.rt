@@ -1,31 +1,42 @@
 //! The table that the payloads of an area lead to.
-ghost use Rattle.std.specs.Prelude.{◌≡◌, ◌≤◌, ◌+◌, List, ℕ, Some, None, false, OnOk, IfOk, IfErr, IsErrOf};
-ghost use Rattle.job_table.specs.Step.{refusal_of, after};
+ghost use Rattle.std.specs.Prelude.{◌≡◌, ◌≤◌, ◌+◌, List, ℕ, Some, false, ◌∷◌, [], ◌++◌, None, OnOk, IfOk, IfErr, IsErrOf};
 ghost use Rattle.spool_disk.specs.Disk.{Blames};
 ghost use Rattle.spool_areas.specs.Header.{header_len};
 ghost use Rattle.spool_areas.specs.Payloads.{gate_after};
 ghost use Rattle.spool_areas.specs.Extents.{payloads_at, Follow};
+ghost use Rattle.job_table.specs.Step.{refusal_of, after};
 ghost use Rattle.spool_core.specs.History.{IsHistory};
-ghost use Rattle.spool_core.specs.Folding.{IsEventAt, IsReadFault, IsTakeFault, IsFoldFault, IsRead, decode_fault};
+ghost use Rattle.spool_core.specs.Image.{Begins};
+ghost use Rattle.spool_core.specs.Folding.{IsPayloadAt, IsRowOrNone, IsReadFault, IsTakeFault, IsNextEvent, IsEventFault, IsCommitFault, IsFinishFault, IsFoldFault, IsRead, HasRead, decode_fault};
 
-use event_codec::{CodecFault, decode};
+use event_codec::{CodecFault, decode, decode_row};
 use gate_journal::HEAD_LEN;
-use job_table::{PrepareFault, Table};
+use job_table::{LoadFault, Loading, PrepareFault, Table};
 use spool_areas::{Areas, Extent, OpenFault};
 use spool_disk::Disk;
-use spool_types::Event;
-use std::alloc::Global;
+use spool_types::{Event, Row};
+use std::alloc::{AllocError, Global};
 
-/// Reads the payloads as events, one after another, and commits each to a table that is empty at first. The first
-/// payload that is no event, or an event that is refused, is damage at its gate.
+// What the payloads so far have led to. Rows come first.
+#[derive(Drop)]
+enum Reading {
+    Rows(Loading),
+    Events(Table),
+}
+
+/// Reads the payloads one after another: the rows of a listing, if any, and then events, each of which is committed to the
+/// table that is listed, or else to an empty one. The first payload that may not come next is damage at its gate, and a
+/// listing that isn't whole is damage at the gate that ends it.
 pub(crate) fn fold<D: Disk>(
     areas: &mut Areas<D>,
     alloc: Global,
     payloads: &[Extent],
+    gate: u64,
 ) -> Result<Table, OpenFault>
     requires alive { areas.old.dead ≡ false }
     requires lie { Follow (areas.old.base + header_len) payloads.now areas.old.gate }
     requires inside { areas.old.gate ≤ areas.old.end }
+    requires ends { gate ≡ areas.old.gate }
     ensures table { IfOk result (λ t. (r : List ℕ) → D.device.bytes areas.old.disk ≡ Some r → IsHistory (payloads_at r payloads.now) t.state) }
     ensures gate { OnOk result ((r : List ℕ) → D.device.bytes areas.old.disk ≡ Some r → areas.old.gate ≡ gate_after areas.old.base (payloads_at r payloads.now)) }
     ensures fault { IfErr result (λ e. (r : List ℕ) → D.device.bytes areas.old.disk ≡ Some r → IsFoldFault areas.old.base payloads.now r e) }
@@ -33,33 +44,32 @@ pub(crate) fn fold<D: Disk>(
     ensures alive { OnOk result (areas.new.dead ≡ false) }
     ensures same { IsRead D.device areas.old areas.new }
 {
-    let mut table = Table::new(alloc);
+    let mut reading = Reading::Rows(Loading::new(alloc));
     let mut buffer = Vec::new(alloc);
     for extent in payloads {
-        let event = match read_event(areas, alloc, &mut buffer, *extent) {
-            Ok(event) => event,
-            Err(fault) => return Err(fault),
-        };
-        match take_event(&mut table, event, *extent) {
+        match read_payload(areas, &mut buffer, *extent) {
             Ok(()) => {}
             Err(fault) => return Err(fault),
         }
+        reading = match take_payload(reading, alloc, &buffer, *extent) {
+            Ok(reading) => reading,
+            Err(fault) => return Err(fault),
+        };
     }
-    Ok(table)
+    finish(reading, gate)
 }
 
-// Reads one payload as an event. The buffer's memory is used again.
-fn read_event<D: Disk>(
+// Reads one payload. The buffer's memory is used again.
+fn read_payload<D: Disk>(
     areas: &mut Areas<D>,
-    alloc: Global,
     buffer: &mut Vec<u8>,
     extent: Extent,
-) -> Result<Event, OpenFault>
+) -> Result<(), OpenFault>
     requires alive { areas.old.dead ≡ false }
     requires behind { areas.old.base + header_len + 5 ≤ extent.place }
     requires inside { extent.place + extent.len ≤ areas.old.end }
-    ensures event { IfOk result (λ event. (r : List ℕ) → D.device.bytes areas.old.disk ≡ Some r → IsEventAt r extent event) }
-    ensures fault { IfErr result (λ e. (r : List ℕ) → D.device.bytes areas.old.disk ≡ Some r → IsReadFault r extent e) }
+    ensures payload { OnOk result ((r : List ℕ) → D.device.bytes areas.old.disk ≡ Some r → IsPayloadAt r extent buffer.new.items) }
+    ensures fault { IfErr result IsReadFault }
     ensures blames { Blames (D.device.failures areas.old.disk) (D.device.failures areas.new.disk) (IsErrOf result OpenFault.Disk) }
     ensures alive { OnOk result (areas.new.dead ≡ false) }
     ensures same { IsRead D.device areas.old areas.new }
@@ -70,11 +80,88 @@ fn read_event<D: Disk>(
         Err(_) => return Err(OpenFault::Memory),
     }
     match areas.read_extent(extent.place, buffer) {
-        Ok(()) => {}
-        Err(_) => return Err(OpenFault::Disk),
+        Ok(()) => Ok(()),
+        Err(_) => Err(OpenFault::Disk),
     }
-    match decode(alloc, buffer) {
-        Ok(event) => Ok(event),
+}
+
+// Takes the next payload: a row while there are rows, and then an event.
+fn take_payload(
+    reading: Reading,
+    alloc: Global,
+    payload: &[u8],
+    extent: Extent,
+) -> Result<Reading, OpenFault>
+    requires head { 5 ≤ extent.place }
+    ensures next { IfOk result (λ next. (payloads : List (List ℕ)) → HasRead reading payloads → HasRead next (payloads ++ payload.now ∷ [])) }
+    ensures fault { IfErr result (λ e. (payloads : List (List ℕ)) → HasRead reading payloads → IsTakeFault payloads payload.now extent e) }
+    ensures never { ¬ (IsErrOf result OpenFault.Disk) }
+{
+    match reading {
+        Reading::Rows(loading) => take_row(loading, alloc, payload, extent),
+        Reading::Events(table) => add_event(table, alloc, payload, extent),
+    }
+}
+
+// Takes a row of the listing, or the first event behind it.
+fn take_row(
+    mut loading: Loading,
+    alloc: Global,
+    payload: &[u8],
+    extent: Extent,
+) -> Result<Reading, OpenFault>
+    requires head { 5 ≤ extent.place }
+    ensures next { IfOk result (λ next. (payloads : List (List ℕ)) → Begins payloads loading [] → HasRead next (payloads ++ payload.now ∷ [])) }
+    ensures fault { IfErr result (λ e. (payloads : List (List ℕ)) → Begins payloads loading [] → IsTakeFault payloads payload.now extent e) }
+    ensures never { ¬ (IsErrOf result OpenFault.Disk) }
+{
+    match read_row(alloc, payload) {
+        Ok(Some(row)) => match loading.load(row, extent.place) {
+            Ok(()) => Ok(Reading::Rows(loading)),
+            Err(LoadFault::Misplaced) => Err(OpenFault::Damaged(extent.place - HEAD_LEN)),
+            Err(LoadFault::Memory) => Err(OpenFault::Memory),
+        },
+        Ok(None) => {
+            if loading.is_whole() {
+                add_event(loading.into_table(), alloc, payload, extent)
+            } else {
+                Err(OpenFault::Damaged(extent.place - HEAD_LEN))
+            }
+        }
+        Err(_) => Err(OpenFault::Memory),
+    }
+}
+
+// The row that is spelled so, if there is one.
+fn read_row(alloc: Global, payload: &[u8]) -> Result<Option<Row>, AllocError>
+    ensures row { IfOk result (IsRowOrNone payload.now) }
+{
+    match decode_row(alloc, payload) {
+        Ok(row) => Ok(Some(row)),
+        Err(CodecFault::Memory) => Err(AllocError),
+        Err(CodecFault::Kind) => Ok(None),
+        Err(CodecFault::Length) => Ok(None),
+        Err(CodecFault::Range) => Ok(None),
+        Err(CodecFault::Utf8) => Ok(None),
+    }
+}
+
+// Reads the next payload as an event, and applies it to the table.
+fn add_event(
+    mut table: Table,
+    alloc: Global,
+    payload: &[u8],
+    extent: Extent,
+) -> Result<Reading, OpenFault>
+    requires head { 5 ≤ extent.place }
+    ensures next { IfOk result (IsNextEvent table.state payload.now) }
+    ensures fault { IfErr result (IsEventFault table.state payload.now extent) }
+{
+    match decode(alloc, payload) {
+        Ok(event) => match commit_event(&mut table, event, extent) {
+            Ok(()) => Ok(Reading::Events(table)),
+            Err(fault) => Err(fault),
+        },
         Err(fault) => Err(fault_of(extent, fault)),
     }
 }
@@ -91,11 +178,11 @@ fn fault_of(extent: Extent, fault: CodecFault) -> OpenFault
 }
 
 // Applies an event of the journal to the table. One that is refused isn't what a spool writes.
-fn take_event(table: &mut Table, event: Event, extent: Extent) -> Result<(), OpenFault>
+fn commit_event(table: &mut Table, event: Event, extent: Extent) -> Result<(), OpenFault>
     requires head { 5 ≤ extent.place }
     ensures accepted { OnOk result (refusal_of table.old.state event ≡ None) }
     ensures table { OnOk result (table.new.state ≡ after table.old.state event) }
-    ensures fault { IfErr result (IsTakeFault table.old.state event extent) }
+    ensures fault { IfErr result (IsCommitFault table.old.state event extent) }
 {
     match table.prepare(&event) {
         Ok(()) => {
@@ -104,5 +191,23 @@ fn take_event(table: &mut Table, event: Event, extent: Extent) -> Result<(), Ope
         }
         Err(PrepareFault::Refused(_)) => Err(OpenFault::Damaged(extent.place - HEAD_LEN)),
         Err(PrepareFault::Memory) => Err(OpenFault::Memory),
+    }
+}
+
+// The table, where no document is short.
+fn finish(reading: Reading, gate: u64) -> Result<Table, OpenFault>
+    ensures table { IfOk result (λ t. (payloads : List (List ℕ)) → HasRead reading payloads → IsHistory payloads t.state) }
+    ensures fault { IfErr result (λ e. (payloads : List (List ℕ)) → HasRead reading payloads → IsFinishFault payloads gate e) }
+    ensures never { ¬ (IsErrOf result OpenFault.Disk) }
+{
+    match reading {
+        Reading::Rows(loading) => {
+            if loading.is_whole() {
+                Ok(loading.into_table())
+            } else {
+                Err(OpenFault::Damaged(gate))
+            }
+        }
+        Reading::Events(table) => Ok(table),
     }
 }

@@ -8,12 +8,14 @@
 //!
 //! A disk has images, the bytes that a crash may leave.
 //!
-//! 1. An image has a *table* where the records of its current area, up to the first closed gate, are the spellings of events
-//!    that are accepted in turn, from the empty table on. Its table is the one after them. Where a job is processing in it,
-//!    7 bytes of the area or more are left from that gate on (`HasTable`).
+//! 1. An image has a *table* where the records of its current area, up to the first closed gate, are the spellings of the
+//!    rows that a table is listed as, if any, and then of events that are accepted in turn, from that table on, or else from
+//!    the empty one (`IsHistory`). Its table is the one after them. Where a job is processing in it, 7 bytes of the area or
+//!    more are left from that gate on (`HasTable`).
 //! 2. Its *room* is the bytes from that gate to the area's end (`HasRoom`).
 //! 3. Any other image has a *fault* (`HasFault`). No area is current, or there is damage at a gate: that of the first record
-//!    that leaves the area or isn't such a spelling, or the closed one, where those 7 bytes aren't left.
+//!    that leaves the area or may not come next, or the closed one, where the document of a listed job isn't whole or those
+//!    7 bytes aren't left.
 //! 4. No image has two tables, two faults, one of each, or two rooms ([`one_reading`]).
 //!
 //! # Promises, on every disk that meets `Disk`
@@ -23,6 +25,9 @@
 //! - *CrashSafeApply*: while the spool isn't dead, a crash at any moment of an [`Spool::apply`] leaves the table before the
 //!   event or the one after it, whatever the call answers (`any_moment`). After Ok every image has the table after it
 //!   (`kept`), nothing is unsynced (`durable`), the table shown is that one and the reply is the event's (`answer`).
+//! - *CrashSafeCheckpoint*: while the spool isn't dead, a crash at any moment of a [`Spool::checkpoint`] leaves its table,
+//!   whatever the call answers (`any_moment`), and the table shown stays (`answer`). After Ok the area's epoch is one higher,
+//!   and it holds the rows that the table is listed as and no event (`counts`, `listed`).
 //! - *CrashSafeOpen*: where [`Spool::open`] answers Ok it gives the table of the bytes after the policy on every job that was
 //!   processing in it (`opened`), so none is left (`idle`), and the room that its disk then has (`room`). Where none was
 //!   processing it writes nothing (`unwritten`), and else the record of one Reopen, whose bytes the room loses (`left`).
@@ -46,7 +51,8 @@
 //!   would change it is refused (`refused`), and its number is not given again (`number`).
 //! - *ExactRefusals*: each answer of `apply` comes with its cause, in the order of [`ApplyFault`] (`answer`). `open`
 //!   answers `NotASpool` or `Damaged` only for bytes with that fault (`fault`), and `Disk` only where the device's
-//!   count of failures rose (`blames`). Out of memory is the one answer without a cause that a clause can see. `make`
+//!   count of failures rose (`blames`). So it is with `checkpoint` and [`CheckpointFault`]: it is `EpochEnd` exactly at the
+//!   greatest epoch, and `Full` exactly where its rows don't fit (`holds_listing`), if memory was found. Out of memory is the one answer without a cause that a clause can see. `make`
 //!   is `Full` exactly where the device is too short (`full`), and a document isn't read exactly where the spool is
 //!   dead (`dead`).
 //! - *UnchangedAfterRefusal*: after `Dead`, `Refused`, `Memory` and `Full` the disk and the table are as before
@@ -63,8 +69,13 @@
 //! whether the event is on it: the table stays as it was, and the spool is dead, since what it would append next might
 //! follow an event that it doesn't know.
 //!
-//! `open` first makes the table and writes nothing: it syncs, so that a crash leaves what it reads, and commits the event
-//! of each record to an empty table. Where a job is processing then, the end of its attempt was lost: it journals one
+//! `checkpoint` spells the rows of the table into frames, and hands them all to the areas, which put them into the other one
+//! and then change over. Until the header there is opened a crash leaves the events that led to the table, and from then on
+//! its rows, with room for a reopening behind them.
+//!
+//! `open` first makes the table and writes nothing: it syncs, so that a crash leaves what it reads. It takes each row as the
+//! next one of a listing (`Loading` of `job_table`), and from the first event on commits each to the table that was listed,
+//! or to an empty one. Where a job is processing then, the end of its attempt was lost: it journals one
 //! Reopen, in the 7 bytes that each append keeps free, and commits it too. A crash meanwhile leaves that record whole or
 //! absent, and the next opening finds no job processing, or does the same again.
 //!
@@ -79,6 +90,7 @@
 //! - [`ApplyFault`]: after all but `Disk` nothing has changed. After `Disk`, which comes only where the device's count
 //!   of failures rose, each image has the table before the event or the one after it, and the spool is dead: every
 //!   call that can answer a fault answers `Dead`. A dead spool gives its disk back, and the disk is opened anew.
+//! - [`CheckpointFault`]: the same, but that after `Disk` each image has the one table.
 //! - [`OpenError`] hands the disk back with an [`OpenFault`]. But for `Disk` it reads as before. `NotASpool` and `Damaged`
 //!   are faults of the bytes, which have no table. `Memory` and `Disk` say nothing of the bytes, and the disk may be
 //!   opened again.
@@ -97,5 +109,5 @@ pub use driving::{Driven, Ending, drive};
 pub use laws::{lives_go_on, one_reading};
 pub use making::make;
 pub use replaying::replay;
-pub use spool::{ApplyFault, Spool};
+pub use spool::{ApplyFault, CheckpointFault, Spool};
 pub use spool_areas::{MakeFault, OpenError, OpenFault, ReadFault};

@@ -4,7 +4,11 @@
 #[cfg(test)]
 mod apply_tests;
 #[cfg(test)]
+mod checkpoint_tests;
+#[cfg(test)]
 mod drive_tests;
+#[cfg(test)]
+mod listing_tests;
 #[cfg(test)]
 mod open_tests;
 #[cfg(test)]

@@ -69,20 +69,6 @@ fn a_payload_of_no_event_is_damage_at_its_gate(rt: HostRuntime) -> Result<(), Fa
     Ok(())
 }
 
-// The kinds of the rows of a checkpoint, each with the fields of the first of them. No area that was made has rows.
-#[test]
-fn a_row_is_damage_at_its_gate(rt: HostRuntime) -> Result<(), Fail> {
-    let alloc = rt.alloc();
-    for kind in [0x40, 0x41, 0x42, 0x43] {
-        let head = [
-            0xA5, 0, 0, 0, 13, kind, 0, 0, 0, 0, 0, 0, 0, 0, 0, 0, 0, 0, 0,
-        ];
-        let disk = spool_with(alloc, SIZE, &head)?;
-        assert_eq!(rt; fault_of(alloc, disk)?, OpenFault::Damaged(16));
-    }
-    Ok(())
-}
-
 // The record of Clock(1000), and behind it a gate at 30. Any byte but A5 closes it, and the record of Clock(1001) is
 // written there.
 #[test]

@@ -2,7 +2,7 @@
 use crate::samples::{
     add_queue, cancel, close, id, numbered, opened, printed, queue_with, send, told_effects,
 };
-use spool_core::{ApplyFault, Spool};
+use spool_core::{ApplyFault, CheckpointFault, Spool};
 use spool_disk::{FuseDisk, MemDisk};
 use spool_types::{Effects, Event, Hold, JobRow, Moment, Phase, Policy, QueueRow, Reply};
 use std::alloc::{AllocError, Global};
@@ -35,8 +35,11 @@ pub(crate) fn lasting(alloc: Global, disk: MemDisk) -> Result<Spool<Device>, Fai
     opened(alloc, FuseDisk::new(disk, u64::MAX))
 }
 
-// The answer to a question, or to an event.
+// The answer to a question, to a checkpoint, or to an event.
 fn said(alloc: Global, spool: &mut Spool<Device>, line: &str) -> Result<String, Fail> {
+    if line == "checkpoint" {
+        return checkpointed(alloc, spool);
+    }
     match line.strip_suffix('?') {
         Some(question) => answer(alloc, spool, question),
         None => {
@@ -54,6 +57,17 @@ fn applied(alloc: Global, spool: &mut Spool<Device>, event: Event) -> Result<Str
         Err(ApplyFault::Disk) => text(alloc, "disk"),
         Err(ApplyFault::Dead) => text(alloc, "dead"),
         Err(ApplyFault::Memory) => Err(Fail::from(AllocError)),
+    }
+}
+
+fn checkpointed(alloc: Global, spool: &mut Spool<Device>) -> Result<String, Fail> {
+    match spool.checkpoint() {
+        Ok(()) => text(alloc, "ok"),
+        Err(CheckpointFault::Dead) => text(alloc, "dead"),
+        Err(CheckpointFault::EpochEnd) => text(alloc, "epoch"),
+        Err(CheckpointFault::Full) => text(alloc, "full"),
+        Err(CheckpointFault::Disk) => text(alloc, "disk"),
+        Err(CheckpointFault::Memory) => Err(Fail::from(AllocError)),
     }
 }
 

@@ -6,13 +6,16 @@ use Rattle.spool_types.specs.declared.event.Reply.{Reply}
 use Rattle.spool_types.specs.declared.refusal.Refusal.{Refusal}
 use Rattle.spool_types.specs.State.{State}
 use Rattle.job_table.specs.Step.{step}
-use Rattle.spool_disk.specs.Disk.{LeavesOnly}
+use Rattle.spool_disk.specs.Disk.{DiskView, LeavesOnly}
 use Rattle.spool_disk.proofs.Moments.{runs_on, weaker_run}
 use Rattle.spool_core.specs.Standing.{Standing}
+use Rattle.spool_core.specs.Checkpointing.{IsCheckpoint}
+use Rattle.spool_core.specs.declared.spool.checkpoint_fault.CheckpointFault.{CheckpointFault}
+use Rattle.spool_core.specs.declared.spool.checkpoint_fault.CheckpointFault.TheVariants as listing
 use Rattle.print_rounds.specs.Courses.{Course}
-use Rattle.spool_engine.specs.Script.{Meaning, says, asks, runs, meaning}
+use Rattle.spool_engine.specs.Script.{Meaning, says, asks, lists, runs, meaning}
 use Rattle.print_rounds.specs.Rounds.{HasSomeOf}
-use Rattle.spool_engine.specs.EventTurns.{Setting, Outcome, EventTurn, served, no_memory, full, disk, dead, unread, IsTaken, IsServedBy, IsOutcome, IsKept}
+use Rattle.spool_engine.specs.EventTurns.{Setting, Outcome, EventTurn, served, no_memory, full, disk, dead, unread, unlisted, IsTaken, IsServedBy, IsOutcome, IsKept}
 use Rattle.spool_engine.specs.Rounds.{Ran, AreRunBy}
 use Rattle.spool_engine.specs.Runs.{Turn, How, answered, ran, event_turn, tried_in, IsHow, IsTurn, IsAlong, AreTurns, last_course}
 use Rattle.spool_engine.proofs.EventLaws.{OnlyNow, unmoved}
@@ -23,22 +26,33 @@ dead_taken : {D : Type 0} (s : Standing D) (e : Event) (r : Result (State × Rep
 dead_taken s e (Ok r) s' is h = let alive = h.fits.alive in cc
 dead_taken s e (Err refusal) s' is h = h.1
 
-dead_served : {D : Type 0} (s : Standing D) (w : Meaning) (reply : List ℕ) (s' : Standing D) → s.dead ≡ true → IsServedBy s w reply s' → s' ≡ s
-dead_served s (says text) reply s' is h = h.1
-dead_served s (asks e line) reply s' is h = dead_taken s e (step s.state e) s' is h.1
-dead_served s (runs most line) reply s' is h = absurd h
+dead_served : {D : Type 0} (v : DiskView D) (s : Standing D) (w : Meaning) (reply : List ℕ) (s' : Standing D) → s.dead ≡ true → IsServedBy v s w reply s' → s' ≡ s
+dead_served v s (says text) reply s' is h = h.1
+dead_served v s (asks e line) reply s' is h = dead_taken s e (step s.state e) s' is h.1
+dead_served v s lists reply s' is h = let alive = h.1.may.alive in cc
+dead_served v s (runs most line) reply s' is h = absurd h
+
+-- nor does it list its table
+dead_unlisted : {D : Type 0} (v : DiskView D) (s : Standing D) (fault : CheckpointFault) (s' : Standing D) → s.dead ≡ true → IsCheckpoint v s (Err fault) s' → s' ≡ s
+dead_unlisted v s listing.Dead s' is h = h.1
+dead_unlisted v s listing.EpochEnd s' is h = h.2
+dead_unlisted v s listing.Memory s' is h = h.1
+dead_unlisted v s listing.Full s' is h = h.2
+dead_unlisted v s listing.Disk s' is h = let alive = h.may.alive in cc
 
 dead_outcome : {D : Type 0} (v : Setting D) (s : Standing D) (t : EventTurn D) (o : Outcome) → s.dead ≡ true → IsOutcome v s t o → t.next ≡ s
-dead_outcome v s t served is h = dead_served s (meaning v.mime s.state t.command) t.text t.next is h
+dead_outcome v s t served is h = dead_served v.device s (meaning v.mime s.state t.command) t.text t.next is h
 dead_outcome v s t no_memory is h = h.cause.2
 dead_outcome v s t full is h = h.cause.1
 dead_outcome v s t disk is h = let alive = h.cause.fits.alive in cc
 dead_outcome v s t dead is h = h.cause.1
 dead_outcome v s t unread is h = h.same
+dead_outcome v s t (unlisted fault) is h = dead_unlisted v.device s fault t.next is h.cause
 
 dead_rounds : {D : Type 0} (v : Setting D) (w : Meaning) (s : Course D) (rs : List (Ran D)) (new : Course D) (reply : List ℕ) → s.spool.dead ≡ true → AreRunBy v w s rs new reply → new.spool ≡ s.spool
 dead_rounds v (says text) s rs new reply is h = absurd h
 dead_rounds v (asks e line) s rs new reply is h = absurd h
+dead_rounds v lists s rs new reply is h = absurd h
 dead_rounds v (runs most line) s rs new reply is h = ap (λ x. x.spool) (dead_rans v s rs new is h.each)
 
 -- a dead spool stays as it is

@@ -18,14 +18,17 @@ use Rattle.command_lines.specs.declared.command.Creation.{Creation}
 use Rattle.command_lines.specs.declared.command.Command.TheVariants.{Queue, Create}
 use Rattle.spool_core.specs.Image.{HasTable, HasBeforeOrAfterEvent}
 use Rattle.spool_core.specs.Standing.{Standing, IsAnswer}
+use Rattle.spool_core.specs.Checkpointing.{IsCheckpoint}
+use Rattle.spool_core.specs.declared.spool.checkpoint_fault.CheckpointFault.{CheckpointFault}
+use Rattle.spool_core.specs.declared.spool.checkpoint_fault.CheckpointFault.TheVariants as listing
 use Rattle.spool_core.specs.declared.spool.apply_fault.ApplyFault.{ApplyFault}
 use Rattle.spool_core.specs.declared.spool.apply_fault.ApplyFault.TheVariants.{Dead, Refused, Memory, Full, Disk}
 use Rattle.print_rounds.proofs.PrefixLaws.{none_of, one_of}
 use Rattle.spool_engine.specs.Mime.{Mime}
-use Rattle.spool_engine.specs.Script.{says, asks, meaning, creating, job_options, job_of_creation, event_in, event_of, step_line, step_state, reply_line}
+use Rattle.spool_engine.specs.Script.{says, asks, lists, meaning, creating, job_options, job_of_creation, event_in, event_of, step_line, step_state, reply_line}
 use Rattle.print_rounds.specs.Rounds.{HasSomeOf}
-use Rattle.spool_engine.specs.EventTurns.{Setting, Outcome, EventTurn, served, no_memory, full, disk, dead, unread, IsServedBy, IsTaken, IsOutcome, MayBeRead, IsKept, tried_as}
-use Rattle.spool_engine.specs.Answers.{answer_line, IsApplied, Takes}
+use Rattle.spool_engine.specs.EventTurns.{Setting, Outcome, EventTurn, served, no_memory, full, disk, dead, unread, unlisted, IsServedBy, IsTaken, IsOutcome, MayBeRead, IsKept, tried_as, checkpoint_fault_line}
+use Rattle.spool_engine.specs.Answers.{answer_line, checkpoint_line, IsApplied, IsRelisted, Takes}
 
 -- since this moment there is no other
 abbrev pub OnlyNow : {D : Type 0} → DiskView D → Type 0
@@ -46,7 +49,7 @@ said_turn v s c text now kept is = (
   record { command = c; outcome = served; text = text; next = s },
   record {
     legal = record {
-      outcome = subst (λ w. IsServedBy s w text s) (sym is) (refl, refl);
+      outcome = subst (λ w. IsServedBy v.device s w text s) (sym is) (refl, refl);
       counted = omega arith;
       told = (λ h. h, λ h. h);
       crash = unmoved v.device s (HasSomeOf s.state (tried_as (event_of v.mime s.state c) served)) now kept (none_of s.state (tried_as (event_of v.mime s.state c) served));
@@ -87,10 +90,10 @@ applied_turn v s s' c e line a o text is h out crash = (
 
 pub answered_turn : {D : Type 0} (v : Setting D) (s s' : Standing D) (c : Command) (e : Event) (line : Reply → List ℕ) (a : Result Reply ApplyFault) → OnlyNow v.device → meaning v.mime s.state c ≡ asks e line → IsApplied v.device s e a s' → (t : EventTurn D) × Takes v s c t s' × (t.text ≡ answer_line line a)
 answered_turn v s s' c e line (Ok reply) now is h = applied_turn v s s' c e line (Ok reply) served (line reply) is h
-    (subst (λ w. IsServedBy s w (line reply) s') (sym is) (sym (ap (step_line line) h.cause.step), subst (λ r. IsTaken s e r s') (sym h.cause.step) h.cause))
+    (subst (λ w. IsServedBy v.device s w (line reply) s') (sym is) (sym (ap (step_line line) h.cause.step), subst (λ r. IsTaken s e r s') (sym h.cause.step) h.cause))
     (tried v.device s s' e (Ok reply) h)
 answered_turn v s s' c e line (Err (Refused refusal)) now is h = applied_turn v s s' c e line (Err (Refused refusal)) served (refusal_line refusal) is h
-    (subst (λ w. IsServedBy s w (refusal_line refusal) s') (sym is) (sym (ap (step_line line) h.cause.1), subst (λ r. IsTaken s e r s') (sym h.cause.1) (h.cause.0, h.cause.2)))
+    (subst (λ w. IsServedBy v.device s w (refusal_line refusal) s') (sym is) (sym (ap (step_line line) h.cause.1), subst (λ r. IsTaken s e r s') (sym h.cause.1) (h.cause.0, h.cause.2)))
     (tried v.device s s' e (Err (Refused refusal)) h)
 answered_turn v s s' c e line (Err Dead) now is h = applied_turn v s s' c e line (Err Dead) dead (codes "error dead\n") is h (record { event = e; is = ap event_in is; cause = h.cause; text = refl })
     (untried v.device s s' e (Err Dead) now h h.cause.1)
@@ -190,4 +193,61 @@ spool_applied v s s' e a h counted told crash ok kept = record {
   told = told;
   crash = crash;
   kept = still_kept v s s' e a h told ok kept;
+}
+
+-- ## A checkpoint
+
+listed_turn : {D : Type 0} (v : Setting D) (s s' : Standing D) (c : Command) (a : Result (Unit {0}) CheckpointFault) (o : Outcome) (text : List ℕ) → meaning v.mime s.state c ≡ lists → IsRelisted v.device s a s'
+    → IsOutcome v s (record { command = c; outcome = o; text = text; next = s' }) o → tried_as None o ≡ [] → (t : EventTurn D) × Takes v s c t s' × (t.text ≡ text)
+listed_turn v s s' c a o text is h out none = (
+  record { command = c; outcome = o; text = text; next = s' },
+  record {
+    legal = record {
+      outcome = out;
+      counted = h.counted;
+      told = h.told;
+      crash = λ alive tells.
+          subst (λ w. LeavesOnly v.device s.disk s'.disk (HasSomeOf s.state (tried_as (event_in w) o))) (sym is)
+          (subst (λ es. LeavesOnly v.device s.disk s'.disk (HasSomeOf s.state es)) (sym none)
+          (weaker_run v.device s.disk s'.disk (HasSomeOf s.state []) (HasTable s.state) (h.crash alive tells) (none_of s.state [])));
+      kept = h.kept;
+    };
+    command = refl;
+    next = refl;
+  },
+  refl,
+)
+
+relisted_turn : {D : Type 0} (v : Setting D) (s s' : Standing D) (c : Command) (a : Result (Unit {0}) CheckpointFault) → meaning v.mime s.state c ≡ lists → IsRelisted v.device s a s' → (t : EventTurn D) × Takes v s c t s' × (t.text ≡ checkpoint_line a)
+relisted_turn v s s' c (Ok done) is h = listed_turn v s s' c (Ok done) served (codes "ok\n") is h (subst (λ w. IsServedBy v.device s w (codes "ok\n") s') (sym is) (refl, h.cause)) refl
+relisted_turn v s s' c (Err fault) is h = listed_turn v s s' c (Err fault) (unlisted fault) (checkpoint_fault_line fault) is h (record { is = is; cause = h.cause; text = refl }) refl
+
+-- a checkpoint, and the text that tells how it went
+pub listing_told : {X E D : Type 0} (bytes : X → List ℕ) (r : Result X E) (v : Setting D) (s s' : Standing D) (c : Command) → meaning v.mime s.state c ≡ lists
+    → (a : Result (Unit {0}) CheckpointFault) × IsRelisted v.device s a s' × IfOk r (λ text. bytes text ≡ checkpoint_line a)
+    → (t : EventTurn D) × Takes v s c t s' × IfOk r (λ text. bytes text ≡ t.text)
+listing_told bytes r v s s' c is (a, went, text) =
+    let (t, takes, told) = relisted_turn v s s' c a is went in
+    (t, takes, same_bytes bytes r (checkpoint_line a) t.text told text)
+
+-- after every answer to a checkpoint a crash leaves the table that is shown
+listing_kept : {D : Type 0} (v : DiskView D) (s s' : Standing D) (a : Result (Unit {0}) CheckpointFault) → IsCheckpoint v s a s' → (IsSome (v.bytes s'.disk) ↔ IsSome (v.bytes s.disk))
+    → OnOk a (IsSome (v.bytes s.disk) → (c : List ℕ) → v.image s'.disk c → HasTable s'.state c) → IsKept v s → IsKept v s'
+listing_kept v s s' (Ok done) h told ok kept = λ alive tells c now. ok (told.0 tells) c now
+listing_kept v s s' (Err listing.Dead) h told ok kept = kept_as v s s' (sym h.1) kept
+listing_kept v s s' (Err listing.EpochEnd) h told ok kept = kept_as v s s' (sym h.2) kept
+listing_kept v s s' (Err listing.Memory) h told ok kept = kept_as v s s' (sym h.1) kept
+listing_kept v s s' (Err listing.Full) h told ok kept = kept_as v s s' (sym h.2) kept
+listing_kept v s s' (Err listing.Disk) h told ok kept = λ alive tells c now. absurd (let died = h.dead in cc)
+
+-- what the spool says of a checkpoint
+pub spool_relisted : {D : Type 0} (v : DiskView D) (s s' : Standing D) (a : Result (Unit {0}) CheckpointFault) → IsCheckpoint v s a s' → v.failures s.disk ≤ v.failures s'.disk → (IsSome (v.bytes s'.disk) ↔ IsSome (v.bytes s.disk))
+    → (s.dead ≡ false → IsSome (v.bytes s.disk) → LeavesOnly v s.disk s'.disk (HasTable s.state))
+    → OnOk a (IsSome (v.bytes s.disk) → (c : List ℕ) → v.image s'.disk c → HasTable s'.state c) → IsKept v s → IsRelisted v s a s'
+spool_relisted v s s' a h counted told crash ok kept = record {
+  cause = h;
+  counted = counted;
+  told = told;
+  crash = crash;
+  kept = listing_kept v s s' a h told ok kept;
 }

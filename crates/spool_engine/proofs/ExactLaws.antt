@@ -16,6 +16,7 @@ use Rattle.command_lines.specs.declared.command.Command.TheVariants as commands
 use Rattle.command_lines.specs.declared.command.Creation.{Creation}
 use Rattle.device_uri.specs.Devices.{is_device_uri}
 use Rattle.filter_args.specs.declared.place.Place.{Place}
+use Rattle.spool_disk.specs.Disk.{DiskView}
 use Rattle.spool_core.specs.Standing.{Standing}
 use Rattle.child_pipeline.specs.Told.{Told}
 use Rattle.print_rounds.specs.Courses.{Course}
@@ -25,7 +26,7 @@ use Rattle.print_rounds.specs.Rounds.{IsRoundOf, fault_in}
 use Rattle.print_rounds.specs.Script.{Play, round_of}
 use Rattle.print_rounds.specs.declared.outcome.Round.{Round}
 use Rattle.print_rounds.specs.declared.outcome.RoundFault.{RoundFault}
-use Rattle.spool_engine.specs.Script.{Meaning, says, asks, runs, meaning, creating, job_options, reply_line, Scene, scene_after, counts_of, is_idle, unless, rounds_of, last_scene, step_line, step_state, reply_by, after_by, events_by, reply_of, after_command, events_of_command, script_text, script_events, script_scene}
+use Rattle.spool_engine.specs.Script.{Meaning, says, asks, lists, runs, meaning, creating, job_options, reply_line, Scene, scene_after, counts_of, is_idle, unless, rounds_of, last_scene, step_line, step_state, reply_by, after_by, events_by, reply_of, after_command, events_of_command, script_text, script_events, script_scene}
 use Rattle.spool_engine.specs.EventTurns.{Setting, Outcome, served, IsTaken, IsServedBy, IsOutcome}
 use Rattle.spool_engine.specs.Rounds.{Ran, IsRoundWith, IsRan, AreRan, AreAll, IsRest, is_last, results_of, counts_in, with_counts, line_told, AreRunBy}
 use Rattle.spool_engine.specs.Runs.{Turn, How, answered, ran, event_turn, IsHow, IsHeld, IsWell, AllServed, AreTurns, last_course, texts_of, commands_in, Lead, IsScript, IsScene, IsExact, HasNoRounds, is_round, scene_with}
@@ -51,16 +52,17 @@ record IsSaid (place : Place) (x : Scene) (w : Meaning) (reply : List ℕ) (new 
   state : new ≡ (after_by place x w).state
   table : new ≡ after_all x.state (events_by place x w)
 
-served_exact : {D : Type 0} (place : Place) (s s' : Standing D) (x : Scene) (w : Meaning) (text : List ℕ) → s.state ≡ x.state → IsServedBy s w text s' → IsSaid place x w text s'.state
-served_exact place s s' x (says text) reply e h = record { text = h.0; state = ap (λ y. y.state) h.1 ∙ e; table = ap (λ y. y.state) h.1 ∙ e }
-served_exact place s s' x (asks event line) reply e h =
+served_exact : {D : Type 0} (v : DiskView D) (place : Place) (s s' : Standing D) (x : Scene) (w : Meaning) (text : List ℕ) → s.state ≡ x.state → IsServedBy v s w text s' → IsSaid place x w text s'.state
+served_exact v place s s' x (says text) reply e h = record { text = h.0; state = ap (λ y. y.state) h.1 ∙ e; table = ap (λ y. y.state) h.1 ∙ e }
+served_exact v place s s' x (asks event line) reply e h =
     let state : s'.state ≡ step_state x.state (step x.state event) = taken_state s event (step s.state event) s' refl h.1 ∙ ap (λ y. step_state y (step y event)) e in
     record {
       text = h.0 ∙ ap (λ y. step_line line (step y event)) e;
       state = state;
       table = state ∙ step_folds x.state event (refusal_of x.state event);
     }
-served_exact place s s' x (runs most line) reply e h = absurd h
+served_exact v place s s' x lists reply e h = record { text = h.0; state = h.1.state ∙ e; table = h.1.state ∙ e }
+served_exact v place s s' x (runs most line) reply e h = absurd h
 
 -- ## A round
 
@@ -181,15 +183,17 @@ rounds_played v (suc n) x s new (r ∷ rs) e tell h all ok =
 ran_exact : {D : Type 0} (v : Setting D) (w : Meaning) (s new : Course D) (x : Scene) (rs : List (Ran D)) (text : List ℕ) → s.spool.state ≡ x.state → IsTelling s x → AreRunBy v w s rs new text → IsOk (counts_in (results_of rs)) → IsSaid v.place x w text new.spool.state × IsTelling new (after_by v.place x w)
 ran_exact v (says said) s new x rs text e tell h ok = absurd h
 ran_exact v (asks event line) s new x rs text e tell h ok = absurd h
+ran_exact v lists s new x rs text e tell h ok = absurd h
 ran_exact v (runs most line) s new x rs text e tell h ok =
     let all = rounds_played v most x s new rs e tell h.each h.all ok in
     let played = flat_map (λ (p : Play). p.events) (rounds_of v.place most x) in
     (record { text = h.text ∙ ap (line_told line) all.counts; state = all.state; table = all.table ∙ ap (λ y. after_all y played) e }, all.telling)
 
-held_telling : {D : Type 0} (place : Place) (w : Meaning) (s new : Course D) (x : Scene) (reply : List ℕ) → IsHeld s new → IsServedBy s.spool w reply new.spool → IsTelling s x → IsTelling new (after_by place x w)
-held_telling place (says text) s new x reply held h tell = record { slots = held.slots ∙ tell.slots; told = held.told ∙ tell.told; rest = tell.rest }
-held_telling place (asks e line) s new x reply held h tell = record { slots = held.slots ∙ tell.slots; told = held.told ∙ tell.told; rest = tell.rest }
-held_telling place (runs most line) s new x reply held h tell = absurd h
+held_telling : {D : Type 0} (v : DiskView D) (place : Place) (w : Meaning) (s new : Course D) (x : Scene) (reply : List ℕ) → IsHeld s new → IsServedBy v s.spool w reply new.spool → IsTelling s x → IsTelling new (after_by place x w)
+held_telling v place (says text) s new x reply held h tell = record { slots = held.slots ∙ tell.slots; told = held.told ∙ tell.told; rest = tell.rest }
+held_telling v place (asks e line) s new x reply held h tell = record { slots = held.slots ∙ tell.slots; told = held.told ∙ tell.told; rest = tell.rest }
+held_telling v place lists s new x reply held h tell = record { slots = held.slots ∙ tell.slots; told = held.told ∙ tell.told; rest = tell.rest }
+held_telling v place (runs most line) s new x reply held h tell = absurd h
 
 -- only `round` and `drain` are told by rounds
 runs_none_if : {D : Type 0} (v : Setting D) (s : Course D) (rs : List (Ran D)) (new : Course D) (text : List ℕ) (e : Event) (line : Reply → List ℕ) (said : List ℕ) (b : Bool) → AreRunBy v (cond b (asks e line) (says said)) s rs new text → ⊥
@@ -210,6 +214,7 @@ runs_none v s rs new text state commands.Jobs is h = h
 runs_none v s rs new text state commands.Queues is h = h
 runs_none v s rs new text state commands.Round is h = cc
 runs_none v s rs new text state (commands.Drain most) is h = cc
+runs_none v s rs new text state commands.Checkpoint is h = h
 runs_none v s rs new text state commands.Malformed is h = h
 
 -- what a turn is to a scene
@@ -219,11 +224,11 @@ record IsTurnSaid {D : Type 0} (v : Setting D) (s : Course D) (x : Scene) (t : T
 
 answered_exact : {D : Type 0} (v : Setting D) (s : Course D) (x : Scene) (t : Turn D) (o : Outcome) → o ≡ served → s.spool.state ≡ x.state → IsHow v s t (answered o) → IsTurnSaid v s x t
 answered_exact v s x t o well e how =
-    let h : IsServedBy s.spool (meaning v.mime s.spool.state t.command) t.text t.next.spool = subst (λ p. IsOutcome v s.spool (event_turn t p) p) well how.0 in
-    let k : IsServedBy s.spool (meaning v.mime x.state t.command) t.text t.next.spool = subst (λ y. IsServedBy s.spool (meaning v.mime y t.command) t.text t.next.spool) e h in
+    let h : IsServedBy v.device s.spool (meaning v.mime s.spool.state t.command) t.text t.next.spool = subst (λ p. IsOutcome v s.spool (event_turn t p) p) well how.0 in
+    let k : IsServedBy v.device s.spool (meaning v.mime x.state t.command) t.text t.next.spool = subst (λ y. IsServedBy v.device s.spool (meaning v.mime y t.command) t.text t.next.spool) e h in
     record {
-      said = served_exact v.place s.spool t.next.spool x (meaning v.mime x.state t.command) t.text e k;
-      telling = held_telling v.place (meaning v.mime x.state t.command) s t.next x t.text how.1 k;
+      said = served_exact v.device v.place s.spool t.next.spool x (meaning v.mime x.state t.command) t.text e k;
+      telling = held_telling v.device v.place (meaning v.mime x.state t.command) s t.next x t.text how.1 k;
     }
 
 ran_turn : {D : Type 0} (v : Setting D) (s : Course D) (x : Scene) (t : Turn D) (rs : List (Ran D)) → IsOk (counts_in (results_of rs)) → s.spool.state ≡ x.state → AreRunBy v (meaning v.mime s.spool.state t.command) s rs t.next t.text → IsTelling s x → IsTurnSaid v s x t

@@ -11,13 +11,17 @@ use Rattle.job_table.specs.Stages.{Key, IsIn, IsSpent}
 use Rattle.job_table.specs.Step.{step, refusal_of, answered, after, reply_to}
 use Rattle.spool_core.specs.History.{AreAccepted}
 use Rattle.spool_core.specs.Standing.{Standing}
+use Rattle.spool_core.specs.Checkpointing.{IsCheckpoint}
+use Rattle.spool_core.specs.declared.spool.checkpoint_fault.CheckpointFault.{CheckpointFault}
+use Rattle.spool_core.specs.declared.spool.checkpoint_fault.CheckpointFault.TheVariants as listing
+use Rattle.spool_disk.specs.Disk.{DiskView}
 use Rattle.child_pipeline.specs.Told.{Told}
 use Rattle.print_rounds.specs.Courses.{Course}
 use Rattle.print_rounds.specs.World.{IsEndedSlot, IsCallTurn}
-use Rattle.spool_engine.specs.EventTurns.{Setting, Outcome, served, no_memory, full, disk, dead, unread, IsTaken, IsServedBy, IsOutcome}
+use Rattle.spool_engine.specs.EventTurns.{Setting, Outcome, served, no_memory, full, disk, dead, unread, unlisted, IsTaken, IsServedBy, IsOutcome}
 use Rattle.spool_engine.specs.Rounds.{Ran, IsRoundWith, IsRan, AreRan, AreRunBy}
 use Rattle.spool_engine.specs.Runs.{Turn, How, answered as replied, ran, event_turn, IsHow, IsHeld as HasSlotsOf, AreTurns, last_course}
-use Rattle.spool_engine.specs.Script.{Meaning, says, asks, runs, meaning}
+use Rattle.spool_engine.specs.Script.{Meaning, says, asks, lists, runs, meaning}
 
 -- a turn after which no child runs
 abbrev pub IsQuietTurn : {D : Type 0} → Told → Course D → Course D → Type 0
@@ -83,18 +87,31 @@ module _ {D : Type 0} (laws : Laws D) (t : Told) (quiet : t.running ≡ []) wher
       (λ died. absurd (both_ways _ done.fits.alive died))
   taken_turn old new e (Err refusal) legal tells held refused = still_turn old new legal tells refused.1 held
 
-  served_turn : (old new : Course D) (w : Meaning) (reply : List ℕ) → IsLegal old.spool.state → old.told ≡ Some t → HasSlotsOf old new → IsServedBy old.spool w reply new.spool → IsQuietTurn t old new
-  served_turn old new (says text) reply legal tells held is = still_turn old new legal tells is.1 held
-  served_turn old new (asks e line) reply legal tells held is = taken_turn old new e (step old.spool.state e) legal tells held is.1
-  served_turn old new (runs most line) reply legal tells held is = absurd is
+  -- ## A checkpoint
+
+  unlisted_turn : (device : DiskView D) (old new : Course D) (fault : CheckpointFault) → IsLegal old.spool.state → old.told ≡ Some t → HasSlotsOf old new → IsCheckpoint device old.spool (Err fault) new.spool → IsQuietTurn t old new
+  unlisted_turn device old new listing.Dead legal tells held is = still_turn old new legal tells is.1 held
+  unlisted_turn device old new listing.EpochEnd legal tells held is = still_turn old new legal tells is.2 held
+  unlisted_turn device old new listing.Memory legal tells held is = still_turn old new legal tells is.1 held
+  unlisted_turn device old new listing.Full legal tells held is = still_turn old new legal tells is.2 held
+  unlisted_turn device old new listing.Disk legal tells held is = plain_turn old new [] legal tells tt is.state held (λ died. is.dead)
+
+  -- ## By its outcome
+
+  served_turn : (device : DiskView D) (old new : Course D) (w : Meaning) (reply : List ℕ) → IsLegal old.spool.state → old.told ≡ Some t → HasSlotsOf old new → IsServedBy device old.spool w reply new.spool → IsQuietTurn t old new
+  served_turn device old new (says text) reply legal tells held is = still_turn old new legal tells is.1 held
+  served_turn device old new (asks e line) reply legal tells held is = taken_turn old new e (step old.spool.state e) legal tells held is.1
+  served_turn device old new lists reply legal tells held is = plain_turn old new [] legal tells tt is.1.state held (λ died. absurd (both_ways _ is.1.may.alive died))
+  served_turn device old new (runs most line) reply legal tells held is = absurd is
 
   outcome_turn : (v : Setting D) (old : Course D) (turn : Turn D) (o : Outcome) → IsLegal old.spool.state → old.told ≡ Some t → HasSlotsOf old turn.next → IsOutcome v old.spool (event_turn turn o) o → IsQuietTurn t old turn.next
-  outcome_turn v old turn served legal tells held is = served_turn old turn.next (meaning v.mime old.spool.state turn.command) turn.text legal tells held is
+  outcome_turn v old turn served legal tells held is = served_turn v.device old turn.next (meaning v.mime old.spool.state turn.command) turn.text legal tells held is
   outcome_turn v old turn no_memory legal tells held is = still_turn old turn.next legal tells is.cause.2 held
   outcome_turn v old turn full legal tells held is = still_turn old turn.next legal tells is.cause.1 held
   outcome_turn v old turn disk legal tells held is = plain_turn old turn.next [] legal tells tt is.cause.state held (λ died. is.cause.dead)
   outcome_turn v old turn dead legal tells held is = still_turn old turn.next legal tells is.cause.1 held
   outcome_turn v old turn unread legal tells held is = still_turn old turn.next legal tells is.same held
+  outcome_turn v old turn (unlisted fault) legal tells held is = unlisted_turn v.device old turn.next fault legal tells held is.cause
 
   -- ## A round
 
@@ -141,6 +158,7 @@ module _ {D : Type 0} (laws : Laws D) where
   run_turn : (v : Setting D) (w : Meaning) (t : Told) → t.running ≡ [] → (old new : Course D) (rs : List (Ran D)) (reply : List ℕ) → IsLegal old.spool.state → old.told ≡ Some t → AreRunBy v w old rs new reply → IsQuietTurn t old new
   run_turn v (says text) t quiet old new rs reply legal tells is = absurd is
   run_turn v (asks e line) t quiet old new rs reply legal tells is = absurd is
+  run_turn v lists t quiet old new rs reply legal tells is = absurd is
   run_turn v (runs most line) t quiet old new rs reply legal tells is = rounds_turn v rs t quiet old new legal tells is.each
 
   how_turn : (v : Setting D) (t : Told) → t.running ≡ [] → (old : Course D) (turn : Turn D) (how : How D) → IsLegal old.spool.state → old.told ≡ Some t → IsHow v old turn how → IsQuietTurn t old turn.next

@@ -1,15 +1,17 @@
--- How an event went.
+-- How an event, or a checkpoint, went.
 use Rattle.std.specs.Prelude.{◌≡◌, ◌≤◌, ◌↔◌, ℕ, List, codes, false, IsSome, Result, Ok, Err}
 use Rattle.spool_types.specs.declared.event.Event.{Event}
 use Rattle.spool_types.specs.declared.event.Reply.{Reply}
 use Rattle.spool_disk.specs.Disk.{DiskView, LeavesOnly}
 use Rattle.command_lines.specs.declared.command.Command.{Command}
 use Rattle.command_lines.specs.Replies.{refusal_line}
-use Rattle.spool_core.specs.Image.{HasBeforeOrAfterEvent}
+use Rattle.spool_core.specs.Image.{HasTable, HasBeforeOrAfterEvent}
+use Rattle.spool_core.specs.Checkpointing.{IsCheckpoint}
+use Rattle.spool_core.specs.declared.spool.checkpoint_fault.CheckpointFault.{CheckpointFault}
 use Rattle.spool_core.specs.Standing.{Standing, IsAnswer}
 use Rattle.spool_core.specs.declared.spool.apply_fault.ApplyFault.{ApplyFault}
 use Rattle.spool_core.specs.declared.spool.apply_fault.ApplyFault.TheVariants.{Dead, Refused, Memory, Full, Disk}
-use Rattle.spool_engine.specs.EventTurns.{Setting, EventTurn, IsEventTurn, IsKept}
+use Rattle.spool_engine.specs.EventTurns.{Setting, EventTurn, IsEventTurn, IsKept, checkpoint_fault_line}
 
 -- the line for a fault
 abbrev pub fault_line : ApplyFault → List ℕ
@@ -31,6 +33,20 @@ pub record IsApplied {D : Type 0} (device : DiskView D) (old : Standing D) (e : 
   pub told : IsSome (device.bytes new.disk) ↔ IsSome (device.bytes old.disk)
   pub crash : old.dead ≡ false → IsSome (device.bytes old.disk) →
       LeavesOnly device old.disk new.disk (HasBeforeOrAfterEvent old.state e)
+  pub kept : IsKept device new
+
+-- the line that tells how a checkpoint went
+abbrev pub checkpoint_line : Result (Unit {0}) CheckpointFault → List ℕ
+checkpoint_line (Ok done) = codes "ok\n"
+checkpoint_line (Err fault) = checkpoint_fault_line fault
+
+-- a checkpoint that was answered so, and what a crash meanwhile and behind it leaves
+pub record IsRelisted {D : Type 0} (device : DiskView D) (old : Standing D) (answer : Result (Unit {0}) CheckpointFault) (new : Standing D) : Type 0 where
+  pub cause : IsCheckpoint device old answer new
+  pub counted : device.failures old.disk ≤ device.failures new.disk
+  pub told : IsSome (device.bytes new.disk) ↔ IsSome (device.bytes old.disk)
+  pub crash : old.dead ≡ false → IsSome (device.bytes old.disk) →
+      LeavesOnly device old.disk new.disk (HasTable old.state)
   pub kept : IsKept device new
 
 -- a turn of this command on the spool, before its text is written

@@ -1,4 +1,4 @@
--- A turn of one command, where it is no round: what it says, or its one event, also where something failed.
+-- A turn of one command, where it is no round: what it says, its one event, or its checkpoint, also where something failed.
 use Rattle.std.specs.Prelude.{◌≡◌, ℕ, ◌≤◌, ◌↔◌, List, [], ◌∷◌, codes, true, false, IsTrue, IsSome, Option, None, Some, Result, Ok, Err}
 use Rattle.std.specs.Result.{IsOk}
 use Rattle.spool_types.specs.declared.event.Event.{Event}
@@ -14,9 +14,12 @@ use Rattle.command_lines.specs.declared.command.Command.{Command}
 use Rattle.command_lines.specs.declared.command.Command.TheVariants.{Queue, Create}
 use Rattle.spool_core.specs.Image.{HasTable}
 use Rattle.spool_core.specs.Standing.{Standing, IsDone, IsFull, IsFailed}
+use Rattle.spool_core.specs.Checkpointing.{IsCheckpoint, IsListed}
+use Rattle.spool_core.specs.declared.spool.checkpoint_fault.CheckpointFault.{CheckpointFault}
+use Rattle.spool_core.specs.declared.spool.checkpoint_fault.CheckpointFault.TheVariants as faults
 use Rattle.print_rounds.specs.Rounds.{HasSomeOf}
 use Rattle.spool_engine.specs.Mime.{Mime}
-use Rattle.spool_engine.specs.Script.{Meaning, says, asks, runs, meaning, event_of, step_line}
+use Rattle.spool_engine.specs.Script.{Meaning, says, asks, lists, runs, meaning, event_of, step_line}
 
 -- what a run stands on: a disk, what documents are read by, and where children run
 pub record Setting (D : Type 0) : Type 1 where
@@ -36,6 +39,8 @@ pub data Outcome : Type 0 where
   dead : Outcome
   -- no memory was found to read the URI of a queue, or the options of a job
   unread : Outcome
+  -- the checkpoint met this fault
+  unlisted : CheckpointFault → Outcome
 
 -- a command, how it went, its reply and the spool after it
 pub record EventTurn (D : Type 0) : Type 0 where
@@ -50,14 +55,15 @@ abbrev pub IsTaken : {D : Type 0} → Standing D → Event → Result (State × 
 IsTaken old e (Ok r) new = IsDone old e r.1 new
 IsTaken old e (Err refusal) new = (old.dead ≡ false) × (new ≡ old)
 
--- The reply is that of Script, and the spool took the event. A text that is said changes nothing.
-abbrev pub IsServedBy : {D : Type 0} → Standing D → Meaning → List ℕ → Standing D → Type 0
-IsServedBy s (says text) reply new = (reply ≡ text) × (new ≡ s)
-IsServedBy s (asks e line) reply new = (reply ≡ step_line line (step s.state e)) × IsTaken s e (step s.state e) new
-IsServedBy s (runs most line) reply new = ⊥
+-- The reply is that of Script, and the spool took the event, or listed its table. A text that is said changes nothing.
+abbrev pub IsServedBy : {D : Type 0} → DiskView D → Standing D → Meaning → List ℕ → Standing D → Type 0
+IsServedBy device s (says text) reply new = (reply ≡ text) × (new ≡ s)
+IsServedBy device s (asks e line) reply new = (reply ≡ step_line line (step s.state e)) × IsTaken s e (step s.state e) new
+IsServedBy device s lists reply new = (reply ≡ codes "ok\n") × IsListed device s new
+IsServedBy device s (runs most line) reply new = ⊥
 
-abbrev pub IsServed : {D : Type 0} → Mime → Standing D → EventTurn D → Type 0
-IsServed m s t = IsServedBy s (meaning m s.state t.command) t.text t.next
+abbrev pub IsServed : {D : Type 0} → Setting D → Standing D → EventTurn D → Type 0
+IsServed v s t = IsServedBy v.device s (meaning v.mime s.state t.command) t.text t.next
 
 -- the command is an event that was answered by this line, and the cause of the line stands
 pub record Fails {D : Type 0} (m : Mime) (s : Standing D) (t : EventTurn D) (line : List ℕ) (Cause : Event → Type 0) : Type 0 where
@@ -78,13 +84,28 @@ pub record IsUnread {D : Type 0} (s : Standing D) (t : EventTurn D) : Type 0 whe
   pub text : t.text ≡ codes "error memory\n"
   pub same : t.next ≡ s
 
+-- the line for a fault of a checkpoint
+abbrev pub checkpoint_fault_line : CheckpointFault → List ℕ
+checkpoint_fault_line faults.Dead = codes "error dead\n"
+checkpoint_fault_line faults.EpochEnd = codes "error epoch\n"
+checkpoint_fault_line faults.Memory = codes "error memory\n"
+checkpoint_fault_line faults.Full = codes "error full\n"
+checkpoint_fault_line faults.Disk = codes "error disk\n"
+
+-- the command is a checkpoint that met this fault, with its cause and what it leaves
+pub record FailsToList {D : Type 0} (v : Setting D) (s : Standing D) (t : EventTurn D) (fault : CheckpointFault) : Type 0 where
+  pub is : meaning v.mime s.state t.command ≡ lists
+  pub cause : IsCheckpoint v.device s (Err fault) t.next
+  pub text : t.text ≡ checkpoint_fault_line fault
+
 -- Served, or an error's line and no row has changed. Each line but `error memory` comes only for its cause.
 abbrev pub IsOutcome : {D : Type 0} → Setting D → Standing D → EventTurn D → Outcome → Type 0
-IsOutcome v s t served = IsServed v.mime s t
+IsOutcome v s t served = IsServed v s t
 IsOutcome v s t no_memory = Fails v.mime s t (codes "error memory\n") (λ e. (s.dead ≡ false) × (refusal_of s.state e ≡ None) × (t.next ≡ s))
 IsOutcome v s t full = Fails v.mime s t (codes "error full\n") (λ e. IsFull s e × (t.next ≡ s))
 IsOutcome v s t disk = Fails v.mime s t (codes "error disk\n") (λ e. IsFailed v.device s e t.next)
 IsOutcome v s t unread = IsUnread s t
+IsOutcome v s t (unlisted fault) = FailsToList v s t fault
 IsOutcome v s t dead = Fails v.mime s t (codes "error dead\n") (λ e. IsTrue s.dead × (t.next ≡ s))
 
 -- Until the device has failed a crash leaves the table, where the disk tells its bytes.
@@ -103,6 +124,7 @@ tried_as asked full = []
 tried_as asked disk = listed asked
 tried_as asked dead = []
 tried_as asked unread = []
+tried_as asked (unlisted fault) = []
 
 -- A turn on the spool that it found. Unless the device had failed before, a crash at any moment of it leaves the table
 -- before the command or, where its event was tried, the one after it. Unless it has failed by then, a crash after it leaves

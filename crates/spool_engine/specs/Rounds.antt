@@ -12,7 +12,7 @@ use Rattle.print_rounds.specs.declared.outcome.Round.{Round}
 use Rattle.print_rounds.specs.declared.outcome.RoundFault.{RoundFault}
 use Rattle.print_rounds.specs.declared.outcome.RoundFault.TheVariants as faults
 use Rattle.spool_engine.specs.EventTurns.{Setting, IsKept}
-use Rattle.spool_engine.specs.Script.{Meaning, says, asks, runs, is_idle}
+use Rattle.spool_engine.specs.Script.{Meaning, says, asks, lists, runs, is_idle}
 
 -- a round: what it leaves, its answer, and the events that were tried in it
 pub record Ran (D : Type 0) : Type 0 where
@@ -110,4 +110,5 @@ pub record AreRun {D : Type 0} (v : Setting D) (most : ℕ) (line : List Round �
 abbrev pub AreRunBy : {D : Type 0} → Setting D → Meaning → Course D → List (Ran D) → Course D → List ℕ → Type 0
 AreRunBy v (says text) old rs new reply = ⊥
 AreRunBy v (asks e line) old rs new reply = ⊥
+AreRunBy v lists old rs new reply = ⊥
 AreRunBy v (runs most line) old rs new reply = AreRun v most line old rs new reply

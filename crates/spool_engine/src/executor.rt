@@ -1,4 +1,4 @@
-//! The executor of commands of one event, and of listings: it serves each on the spool that it finds.
+//! The executor of commands of one event, of checkpoints, and of listings: it serves each on the spool that it finds.
 ghost use Rattle.std.specs.Prelude.{◌≡◌, List, Some, Result, [], IfOk};
 ghost use Rattle.std.specs.Option.{option_and_then, option_copied};
 ghost use Rattle.std.specs.FinMap as finite;
@@ -10,15 +10,16 @@ ghost use Rattle.filter_args.specs.declared.place.Place.{Place as PlaceOf};
 ghost use Rattle.print_rounds.specs.Courses.{course};
 ghost use Rattle.print_rounds.specs.Finished.{HasNoneRunning};
 ghost use Rattle.spool_core.specs.declared.spool.apply_fault.ApplyFault.{ApplyFault};
+ghost use Rattle.spool_core.specs.declared.spool.checkpoint_fault.CheckpointFault.{CheckpointFault};
 ghost use Rattle.spool_engine.specs.Mime.{Mime as MimeDatabase};
 ghost use Rattle.spool_engine.specs.Script.{closing_line, closing_of, document_in, filters_to, queue_of_job, reply_line, stages_of};
 ghost use Rattle.spool_engine.specs.Script.{next_number};
 ghost use Rattle.spool_engine.specs.EventTurns.{setting, EventTurn, IsKept};
-ghost use Rattle.spool_engine.specs.Answers.{IsApplied, Takes, answer_line};
+ghost use Rattle.spool_engine.specs.Answers.{IsApplied, IsRelisted, Takes, answer_line, checkpoint_line};
 ghost use Rattle.spool_engine.specs.Rounds.{IsRan};
 ghost use Rattle.spool_types.specs.declared.event.Event.{Event as EventOf};
 
-use crate::answers::{answer_text, fault_text};
+use crate::answers::{answer_text, checkpoint_text, fault_text};
 use crate::mime::Mime;
 use crate::options::job_options;
 use child_pipeline::{Children, Runner};
@@ -27,7 +28,7 @@ use device_uri::{DeviceUri, UriFault};
 use filter_args::Place;
 use job_table::Table;
 use print_rounds::{Round, RoundFault};
-use spool_core::{ApplyFault, Spool};
+use spool_core::{ApplyFault, CheckpointFault, Spool};
 use spool_disk::Disk;
 use spool_types::{
     Closing, Event, Filters, JobId, MediaType, NewJob, NewQueue, OptionText, QueueRow, Refusal,
@@ -214,6 +215,23 @@ impl<D: Disk> Executor<D> {
     {
         let row = self.table().job(job)?;
         self.table().queue(&row.queue)
+    }
+
+    /// Lists the table in the other area, so that the journal has room again, and makes the text of the reply.
+    pub fn checkpoint(&mut self) -> Result<Vec<u8>, AllocError>
+        ensures { (answer : Result (Unit {0}) CheckpointFault) ×
+            IsRelisted D.device self.old answer self.new ×
+            IfOk result (λ text. text.items ≡ checkpoint_line answer) }
+    {
+        let done = self.relist();
+        checkpoint_text(self.alloc, done)
+    }
+
+    // Lists the table in the other area.
+    fn relist(&mut self) -> Result<(), CheckpointFault>
+        ensures { IsRelisted D.device self.old result self.new }
+    {
+        self.spool.checkpoint()
     }
 
     /// Runs a round.

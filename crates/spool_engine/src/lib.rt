@@ -17,6 +17,8 @@
 //! finishes each child and applies the event of its end (`print_rounds`). `drain` runs rounds until one starts and finishes
 //! nothing, which it counts, or as many as it may; a fault ends it.
 //!
+//! `checkpoint` lists the table in the other area of the disk, so that the journal has room again (`Spool::checkpoint`).
+//!
 //! # Promises
 //!
 //! [`Engine::run`] carries them in one clause, `IsRun`, and [`Engine::round`] its part of them in `IsRan`:
@@ -27,10 +29,11 @@
 //!   job. A text without rounds is served so whatever the children tell. This speaks of readers and writers that tell
 //!   their bytes.
 //! - *HonestReplies* (`lead`, by `IsHow`): each command in turn has Script's reply on the table that it found, or
-//!   an error's line, and has changed no row. `error full` comes only where the event's record doesn't fit, `error disk`
-//!   only where the device failed, and `error dead` only to events after that. `error memory` has a cause that no clause
-//!   sees. It comes only to an event that isn't refused, to a queue whose URI is within its limits, or to a job whose
-//!   options have no fault. A round, and each round of a drain, is told by its counts or by its first fault in time, and
+//!   an error's line, and has changed no row. `error full` comes only where the event's record, or the listing of a
+//!   checkpoint, doesn't fit, `error disk` only where the device failed, and `error dead` only to events and checkpoints
+//!   after that. `error epoch` comes only to a checkpoint after the last epoch. `error memory` has a cause that no clause
+//!   sees. It comes only to an event that isn't refused, to a checkpoint, to a queue whose URI is within its limits, or to a
+//!   job whose options have no fault. A round, and each round of a drain, is told by its counts or by its first fault in time, and
 //!   the table is that of the events acknowledged in it. After a fault of the run this holds of the first commands of the
 //!   text (`first`).
 //! - *EachFinishedOnce* (`finished` of each round): whatever failed, each child that was started is finished once when the

@@ -161,6 +161,7 @@ impl<D: Disk, C: Children> Printer<D, C> {
             Command::Queues => self.executor.queues(),
             Command::Round => self.round_text(place),
             Command::Drain(most) => self.drain_text(place, most),
+            Command::Checkpoint => self.executor.checkpoint(),
             Command::Malformed => print_reply(self.alloc, &Answer::Malformed),
         }
     }

@@ -167,6 +167,62 @@ media-empty,toner-low \"\"\nok 1\n";
     Ok(())
 }
 
+// A script with checkpoints between its events.
+const WITH_CHECKPOINTS: &str = "queue a s:/ a/b abort-job\ncreate a u t 1 50 \"\"\nsend 1 3\nabc\n\
+checkpoint\nsend 1 2\nde\ncheckpoint\ncancel 1\n";
+
+// What `jobs` lists before its first command, and after each of them.
+const LISTED: [&str; 8] = [
+    "ok 0\n",
+    "ok 0\n",
+    "job 1 a 4 job-incoming \"u\" 0 0 \"t\"\nok 1\n",
+    "job 1 a 4 job-incoming \"u\" 3 0 \"t\"\nok 1\n",
+    "job 1 a 4 job-incoming \"u\" 3 0 \"t\"\nok 1\n",
+    "job 1 a 4 job-incoming \"u\" 5 0 \"t\"\nok 1\n",
+    "job 1 a 4 job-incoming \"u\" 5 0 \"t\"\nok 1\n",
+    "job 1 a 7 canceled \"u\" 5 0 \"t\"\nok 1\n",
+];
+
+// How many commands of it were acknowledged where the disk fails after so many calls, and what is listed once the disk
+// is opened again, if it can be opened at first.
+fn stopped_after(alloc: Global, calls: u64) -> Result<Option<(usize, Vec<u8>)>, Fail> {
+    let mut engine = match engine_over(alloc, FuseDisk::new(spool_disk(alloc)?, calls)) {
+        Ok(engine) => engine,
+        Err(_) => return Ok(None),
+    };
+    let mut written = Vec::new(alloc);
+    engine.run(&mut WITH_CHECKPOINTS.as_bytes(), &mut written)?;
+    let mut acknowledged = 0;
+    for line in str::from_utf8(&written)?.lines() {
+        if !line.starts_with("ok") {
+            break;
+        }
+        acknowledged += 1;
+    }
+    let (spool, _) = engine.into_parts();
+    let mut engine = engine_over(alloc, spool.into_disk().into_disk())?;
+    let mut listing = Vec::new(alloc);
+    engine.run(&mut "jobs\n".as_bytes(), &mut listing)?;
+    Ok(Some((acknowledged, listing)))
+}
+
+#[test]
+fn no_checkpoint_loses_an_event(rt: HostRuntime) -> Result<(), Fail> {
+    let alloc = rt.alloc();
+    let mut most = 0;
+    for calls in 0..80 {
+        if let Some((acknowledged, listing)) = stopped_after(alloc, calls)? {
+            let listing = str::from_utf8(&listing)?;
+            let before = LISTED.get(acknowledged).ok_or("too many")?;
+            let after = LISTED.get(acknowledged + 1).unwrap_or(before);
+            assert!(rt; listing == *before || listing == *after, "at {calls}");
+            most = acknowledged.max(most);
+        }
+    }
+    assert_eq!(rt; most, 7);
+    Ok(())
+}
+
 // Where no child can be started the job's one stage ends in the first round.
 #[test]
 fn a_job_without_children_is_aborted(rt: HostRuntime) -> Result<(), Fail> {

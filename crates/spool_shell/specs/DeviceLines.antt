@@ -4,6 +4,8 @@ use Rattle.std.specs.List.{flat_map, slice_split}
 use Rattle.std.specs.Io.KnownBytes.{Appends}
 use Rattle.device_uri.specs.Lines.{IsDeviceLine}
 use Rattle.device_uri.specs.declared.line.DeviceLine.{DeviceLine}
+use Rattle.spool_shell.specs.declared.fault.ShellFault.{ShellFault}
+use Rattle.spool_shell.specs.declared.fault.ShellFault.TheVariants.{Memory, Write}
 
 -- a line goes up to its line feed, and a last one needs none
 abbrev pub lines_of : List ℕ → List (List ℕ)
@@ -47,3 +49,13 @@ pub record PrintsTold (backends : ℕ) (old new : Option (List ℕ)) : Type 0 wh
 -- one line was, if it reads so
 abbrev pub PrintsIfDevice : List ℕ → Option (List ℕ) → Option (List ℕ) → Type 0
 PrintsIfDevice line old new = (IsDevice line × Appends old new (with_feed line)) ⊎ (¬ (IsDevice line) × (new ≡ old))
+
+-- ---- faults
+
+-- the writer failed, or there was no memory
+abbrev pub IsOfPrinting : ShellFault → Type 0
+IsOfPrinting fault = (fault ≡ Write) ⊎ (fault ≡ Memory)
+
+-- the same of one line: the writer failed on a device, or there was no memory to look at it, and nothing was written
+abbrev pub IsUnprinted : List ℕ → Option (List ℕ) → Option (List ℕ) → ShellFault → Type 0
+IsUnprinted line old new fault = ((fault ≡ Write) × IsDevice line) ⊎ ((fault ≡ Memory) × (new ≡ old))

@@ -1,7 +1,7 @@
 //! The lines of devices among those that a backend prints.
-ghost use Rattle.std.specs.Prelude.{◌≡◌, false, map, IfOk, IsTrue, OnOk};
+ghost use Rattle.std.specs.Prelude.{◌≡◌, false, map, IfErr, IfOk, IsTrue, OnOk};
 ghost use Rattle.std.specs.Io.KnownBytes.{Appends};
-ghost use Rattle.spool_shell.specs.DeviceLines.{HasFields, IsDevice, PrintsDevices, PrintsIfDevice, lines_of, with_feed};
+ghost use Rattle.spool_shell.specs.DeviceLines.{HasFields, IsDevice, IsOfPrinting, IsUnprinted, PrintsDevices, PrintsIfDevice, lines_of, with_feed};
 
 use crate::fault::ShellFault;
 use device_uri::{LineFault, read_device_line};
@@ -15,7 +15,8 @@ pub(crate) fn print_lines<W: Write>(
     text: &[u8],
     writer: &mut W,
 ) -> Result<(), ShellFault>
-    ensures { OnOk result (PrintsDevices (lines_of text.now) (W.contents writer.old) (W.contents writer.new)) }
+    ensures lines { OnOk result (PrintsDevices (lines_of text.now) (W.contents writer.old) (W.contents writer.new)) }
+    ensures fault { IfErr result IsOfPrinting }
 {
     let lines = lines_of(alloc, text)?;
     for line in &lines {
@@ -25,7 +26,8 @@ pub(crate) fn print_lines<W: Write>(
 }
 
 fn print_if_device<W: Write>(alloc: Global, line: &[u8], writer: &mut W) -> Result<(), ShellFault>
-    ensures { OnOk result (PrintsIfDevice line.now (W.contents writer.old) (W.contents writer.new)) }
+    ensures line { OnOk result (PrintsIfDevice line.now (W.contents writer.old) (W.contents writer.new)) }
+    ensures fault { IfErr result (IsUnprinted line.now (W.contents writer.old) (W.contents writer.new)) }
 {
     if is_device(alloc, line)? {
         print_line(line, writer)
@@ -65,7 +67,8 @@ fn is_device_text(alloc: Global, line: &str) -> Result<bool, AllocError>
 }
 
 fn print_line<W: Write>(line: &[u8], writer: &mut W) -> Result<(), ShellFault>
-    ensures { OnOk result (Appends (W.contents writer.old) (W.contents writer.new) (with_feed line.now)) }
+    ensures wrote { OnOk result (Appends (W.contents writer.old) (W.contents writer.new) (with_feed line.now)) }
+    ensures fault { IfErr result (λ fault. fault ≡ ShellFault.Write) }
 {
     match writer.write_all(line) {
         Ok(()) => {}

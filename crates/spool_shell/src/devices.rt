@@ -5,9 +5,11 @@
 //! one that hangs is the user's to stop. Its standard error goes nowhere, and so does what it prints behind its first
 //! 1,048,576 bytes.
 
-ghost use Rattle.std.specs.Prelude.{◌≡◌, ◌≢◌, Err, IfErr, IfOk, IsOk, OnErr, OnOk, length};
+ghost use Rattle.std.specs.Prelude.{◌≡◌, ◌≢◌, ◌∷◌, Err, IfErr, IfOk, IsOk, OnErr, OnOk, codes, length, true};
 ghost use Rattle.std.specs.IoError.{error_kind};
-ghost use Rattle.spool_shell.specs.DeviceLines.{PrintsDevices, PrintsTold, lines_of};
+ghost use Rattle.std.specs.Process.{clears_env, command_args, command_program};
+ghost use Rattle.spool_shell.specs.DeviceLines.{IsOfPrinting, PrintsDevices, PrintsTold, lines_of};
+ghost use Rattle.spool_shell.specs.Script.{program_words};
 
 use crate::child_files::read_at_most;
 use crate::device_lines::print_lines;
@@ -31,7 +33,8 @@ pub(crate) fn print_devices<R: Processes + AllocGlobal, W: Write>(
     list: &ProgramList,
     writer: &mut W,
 ) -> Result<(), ShellFault>
-    ensures { OnOk result (PrintsTold (length list.now.backends) (W.contents writer.old) (W.contents writer.new)) }
+    ensures told { OnOk result (PrintsTold (length list.now.backends) (W.contents writer.old) (W.contents writer.new)) }
+    ensures fault { IfErr result IsOfPrinting }
 {
     for backend in list.backends() {
         let told = told_by(rt, &backend.program);
@@ -50,6 +53,7 @@ fn print_told<W: Write>(
     ensures nothing { OnOk result (OnErr told (W.contents writer.new ≡ W.contents writer.old)) }
     ensures memory { IfErr told (λ error. error_kind error ≡ ErrorKind.OutOfMemory → result ≡ Err ShellFault.Memory) }
     ensures passed { IfErr told (λ error. error_kind error ≢ ErrorKind.OutOfMemory → IsOk result) }
+    ensures fault { IfErr result IsOfPrinting }
 {
     match told {
         Ok(text) => print_lines(alloc, &text, writer),
@@ -74,7 +78,11 @@ fn told_by<R: Processes + AllocGlobal>(rt: &R, program: &ListedProgram) -> io::R
 }
 
 // How a backend is run to tell its devices.
-fn discovery(alloc: Global, program: &ListedProgram) -> Result<Command, AllocError> {
+fn discovery(alloc: Global, program: &ListedProgram) -> Result<Command, AllocError>
+    ensures program { IfOk result (λ command. command_program command ≡ codes "/usr/bin/env") }
+    ensures arguments { IfOk result (λ command. command_args command ≡ codes "-i" ∷ program_words program.now) }
+    ensures cleared { IfOk result (λ command. clears_env command ≡ true) }
+{
     let mut command = Command::new(alloc, ENV)?;
     command.env_clear();
     command.arg("-i")?;

@@ -66,7 +66,10 @@ pub(crate) struct RunningChild<P: OpenProcess + Drop> {
 
 impl<'a, R: Files<File = File> + Net + Processes + AllocGlobal> Launcher<'a, R> {
     /// A launcher for the children of this place.
-    pub fn new(rt: &'a R, place: Place, list: ProgramList) -> Launcher<'a, R> {
+    pub fn new(rt: &'a R, place: Place, list: ProgramList) -> Launcher<'a, R>
+        ensures place { result.place ≡ place }
+        ensures list { result.list ≡ list }
+    {
         Launcher { rt, place, list }
     }
 

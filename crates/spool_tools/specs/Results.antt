@@ -1,7 +1,10 @@
 -- What a stage writes of its document.
-use Rattle.std.specs.Prelude.{◌≡◌, ℕ, zero, suc, ◌==◌, cond, List, [], ◌∷◌, ◌++◌, Option, Some}
+use Rattle.std.specs.Prelude.{◌≡◌, ℕ, ◌⊎◌, zero, suc, ◌==◌, cond, List, [], ◌∷◌, ◌++◌, Option, Some}
 use Rattle.std.specs.List.{count_by, flat_map}
 use Rattle.std.specs.Io.KnownBytes.{Appends, Consumes, IsAtEnd}
+use Rattle.whole_writes.specs.Writes.{WroteSome}
+use Rattle.spool_tools.specs.declared.fault.ToolFault.{ToolFault}
+use Rattle.spool_tools.specs.declared.fault.ToolFault.TheVariants.{Memory, Read, Write}
 use Rattle.spool_tools.specs.declared.results.Form.{Form}
 use Rattle.spool_tools.specs.declared.results.Form.TheVariants.{Lines, Plain}
 
@@ -34,6 +37,17 @@ abbrev pub form_feeds : List ℕ → ℕ
 form_feeds bytes = count_by (λ b. b == 12) bytes
 
 -- ---- the calls
+
+-- Why these bytes of a piece weren't all written: the writer took a part of them alone, or there was no memory to make
+-- them, and nothing was written. A piece that is written as it is takes none.
+abbrev pub IsUnwritten : Form → List ℕ → Option (List ℕ) → Option (List ℕ) → ToolFault → Type 0
+IsUnwritten form bytes old new fault =
+    ((fault ≡ Write) × WroteSome old new bytes) ⊎ ((fault ≡ Memory) × (form ≡ Lines) × (new ≡ old))
+
+-- The document can't be read, its result can't be written, or there was no memory to make it. One that is written as it is
+-- takes none.
+abbrev pub IsOfResult : Form → ToolFault → Type 0
+IsOfResult form fault = (fault ≡ Read) ⊎ (fault ≡ Write) ⊎ ((fault ≡ Memory) × (form ≡ Lines))
 
 -- the reader came to its end, the result of what it had was written, and these are the form feeds in it
 pub record WroteResult (form : Form) (known left old new : Option (List ℕ)) (feeds : ℕ) : Type 0 where

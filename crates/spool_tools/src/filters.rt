@@ -4,9 +4,9 @@
 //! |---|---|---|
 //! | `texttoprn` | each line feed behind a carriage return, and a form feed at the end | `PAGE: 1 N`, N the results written |
 //! | `prncount` | the document as it is | `PAGE: total N`, N the form feeds written |
-ghost use Rattle.std.specs.Prelude.{◌≡◌, IfOk, OnOk};
+ghost use Rattle.std.specs.Prelude.{◌≡◌, IfErr, IfOk, OnOk};
 ghost use Rattle.std.specs.String.{string_bytes};
-ghost use Rattle.spool_tools.specs.Filters.{Filtered, form_of, page_line};
+ghost use Rattle.spool_tools.specs.Filters.{Filtered, IsOfFilter, form_of, page_line};
 
 use crate::fault::ToolFault;
 use crate::results::{Form, Source, write_copies};
@@ -24,8 +24,9 @@ pub fn run_filter<S: Source, W: Write, E: Write>(
     writer: &mut W,
     errors: &mut E,
 ) -> Result<(), ToolFault>
-    ensures { OnOk result (Filtered filter copies (S.known source.now) (W.contents writer.old) (W.contents writer.new)
+    ensures filtered { OnOk result (Filtered filter copies (S.known source.now) (W.contents writer.old) (W.contents writer.new)
         (E.contents errors.old) (E.contents errors.new)) }
+    ensures fault { IfErr result IsOfFilter }
 {
     let feeds = write_copies(alloc, form_of(filter), source, copies, writer)?;
     let line = page_line(alloc, filter, copies, feeds)?;

@@ -55,7 +55,7 @@ ghost use Rattle.std.specs.Io.KnownBytes.{Appends, Keeps};
 ghost use Rattle.whole_writes.specs.Writes.{WroteSome};
 ghost use Rattle.spool_tools.specs.Backends.{device_line};
 ghost use Rattle.spool_tools.specs.Ending.{BackendEnds, Ends, Tells, known_of, status_of};
-ghost use Rattle.spool_tools.specs.Filters.{Filtered};
+ghost use Rattle.spool_tools.specs.Filters.{Filtered, IsOfFilter};
 ghost use Rattle.spool_tools.specs.Seen.{request};
 ghost use Rattle.spool_tools.specs.Words.{asked_of};
 
@@ -102,6 +102,7 @@ fn filter<H: Files<File = File> + AllocGlobal, I: Source, O: Write, E: Write>(
     ensures status { IfOk result (λ status. status ≡ 0) }
     ensures ran { OnOk result (Filtered tool document.entry.copies (known_of document.entry.file (I.known input.now))
         (O.contents output.old) (O.contents output.new) (E.contents errors.old) (E.contents errors.new)) }
+    ensures fault { IfErr result IsOfFilter }
 {
     let copies = document.copies;
     match document.file {

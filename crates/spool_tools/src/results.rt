@@ -3,7 +3,7 @@ ghost use Rattle.std.specs.Prelude.{◌≡◌, ◌+◌, ◌^◌, ◌≤◌, List
 ghost use Rattle.whole_writes.specs.Writes.{WroteSome};
 ghost use Rattle.std.specs.List.{flat_map};
 ghost use Rattle.std.specs.Io.KnownBytes.{Appends};
-ghost use Rattle.spool_tools.specs.Results.{Copied, WroteResult, end_of, form_feeds, piece_of, printed_byte};
+ghost use Rattle.spool_tools.specs.Results.{Copied, IsOfResult, IsUnwritten, WroteResult, end_of, form_feeds, piece_of, printed_byte};
 
 use crate::fault::ToolFault;
 use std::alloc::{AllocError, Global};
@@ -36,7 +36,8 @@ pub trait Source {
     ghost known: { Self → Option (List ℕ) } = { λ _. None };
 
     fn open(&self) -> Result<Self::Reader, ToolFault>
-        ensures { IfOk result (λ reader. Self.Reader.remaining reader ≡ known self.now) };
+        ensures whole { IfOk result (λ reader. Self.Reader.remaining reader ≡ known self.now) }
+        ensures fault { IfErr result (λ fault. fault ≡ ToolFault.Read) };
 }
 
 /// Writes so many copies of the document's result, and counts the form feeds written.
@@ -47,7 +48,8 @@ pub fn write_copies<S: Source, W: Write>(
     copies: u32,
     writer: &mut W,
 ) -> Result<u64, ToolFault>
-    ensures { IfOk result (Copied form copies (S.known source.now) (W.contents writer.old) (W.contents writer.new)) }
+    ensures copied { IfOk result (Copied form copies (S.known source.now) (W.contents writer.old) (W.contents writer.new)) }
+    ensures fault { IfErr result (IsOfResult form) }
 {
     let mut feeds = 0;
     'copies: for _ in 0..copies {
@@ -65,8 +67,9 @@ fn write_result<R: Read, W: Write>(
     reader: &mut R,
     writer: &mut W,
 ) -> Result<u64, ToolFault>
-    ensures { IfOk result (WroteResult form (R.remaining reader.old) (R.remaining reader.new)
+    ensures wrote { IfOk result (WroteResult form (R.remaining reader.old) (R.remaining reader.new)
         (W.contents writer.old) (W.contents writer.new)) }
+    ensures fault { IfErr result (IsOfResult form) }
 {
     let mut piece = [0u8; PIECE];
     let mut lines = Vec::new(alloc);
@@ -97,6 +100,7 @@ fn write_piece<W: Write>(
 ) -> Result<u64, ToolFault>
     ensures wrote { OnOk result (Appends (W.contents writer.old) (W.contents writer.new) (piece_of form piece.now)) }
     ensures feeds { IfOk result (λ feeds. feeds ≡ form_feeds (piece_of form piece.now)) }
+    ensures fault { IfErr result (IsUnwritten form (piece_of form piece.now) (W.contents writer.old) (W.contents writer.new)) }
 {
     match form {
         Form::Plain => write_bytes(piece, writer),

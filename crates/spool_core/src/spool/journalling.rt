@@ -34,6 +34,7 @@ pub(super) fn journal<D: Disk>(
     ensures prepared { OnOk result (IsPrepared table.new event.now) }
     ensures later { D.device.failures areas.old.disk ≤ D.device.failures areas.new.disk }
     ensures counted { OnOk result (D.device.failures areas.new.disk ≡ D.device.failures areas.old.disk) }
+    ensures epoch { areas.new.epoch ≡ areas.old.epoch }
     ensures fixed { D.device.size areas.new.disk ≡ D.device.size areas.old.disk }
     ensures told { IsSome (D.device.bytes areas.new.disk) ↔ IsSome (D.device.bytes areas.old.disk) }
 

@@ -20,7 +20,7 @@ use spool_types::Event;
 use std::alloc::Global;
 
 impl<D: Disk> Spool<D> {
-    /// Opens the spool on a disk: syncs it, makes the table anew from the events of its current area, and gives up each
+    /// Opens the spool on a disk: syncs it, makes the table anew from the rows and events of its current area, and gives up each
     /// attempt that was under way, as its queue's error policy says. Where no job is processing it writes nothing. Of
     /// several faults it tells the first in the order of the records. Last it looks whether a job is processing and the
     /// area has no room for the record of its reopening: that is damage at the closed gate.
@@ -74,7 +74,7 @@ impl<D: Disk> Spool<D> {
         }
     }
 
-    // Syncs a disk, and makes the table anew from the events of its current area. It writes nothing.
+    // Syncs a disk, and makes the table anew from the rows and events of its current area. It writes nothing.
     fn load(alloc: Global, disk: D) -> Result<Spool<D>, OpenError<D>>
         // The table and the room are those of the bytes, and a fault of the bytes is theirs.
         ensures opened { IfOk result (λ spool. (r : List ℕ) → D.device.bytes disk ≡ Some r → HasTable spool.state r) }
@@ -103,7 +103,7 @@ impl<D: Disk> Spool<D> {
             Ok(opened) => opened,
             Err(error) => return Err(error),
         };
-        let table = match fold(&mut areas, alloc, &payloads) {
+        let table = match fold(&mut areas, alloc, &payloads, gate) {
             Ok(table) => table,
             Err(fault) => {
                 let disk = areas.into_disk();

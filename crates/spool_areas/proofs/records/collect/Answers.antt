@@ -13,6 +13,7 @@ loop-found-init g c = record {
   so_far = λ r tells. subst (λ (l : List Extent). HasFirst c.args.first c.args.first (payloads_at r l) r) (sym c.new-payloads.ensures.items) (none_first c.args.first r);
   counted = refl;
   same = no_change g.D.Disk.device c.args.disk.now g.met.D.Disk.lawful;
+  held = c.requires.held;
 }
 
 pub loop-found-preserved : goal.loop-found-preserved
@@ -30,4 +31,5 @@ loop-found-preserved g c =
           (c.in-Ok.ensures.goes_on r c.args.first (payloads_at r xs) (c.loop-found.invariant.same.bytes ∙ tells) (c.loop-found.invariant.so_far r tells)));
       counted = c.in-Ok.ensures.cause.same ∙ c.loop-found.invariant.counted;
       same = twice_still g.D.Disk.device c.args.disk.now c.loop-found.disk c.next_entry.new.disk g.met.D.Disk.lawful c.loop-found.invariant.same c.next_entry.ensures.same;
+      held = c.next_entry.ensures.held;
     }

@@ -6,7 +6,7 @@ use Rattle.spool_disk.proofs.Moments.{weaker_run}
 use Rattle.spool_areas.specs.Making.{IsNoSpoolOrEmpty, ClosesFirst}
 use Rattle.spool_areas.specs.Payloads.{HasPayloads}
 use Rattle.spool_core.specs.Image.{HasTable, IsNoSpoolOrNothing}
-use Rattle.spool_core.proofs.OpenLaws.{history_none}
+use Rattle.spool_core.proofs.HistoryLaws.{history_none}
 use Rattle.spool_core.proofs.IdleLaws.{idle_nothing}
 use Rattle.spool_core.proofs.ImageLaws.{has_table}
 use Rattle.spool_core.proofs.making.make.Goals as goal

@@ -6,7 +6,7 @@ use Rattle.spool_types.specs.declared.refusal.Refusal.TheVariants.{TooLong}
 use Rattle.command_lines.specs.Replies.{jobs_text, queues_text, refusal_line}
 use Rattle.spool_engine.specs.EventTurns.{setting}
 use Rattle.spool_engine.specs.Script.{asks, meaning, closing_line, closing_of, reply_line, round_text, drain_text}
-use Rattle.spool_engine.proofs.EventLaws.{event_told, said_told, same_command}
+use Rattle.spool_engine.proofs.EventLaws.{event_told, said_told, listing_told, same_command}
 use Rattle.spool_engine.proofs.RoundLaws.{event_lifted, said_lifted, listed, rounds_turn}
 use Rattle.spool_engine.proofs.printer.Printer.execute.Goals as goal
 
@@ -63,6 +63,12 @@ pub returns-in-Drain : goal.returns-in-Drain
 returns-in-Drain g c =
     let s = c.args.self.now in
     rounds_turn (setting g.D.Disk.device c.args.mime.now c.args.place.now) g.met.D.Disk.lawful.only_now (λ v. v.items) c.drain_text.result s _ c.args.command c.in-Drain.most drain_text c.met_fault-kept.ensures.kept (ap (meaning c.args.mime.now s.spool.state) c.in-Drain.is) (c.drain_text.ensures c.args.mime.now)
+
+pub returns-in-Checkpoint : goal.returns-in-Checkpoint
+returns-in-Checkpoint g c =
+    let e = c.self.inside.executor in
+    event_lifted (λ v. v.items) c.checkpoint.result _ e _ _ _ _ c.args.command c.self.view_is
+    (listing_told (λ v. v.items) c.checkpoint.result (setting g.D.Disk.device c.args.mime.now c.args.place.now) e _ c.args.command (ap (meaning c.args.mime.now e.state) c.in-Checkpoint.is) c.checkpoint.ensures)
 
 pub returns-in-Malformed : goal.returns-in-Malformed
 returns-in-Malformed g c =

@@ -1,6 +1,6 @@
 use Rattle.std.proofs.Common.{◌≡◌, Option, None, Some, refl}
 use Rattle.spool_types.specs.declared.refusal.Refusal.{Refusal}
-use Rattle.spool_core.proofs.fold.take_event.Goals as goal
+use Rattle.spool_core.proofs.fold.commit_event.Goals as goal
 
 refused : (o : Option Refusal) (r : Refusal) → o ≡ Some r → o ≡ None → ⊥
 refused o r is none = cc

@@ -1,0 +1,211 @@
+-- The rows of a table's listing, and their frames.
+use Rattle.std.proofs.Common.{◌≡◌, ⊎_elim, ℕ, zero, suc, ◌+◌, ◌-◌, ◌*◌, ◌/◌, ◌%◌, ◌<◌, ◌≤◌, true, List, [], ◌∷◌, ◌++◌, length, get_or, take, drop, map, min, refl, sym, subst, ap, ◌∙◌, arith, append_assoc, length-drop}
+use Rattle.std.specs.Prelude.{Result, Ok, Err, OnOk}
+use Rattle.std.specs.List.{flat_map, list_all, AllByRecursion}
+use Rattle.std.specs.Ordering.{nat_cmp, is_lt}
+use Rattle.std.specs.Cmp.Lexicographic.{slice_cmp}
+use Rattle.std.specs.declared.alloc.Global.{Global}
+use Rattle.std.specs.declared.vec.Vec.{Vec}
+use Rattle.std.proofs.lemmas.Bool.{and_parts, cases_lt}
+use Rattle.std.proofs.lemmas.List.{map-append, append-nil, take_more, take_all}
+use Rattle.std.proofs.lemmas.Nat.{div-mul-add, div-add-mod'}
+use Rattle.std.proofs.Math.Nat.{mod-lt}
+use Rattle.spool_types.specs.Limits.{longest_send}
+use Rattle.spool_types.specs.State.{Job}
+use Rattle.spool_types.specs.declared.phase.Phase.{Phase}
+use Rattle.spool_types.specs.declared.phase.Phase.TheVariants.{Incoming, Waiting, Processing, Completed, Canceled, Aborted}
+use Rattle.spool_types.specs.declared.effect.Attribute.{Attribute}
+use Rattle.spool_types.specs.declared.rows.QueueRow.{QueueRow}
+use Rattle.spool_types.specs.declared.listing.Row.{Row}
+use Rattle.spool_types.specs.declared.listing.Row.TheVariants.{Queue, Job as JobRow, Piece}
+use Rattle.row_effects.specs.Fold.{IsInOrder}
+use Rattle.row_effects.specs.Keys.{is_ascending}
+use Rattle.row_effects.specs.Reasons.{word_of}
+use Rattle.row_effects.specs.Attributes.{name_of}
+use Rattle.job_table.specs.Legal.{Fits}
+use Rattle.job_table.specs.Listing.{listed, parts, pieces, job_rows}
+use Rattle.job_table.specs.Loading.{Progress, ArePlaced, loaded, loaded_all, unlisted}
+use Rattle.event_codec.specs.RowSpelling.{Ascend, IsOrderedQueue, IsPhaseOf, IsLegalRow}
+use Rattle.spool_core.specs.Checkpointing.{AreFramesOf, AreAdded, MayBeListed}
+
+-- ## A row can tell what a legal table has
+
+ascends : {Y : Type 0} (key : Y → List ℕ) (ys : List Y) → is_ascending key ys ≡ true → Ascend (map key ys)
+ascends key [] is = tt
+ascends key (a ∷ []) is = tt
+ascends key (a ∷ b ∷ rest) is =
+    let parts = and_parts (list_all (λ z. is_lt (slice_cmp nat_cmp (key a) (key z))) (b ∷ rest)) (is_ascending key (b ∷ rest)) is in
+    let first = and_parts (is_lt (slice_cmp nat_cmp (key a) (key b))) (list_all (λ z. is_lt (slice_cmp nat_cmp (key a) (key z))) rest) parts.0 in
+    (first.0, ascends key (b ∷ rest) parts.1)
+
+same_words : (words : List (List ℕ)) → map word_of words ≡ words
+same_words [] = refl
+same_words (word ∷ words) = ap (λ (l : List (List ℕ)). word ∷ l) (same_words words)
+
+ordered : (q : QueueRow) → IsInOrder q → IsOrderedQueue q
+ordered q is = record {
+  reasons = subst Ascend (same_words q.reasons) (ascends word_of q.reasons is.reasons);
+  attributes = ascends name_of q.attributes is.attributes;
+}
+
+placed_behind : (p : Progress) (front back : List Row) → ArePlaced p (front ++ back) → ArePlaced (loaded_all p front) back
+placed_behind p [] back placed = placed
+placed_behind p (row ∷ front) back placed = placed_behind (loaded p row) front back placed.1
+
+queues_ordered : (qs : List QueueRow) (p : Progress) (rest : List Row) → ArePlaced p (map (λ q. Queue q) qs ++ rest) → AllByRecursion IsOrderedQueue qs
+queues_ordered [] p rest placed = tt
+queues_ordered (q ∷ qs) p rest placed = (ordered q placed.0.new.in_order, queues_ordered qs (loaded p (Queue q)) rest placed.1)
+
+-- the document was left out
+fits_whole : (r : Job) (phase : Phase) → Fits (unlisted (listed r)) phase → Fits r phase
+fits_whole r (Incoming hold) fits = record { media = fits.media; filters = fits.filters; attempts = fits.attempts }
+fits_whole r (Waiting hold not_before first) fits = record { media = fits.media; attempts = fits.attempts }
+fits_whole r (Processing attempt stage stages) fits = record {
+  media = fits.media;
+  started = fits.started;
+  newest = fits.newest;
+  counted = fits.counted;
+  from_first = fits.from_first;
+  to_last = fits.to_last;
+  of_all = fits.of_all;
+}
+fits_whole r Completed fits = tt
+fits_whole r Canceled fits = tt
+fits_whole r (Aborted reason) fits = tt
+
+jobs_may : (rs : List Job) (p : Progress) → ArePlaced p (flat_map job_rows rs) → AllByRecursion MayBeListed rs
+jobs_may [] p placed = tt
+jobs_may (r ∷ rs) p placed = (
+  record { size = placed.0.new.size; phase = fits_whole r r.phase placed.0.new.phase },
+  jobs_may rs (loaded_all p (job_rows r)) (placed_behind p (job_rows r) (flat_map job_rows rs) placed),
+)
+
+-- what the rows of a listing that may come in their turn tell
+pub record AreTold (qs : List QueueRow) (rs : List Job) : Type 0 where
+  pub queues : AllByRecursion IsOrderedQueue qs
+  pub jobs : AllByRecursion MayBeListed rs
+
+pub told : (qs : List QueueRow) (rs : List Job) (p : Progress) → ArePlaced p (map (λ q. Queue q) qs ++ flat_map job_rows rs) → AreTold qs rs
+told qs rs p placed = record {
+  queues = queues_ordered qs p (flat_map job_rows rs) placed;
+  jobs = jobs_may rs (loaded_all p (map (λ q. Queue q) qs)) (placed_behind p (map (λ q. Queue q) qs) (flat_map job_rows rs) placed);
+}
+
+phase_of : (r : Job) (phase : Phase) → Fits r phase → length r.filters ≤ 15 → IsPhaseOf (listed r) phase
+phase_of r (Incoming hold) fits few = tt
+phase_of r (Waiting hold not_before first) fits few = tt
+phase_of r (Processing attempt stage stages) fits few = record {
+  newest = fits.newest;
+  stage_is = record { at_least = fits.from_first; at_most = omega (arith, fits.to_last, fits.of_all, few) };
+  of_all = fits.of_all;
+}
+phase_of r Completed fits few = tt
+phase_of r Canceled fits few = tt
+phase_of r (Aborted reason) fits few = tt
+
+pub legal_job : (r : Job) → MayBeListed r → length r.filters ≤ 15 → IsLegalRow (JobRow (listed r))
+legal_job r may few = record { size = record { at_least = omega arith; at_most = may.size }; phase = phase_of r r.phase may.phase few }
+
+-- an element of them all
+pub all_at : {X : Type 0} (P : X → Type 0) (xs : List X) (i : ℕ) (d : X) → i < length xs → AllByRecursion P xs → P (get_or xs i d)
+all_at P [] i d lt all = absurd (omega (arith, lt))
+all_at P (x ∷ xs) zero d lt all = all.0
+all_at P (x ∷ xs) (suc i) d lt all = all_at P xs i d (omega (arith, lt)) all.1
+
+-- an element that is mapped
+pub mapped_at : {X Y : Type 0} (f : X → Y) (xs : List X) (i : ℕ) (x : X) → i < length xs → x ≡ get_or xs i x → (i < length (map f xs)) × (f x ≡ get_or (map f xs) i (f x))
+mapped_at f [] i x lt is = absurd (omega (arith, lt))
+mapped_at f (y ∷ ys) zero x lt is = (omega arith, ap f is)
+mapped_at f (y ∷ ys) (suc i) x lt is = let rest = mapped_at f ys i x (omega (arith, lt)) is in (omega (arith, rest.0), rest.1)
+
+-- ## Frames
+
+pub on_ok : {T E : Type 0} {P Q : Type 0} (r : Result T E) → OnOk r P → (P → Q) → OnOk r Q
+on_ok (Ok x) is more = more is
+on_ok (Err e) is more = tt
+
+pub no_frames : (frames : List (Vec ℕ Global)) → frames ≡ [] → AreFramesOf [] frames
+no_frames frames is = subst (AreFramesOf []) (sym is) (record { framed = tt; payloads = refl; spellable = tt })
+
+pub added_none : (frames : List (Vec ℕ Global)) → AreAdded [] frames frames
+added_none frames others are = subst (λ (rows : List Row). AreFramesOf rows frames) (sym (append-nil others)) are
+
+pub added_then : (front back : List Row) (old mid new : List (Vec ℕ Global)) → AreAdded front old mid → AreAdded back mid new → AreAdded (front ++ back) old new
+added_then front back old mid new first more others are =
+    subst (λ (rows : List Row). AreFramesOf rows new) (append_assoc others front back) (more (others ++ front) (first others are))
+
+-- ## Rows in turn
+
+flat_more : {X : Type 0} (rows_of : X → List Row) (ys : List X) (y : X) → flat_map rows_of (ys ++ y ∷ []) ≡ flat_map rows_of ys ++ rows_of y
+flat_more rows_of [] y = append-nil (rows_of y)
+flat_more rows_of (z ∷ ys) y = ap (λ (l : List Row). rows_of z ++ l) (flat_more rows_of ys y) ∙ sym (append_assoc (rows_of z) (flat_map rows_of ys) (rows_of y))
+
+pub added_more : {X : Type 0} (rows_of : X → List Row) (xs : List X) (i : ℕ) (d : X) (old mid new : List (Vec ℕ Global)) → i < length xs
+    → AreAdded (flat_map rows_of (take i xs)) old mid → AreAdded (rows_of (get_or xs i d)) mid new → AreAdded (flat_map rows_of (take (i + 1) xs)) old new
+added_more rows_of xs i d old mid new lt first more =
+    subst (λ (rows : List Row). AreAdded rows old new)
+    (sym (ap (flat_map rows_of) (take_more xs i d lt) ∙ flat_more rows_of (take i xs) (get_or xs i d)))
+    (added_then (flat_map rows_of (take i xs)) (rows_of (get_or xs i d)) old mid new first more)
+
+pub queue_more : (qs : List QueueRow) (i : ℕ) (d : QueueRow) (x : QueueRow) (old mid new : List (Vec ℕ Global)) → i < length qs → x ≡ get_or qs i d
+    → AreAdded (map (λ q. Queue q) (take i qs)) old mid → AreAdded (Queue x ∷ []) mid new → AreAdded (map (λ q. Queue q) (take (i + 1) qs)) old new
+queue_more qs i d x old mid new lt is first more =
+    let row : QueueRow → Row = λ q. Queue q in
+    subst (λ (rows : List Row). AreAdded rows old new)
+    (sym (ap (map row) (take_more qs i d lt) ∙ map-append row (take i qs) (get_or qs i d ∷ []) ∙ ap (λ (q : QueueRow). map row (take i qs) ++ row q ∷ []) (sym is)))
+    (added_then (map row (take i qs)) (row x ∷ []) old mid new first more)
+
+pub same_attribute : (a b : Attribute) → (b.name ≡ a.name) × (b.value ≡ a.value) → b ≡ a
+same_attribute a b is = λ i. record { name = is.0 i; value = is.1 i }
+
+-- ## The pieces of a document
+
+less_count : (n : ℕ) → 0 < n → n ≤ 65536 → (n + 65535) / 65536 ≡ 1
+less_count n some le =
+    let is : n + 65535 ≡ 1 * 65536 + (n - 1) = omega arith in
+    ap (λ (m : ℕ). m / 65536) is ∙ div-mul-add 1 65536 (n - 1) (omega arith)
+
+more_count : (n : ℕ) → 65536 < n → (n + 65535) / 65536 ≡ suc ((n - 65536 + 65535) / 65536)
+more_count n more =
+    let x = n - 65536 + 65535 in
+    let split : x / 65536 * 65536 + x % 65536 ≡ x = div-add-mod' x 65536 in
+    let is : n + 65535 ≡ suc (x / 65536) * 65536 + x % 65536 = omega (arith, split, more) in
+    ap (λ (m : ℕ). m / 65536) is ∙ div-mul-add (suc (x / 65536)) 65536 (x % 65536) (mod-lt x (omega arith))
+
+few_next : (bytes : List ℕ) → 0 < length bytes → length bytes ≤ 65536 → pieces bytes ≡ take (min (length bytes) longest_send) bytes ∷ pieces (drop (min (length bytes) longest_send) bytes)
+few_next bytes some le =
+    let m = min (length bytes) 65536 in
+    let same : take 65536 bytes ≡ take m bytes = take_all 65536 bytes le ∙ sym (take_all m bytes (omega (arith, le))) in
+    let rest : 0 ≡ length (drop m bytes) = omega (arith, le, length-drop m bytes) in
+    ap (λ (k : ℕ). parts 65536 k bytes) (less_count (length bytes) some le)
+    ∙ (λ i. same i ∷ parts 65536 ((rest i + 65535) / 65536) (drop m bytes))
+
+many_next : (bytes : List ℕ) → 65536 < length bytes → pieces bytes ≡ take (min (length bytes) longest_send) bytes ∷ pieces (drop (min (length bytes) longest_send) bytes)
+many_next bytes more =
+    let m = min (length bytes) 65536 in
+    let whole : 65536 ≡ m = omega (arith, more) in
+    let rest : length bytes - 65536 ≡ length (drop m bytes) = omega (arith, more, length-drop m bytes) in
+    ap (λ (k : ℕ). parts 65536 k bytes) (more_count (length bytes) more)
+    ∙ (λ i. take (whole i) bytes ∷ parts 65536 ((rest i + 65535) / 65536) (drop (whole i) bytes))
+
+-- the first piece, and those of the rest
+pub pieces_next : (bytes : List ℕ) → 0 < length bytes → pieces bytes ≡ take (min (length bytes) longest_send) bytes ∷ pieces (drop (min (length bytes) longest_send) bytes)
+pieces_next bytes some = ⊎_elim (many_next bytes) (few_next bytes some) (cases_lt 65536 (length bytes))
+
+-- the frames of the first pieces of a document are added, and these bytes are left of it
+pub record IsPartAdded (job : ℕ) (document rest : List ℕ) (old new : List (Vec ℕ Global)) : Type 0 where
+  pub done : List (List ℕ)
+  pub parts : pieces document ≡ done ++ pieces rest
+  pub added : AreAdded (map (λ bytes. Piece job bytes) done) old new
+
+pub part_more : (job : ℕ) (document rest bytes behind : List ℕ) (n : ℕ) (old mid new : List (Vec ℕ Global)) → 0 < length rest → n ≡ min (length rest) longest_send → bytes ≡ take n rest → behind ≡ drop n rest
+    → IsPartAdded job document rest old mid → AreAdded (Piece job bytes ∷ []) mid new → IsPartAdded job document behind old new
+part_more job document rest bytes behind n old mid new some cut is left part more =
+    let piece : List ℕ → Row = λ b. Piece job b in
+    let next : pieces rest ≡ bytes ∷ pieces behind = pieces_next rest some ∙ (λ i. (ap (λ k. take k rest) (sym cut) ∙ sym is) i ∷ pieces ((ap (λ k. drop k rest) (sym cut) ∙ sym left) i)) in
+    record {
+      done = part.done ++ bytes ∷ [];
+      parts = part.parts ∙ ap (λ (l : List (List ℕ)). part.done ++ l) next ∙ sym (append_assoc part.done (bytes ∷ []) (pieces behind));
+      added = subst (λ (rows : List Row). AreAdded rows old new) (sym (map-append piece part.done (bytes ∷ [])))
+          (added_then (map piece part.done) (Piece job bytes ∷ []) old mid new part.added more);
+    }

@@ -1,0 +1,107 @@
+-- What a checkpoint makes of a spool: its table, listed in the other area.
+use Rattle.std.specs.Prelude.{◌≡◌, ◌+◌, ◌-◌, ◌<◌, ◌≤◌, ◌++◌, ℕ, Bool, true, false, List, length, map, IsTrue, Result, Ok, Err}
+use Rattle.std.specs.declared.alloc.Global.{Global}
+use Rattle.std.specs.declared.vec.Vec.{Vec}
+use Rattle.std.specs.List.{AllByRecursion}
+use Rattle.spool_types.specs.declared.listing.Row.{Row}
+use Rattle.spool_types.specs.Limits.{longest_document}
+use Rattle.spool_types.specs.State.{State, Job}
+use Rattle.job_table.specs.Legal.{Fits}
+use Rattle.spool_disk.specs.Disk.{DiskView}
+use Rattle.job_table.specs.Listing.{listing}
+use Rattle.event_codec.specs.RowSpelling.{row_spelling, IsRowSpellable}
+use Rattle.spool_areas.specs.Checkpoint.{has_room, last_epoch, frames_of, payloads_in, AreFrames}
+use Rattle.spool_areas.specs.Header.{half, header_len, header_at, epoch_of, current_area}
+use Rattle.spool_areas.specs.Payloads.{HasPayloads, gate_after}
+use Rattle.spool_areas.specs.declared.fault.AreaFault.{AreaFault}
+use Rattle.spool_areas.specs.declared.fault.AreaFault.TheVariants as areas
+use Rattle.spool_core.specs.Standing.{Standing}
+use Rattle.spool_core.specs.declared.spool.checkpoint_fault.CheckpointFault.{CheckpointFault}
+use Rattle.spool_core.specs.declared.spool.checkpoint_fault.CheckpointFault.TheVariants.{Dead, EpochEnd, Memory, Full, Disk}
+
+-- ## What an area holds after it
+
+-- the payloads of the rows that a table is listed as
+abbrev pub listed_payloads : State → List (List ℕ)
+listed_payloads s = map row_spelling (listing s)
+
+-- the current area of the image has this epoch
+pub record HasEpoch (epoch : ℕ) (image : List ℕ) : Type 0 where
+  pub base : ℕ
+  pub current : current_area image ≡ Ok base
+  pub epoch_is : epoch_of (header_at base image) ≡ epoch
+
+-- The current area of the image has this epoch, and holds the listing of the table and no event.
+pub record IsCheckpointed (s : State) (epoch : ℕ) (image : List ℕ) : Type 0 where
+  pub base : ℕ
+  pub listing : HasPayloads base (listed_payloads s) image
+  pub epoch_is : epoch_of (header_at base image) ≡ epoch
+
+-- ## Its answers
+
+-- The rows of the table's listing, appended in order to an area of this length, meet no Full: behind each record and its
+-- next gate six bytes more are left.
+abbrev pub holds_listing : ℕ → State → Bool
+holds_listing len s = has_room len header_len (map length (listed_payloads s))
+
+-- how many bytes are left in an area of this length behind the table's listing
+abbrev pub room_beside : ℕ → State → ℕ
+room_beside len s = len - gate_after 0 (listed_payloads s)
+
+-- the spool isn't dead, and there is a next epoch
+pub record MayList {D : Type 0} (spool : Standing D) : Type 0 where
+  pub alive : spool.dead ≡ false
+  pub epoch_left : ¬ (spool.epoch ≡ last_epoch)
+
+-- the table is in the other area, with the next epoch, and is as it was
+pub record IsListed {D : Type 0} (v : DiskView D) (old new : Standing D) : Type 0 where
+  pub may : MayList old
+  pub fits : holds_listing (half (v.size old.disk)) old.state ≡ true
+  pub state : new.state ≡ old.state
+  pub epoch : new.epoch ≡ old.epoch + 1
+  pub room : new.room ≡ room_beside (half (v.size old.disk)) old.state
+  pub alive : new.dead ≡ false
+
+-- the device failed, and the spool is dead
+pub record IsUnlisted {D : Type 0} (v : DiskView D) (old new : Standing D) : Type 0 where
+  pub may : MayList old
+  pub fits : holds_listing (half (v.size old.disk)) old.state ≡ true
+  pub state : new.state ≡ old.state
+  pub epoch : new.epoch ≡ old.epoch
+  pub room : new.room ≡ old.room
+  pub dead : new.dead ≡ true
+  pub cause : v.failures old.disk < v.failures new.disk
+
+-- Each answer of a checkpoint, with its cause and what it leaves. In this order: dead, the last epoch, no memory, full,
+-- failed.
+abbrev pub IsCheckpoint : {D : Type 0} → DiskView D → Standing D → Result (Unit {0}) CheckpointFault → Standing D → Type 0
+IsCheckpoint v old (Ok done) new = IsListed v old new
+IsCheckpoint v old (Err Dead) new = IsTrue old.dead × (new ≡ old)
+IsCheckpoint v old (Err EpochEnd) new = (old.dead ≡ false) × (old.epoch ≡ last_epoch) × (new ≡ old)
+IsCheckpoint v old (Err Memory) new = MayList old × (new ≡ old)
+IsCheckpoint v old (Err Full) new = MayList old × (holds_listing (half (v.size old.disk)) old.state ≡ false) × (new ≡ old)
+IsCheckpoint v old (Err Disk) new = IsUnlisted v old new
+
+-- what a fault of the areas is for the spool
+abbrev pub fault_for : AreaFault → CheckpointFault
+fault_for areas.Dead = Dead
+fault_for areas.EpochEnd = EpochEnd
+fault_for areas.Full = Full
+fault_for areas.Disk = Disk
+
+-- ## Its frames
+
+-- the frames hold the spellings of these rows, in order
+pub record AreFramesOf (rows : List Row) (frames : List (Vec ℕ Global)) : Type 0 where
+  pub framed : AreFrames (frames_of frames)
+  pub payloads : payloads_in (frames_of frames) ≡ map row_spelling rows
+  pub spellable : AllByRecursion IsRowSpellable rows
+
+-- Frames of these rows are added to those of others.
+abbrev pub AreAdded : List Row → List (Vec ℕ Global) → List (Vec ℕ Global) → Type 0
+AreAdded rows old new = (others : List Row) → AreFramesOf others old → AreFramesOf (others ++ rows) new
+
+-- a row can tell the job's size and its phase
+pub record MayBeListed (r : Job) : Type 0 where
+  pub size : r.size ≤ longest_document
+  pub phase : Fits r r.phase
