@@ -117,6 +117,7 @@ fn window_reads_a_block_in_one_call(rt: HostRuntime) -> Result<(), Fail> {
     assert_eq!(rt; window.read(&mut fuse, 65_539, &mut got), Ok(()));
     assert_eq!(rt; got, [0, 0xA5]);
     assert_eq!(rt; window.read(&mut fuse, 65_540, &mut got), Err(DeviceFault));
+    assert_eq!(rt; fuse.len(), 65_560);
     assert_eq!(rt; window.read(&mut fuse, 5, &mut got), Err(DeviceFault));
     Ok(())
 }
@@ -131,8 +132,10 @@ fn window_passes_large_reads_on(rt: HostRuntime) -> Result<(), Fail> {
     let mut got = [7; 2];
     assert_eq!(rt; window.read(&mut fuse, 65_540, &mut got), Ok(()));
     let mut all = vec![in rt.alloc(); 7; 65_536]?;
+    assert!(rt; all.len() as u64 + 5 <= fuse.len());
     assert_eq!(rt; window.read(&mut fuse, 5, &mut all), Ok(()));
     assert_eq!(rt; &all[65_534..], [0, 0xA5].as_slice());
+    assert_eq!(rt; fuse.len(), 65_560);
     assert_eq!(rt; window.read(&mut fuse, 65_545, &mut got), Ok(()));
     assert_eq!(rt; got, [0x0A, 0]);
     Ok(())
