@@ -4,7 +4,7 @@ use crate::samples::{add_queue, close, create, id, made, opened, send};
 use crate::test_words::{Device, check_rows, lasting};
 use spool_core::*;
 use spool_disk::{Disk, FuseDisk, MemDisk};
-use spool_types::LONGEST_SEND;
+use spool_types::{Event, LONGEST_SEND};
 use std::alloc::Global;
 use std::test::Fail;
 
@@ -184,14 +184,20 @@ fn with_document(alloc: Global, len: usize) -> Result<Spool<MemDisk>, Fail>
     requires { len < 1000000 }
 {
     let mut spool = opened(alloc, made(alloc, 1_048_576)?)?;
-    for event in [add_queue(alloc)?, create(alloc)?] {
-        spool.apply(event).ok().ok_or("not applied")?;
-    }
+    take(&mut spool, add_queue(alloc)?)?;
+    take(&mut spool, create(alloc)?)?;
     for from in (0..len).step_by(50_000) {
         let bytes = part(alloc, from, (len - from).min(50_000))?;
-        spool.apply(send(alloc, &bytes)?).ok().ok_or("not sent")?;
+        take(&mut spool, send(alloc, &bytes)?)?;
     }
     Ok(spool)
+}
+
+fn take(spool: &mut Spool<MemDisk>, event: Event) -> Result<(), Fail> {
+    match spool.apply(event) {
+        Ok(_) => Ok(()),
+        Err(_) => Err(Fail::from("not applied")),
+    }
 }
 
 // Pieces have 65,536 bytes, but for the last.
@@ -222,18 +228,11 @@ fn a_document_is_listed_in_pieces(rt: HostRuntime) -> Result<(), Fail> {
 
 // A spool with a queue, a job and its document, whose device fails after so many calls behind its opening.
 fn failing(alloc: Global, calls: u64) -> Result<Spool<Device>, Fail> {
-    let mut spool = opened(alloc, made(alloc, 400)?)?;
-    for event in [
-        add_queue(alloc)?,
-        create(alloc)?,
-        send(alloc, b"abc")?,
-        close(alloc)?,
-    ] {
-        spool.apply(event).ok().ok_or("not applied")?;
-    }
+    let mut spool = with_document(alloc, 3)?;
+    take(&mut spool, close(alloc)?)?;
     let disk = spool.into_disk();
     let opening = opening_of(alloc, &disk)?;
-    opened(alloc, FuseDisk::new(disk, opening + calls))
+    opened(alloc, FuseDisk::new(disk, opening.saturating_add(calls)))
 }
 
 // How many calls the opening of this disk takes.

@@ -183,27 +183,37 @@ const LISTED: [&str; 8] = [
     "job 1 a 7 canceled \"u\" 5 0 \"t\"\nok 1\n",
 ];
 
-// How many commands of it were acknowledged where the disk fails after so many calls, and what is listed once the disk
-// is opened again, if it can be opened at first.
-fn stopped_after(alloc: Global, calls: u64) -> Result<Option<(usize, Vec<u8>)>, Fail> {
+// How many commands of it were acknowledged where the disk fails after so many calls, and the disk, if it can be opened.
+fn stopped_after(alloc: Global, calls: u64) -> Result<Option<(usize, MemDisk)>, Fail> {
     let mut engine = match engine_over(alloc, FuseDisk::new(spool_disk(alloc)?, calls)) {
         Ok(engine) => engine,
         Err(_) => return Ok(None),
     };
     let mut written = Vec::new(alloc);
     engine.run(&mut WITH_CHECKPOINTS.as_bytes(), &mut written)?;
-    let mut acknowledged = 0;
-    for line in str::from_utf8(&written)?.lines() {
+    let acknowledged = acknowledged_in(str::from_utf8(&written)?);
+    let (spool, _) = engine.into_parts();
+    Ok(Some((acknowledged, spool.into_disk().into_disk())))
+}
+
+// How many replies stand before the first fault.
+fn acknowledged_in(replies: &str) -> usize {
+    let mut count: usize = 0;
+    for line in replies.lines() {
         if !line.starts_with("ok") {
             break;
         }
-        acknowledged += 1;
+        count = count.saturating_add(1);
     }
-    let (spool, _) = engine.into_parts();
-    let mut engine = engine_over(alloc, spool.into_disk().into_disk())?;
+    count
+}
+
+// What `jobs` lists once the disk is opened again.
+fn listed_on(alloc: Global, disk: MemDisk) -> Result<Vec<u8>, Fail> {
+    let mut engine = engine_over(alloc, disk)?;
     let mut listing = Vec::new(alloc);
     engine.run(&mut "jobs\n".as_bytes(), &mut listing)?;
-    Ok(Some((acknowledged, listing)))
+    Ok(listing)
 }
 
 #[test]
@@ -211,10 +221,12 @@ fn no_checkpoint_loses_an_event(rt: HostRuntime) -> Result<(), Fail> {
     let alloc = rt.alloc();
     let mut most = 0;
     for calls in 0..80 {
-        if let Some((acknowledged, listing)) = stopped_after(alloc, calls)? {
+        if let Some((acknowledged, disk)) = stopped_after(alloc, calls)? {
+            let listing = listed_on(alloc, disk)?;
             let listing = str::from_utf8(&listing)?;
             let before = LISTED.get(acknowledged).ok_or("too many")?;
-            let after = LISTED.get(acknowledged + 1).unwrap_or(before);
+            let next = acknowledged.saturating_add(1);
+            let after = LISTED.get(next).unwrap_or(before);
             assert!(rt; listing == *before || listing == *after, "at {calls}");
             most = acknowledged.max(most);
         }
