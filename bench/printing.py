@@ -3,15 +3,23 @@
 printing.py [FOLDER]
 
 It runs crates/spool_shell/out/spool_shell (made by `rt run` in that folder) with `--root` in a new folder under FOLDER
-(here, where none is given). Each job has one stage, a backend that does nothing (/bin/true). Beside it the floor: a C
-program (launches.c) that launches as many of the same children, as many at once, with the same files and the same shell,
-and journals nothing. A ratio is the floor's time by the spooler's; 1 would be the floor itself.
+(here, where none is given). Each job has one stage, a backend that does nothing (/bin/true). Beside it two floors, which
+a C program (launches.c) runs just before: both launch as many of the same children, as many at once, with the same files
+and the same shell. A ratio is a floor's time by the spooler's; 1 would be the floor itself.
 
-An event is two syncs, and a job that prints is two events, which the floor hasn't. So the spooler's time is also given
-without that of as many events of another kind (`hold`). Times depend on the machine and its disk; only the ratios are of
-interest, and no test reads them.
+- The first, `bare`, journals nothing, reads no output, and gives its children no variables.
+- The second, `whole`, does what any spooler has to that keeps the same promises. An event is two writes and two syncs,
+  and a job that prints is two events, its start and its end. No two of a queue's syncs can go side by side, as each
+  event has to be on the disk before the next step. So this is the floor that the launcher is to be measured by.
+
+The spooler's time is also given without that of as many events of another kind (`hold`), beside the first floor. Such an
+event includes a command and its reply, which those of a round haven't.
+
+Each comparison is made several times, and the median of the ratios is told too. Times depend on the machine and its
+disk; only the ratios are of interest, and no test reads them.
 """
 import os
+import statistics
 import subprocess
 import sys
 import tempfile
@@ -21,6 +29,7 @@ here = os.path.dirname(os.path.abspath(__file__))
 shell = os.path.join(here, "..", "crates", "spool_shell", "out", "spool_shell")
 PROGRAM = "/bin/true"
 JOBS = 400
+TURNS = 5
 DOCUMENT = 1_048_576
 PIECE = 65_536
 
@@ -75,25 +84,38 @@ def printed(folder, queues):
     return took, events
 
 
-def launched(room, queues):
-    """The seconds of the floor."""
-    program, folder = os.path.join(room, "launches"), os.path.join(room, "files")
+def build(room):
+    """The program of the floors."""
+    program = os.path.join(room, "launches")
     subprocess.run(["cc", "-O2", "-o", program, os.path.join(here, "launches.c")], check=True)
+    return program
+
+
+def launched(room, program, queues, *disk):
+    """The seconds of a floor: of the second, where it is given a file for its events."""
+    folder = os.path.join(room, "files")
     os.makedirs(folder, exist_ok=True)
-    words = [program, str(JOBS), str(queues), folder, PROGRAM]
+    words = [program, str(JOBS), str(queues), folder, PROGRAM, *disk]
     return float(subprocess.run(words, stdout=subprocess.PIPE, check=True).stdout)
 
 
 def rates(room):
+    program = build(room)
     for queues in (1, 8):
-        for turn in range(3):
-            floor = launched(room, queues)
+        ratios = []
+        for turn in range(TURNS):
+            bare = launched(room, program, queues)
+            whole = launched(room, program, queues, os.path.join(room, "disk"))
             took, events = printed(os.path.join(room, f"spool-{queues}-{turn}"), queues)
-            alone = took - events
+            ratios.append((bare / took, bare / (took - events), whole / took))
             print(
-                f"{queues} queues: {JOBS / took:7.0f} jobs a second, floor {JOBS / floor:7.0f}, ratio {floor / took:.2f},"
-                f" without the events {floor / alone:.2f}"
+                f"{queues} queues: {JOBS / took:5.0f} jobs a second,"
+                f" bare floor {JOBS / bare:5.0f}, ratio {ratios[-1][0]:.2f}, without the events {ratios[-1][1]:.2f},"
+                f" whole floor {JOBS / whole:5.0f}, ratio {ratios[-1][2]:.2f}",
+                flush=True,
             )
+        bare, alone, whole = (statistics.median(column) for column in zip(*ratios))
+        print(f"{queues} queues, medians: bare {bare:.2f}, without the events {alone:.2f}, whole {whole:.2f}")
 
 
 def memory(room):
