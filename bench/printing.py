@@ -4,7 +4,7 @@ printing.py [FOLDER]
 
 It runs crates/spool_shell/out/spool_shell (made by `rt run` in that folder) with `--root` in a new folder under FOLDER
 (here, where none is given). Each job has one stage, a backend that does nothing (/bin/true). Beside it two floors, which
-a C program (launches.c) runs just before: both launch as many of the same children, as many at once, with the same files
+a C program (launches.c) runs: both launch as many of the same children, as many at once, with the same files
 and the same shell. A ratio is a floor's time by the spooler's; 1 would be the floor itself.
 
 - The first, `bare`, journals nothing, reads no output, and gives its children no variables.
@@ -15,7 +15,8 @@ and the same shell. A ratio is a floor's time by the spooler's; 1 would be the f
 The spooler's time is also given without that of as many events of another kind (`hold`), beside the first floor. Such an
 event includes a command and its reply, which those of a round haven't.
 
-Each comparison is made several times, and the median of the ratios is told too. Times depend on the machine and its
+The jobs are printed by parts, and the floors run before and after each part, so that what else the machine does meets
+all three. Of the ratios the median is told, and between what its middle half lies. Times depend on the machine and its
 disk; only the ratios are of interest, and no test reads them.
 """
 import os
@@ -28,8 +29,8 @@ import time
 here = os.path.dirname(os.path.abspath(__file__))
 shell = os.path.join(here, "..", "crates", "spool_shell", "out", "spool_shell")
 PROGRAM = "/bin/true"
-JOBS = 400
-TURNS = 5
+JOBS = 800
+PART = 40  # jobs that are printed at once, between two runs of the floors
 DOCUMENT = 1_048_576
 PIECE = 65_536
 
@@ -64,24 +65,30 @@ class Spooler:
             sys.exit("the program ended with a fault")
 
 
-def printed(folder, queues):
-    """The seconds of printing the jobs, and of as many events as that takes."""
+def filled(folder, queues):
+    """A spooler with all jobs, and one more, which is held."""
     spooler = Spooler(folder, 67_108_864, f"backend nothing {PROGRAM}\n")
     for n in range(queues):
         spooler.ask(b"queue q%d nothing:/ application/octet-stream abort-job\n" % n)
-    for job in range(1, JOBS + 1):
+    spooler.ask(b'create q0 ann t 1 50 ""\n')
+    spooler.ask(b"hold 1 1\n")
+    for job in range(2, JOBS + 2):
         spooler.ask(b'create q%d ann t 1 50 ""\n' % (job % queues))
         spooler.ask(b"close %d x\n" % job)
+    return spooler
+
+
+def printed(spooler, queues):
+    """The seconds of printing the jobs of a part, and of as many events as that takes."""
     start = time.perf_counter()
-    spooler.ask(b"drain 1000\n")
+    reply = spooler.ask(b"drain %d\n" % (PART // queues))
     took = time.perf_counter() - start
-    spooler.ask(b'create q0 ann t 1 50 ""\n')
+    if reply != b"ok rounds %d\n" % (PART // queues):
+        sys.exit(f"not all jobs of a part were printed: {reply!r}")
     start = time.perf_counter()
-    for moment in range(2 * JOBS):
-        spooler.ask(b"hold %d %d\n" % (JOBS + 1, moment))
-    events = time.perf_counter() - start
-    spooler.end()
-    return took, events
+    for moment in range(2 * PART):
+        spooler.ask(b"hold 1 %d\n" % (moment + 1))
+    return took, time.perf_counter() - start
 
 
 def build(room):
@@ -95,27 +102,39 @@ def launched(room, program, queues, *disk):
     """The seconds of a floor: of the second, where it is given a file for its events."""
     folder = os.path.join(room, "files")
     os.makedirs(folder, exist_ok=True)
-    words = [program, str(JOBS), str(queues), folder, PROGRAM, *disk]
+    words = [program, str(PART), str(queues), folder, PROGRAM, *disk]
     return float(subprocess.run(words, stdout=subprocess.PIPE, check=True).stdout)
 
 
 def rates(room):
     program = build(room)
     for queues in (1, 8):
-        ratios = []
-        for turn in range(TURNS):
+        times = []
+        spooler = filled(os.path.join(room, f"spool-{queues}"), queues)
+        for _ in range(JOBS // PART):
             bare = launched(room, program, queues)
+            took, events = printed(spooler, queues)
             whole = launched(room, program, queues, os.path.join(room, "disk"))
-            took, events = printed(os.path.join(room, f"spool-{queues}-{turn}"), queues)
-            ratios.append((bare / took, bare / (took - events), whole / took))
-            print(
-                f"{queues} queues: {JOBS / took:5.0f} jobs a second,"
-                f" bare floor {JOBS / bare:5.0f}, ratio {ratios[-1][0]:.2f}, without the events {ratios[-1][1]:.2f},"
-                f" whole floor {JOBS / whole:5.0f}, ratio {ratios[-1][2]:.2f}",
-                flush=True,
-            )
-        bare, alone, whole = (statistics.median(column) for column in zip(*ratios))
-        print(f"{queues} queues, medians: bare {bare:.2f}, without the events {alone:.2f}, whole {whole:.2f}")
+            times.append((took, events, bare, whole))
+        spooler.end()
+        tell(queues, times)
+
+
+def tell(queues, times):
+    """A part's jobs a second by the median, and the medians of the ratios with their middle halves."""
+    took, events, bare, whole = ([PART / time for time in column] for column in zip(*times))
+    print(
+        f"{queues} queues: {statistics.median(took):.0f} jobs a second, bare floor {statistics.median(bare):.0f},"
+        f" whole floor {statistics.median(whole):.0f}, as many events alone {statistics.median(events):.0f}"
+    )
+    ratios = {
+        "to the bare floor": [bare / took for took, _, bare, _ in times],
+        "to that without the events": [bare / (took - events) for took, events, bare, _ in times if took > events],
+        "to the whole floor": [whole / took for took, _, _, whole in times],
+    }
+    for name, found in ratios.items():
+        low, middle, high = statistics.quantiles(found, n=4)
+        print(f"    ratio {name} {middle:.2f}, the middle half from {low:.2f} to {high:.2f}", flush=True)
 
 
 def memory(room):
