@@ -4,8 +4,8 @@ printing.py [FOLDER]
 
 It runs crates/spool_shell/out/spool_shell (made by `rt run` in that folder) with `--root` in a new folder under FOLDER
 (here, where none is given). Each job has one stage, a backend that does nothing (/bin/true). Beside it two floors, which
-a C program (launches.c) runs: both launch as many of the same children, as many at once, with the same files
-and the same shell. A ratio is a floor's time by the spooler's; 1 would be the floor itself.
+a C program (launches.c) runs: both launch as many of the same children, as many at once, with the same files and the same
+shell. A ratio is a floor's time by the spooler's; 1 would be the floor itself.
 
 - The first, `bare`, journals nothing, reads no output, and gives its children no variables.
 - The second, `whole`, does what any spooler has to that keeps the same promises. An event is two writes and two syncs,
@@ -16,8 +16,8 @@ The spooler's time is also given without that of as many events of another kind 
 event includes a command and its reply, which those of a round haven't.
 
 The jobs are printed by parts, and the floors run before and after each part, so that what else the machine does meets
-all three. Of the ratios the median is told, and between what its middle half lies. Times depend on the machine and its
-disk; only the ratios are of interest, and no test reads them.
+all three; a part is compared with the mean of the two runs beside it. Of the ratios the median is told, and between what
+their middle half lies. Times depend on the machine and its disk; only the ratios are of interest, and no test reads them.
 """
 import os
 import statistics
@@ -106,16 +106,23 @@ def launched(room, program, queues, *disk):
     return float(subprocess.run(words, stdout=subprocess.PIPE, check=True).stdout)
 
 
+def floors(room, program, queues):
+    """The seconds of both floors."""
+    return launched(room, program, queues), launched(room, program, queues, os.path.join(room, "disk"))
+
+
 def rates(room):
     program = build(room)
     for queues in (1, 8):
         times = []
         spooler = filled(os.path.join(room, f"spool-{queues}"), queues)
+        before = floors(room, program, queues)
         for _ in range(JOBS // PART):
-            bare = launched(room, program, queues)
             took, events = printed(spooler, queues)
-            whole = launched(room, program, queues, os.path.join(room, "disk"))
+            after = floors(room, program, queues)
+            bare, whole = ((one + other) / 2 for one, other in zip(before, after))
             times.append((took, events, bare, whole))
+            before = after
         spooler.end()
         tell(queues, times)
 
