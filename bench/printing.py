@@ -138,6 +138,7 @@ def tell(queues, times):
         "to the bare floor": [bare / took for took, _, bare, _ in times],
         "to that without the events": [bare / (took - events) for took, events, bare, _ in times if took > events],
         "to the whole floor": [whole / took for took, _, _, whole in times],
+        "of the whole floor to the bare one": [bare / whole for _, _, bare, whole in times],
     }
     for name, found in ratios.items():
         low, middle, high = statistics.quantiles(found, n=4)
