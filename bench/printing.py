@@ -3,15 +3,24 @@
 printing.py [FOLDER]
 
 It runs crates/spool_shell/out/spool_shell (made by `rt run` in that folder) with `--root` in a new folder under FOLDER
-(here, where none is given). Each job has one stage, a backend that does nothing (/bin/true). Beside it the floor: a C
-program (launches.c) that launches as many of the same children, as many at once, with the same files and the same shell,
-and journals nothing. A ratio is the floor's time by the spooler's; 1 would be the floor itself.
+(here, where none is given). Each job has one stage, a backend that does nothing (/bin/true). Beside it two floors, which
+a C program (launches.c) runs: both launch as many of the same children, as many at once, with the same files and the same
+shell. A ratio is a floor's time by the spooler's; 1 would be the floor itself.
 
-An event is two syncs, and a job that prints is two events, which the floor hasn't. So the spooler's time is also given
-without that of as many events of another kind (`hold`). Times depend on the machine and its disk; only the ratios are of
-interest, and no test reads them.
+- The first, `bare`, journals nothing, reads no output, and gives its children no variables.
+- The second, `whole`, does what any spooler has to that keeps the same promises. An event is two writes and two syncs,
+  and a job that prints is two events, its start and its end. No two of a queue's syncs can go side by side, as each
+  event has to be on the disk before the next step. So this is the floor that the launcher is to be measured by.
+
+The spooler's time is also given without that of as many events of another kind (`hold`), beside the first floor. Such an
+event includes a command and its reply, which those of a round haven't.
+
+The jobs are printed by parts, and the floors run before and after each part, so that what else the machine does meets
+all three; a part is compared with the mean of the two runs beside it. Of the ratios the median is told, and between what
+their middle half lies. Times depend on the machine and its disk; only the ratios are of interest, and no test reads them.
 """
 import os
+import statistics
 import subprocess
 import sys
 import tempfile
@@ -20,7 +29,8 @@ import time
 here = os.path.dirname(os.path.abspath(__file__))
 shell = os.path.join(here, "..", "crates", "spool_shell", "out", "spool_shell")
 PROGRAM = "/bin/true"
-JOBS = 400
+JOBS = 800
+PART = 40  # jobs that are printed at once, between two runs of the floors
 DOCUMENT = 1_048_576
 PIECE = 65_536
 
@@ -55,45 +65,84 @@ class Spooler:
             sys.exit("the program ended with a fault")
 
 
-def printed(folder, queues):
-    """The seconds of printing the jobs, and of as many events as that takes."""
+def filled(folder, queues):
+    """A spooler with all jobs, and one more, which is held."""
     spooler = Spooler(folder, 67_108_864, f"backend nothing {PROGRAM}\n")
     for n in range(queues):
         spooler.ask(b"queue q%d nothing:/ application/octet-stream abort-job\n" % n)
-    for job in range(1, JOBS + 1):
+    spooler.ask(b'create q0 ann t 1 50 ""\n')
+    spooler.ask(b"hold 1 1\n")
+    for job in range(2, JOBS + 2):
         spooler.ask(b'create q%d ann t 1 50 ""\n' % (job % queues))
         spooler.ask(b"close %d x\n" % job)
+    return spooler
+
+
+def printed(spooler, queues):
+    """The seconds of printing the jobs of a part, and of as many events as that takes."""
     start = time.perf_counter()
-    spooler.ask(b"drain 1000\n")
+    reply = spooler.ask(b"drain %d\n" % (PART // queues))
     took = time.perf_counter() - start
-    spooler.ask(b'create q0 ann t 1 50 ""\n')
+    if reply != b"ok rounds %d\n" % (PART // queues):
+        sys.exit(f"not all jobs of a part were printed: {reply!r}")
     start = time.perf_counter()
-    for moment in range(2 * JOBS):
-        spooler.ask(b"hold %d %d\n" % (JOBS + 1, moment))
-    events = time.perf_counter() - start
-    spooler.end()
-    return took, events
+    for moment in range(2 * PART):
+        spooler.ask(b"hold 1 %d\n" % (moment + 1))
+    return took, time.perf_counter() - start
 
 
-def launched(room, queues):
-    """The seconds of the floor."""
-    program, folder = os.path.join(room, "launches"), os.path.join(room, "files")
+def build(room):
+    """The program of the floors."""
+    program = os.path.join(room, "launches")
     subprocess.run(["cc", "-O2", "-o", program, os.path.join(here, "launches.c")], check=True)
+    return program
+
+
+def launched(room, program, queues, *disk):
+    """The seconds of a floor: of the second, where it is given a file for its events."""
+    folder = os.path.join(room, "files")
     os.makedirs(folder, exist_ok=True)
-    words = [program, str(JOBS), str(queues), folder, PROGRAM]
+    words = [program, str(PART), str(queues), folder, PROGRAM, *disk]
     return float(subprocess.run(words, stdout=subprocess.PIPE, check=True).stdout)
 
 
+def floors(room, program, queues):
+    """The seconds of both floors."""
+    return launched(room, program, queues), launched(room, program, queues, os.path.join(room, "disk"))
+
+
 def rates(room):
+    program = build(room)
     for queues in (1, 8):
-        for turn in range(3):
-            floor = launched(room, queues)
-            took, events = printed(os.path.join(room, f"spool-{queues}-{turn}"), queues)
-            alone = took - events
-            print(
-                f"{queues} queues: {JOBS / took:7.0f} jobs a second, floor {JOBS / floor:7.0f}, ratio {floor / took:.2f},"
-                f" without the events {floor / alone:.2f}"
-            )
+        times = []
+        spooler = filled(os.path.join(room, f"spool-{queues}"), queues)
+        before = floors(room, program, queues)
+        for _ in range(JOBS // PART):
+            took, events = printed(spooler, queues)
+            after = floors(room, program, queues)
+            bare, whole = ((one + other) / 2 for one, other in zip(before, after))
+            times.append((took, events, bare, whole))
+            before = after
+        spooler.end()
+        tell(queues, times)
+
+
+def tell(queues, times):
+    """A part's jobs a second by the median, and the medians of the ratios with their middle halves."""
+    took, events, bare, whole = ([PART / time for time in column] for column in zip(*times))
+    print(
+        f"{queues} queues: {statistics.median(took):.0f} jobs a second, bare floor {statistics.median(bare):.0f},"
+        f" whole floor {statistics.median(whole):.0f}, as many events alone {statistics.median(events):.0f}"
+    )
+    ratios = {
+        "to the bare floor": [bare / took for took, _, bare, _ in times],
+        "to that without the events": [bare / (took - events) for took, events, bare, _ in times if took > events],
+        "to the whole floor": [whole / took for took, _, _, whole in times],
+        "of the whole floor to the bare one": [bare / whole for _, _, bare, whole in times],
+    }
+    for name, found in ratios.items():
+        low, middle, high = statistics.quantiles(found, n=4)
+        print(f"    ratio {name} {middle:.2f}, the middle half from {low:.2f} to {high:.2f}", flush=True)
 
 
 def memory(room):
