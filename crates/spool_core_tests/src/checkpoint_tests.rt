@@ -1,6 +1,4 @@
-ghost use Rattle.std.specs.Prelude.{◌<◌, ◌+◌, ◌^◌};
-
-use crate::samples::{add_queue, close, create, id, made, opened, send};
+use crate::samples::{add_queue, close, create, id, made, opened, send, write};
 use crate::test_words::{Device, check_rows, lasting};
 use spool_core::*;
 use spool_disk::{Disk, FuseDisk, MemDisk};
@@ -60,7 +58,7 @@ fn a_listing_leaves_room_for_one_reopening(rt: HostRuntime) -> Result<(), Fail> 
 fn the_greatest_epoch_has_no_next_one(rt: HostRuntime) -> Result<(), Fail> {
     let alloc = rt.alloc();
     let mut disk = made(alloc, 198)?;
-    disk.write(2, &[0xFF; 8]).ok().ok_or("not written")?;
+    write(&mut disk, 2, &[0xFF; 8])?;
     let spool = lasting(alloc, disk)?;
     let rows = [
         ("checkpoint", "epoch"),
@@ -169,25 +167,21 @@ fn byte_at(at: usize) -> u8 {
 }
 
 // So many bytes of a document, from a place on.
-fn part(alloc: Global, at: usize, len: usize) -> Result<Vec<u8>, Fail>
-    requires { at + len < 2 ^ 32 }
-{
+fn part(alloc: Global, at: usize, len: usize) -> Result<Vec<u8>, Fail> {
     let mut bytes = Vec::new(alloc);
     for k in 0..len {
-        bytes.push(byte_at(at + k))?;
+        bytes.push(byte_at(at.wrapping_add(k)))?;
     }
     Ok(bytes)
 }
 
-// A spool with job 1, whose document has so many bytes.
-fn with_document(alloc: Global, len: usize) -> Result<Spool<MemDisk>, Fail>
-    requires { len < 1000000 }
-{
-    let mut spool = opened(alloc, made(alloc, 1_048_576)?)?;
+// A spool on a disk of so many bytes, with job 1, whose document has so many.
+fn with_document(alloc: Global, size: usize, len: usize) -> Result<Spool<MemDisk>, Fail> {
+    let mut spool = opened(alloc, made(alloc, size)?)?;
     take(&mut spool, add_queue(alloc)?)?;
     take(&mut spool, create(alloc)?)?;
     for from in (0..len).step_by(50_000) {
-        let bytes = part(alloc, from, (len - from).min(50_000))?;
+        let bytes = part(alloc, from, len.saturating_sub(from).min(50_000))?;
         take(&mut spool, send(alloc, &bytes)?)?;
     }
     Ok(spool)
@@ -213,7 +207,7 @@ fn a_document_is_listed_in_pieces(rt: HostRuntime) -> Result<(), Fail> {
         2 * LONGEST_SEND,
         150_000,
     ] {
-        let mut spool = with_document(alloc, len)?;
+        let mut spool = with_document(alloc, 1_048_576, len)?;
         assert_eq!(rt; spool.checkpoint(), Ok(()));
         assert_eq!(rt; spool.apply(close(alloc)?).is_ok(), true);
         let mut spool = opened(alloc, spool.into_disk())?;
@@ -228,7 +222,7 @@ fn a_document_is_listed_in_pieces(rt: HostRuntime) -> Result<(), Fail> {
 
 // A spool with a queue, a job and its document, whose device fails after so many calls behind its opening.
 fn failing(alloc: Global, calls: u64) -> Result<Spool<Device>, Fail> {
-    let mut spool = with_document(alloc, 3)?;
+    let mut spool = with_document(alloc, 400, 3)?;
     take(&mut spool, close(alloc)?)?;
     let disk = spool.into_disk();
     let opening = opening_of(alloc, &disk)?;
@@ -239,7 +233,7 @@ fn failing(alloc: Global, calls: u64) -> Result<Spool<Device>, Fail> {
 fn opening_of(alloc: Global, disk: &MemDisk) -> Result<u64, Fail> {
     for calls in 0..1000 {
         let mut copy = MemDisk::new(alloc, disk.bytes().len())?;
-        copy.write(0, disk.bytes()).ok().ok_or("not written")?;
+        write(&mut copy, 0, disk.bytes())?;
         copy.sync().ok().ok_or("not synced")?;
         if Spool::open(alloc, FuseDisk::new(copy, calls)).is_ok() {
             return Ok(calls);
@@ -253,10 +247,10 @@ fn opening_of(alloc: Global, disk: &MemDisk) -> Result<u64, Fail> {
 #[test]
 fn a_stopped_checkpoint_leaves_the_table(rt: HostRuntime) -> Result<(), Fail> {
     let alloc = rt.alloc();
-    for (calls, answer) in (0..23).map(|calls| (calls, "disk")) {
+    for calls in 0..23 {
         let spool = failing(alloc, calls)?;
         let rows = [
-            ("checkpoint", answer),
+            ("checkpoint", "disk"),
             ("checkpoint", "dead"),
             ("queue", "dead"),
             ("phase?", "waiting free 0 false"),

@@ -1,7 +1,7 @@
 //! Areas that begin with the rows of a listing.
-use crate::samples::{id, made, opened};
+use crate::samples::{id, made, opened, write};
 use spool_core::*;
-use spool_disk::{Disk, MemDisk};
+use spool_disk::MemDisk;
 use spool_types::{Moment, Phase};
 use std::alloc::Global;
 use std::test::Fail;
@@ -47,10 +47,7 @@ fn listed(alloc: Global, payloads: &[&[u8]]) -> Result<MemDisk, Fail> {
         journal.extend_from_slice(payload)?;
     }
     journal.push(0)?;
-    if journal.len() > 184 {
-        return Err(Fail::from("no room"));
-    }
-    disk.write(16, &journal).ok().ok_or("not written")?;
+    write(&mut disk, 16, &journal)?;
     Ok(disk)
 }
 

@@ -1,4 +1,4 @@
-use crate::samples::{id, made, opened};
+use crate::samples::{id, made, opened, write};
 use spool_core::*;
 use spool_disk::{Disk, MemDisk};
 use spool_types::{AbortReason, Event, Moment, Phase, Reply};
@@ -10,11 +10,7 @@ const SIZE: usize = 198;
 // A made disk with these bytes behind its header.
 fn spool_with(alloc: Global, size: usize, journal: &[u8]) -> Result<MemDisk, Fail> {
     let mut disk = made(alloc, size)?;
-    let len = disk.len();
-    if len < 16 || len - 16 < journal.len() as u64 {
-        return Err(Fail::from("no room"));
-    }
-    disk.write(16, journal).ok().ok_or("not written")?;
+    write(&mut disk, 16, journal)?;
     Ok(disk)
 }
 

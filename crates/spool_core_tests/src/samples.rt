@@ -72,6 +72,16 @@ pub(crate) fn made(alloc: Global, size: usize) -> Result<MemDisk, Fail> {
     Ok(disk)
 }
 
+// Writes bytes to a disk, if it has room for them there.
+pub(crate) fn write(disk: &mut MemDisk, place: u64, bytes: &[u8]) -> Result<(), Fail> {
+    let len = disk.len();
+    if len < place || len - place < bytes.len() as u64 {
+        return Err(Fail::from("no room"));
+    }
+    disk.write(place, bytes).ok().ok_or("not written")?;
+    Ok(())
+}
+
 pub(crate) fn opened<D: Disk + Drop>(alloc: Global, disk: D) -> Result<Spool<D>, Fail> {
     Ok(Spool::open(alloc, disk).ok().ok_or("not opened")?)
 }
