@@ -23,10 +23,15 @@
 #![tactic(auto)]
 
 mod choice;
+mod entry;
+mod index;
 mod laws;
+mod lists;
 
 pub use choice::{beats, next_job};
-pub use laws::order_law;
+pub use entry::Entry;
+pub use index::Index;
+pub use laws::{index_law, order_law};
 
 #[cfg(test)]
 mod tests;
