@@ -26,7 +26,7 @@ pub(crate) fn fill_ready(ready: &mut Vec<Entry>, entries: &[Entry], now: Moment)
     ready.clear();
     for entry in entries {
         if entry.is_startable(now) {
-            ready.push(*entry).unwrap();
+            ready.push_reserved(*entry);
         }
     }
 }
