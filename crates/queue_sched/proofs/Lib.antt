@@ -6,3 +6,4 @@ pub mod Turns
 pub mod Startable
 pub mod Due
 pub mod Indexed
+pub mod Rooms

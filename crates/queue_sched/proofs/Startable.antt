@@ -40,10 +40,14 @@ between_parts e fs gs at first last le before behind =
 
 -- an entry put or taken between two parts
 put_between : (fs gs : List Entry) (e : Entry) → insert (fs ++ gs) (length fs) e ≡ fs ++ e ∷ gs
-put_between fs gs e = insert-append_right fs gs (length fs) (length fs) e refl (omega arith) ∙ ap (λ n. fs ++ insert gs n e) (omega arith)
+put_between fs gs e =
+    let none : length fs - length fs ≡ 0 = omega arith in
+    insert-append_right fs gs (length fs) (length fs) e refl (omega arith) ∙ ap (λ n. fs ++ insert gs n e) none
 
 take_between : (fs gs : List Entry) (e : Entry) → remove (fs ++ e ∷ gs) (length fs) ≡ fs ++ gs
-take_between fs gs e = remove-append_right fs (e ∷ gs) (length fs) (length fs) refl (omega arith) ∙ ap (λ n. fs ++ remove (e ∷ gs) n) (omega arith)
+take_between fs gs e =
+    let none : length fs - length fs ≡ 0 = omega arith in
+    remove-append_right fs (e ∷ gs) (length fs) (length fs) refl (omega arith) ∙ ap (λ n. fs ++ remove (e ∷ gs) n) none
 
 module _ (p : Entry → Bool) (xs : List Entry) (e : Entry) (at : ℕ) where
   parts : filter p xs ≡ filter p (take at xs) ++ filter p (drop at xs)
@@ -110,6 +114,18 @@ module _ (p : Entry → Bool) (xs : List Entry) (e : Entry) (at : ℕ) where
         let gs = filter p (drop (suc at) xs) in
         let split : filter p xs ≡ fs ++ e ∷ gs = less ∙ ap (λ b. fs ++ cond b (e ∷ gs) gs) passes in
         subst (λ l. Contains l e) (sym split) (Contains-append_right fs (e ∷ gs) e (Contains-append_left (e ∷ []) gs e (Contains-push [] e)))
+
+-- the same of a list that is known to be those that pass
+module _ (p : Entry → Bool) (xs ready : List Entry) (is : ready ≡ filter p xs) (e : Entry) (passes : p e ≡ true) (at : ℕ) (before : AreBefore xs e at) (behind : AreBehind xs e at) (place : ℕ) (before' : AreBefore ready e place) (behind' : AreBehind ready e place) where
+  pub put_among : at ≤ length xs → place ≤ length ready → insert ready place e ≡ filter p (insert xs at e)
+  put_among le within =
+      ap (λ l. insert l place e) is
+      ∙ sym (put_in p xs e at passes le before behind place (subst (λ l. place ≤ length l) is within) (subst (λ l. AreBefore l e place) is before') (subst (λ l. AreBehind l e place) is behind'))
+
+  pub take_among : at < length xs → get_or xs at e ≡ e → place ≤ length ready → remove ready place ≡ filter p (remove xs at)
+  take_among inside here within =
+      ap (λ l. remove l place) is
+      ∙ sym (taken_out p xs e at inside here passes before behind place (subst (λ l. place ≤ length l) is within) (subst (λ l. AreBefore l e place) is before') (subst (λ l. AreBehind l e place) is behind'))
 
 -- what passes is kept
 pub Contains-filter : (p : Entry → Bool) (xs : List Entry) (e : Entry) → Contains xs e → p e ≡ true → Contains (filter p xs) e

@@ -1,5 +1,5 @@
 -- What the fields of an index mean.
-use Rattle.std.specs.Prelude.{◌≡◌, ℕ, ◌<◌, ◌≤◌, List, map, min, vec_capacity, Option, None, Some}
+use Rattle.std.specs.Prelude.{◌≡◌, ℕ, ◌<◌, ◌≤◌, List, length, map, min, vec_capacity, Option, None, Some}
 use Rattle.std.specs.List.{Contains, filter}
 use Rattle.queue_sched.specs.Index.{Waits, InOrder, is_startable}
 use Rattle.queue_sched.specs.declared.entry.Entry.{Entry}
@@ -21,9 +21,11 @@ IsBefore m (Some due) = m < due
 abbrev pub IsSameUntil : List Entry → ℕ → Option ℕ → Type 0
 IsSameUntil items now due = (e : Entry) → Contains items e → (m : ℕ) → now ≤ m → IsBefore m due → is_startable m e ≡ is_startable now e
 
--- the numbers are those of the entries, and the ready ones those that may be started now
+-- the numbers are those of the entries, and the ready ones those that may be started now; all of them
+-- could be ready
 pub record IsInStep (a : Inside) : Type 0 where
   pub order : InOrder a.entries.items
   pub jobs : a.jobs.items ≡ map (λ e. e.id) a.entries.items
   pub ready : a.ready.items ≡ filter (is_startable a.moment) a.entries.items
+  pub room : length a.entries.items ≤ vec_capacity a.ready
   pub due : IsSameUntil a.entries.items a.moment a.due

@@ -1,12 +1,12 @@
 //! The index of a queue's waiting jobs.
-ghost use Rattle.std.specs.Prelude.{◌≡◌, ◌<◌, ◌≤◌, ◌+◌, ◌↔◌, ◌⊎◌, [], length, map, IsOk, OnOk, IfSome};
+ghost use Rattle.std.specs.Prelude.{◌≡◌, ◌<◌, ◌≤◌, ◌+◌, ◌↔◌, ◌⊎◌, [], length, map, false, IsTrue, IsOk, OnOk, IfSome};
 ghost use Rattle.std.specs.Option.{IsNone};
 ghost use Rattle.std.specs.List.{Contains};
 ghost use Rattle.queue_sched.specs.Index.{InOrder, LacksJob, IsFirstStartable, NoneIsStartable};
 ghost use Rattle.queue_sched.specs.declared.entry.Entry.{Entry};
 
 use crate::entry::Entry;
-use crate::lists::{due_of, fill_ready, place_of, sooner};
+use crate::lists::{due_of, fill_ready, is_before, place_of, put, put_number, sooner, take};
 use spool_types::{JobId, Moment};
 use std::alloc::{AllocError, Global};
 use std::marker::Model;
@@ -61,15 +61,35 @@ impl Index {
         &self.jobs
     }
 
+    /// The moment now.
+    pub fn moment(&self) -> Moment
+        ensures { result ≡ self.now.moment }
+    {
+        self.moment
+    }
+
+    /// Whether the entry is there. It is found by binary search.
+    pub fn contains(&self, entry: &Entry) -> bool
+        ensures { IsTrue result ↔ Contains self.now.items entry.now }
+    {
+        let at = place_of(&self.entries, entry);
+        at < self.entries.len() && self.entries[at] == *entry
+    }
+
+    /// Whether a job of this number is there. It reads the numbers one after another.
+    pub fn has_job(&self, id: JobId) -> bool
+        ensures { result ≡ false ↔ LacksJob self.now.items id }
+    {
+        self.jobs.contains(&id)
+    }
+
     /// The job whose turn is first, among those that may be started now. No other job is looked at.
     pub fn next(&self) -> Option<JobId>
         ensures chosen { IfSome result (λ j. (e : Entry) × (e.id ≡ j) × IsFirstStartable self.now e) }
         ensures none { IsNone result → NoneIsStartable self.now }
     {
-        match self.ready.first() {
-            Some(entry) => Some(entry.id),
-            None => None,
-        }
+        let entry = self.ready.first()?;
+        Some(entry.id)
     }
 
     /// Makes room for so many jobs in all. A list that has to grow is doubled at least, as `Vec::reserve` does it.
@@ -85,7 +105,7 @@ impl Index {
         let count = count.saturating_sub(self.entries.len());
         self.entries.reserve(count)?;
         self.jobs.reserve(count)?;
-        self.ready.reserve(self.entries.len() - self.ready.len() + count)
+        self.ready.reserve(self.entries.len().saturating_sub(self.ready.len()) + count)
     }
 
     /// Adds a job that isn't there. Its place is found by binary search, and one that goes to the end moves no other. It
@@ -99,12 +119,10 @@ impl Index {
         ensures moment { self.new.moment ≡ self.old.moment }
         ensures room { self.new.room ≡ self.old.room }
     {
-        let at = place_of(&self.entries, &entry);
-        self.entries.insert(at, entry).unwrap();
-        self.jobs.insert(at, entry.id).unwrap();
+        let at = put(&mut self.entries, entry);
+        put_number(&mut self.jobs, at, entry.id);
         if entry.is_startable(self.moment) {
-            let at = place_of(&self.ready, &entry);
-            self.ready.insert(at, entry).unwrap();
+            put(&mut self.ready, entry);
         } else {
             self.due = sooner(self.due, entry.start());
         }
@@ -119,12 +137,10 @@ impl Index {
         ensures moment { self.new.moment ≡ self.old.moment }
         ensures room { self.new.room ≡ self.old.room }
     {
-        let at = place_of(&self.entries, &entry);
-        self.entries.remove(at);
+        let at = take(&mut self.entries, &entry);
         self.jobs.remove(at);
         if entry.is_startable(self.moment) {
-            let at = place_of(&self.ready, &entry);
-            self.ready.remove(at);
+            take(&mut self.ready, &entry);
         }
     }
 
@@ -137,7 +153,7 @@ impl Index {
         ensures room { self.new.room ≡ self.old.room }
     {
         self.moment = moment;
-        if let Some(due) = self.due && due <= moment {
+        if !is_before(moment, self.due) {
             fill_ready(&mut self.ready, &self.entries, moment);
             self.due = due_of(&self.entries, moment);
         }

@@ -1,11 +1,11 @@
 //! The lists of an index.
-ghost use Rattle.std.specs.Prelude.{◌≡◌, ◌≤◌, ℕ, true, false, length, vec_capacity};
-ghost use Rattle.std.specs.List.{filter, AllWithin};
+ghost use Rattle.std.specs.Prelude.{◌≡◌, ◌<◌, ◌≤◌, ◌↔◌, ℕ, IsTrue, true, false, length, slice_index_or, vec_capacity};
+ghost use Rattle.std.specs.List.{filter, insert, remove, AllWithin, Contains};
 ghost use Rattle.queue_sched.specs.Index.{goes_before, is_startable, InOrder};
 ghost use Rattle.queue_sched.specs.Lists.{IsBefore, IsSameUntil};
 
 use crate::entry::Entry;
-use spool_types::Moment;
+use spool_types::{JobId, Moment};
 
 // Where the entry stands, or would go.
 pub(crate) fn place_of(entries: &[Entry], entry: &Entry) -> usize
@@ -15,6 +15,47 @@ pub(crate) fn place_of(entries: &[Entry], entry: &Entry) -> usize
     ensures behind { AllWithin (λ e. goes_before e entry.now ≡ false) entries.now result (length entries.now) }
 {
     entries.partition_point(|other| other.goes_before(entry))
+}
+
+// Adds an entry where it goes, and answers where. There is room.
+pub(crate) fn put(entries: &mut Vec<Entry>, entry: Entry) -> usize
+    requires order { InOrder entries.old.items }
+    requires room { length entries.old.items < vec_capacity entries.old }
+    ensures in_range { result ≤ length entries.old.items }
+    ensures before { AllWithin (λ e. goes_before e entry ≡ true) entries.old.items 0 result }
+    ensures behind { AllWithin (λ e. goes_before e entry ≡ false) entries.old.items result (length entries.old.items) }
+    ensures items { entries.new.items ≡ insert entries.old.items result entry }
+    ensures capacity { vec_capacity entries.new ≡ vec_capacity entries.old }
+{
+    let at = place_of(entries, &entry);
+    entries.insert(at, entry).unwrap();
+    at
+}
+
+// Takes away an entry that is there, and answers where it stood.
+pub(crate) fn take(entries: &mut Vec<Entry>, entry: &Entry) -> usize
+    requires order { InOrder entries.old.items }
+    requires there { Contains entries.old.items entry.now }
+    ensures in_range { result < length entries.old.items }
+    ensures here { slice_index_or entries.old.items result entry.now ≡ entry.now }
+    ensures before { AllWithin (λ e. goes_before e entry.now ≡ true) entries.old.items 0 result }
+    ensures behind { AllWithin (λ e. goes_before e entry.now ≡ false) entries.old.items result (length entries.old.items) }
+    ensures items { entries.new.items ≡ remove entries.old.items result }
+    ensures capacity { vec_capacity entries.new ≡ vec_capacity entries.old }
+{
+    let at = place_of(entries, entry);
+    entries.remove(at);
+    at
+}
+
+// Adds a number at a place. There is room.
+pub(crate) fn put_number(jobs: &mut Vec<JobId>, at: usize, id: JobId)
+    requires in_range { at ≤ length jobs.old.items }
+    requires room { length jobs.old.items < vec_capacity jobs.old }
+    ensures items { jobs.new.items ≡ insert jobs.old.items at id }
+    ensures capacity { vec_capacity jobs.new ≡ vec_capacity jobs.old }
+{
+    jobs.insert(at, id).unwrap();
 }
 
 // Lists those that may be started now.
@@ -42,6 +83,16 @@ pub(crate) fn due_of(entries: &[Entry], now: Moment) -> Option<Moment>
         }
     }
     due
+}
+
+// Whether the moment is before the due one, if there is one.
+pub(crate) fn is_before(moment: Moment, due: Option<Moment>) -> bool
+    ensures { IsTrue result ↔ IsBefore moment due }
+{
+    match due {
+        Some(due) => moment < due,
+        None => true,
+    }
 }
 
 // What is before the result is before both.
