@@ -1,12 +1,12 @@
 //! The index of a queue's waiting jobs.
-ghost use Rattle.std.specs.Prelude.{◌≡◌, ◌<◌, ◌≤◌, ◌+◌, ◌↔◌, ◌⊎◌, [], length, map, false, IsTrue, IsOk, OnOk, IfSome};
-ghost use Rattle.std.specs.Option.{IsNone};
+ghost use Rattle.std.specs.Prelude.{◌≡◌, ◌<◌, ◌≤◌, ◌+◌, ◌↔◌, ◌⊎◌, [], length, map, IsOk, OnOk, IfSome};
+ghost use Rattle.std.specs.Option.{IsNone, option_copied};
 ghost use Rattle.std.specs.List.{Contains};
 ghost use Rattle.queue_sched.specs.Index.{InOrder, LacksJob, IsFirstStartable, NoneIsStartable};
 ghost use Rattle.queue_sched.specs.declared.entry.Entry.{Entry};
 
 use crate::entry::Entry;
-use crate::lists::{due_of, fill_ready, is_before, place_of, put, put_number, sooner, take};
+use crate::lists::{due_of, fill_ready, is_before, put, put_number, sooner, take};
 use spool_types::{JobId, Moment};
 use std::alloc::{AllocError, Global};
 use std::marker::Model;
@@ -68,19 +68,12 @@ impl Index {
         self.moment
     }
 
-    /// Whether the entry is there. It is found by binary search.
-    pub fn contains(&self, entry: &Entry) -> bool
-        ensures { IsTrue result ↔ Contains self.now.items entry.now }
+    /// The entry of the job of this number, if there is one. It reads one after another.
+    pub fn entry(&self, id: JobId) -> Option<&Entry>
+        ensures found { IfSome (option_copied result) (λ e. Contains self.now.items e × (e.id ≡ id)) }
+        ensures absent { IsNone result → LacksJob self.now.items id }
     {
-        let at = place_of(&self.entries, entry);
-        at < self.entries.len() && self.entries[at] == *entry
-    }
-
-    /// Whether a job of this number is there. It reads the numbers one after another.
-    pub fn has_job(&self, id: JobId) -> bool
-        ensures { result ≡ false ↔ LacksJob self.now.items id }
-    {
-        self.jobs.contains(&id)
+        self.entries.iter().find(|entry| entry.id == id)
     }
 
     /// The job whose turn is first, among those that may be started now. No other job is looked at.

@@ -36,7 +36,7 @@ fn next(index: &Index) -> u32 {
 // Adds a job that isn't there.
 fn add(index: &mut Index, entry: Entry) -> Result<(), Fail> {
     index.reserve(index.jobs().len() + 1)?;
-    if index.has_job(entry.id) {
+    if index.entry(entry.id).is_some() {
         return Err("the job is there")?;
     }
     index.insert(entry);
@@ -44,12 +44,11 @@ fn add(index: &mut Index, entry: Entry) -> Result<(), Fail> {
 }
 
 // Takes away a job that is there.
-fn take(index: &mut Index, entry: Entry) -> Result<(), Fail> {
-    if !index.contains(&entry) {
-        return Err("the job isn't there")?;
-    }
+fn take(index: &mut Index, number: u32) -> Result<Entry, Fail> {
+    let id = JobId::new(number).ok_or("no number of a job")?;
+    let entry = *index.entry(id).ok_or("the job isn't there")?;
     index.remove(entry);
-    Ok(())
+    Ok(entry)
 }
 
 #[test]
@@ -62,11 +61,11 @@ fn the_worked_row(rt: HostRuntime) -> Result<(), Fail> {
     add(&mut index, held)?;
     assert!(rt; lists(&index, &[2, 3, 1]));
     assert_eq!(rt; next(&index), 2);
-    take(&mut index, free(2, 80)?)?;
+    take(&mut index, 2)?;
     assert_eq!(rt; next(&index), 1);
     index.advance(moment(100)?);
     assert_eq!(rt; next(&index), 3);
-    take(&mut index, free(1, 50)?)?;
+    take(&mut index, 1)?;
     let marked = Entry {
         first: true,
         ..free(1, 50)?
@@ -92,7 +91,7 @@ fn an_empty_index(rt: HostRuntime) -> Result<(), Fail> {
     let mut index = Index::new(alloc);
     assert!(rt; lists(&index, &[]));
     assert_eq!(rt; next(&index), 0);
-    assert!(rt; !index.contains(&free(1, 50)?));
+    assert!(rt; index.entry(free(1, 50)?.id).is_none());
     bring(&mut index, moment(100)?)?;
     assert!(rt; index.moment() == moment(100)?);
     assert_eq!(rt; next(&index), 0);
@@ -111,16 +110,14 @@ fn a_job_goes_to_the_front_the_middle_or_the_end(rt: HostRuntime) -> Result<(), 
     assert!(rt; lists(&index, &[1, 4, 5]));
     add(&mut index, free(2, 60)?)?;
     assert!(rt; lists(&index, &[1, 2, 4, 5]));
-    assert!(rt; index.contains(&free(2, 60)?));
-    assert!(rt; !index.contains(&free(2, 61)?));
-    assert!(rt; index.has_job(free(5, 1)?.id));
-    take(&mut index, free(1, 80)?)?;
-    take(&mut index, free(4, 50)?)?;
+    assert!(rt; index.entry(free(2, 1)?.id) == Some(&free(2, 60)?));
+    take(&mut index, 1)?;
+    take(&mut index, 4)?;
     assert!(rt; lists(&index, &[2, 5]));
-    assert!(rt; !index.has_job(free(4, 50)?.id));
-    take(&mut index, free(5, 50)?)?;
+    assert!(rt; index.entry(free(4, 50)?.id).is_none());
+    take(&mut index, 5)?;
     assert_eq!(rt; next(&index), 2);
-    take(&mut index, free(2, 60)?)?;
+    take(&mut index, 2)?;
     assert_eq!(rt; next(&index), 0);
     Ok(())
 }
@@ -145,7 +142,7 @@ fn a_held_job_keeps_its_place_and_is_passed_over(rt: HostRuntime) -> Result<(), 
     assert_eq!(rt; next(&index), 2);
     bring(&mut index, moment(4000)?)?;
     assert_eq!(rt; next(&index), 2);
-    take(&mut index, entry(1, 90, for_good, Moment::ZERO)?)?;
+    take(&mut index, 1)?;
     add(&mut index, free(1, 90)?)?;
     assert_eq!(rt; next(&index), 1);
     Ok(())
@@ -228,8 +225,7 @@ fn the_next_job_is_that_of_the_scan(rt: HostRuntime) -> Result<(), Fail> {
             assert!(rt; index.next() == chosen);
             let Some(id) = chosen else { break };
             let row = rows.iter_mut().find(|row| row.id == id).ok_or("no row")?;
-            let entry = Entry::of_row(row).ok_or("the job isn't waiting")?;
-            take(&mut index, entry)?;
+            assert!(rt; Some(take(&mut index, id.get())?) == Entry::of_row(row));
             row.phase = Phase::Completed;
         }
     }
