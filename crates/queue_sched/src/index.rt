@@ -73,7 +73,8 @@ impl Index {
         ensures found { IfSome (option_copied result) (λ e. Contains self.now.items e × (e.id ≡ id)) }
         ensures absent { IsNone result → LacksJob self.now.items id }
     {
-        self.entries.iter().find(|entry| entry.id == id)
+        let at = self.jobs.iter().position(|job| *job == id)?;
+        Some(&self.entries[at])
     }
 
     /// The job whose turn is first, among those that may be started now. No other job is looked at.
