@@ -73,7 +73,7 @@ impl Index {
         ensures found { IfSome (option_copied result) (λ e. Contains self.now.items e × (e.id ≡ id)) }
         ensures absent { IsNone result → LacksJob self.now.items id }
     {
-        let at = self.jobs.iter().position(|job| *job == id)?;
+        let at = self.entries.iter().position(|entry| entry.id == id)?;
         Some(&self.entries[at])
     }
 
