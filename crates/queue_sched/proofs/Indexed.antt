@@ -48,14 +48,17 @@ module _ (jobs : List Job) (name : List ℕ) (stopped : Bool) (w : Waits) (index
       let found = index.only e first.there in
       let r = found.0 in
       let parts = and_parts (is_of name r) (is_waiting r.phase) found.2 in
-      let ready : IsTrue (is_ready w.moment r.phase) = sym (same_test w.moment r.phase parts.1) ∙ subst (λ f. is_startable w.moment f ≡ true) found.3 first.startable in
-      (r, ap (λ (f : Entry). f.id) (sym found.3), record {
-        there = found.1;
-        eligible = and_from (is_free jobs name stopped) (is_ready_of name w.moment r) free (and_from (is_of name r) (is_ready w.moment r.phase) parts.0 ready);
-        unbeaten = λ q there eligible beats.
-            let own = entered q there eligible in
-            first.first (entry_of q) own.0 own.1 (subst (λ f. goes_before (entry_of q) f ≡ true) (sym found.3) beats);
-      })
+      let ready : IsTrue (is_ready w.moment r.phase) = sym (same_test w.moment r.phase parts.1) ∙ subst (λ f. is_startable w.moment f ≡ true) found.3 first.startable in (
+        r,
+        ap (λ (f : Entry). f.id) (sym found.3),
+        record {
+          there = found.1;
+          eligible = and_from (is_free jobs name stopped) (is_ready_of name w.moment r) free (and_from (is_of name r) (is_ready w.moment r.phase) parts.0 ready);
+          unbeaten = λ q there eligible beats.
+              let own = entered q there eligible in
+              first.first (entry_of q) own.0 own.1 (subst (λ f. goes_before (entry_of q) f ≡ true) (sym found.3) beats);
+        },
+      )
 
   pub none_of_index : NoneIsStartable w → (r : Job) → Contains jobs r → is_eligible jobs name stopped w.moment r ≡ false
   none_of_index none r there =
@@ -75,17 +78,18 @@ first_of w e order inside here =
           let own = Contains-filter p w.items f there starts in
           ⊎_elim
           (λ (same : 0 ≡ own.0).
-              let is : e ≡ f = sym here ∙ get_or_default ready 0 e f inside ∙ ap (λ n. get_or ready n f) same ∙ own.2 in
-              both_ways (goes_before e e) (itself e) (subst (λ g. goes_before g e ≡ true) (sym is) beats))
+          let is : e ≡ f = sym here ∙ get_or_default ready 0 e f inside ∙ ap (λ n. get_or ready n f) same ∙ own.2 in
+          both_ways (goes_before e e) (itself e) (subst (λ g. goes_before g e ≡ true) (sym is) beats))
           (λ other. ⊎_elim
           (λ (lt : 0 < own.0).
-              let before : goes_before e f ≡ true =
-                  subst (λ g. goes_before g f ≡ true) (sym (get_or_default ready 0 e f inside) ∙ here) (subst (λ g. goes_before (get_or ready 0 f) g ≡ true) own.2 (kept 0 own.0 f lt own.1)) in
-              both_ways (goes_before e e) (itself e) (onward e f e before beats))
+          let before : goes_before e f ≡ true =
+          subst (λ g. goes_before g f ≡ true) (sym (get_or_default ready 0 e f inside) ∙ here) (subst (λ g. goes_before (get_or ready 0 f) g ≡ true) own.2 (kept 0 own.0 f lt own.1)) in
+          both_ways (goes_before e e) (itself e) (onward e f e before beats))
           (λ (gt : own.0 < 0). absurd (omega arith))
           other)
           (cases_order 0 own.0);
     }
+
 -- none of none
 pub none_of : (w : Waits) → length (filter (is_startable w.moment) w.items) ≡ 0 → NoneIsStartable w
 none_of w empty e there =

@@ -28,13 +28,13 @@ between_parts e fs gs at first last le before behind =
     ⊎_elim (λ (same : at ≡ length fs). same)
     (λ other. ⊎_elim
     (λ (lt : at < length fs).
-        absurd (both_ways (goes_before (get_or fs at e) e)
-        (subst (λ f. goes_before f e ≡ false) (get_or_append_left fs gs e at lt) (behind at e (omega arith) (omega (arith, lt, long))))
-        (first at e lt)))
+    absurd (both_ways (goes_before (get_or fs at e) e)
+    (subst (λ f. goes_before f e ≡ false) (get_or_append_left fs gs e at lt) (behind at e (omega arith) (omega (arith, lt, long))))
+    (first at e lt)))
     (λ (gt : length fs < at).
-        absurd (both_ways (goes_before (get_or gs (length fs - length fs) e) e)
-        (last (length fs - length fs) e (omega (arith, gt, le, long)))
-        (subst (λ f. goes_before f e ≡ true) (get_or-append_right fs gs (length fs) (length fs) e refl (omega arith)) (before (length fs) e (omega arith) gt))))
+    absurd (both_ways (goes_before (get_or gs (length fs - length fs) e) e)
+    (last (length fs - length fs) e (omega (arith, gt, le, long)))
+    (subst (λ f. goes_before f e ≡ true) (get_or-append_right fs gs (length fs) (length fs) e refl (omega arith)) (before (length fs) e (omega arith) gt))))
     other)
     (cases_order at (length fs))
 
@@ -66,12 +66,12 @@ module _ (p : Entry → Bool) (xs : List Entry) (e : Entry) (at : ℕ) where
       let fs = filter p (take at xs) in
       let gs = filter p (drop at xs) in
       let here : place ≡ length fs =
-          between_parts e fs gs place
-          (All-filter p (λ f. goes_before f e ≡ true) (take at xs) (before_take (λ f. goes_before f e ≡ true) xs at le before))
-          (All-filter p (λ f. goes_before f e ≡ false) (drop at xs) (behind_drop (λ f. goes_before f e ≡ false) xs at behind))
-          (subst (λ l. place ≤ length l) parts within)
-          (subst (λ l. AreBefore l e place) parts before')
-          (subst (λ l. AreBehind l e place) parts behind') in
+      between_parts e fs gs place
+      (All-filter p (λ f. goes_before f e ≡ true) (take at xs) (before_take (λ f. goes_before f e ≡ true) xs at le before))
+      (All-filter p (λ f. goes_before f e ≡ false) (drop at xs) (behind_drop (λ f. goes_before f e ≡ false) xs at behind))
+      (subst (λ l. place ≤ length l) parts within)
+      (subst (λ l. AreBefore l e place) parts before')
+      (subst (λ l. AreBehind l e place) parts behind') in
       more ∙ ap (λ b. fs ++ cond b (e ∷ gs) gs) passes ∙ sym (put_between fs gs e) ∙ ap (λ n. insert (fs ++ gs) n e) (sym here) ∙ ap (λ l. insert l place e) (sym parts)
 
   module _ (inside : at < length xs) (here : get_or xs at e ≡ e) where
@@ -93,15 +93,15 @@ module _ (p : Entry → Bool) (xs : List Entry) (e : Entry) (at : ℕ) where
         let gs = filter p (drop (suc at) xs) in
         let split : filter p xs ≡ fs ++ e ∷ gs = less ∙ ap (λ b. fs ++ cond b (e ∷ gs) gs) passes in
         let last : All (λ f. goes_before f e ≡ false) (drop (suc at) xs) =
-            All-rest (λ f. goes_before f e ≡ false) e (drop (suc at) xs) (drop at xs) (drop-cons xs at e inside ∙ ap (λ f. f ∷ drop (suc at) xs) here)
-            (behind_drop (λ f. goes_before f e ≡ false) xs at behind) in
+        All-rest (λ f. goes_before f e ≡ false) e (drop (suc at) xs) (drop at xs) (drop-cons xs at e inside ∙ ap (λ f. f ∷ drop (suc at) xs) here)
+        (behind_drop (λ f. goes_before f e ≡ false) xs at behind) in
         let place_is : place ≡ length fs =
-            between_parts e fs (e ∷ gs) place
-            (All-filter p (λ f. goes_before f e ≡ true) (take at xs) (before_take (λ f. goes_before f e ≡ true) xs at (omega arith) before))
-            (All-cons (λ f. goes_before f e ≡ false) e gs (itself e) (All-filter p (λ f. goes_before f e ≡ false) (drop (suc at) xs) last))
-            (subst (λ l. place ≤ length l) split within)
-            (subst (λ l. AreBefore l e place) split before')
-            (subst (λ l. AreBehind l e place) split behind') in
+        between_parts e fs (e ∷ gs) place
+        (All-filter p (λ f. goes_before f e ≡ true) (take at xs) (before_take (λ f. goes_before f e ≡ true) xs at (omega arith) before))
+        (All-cons (λ f. goes_before f e ≡ false) e gs (itself e) (All-filter p (λ f. goes_before f e ≡ false) (drop (suc at) xs) last))
+        (subst (λ l. place ≤ length l) split within)
+        (subst (λ l. AreBefore l e place) split before')
+        (subst (λ l. AreBehind l e place) split behind') in
         filter-append p (take at xs) (drop (suc at) xs)
         ∙ sym (take_between fs gs e)
         ∙ ap (λ n. remove (fs ++ e ∷ gs) n) (sym place_is)

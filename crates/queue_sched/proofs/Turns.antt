@@ -45,11 +45,11 @@ module _ (xs : List Entry) (e : Entry) where
       ⊎_elim (λ (same : at ≡ there.0). same)
       (λ other. ⊎_elim
       (λ (lt : at < there.0).
-          absurd (both_ways (goes_before (get_or xs at e) e) (behind at e (omega arith) (omega (arith, lt, there.1)))
-          (subst (λ f. goes_before (get_or xs at e) f ≡ true) there.2 (order at there.0 e lt there.1))))
+      absurd (both_ways (goes_before (get_or xs at e) e) (behind at e (omega arith) (omega (arith, lt, there.1)))
+      (subst (λ f. goes_before (get_or xs at e) f ≡ true) there.2 (order at there.0 e lt there.1))))
       (λ (gt : there.0 < at).
-          absurd (both_ways (goes_before e e) (itself e)
-          (subst (λ f. goes_before f e ≡ true) there.2 (before there.0 e (omega arith) gt))))
+      absurd (both_ways (goes_before e e) (itself e)
+      (subst (λ f. goes_before f e ≡ true) there.2 (before there.0 e (omega arith) gt))))
       other)
       (cases_order at there.0)
 
@@ -65,8 +65,8 @@ module _ (xs : List Entry) (e : Entry) where
         ⊎_elim (λ (same : k ≡ at). inr (inl (same, λ d. subst (λ n. get_or (insert xs at e) n d ≡ e) (sym same) (get_or-insert_at xs at e d le))))
         (λ other. ⊎_elim (λ (lt : k < at). inl (lt, λ d. get_or-insert_below xs at e d k lt le))
         (λ (gt : at < k).
-            let before : k ≡ (k - 1) + 1 = omega arith in
-            inr (inr (k - 1, before, omega arith, λ d. subst (λ n. get_or (insert xs at e) n d ≡ get_or xs (k - 1) d) (sym before) (get_or-insert_above xs at e d (k - 1) (omega arith) le))))
+        let before : k ≡ (k - 1) + 1 = omega arith in
+        inr (inr (k - 1, before, omega arith, λ d. subst (λ n. get_or (insert xs at e) n d ≡ get_or xs (k - 1) d) (sym before) (get_or-insert_above xs at e d (k - 1) (omega arith) le))))
         other)
         (cases_order k at)
 
@@ -78,42 +78,42 @@ module _ (xs : List Entry) (e : Entry) where
         let long : length (insert xs at e) ≡ length xs + 1 = length-insert xs at e le in
         ⊎_elim
         (λ (low : (i < at) × ((d : Entry) → get_or (insert xs at e) i d ≡ get_or xs i d)).
-            ⊎_elim
-            (λ (low' : (j < at) × ((d : Entry) → get_or (insert xs at e) j d ≡ get_or xs j d)).
-                subst (λ f. Goes f (get_or (insert xs at e) j d)) (sym (low.1 d))
-                (subst (λ g. Goes (get_or xs i d) g) (sym (low'.1 d)) (order i j d lt (omega (arith, low'.0)))))
-            (λ rest. ⊎_elim
-            (λ (here : (j ≡ at) × ((d : Entry) → get_or (insert xs at e) j d ≡ e)).
-                subst (λ f. Goes f (get_or (insert xs at e) j d)) (sym (low.1 d))
-                (subst (λ g. Goes (get_or xs i d) g) (sym (here.1 d)) (before i d (omega arith) low.0)))
-            (λ (up : (m : ℕ) × (j ≡ m + 1) × (at ≤ m) × ((d : Entry) → get_or (insert xs at e) j d ≡ get_or xs m d)).
-                subst (λ f. Goes f (get_or (insert xs at e) j d)) (sym (low.1 d))
-                (subst (λ g. Goes (get_or xs i d) g) (sym (up.3 d)) (order i up.0 d (omega (arith, low.0, up.2)) (omega (arith, inside, long, up.1)))))
-            rest)
-            (comes j))
+        ⊎_elim
+        (λ (low' : (j < at) × ((d : Entry) → get_or (insert xs at e) j d ≡ get_or xs j d)).
+        subst (λ f. Goes f (get_or (insert xs at e) j d)) (sym (low.1 d))
+        (subst (λ g. Goes (get_or xs i d) g) (sym (low'.1 d)) (order i j d lt (omega (arith, low'.0)))))
+        (λ rest. ⊎_elim
+        (λ (here : (j ≡ at) × ((d : Entry) → get_or (insert xs at e) j d ≡ e)).
+        subst (λ f. Goes f (get_or (insert xs at e) j d)) (sym (low.1 d))
+        (subst (λ g. Goes (get_or xs i d) g) (sym (here.1 d)) (before i d (omega arith) low.0)))
+        (λ (up : (m : ℕ) × (j ≡ m + 1) × (at ≤ m) × ((d : Entry) → get_or (insert xs at e) j d ≡ get_or xs m d)).
+        subst (λ f. Goes f (get_or (insert xs at e) j d)) (sym (low.1 d))
+        (subst (λ g. Goes (get_or xs i d) g) (sym (up.3 d)) (order i up.0 d (omega (arith, low.0, up.2)) (omega (arith, inside, long, up.1)))))
+        rest)
+        (comes j))
         (λ rest. ⊎_elim
         (λ (here : (i ≡ at) × ((d : Entry) → get_or (insert xs at e) i d ≡ e)).
-            ⊎_elim
-            (λ (low' : (j < at) × ((d : Entry) → get_or (insert xs at e) j d ≡ get_or xs j d)). absurd (omega (arith, lt, here.0, low'.0)))
-            (λ rest. ⊎_elim
-            (λ (here' : (j ≡ at) × ((d : Entry) → get_or (insert xs at e) j d ≡ e)). absurd (omega (arith, lt, here.0, here'.0)))
-            (λ (up : (m : ℕ) × (j ≡ m + 1) × (at ≤ m) × ((d : Entry) → get_or (insert xs at e) j d ≡ get_or xs m d)).
-                let within : up.0 < length xs = omega (arith, inside, long, up.1) in
-                subst (λ f. Goes f (get_or (insert xs at e) j d)) (sym (here.1 d))
-                (subst (λ g. Goes e g) (sym (up.3 d))
-                (other_way e (get_or xs up.0 d) (λ same. lacks (get_or xs up.0 d) (Contains-get_or xs up.0 d within) (sym same)) (behind up.0 d up.2 within))))
-            rest)
-            (comes j))
+        ⊎_elim
+        (λ (low' : (j < at) × ((d : Entry) → get_or (insert xs at e) j d ≡ get_or xs j d)). absurd (omega (arith, lt, here.0, low'.0)))
+        (λ rest. ⊎_elim
+        (λ (here' : (j ≡ at) × ((d : Entry) → get_or (insert xs at e) j d ≡ e)). absurd (omega (arith, lt, here.0, here'.0)))
+        (λ (up : (m : ℕ) × (j ≡ m + 1) × (at ≤ m) × ((d : Entry) → get_or (insert xs at e) j d ≡ get_or xs m d)).
+        let within : up.0 < length xs = omega (arith, inside, long, up.1) in
+        subst (λ f. Goes f (get_or (insert xs at e) j d)) (sym (here.1 d))
+        (subst (λ g. Goes e g) (sym (up.3 d))
+        (other_way e (get_or xs up.0 d) (λ same. lacks (get_or xs up.0 d) (Contains-get_or xs up.0 d within) (sym same)) (behind up.0 d up.2 within))))
+        rest)
+        (comes j))
         (λ (up : (m : ℕ) × (i ≡ m + 1) × (at ≤ m) × ((d : Entry) → get_or (insert xs at e) i d ≡ get_or xs m d)).
-            ⊎_elim
-            (λ (low' : (j < at) × ((d : Entry) → get_or (insert xs at e) j d ≡ get_or xs j d)). absurd (omega (arith, lt, up.1, up.2, low'.0)))
-            (λ rest. ⊎_elim
-            (λ (here' : (j ≡ at) × ((d : Entry) → get_or (insert xs at e) j d ≡ e)). absurd (omega (arith, lt, up.1, up.2, here'.0)))
-            (λ (up' : (m : ℕ) × (j ≡ m + 1) × (at ≤ m) × ((d : Entry) → get_or (insert xs at e) j d ≡ get_or xs m d)).
-                subst (λ f. Goes f (get_or (insert xs at e) j d)) (sym (up.3 d))
-                (subst (λ g. Goes (get_or xs up.0 d) g) (sym (up'.3 d)) (order up.0 up'.0 d (omega (arith, lt, up.1, up'.1)) (omega (arith, inside, long, up'.1)))))
-            rest)
-            (comes j))
+        ⊎_elim
+        (λ (low' : (j < at) × ((d : Entry) → get_or (insert xs at e) j d ≡ get_or xs j d)). absurd (omega (arith, lt, up.1, up.2, low'.0)))
+        (λ rest. ⊎_elim
+        (λ (here' : (j ≡ at) × ((d : Entry) → get_or (insert xs at e) j d ≡ e)). absurd (omega (arith, lt, up.1, up.2, here'.0)))
+        (λ (up' : (m : ℕ) × (j ≡ m + 1) × (at ≤ m) × ((d : Entry) → get_or (insert xs at e) j d ≡ get_or xs m d)).
+        subst (λ f. Goes f (get_or (insert xs at e) j d)) (sym (up.3 d))
+        (subst (λ g. Goes (get_or xs up.0 d) g) (sym (up'.3 d)) (order up.0 up'.0 d (omega (arith, lt, up.1, up'.1)) (omega (arith, inside, long, up'.1)))))
+        rest)
+        (comes j))
         rest)
         (comes i)
 
@@ -136,13 +136,13 @@ module _ (xs : List Entry) (e : Entry) where
         let short : length (remove xs at) + 1 ≡ length xs = length-remove xs at inside in
         ⊎_elim
         (λ (lt : k < at).
-            both_ways (goes_before e e) (itself e)
-            (subst (λ f. goes_before f e ≡ true) (sym (get_or-remove_below xs at e k lt inside) ∙ there.2)
-            (subst (λ f. goes_before (get_or xs k e) f ≡ true) here (order k at e lt inside))))
+        both_ways (goes_before e e) (itself e)
+        (subst (λ f. goes_before f e ≡ true) (sym (get_or-remove_below xs at e k lt inside) ∙ there.2)
+        (subst (λ f. goes_before (get_or xs k e) f ≡ true) here (order k at e lt inside))))
         (λ (ge : at ≤ k).
-            both_ways (goes_before e e) (itself e)
-            (subst (λ f. goes_before e f ≡ true) (sym (get_or-remove_above xs at e k ge inside) ∙ there.2)
-            (subst (λ f. goes_before f (get_or xs (k + 1) e) ≡ true) here (order at (k + 1) e (omega arith) (omega (arith, short, there.1))))))
+        both_ways (goes_before e e) (itself e)
+        (subst (λ f. goes_before e f ≡ true) (sym (get_or-remove_above xs at e k ge inside) ∙ there.2)
+        (subst (λ f. goes_before f (get_or xs (k + 1) e) ≡ true) here (order at (k + 1) e (omega arith) (omega (arith, short, there.1))))))
         (cases_lt k at)
 
     -- what the shorter list has

@@ -22,7 +22,11 @@ fn free(number: u32, priority: u32) -> Result<Entry, Fail> {
 // Whether the index lists these jobs.
 fn lists(index: &Index, numbers: &[u32]) -> bool {
     let jobs = index.jobs();
-    jobs.len() == numbers.len() && jobs.iter().zip(numbers).all(|(id, number)| id.get() == *number)
+    jobs.len() == numbers.len()
+        && jobs
+            .iter()
+            .zip(numbers)
+            .all(|(id, number)| id.get() == *number)
 }
 
 // The next job, or 0.
@@ -128,7 +132,10 @@ fn a_held_job_keeps_its_place_and_is_passed_over(rt: HostRuntime) -> Result<(), 
     let for_good = Hold::Indefinite(HoldReason::Unspecified);
     let mut index = Index::new(alloc);
     add(&mut index, entry(1, 90, for_good, Moment::ZERO)?)?;
-    add(&mut index, entry(2, 80, Hold::Until(moment(20)?), moment(10)?)?)?;
+    add(
+        &mut index,
+        entry(2, 80, Hold::Until(moment(20)?), moment(10)?)?,
+    )?;
     add(&mut index, entry(3, 70, Hold::Free, moment(15)?)?)?;
     assert!(rt; lists(&index, &[1, 2, 3]));
     assert_eq!(rt; next(&index), 0);

@@ -12,9 +12,12 @@ returns-clause-chosen c =
     let e = c.in_ok-entry.entry.now in
     let ready = filter (is_startable a.moment) a.entries.items in
     let lists : c.deref.result.now ≡ ready = c.deref.ensures.value ∙ c.self.invariant.ready in
-    let found = c.in_ok-entry.ensures.item.3 in
-    (e, refl, subst (λ w. IsFirstStartable w e) c.self.view_is
-    (first_of (waits_of a) e c.self.invariant.order (subst (λ l. 0 < length l) lists found.0) (subst (λ l. get_or l 0 e ≡ e) lists (sym (found.1 e)))))
+    let found = c.in_ok-entry.ensures.item.3 in (
+      e,
+      refl,
+      subst (λ w. IsFirstStartable w e) c.self.view_is
+          (first_of (waits_of a) e c.self.invariant.order (subst (λ l. 0 < length l) lists found.0) (subst (λ l. get_or l 0 e ≡ e) lists (sym (found.1 e)))),
+    )
 
 pub returns-in_err-entry-clause-none : goal.returns-in_err-entry-clause-none
 returns-in_err-entry-clause-none c = λ _.
