@@ -1,6 +1,7 @@
 //! Which job of a queue is to be started next.
 //!
-//! [`next_job`] chooses among the rows of all jobs, at a moment, for one queue.
+//! [`next_job`] chooses among the rows of all jobs, at a moment, for one queue. An [`Index`] keeps the waiting jobs of one
+//! queue in the order of their turns, and chooses among them.
 //!
 //! # The rule
 //!
@@ -15,18 +16,38 @@
 //!   [`beats`] is the order of the rule (`beats_job`).
 //! - [`order_law`]: the order is strict, and of two jobs with different numbers one beats the other. So there is one next
 //!   job at most, and a test of a single job (`next_in`) tells whether it is the one.
+//! - *ExactChoice* by an index: `jobs` are the numbers of its entries, each of which goes before all later ones
+//!   (`InOrder`), and `next` is the first that may be started. [`index_law`]: the order is that of the rule, and where the
+//!   entries are those of a queue's waiting jobs (`IsIndexOf`), the first that may be started is the next job of the queue,
+//!   if the queue is free; where there is none, none is eligible.
+//!
+//! # What an index keeps
+//!
+//! 1. Its entries stand in the order of their turns, and beside them their numbers.
+//! 2. Those that may be started now stand in a list of their own, in the same order, which has room for all.
+//! 3. Until the due moment no other entry may be started, and where there is no due moment, none ever will. So a moment
+//!    before it changes no list.
 //!
 //! # Cost and faults
 //!
-//! The choice reads each row at most twice and takes no memory. It can't fail. It asks nothing of the rows: neither their
-//! order nor that their numbers differ.
+//! The choice among rows reads each row at most twice and takes no memory. It can't fail. It asks nothing of the rows:
+//! neither their order nor that their numbers differ.
+//!
+//! The choice of an index looks at one entry. Adding and taking away find their place by binary search and move the entries
+//! behind it. A moment before the due one looks at none, and any other goes through all. Only [`Index::reserve`] takes
+//! memory, and where it fails, the index is as before, but for its room.
 #![tactic(auto)]
 
 mod choice;
+mod entry;
+mod index;
 mod laws;
+mod lists;
 
 pub use choice::{beats, next_job};
-pub use laws::order_law;
+pub use entry::Entry;
+pub use index::Index;
+pub use laws::{index_law, order_law};
 
 #[cfg(test)]
 mod tests;

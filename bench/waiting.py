@@ -1,0 +1,100 @@
+#!/usr/bin/env python3
+"""What waiting jobs cost: an event and the choice of the next job at 10 to 1,000,000 waiting jobs of one queue, and the
+memory of each job.
+
+It runs crates/spool_shell/out/spool_shell (made by `rt run` in that folder) on a spool in memory. The jobs are made first,
+and then the commands are timed, from the first to the last reply: `clock` (an event that no job waits for), `hold` and
+`release` of the job in the middle (two events that change its turn), and `round` (the choice, a Start and a Stage: there
+no child can be started, so each round ends the job that it starts). All of it is done again where all but the jobs of the
+rounds are held.
+
+The memory is what the resident set grew by while the jobs were made, with the part of the spool's image that their events
+fill, for each job. Times depend on the machine; only the ratios are of interest, and no test reads them.
+"""
+import os
+import subprocess
+import sys
+import threading
+import time
+
+here = os.path.dirname(os.path.abspath(__file__))
+shell = os.path.join(here, "..", "crates", "spool_shell", "out", "spool_shell")
+COUNTS = (10, 1_000, 100_000, 1_000_000)
+TURNS = 100
+ROUNDS = 5
+PIECE = 10_000
+# A spool in memory with room for the events of all jobs, in either half.
+SIZE = 1 << 29
+QUEUE = b"queue lab spoolfile:/out application/octet-stream abort-job\n"
+
+
+def made(first, last, held):
+    """The jobs of these numbers, held or not."""
+    lines = []
+    for job in range(first, last + 1):
+        lines.append(b'create lab ann t 1 50 ""\n')
+        if held:
+            lines.append(b"hold %d indefinite\n" % job)
+        lines.append(b"close %d x\n" % job)
+    return b"".join(lines)
+
+
+def ask(running, script):
+    """Writes the commands, and reads as many replies. Answers the seconds that it took."""
+    replies = script.count(b"\n")
+    start = time.perf_counter()
+    writing = threading.Thread(target=write, args=(running, script))
+    writing.start()
+    for _ in range(replies):
+        if running.stdout.readline().startswith(b"error"):
+            sys.exit("a reply was an error")
+    took = time.perf_counter() - start
+    writing.join()
+    return took
+
+
+def write(running, script):
+    running.stdin.write(script)
+    running.stdin.flush()
+
+
+def resident(running):
+    """The bytes of the program that are in memory."""
+    with open(f"/proc/{running.pid}/status", encoding="ascii") as lines:
+        for line in lines:
+            if line.startswith("VmRSS:"):
+                return 1024 * int(line.split()[1])
+    sys.exit("the resident set isn't told")
+
+
+def measured(count, held):
+    """The seconds of a `clock`, of a `hold` or a `release`, and of a round, and the bytes of a job."""
+    with subprocess.Popen([shell, "--size", str(SIZE)], stdin=subprocess.PIPE, stdout=subprocess.PIPE) as running:
+        ask(running, QUEUE)
+        before = resident(running)
+        free = min(count, ROUNDS)
+        for first in range(1, count - free + 1, PIECE):
+            ask(running, made(first, min(first + PIECE - 1, count - free), held))
+        ask(running, made(count - free + 1, count, False))
+        grown = resident(running) - before
+        clock = ask(running, b"".join(b"clock %d\n" % moment for moment in range(1, TURNS + 1)))
+        middle = count // 2
+        turned = ask(running, b"hold %d indefinite\nrelease %d\n" % (middle, middle) * TURNS)
+        if held:
+            ask(running, b"hold %d indefinite\n" % middle)
+        rounds = ask(running, b"round\n" * free)
+        running.stdin.close()
+    return clock / TURNS, turned / (2 * TURNS), rounds / free, grown / count
+
+
+def main():
+    if not os.path.exists(shell):
+        sys.exit("no program: run `rt run` in crates/spool_shell first")
+    for held in (False, True):
+        print(f"all but {ROUNDS} are held" if held else "none is held")
+        for count in COUNTS:
+            clock, turned, choice, memory = measured(count, held)
+            print(f"  {count:9,} jobs: clock {1e6 * clock:9.1f} us, hold or release {1e6 * turned:9.1f} us, round {1e6 * choice:9.1f} us, {memory:8.0f} bytes a job")
+
+
+main()

@@ -1,0 +1,63 @@
+-- Until when the same entries may be started.
+use Rattle.std.proofs.Common.{◌≡◌, ℕ, ◌+◌, ◌<◌, ◌≤◌, ◌⊎◌, Bool, true, false, nat_le, List, [], ◌∷◌, ◌++◌, length, take, get_or, Option, None, Some, MatchOption, inl, inr, refl, sym, ap, subst, ◌∙◌, arith}
+use Rattle.std.proofs.Math.Logic.{⊎_elim}
+use Rattle.std.proofs.lemmas.Bool.{both_ways}
+use Rattle.std.proofs.lemmas.Bool.Decides.{nat_tests}
+use Rattle.std.proofs.lemmas.List.{take_more}
+use Rattle.std.proofs.lemmas.List.Elements.{Contains-push_cases}
+use Rattle.std.specs.List.{Contains, filter, insert}
+use Rattle.spool_types.specs.declared.phase.Hold.{Hold}
+use Rattle.spool_types.specs.declared.phase.Hold.TheVariants.{Free, Indefinite, Until}
+use Rattle.queue_sched.specs.Index.{is_startable}
+use Rattle.queue_sched.specs.Next.{may_start}
+use Rattle.queue_sched.specs.Lists.{IsBefore, IsSameUntil}
+use Rattle.queue_sched.specs.declared.entry.Entry.{Entry}
+use Rattle.queue_sched.proofs.Startable.{agreed}
+
+-- what may be started now, may be started later
+still : (now m : ℕ) (hold : Hold) (not_before : ℕ) → now ≤ m → may_start now hold not_before ≡ true → may_start m hold not_before ≡ true
+still now m Free not_before le starts = grind (arith, nat_tests)
+still now m (Indefinite reason) not_before le starts = absurd (both_ways false refl starts)
+still now m (Until moment) not_before le starts = grind (arith, nat_tests)
+
+-- before its start, one that may not be started now may not be started yet
+not_yet : (start now m : ℕ) → m < start → nat_le start m ≡ false
+not_yet start now m lt = grind (arith, nat_tests)
+
+-- when the entry may be started, if ever
+abbrev pub IsStart : Entry → Option ℕ → Type 0
+IsStart e start = MatchOption start ((m : ℕ) → is_startable m e ≡ false) (λ s. (m : ℕ) → is_startable m e ≡ nat_le s m)
+
+module _ (e : Entry) (now : ℕ) where
+  -- one that may be started now stays so
+  pub stays : is_startable now e ≡ true → (m : ℕ) → now ≤ m → is_startable m e ≡ is_startable now e
+  stays so m le = still now m e.hold e.not_before le so ∙ sym so
+
+  -- one that may not be started now stays so until its start
+  pub waits : (start : Option ℕ) → IsStart e start → is_startable now e ≡ false → (m : ℕ) → IsBefore m start → is_startable m e ≡ is_startable now e
+  waits None never not_so m before = never m ∙ sym (never now)
+  waits (Some s) starts not_so m before = starts m ∙ not_yet s now m before ∙ sym not_so
+
+-- with one entry more
+module _ (old new : List Entry) (e : Entry) (now : ℕ) (cases : (f : Entry) → Contains new f → Contains old f ⊎ (f ≡ e)) (due : Option ℕ) (same : IsSameUntil old now due) where
+  pub with_ready : is_startable now e ≡ true → IsSameUntil new now due
+  with_ready so f there m le before =
+      ⊎_elim (λ (was : Contains old f). same f was m le before) (λ (is : f ≡ e). subst (λ g. is_startable m g ≡ is_startable now g) (sym is) (stays e now so m le)) (cases f there)
+
+  pub with_waiting : (start due' : Option ℕ) → IsStart e start → is_startable now e ≡ false → ((m : ℕ) → IsBefore m due' → IsBefore m due × IsBefore m start) → IsSameUntil new now due'
+  with_waiting start due' starts not_so sooner f there m le before =
+      ⊎_elim (λ (was : Contains old f). same f was m le (sooner m before).0) (λ (is : f ≡ e). subst (λ g. is_startable m g ≡ is_startable now g) (sym is) (waits e now start starts not_so m (sooner m before).1)) (cases f there)
+
+-- at a later moment before the due one, the same entries may be started
+pub same_later : (xs : List Entry) (now m : ℕ) (due : Option ℕ) → IsSameUntil xs now due → now ≤ m → IsBefore m due → filter (is_startable now) xs ≡ filter (is_startable m) xs
+same_later xs now m due same le before = agreed (is_startable now) (is_startable m) xs (λ e there. sym (same e there m le before))
+
+pub until_later : (xs : List Entry) (now m : ℕ) (due : Option ℕ) → IsSameUntil xs now due → now ≤ m → IsBefore m due → IsSameUntil xs m due
+until_later xs now m due same le before e there m' le' before' =
+    same e there m' (omega (arith, le, le')) before' ∙ sym (same e there m le before)
+
+-- in a loop
+pub one_more : (xs : List Entry) (i : ℕ) (e : Entry) → i < length xs → e ≡ get_or xs i e → (f : Entry) → Contains (take (i + 1) xs) f → Contains (take i xs) f ⊎ (f ≡ e)
+one_more xs i e inside is f there =
+    ⊎_elim (λ old. inl old) (λ (same : get_or xs i e ≡ f). inr (sym same ∙ sym is))
+    (Contains-push_cases (take i xs) (get_or xs i e) f (subst (λ l. Contains l f) (take_more xs i e inside) there))

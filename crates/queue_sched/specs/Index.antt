@@ -1,0 +1,63 @@
+-- The index of a queue's waiting jobs, as its callers see it.
+use Rattle.std.specs.Prelude.{◌≡◌, ℕ, ◌<◌, ◌≤◌, Bool, false, ◌&&◌, nat_le, List, Option, None, Some, IsTrue}
+use Rattle.std.specs.List.{Contains, AllPairs}
+use Rattle.spool_types.specs.declared.phase.Phase.{Phase}
+use Rattle.spool_types.specs.declared.phase.Phase.TheVariants.{Waiting}
+use Rattle.spool_types.specs.Busy.{is_of}
+use Rattle.spool_types.specs.Phases.{is_waiting, hold_of}
+use Rattle.spool_types.specs.State.{Job}
+use Rattle.queue_sched.specs.Next.{may_start, is_marked, goes_first}
+use Rattle.queue_sched.specs.declared.entry.Entry.{Entry}
+
+-- the moment before which a waiting job isn't tried
+abbrev pub not_before_of : Phase → ℕ
+not_before_of (Waiting hold not_before first) = not_before
+not_before_of phase = 0
+
+-- what decides on a waiting job's turn
+abbrev pub entry_of : Job → Entry
+entry_of r = record {
+  id = r.id;
+  first = is_marked r.phase;
+  priority = r.priority;
+  hold = hold_of r.phase;
+  not_before = not_before_of r.phase;
+}
+
+abbrev pub goes_before : Entry → Entry → Bool
+goes_before e f = goes_first e.first e.priority e.id f.first f.priority f.id
+
+abbrev pub is_startable : ℕ → Entry → Bool
+is_startable now e = may_start now e.hold e.not_before
+
+-- the waiting jobs in the order of their turns, the moment now, and how many jobs fit with no further memory
+pub record Waits : Type 0 where
+  pub items : List Entry
+  pub moment : ℕ
+  pub room : ℕ
+
+-- each one goes before all later ones
+abbrev pub InOrder : List Entry → Type 0
+InOrder items = AllPairs (λ e f. IsTrue (goes_before e f)) items
+
+-- none is this job's
+abbrev pub LacksJob : List Entry → ℕ → Type 0
+LacksJob items j = (e : Entry) → Contains items e → ¬ (e.id ≡ j)
+
+-- the first that may be started now
+pub record IsFirstStartable (w : Waits) (e : Entry) : Type 0 where
+  pub there : Contains w.items e
+  pub startable : IsTrue (is_startable w.moment e)
+  pub first : (f : Entry) → Contains w.items f → IsTrue (is_startable w.moment f) → ¬ (IsTrue (goes_before f e))
+
+abbrev pub NoneIsStartable : Waits → Type 0
+NoneIsStartable w = (e : Entry) → Contains w.items e → is_startable w.moment e ≡ false
+
+-- a waiting job of the queue
+abbrev pub is_waiting_of : List ℕ → Job → Bool
+is_waiting_of name r = is_of name r && is_waiting r.phase
+
+-- the entries are those of the queue's waiting jobs, and no others
+pub record IsIndexOf (jobs : List Job) (name : List ℕ) (items : List Entry) : Type 0 where
+  pub only : (e : Entry) → Contains items e → (r : Job) × Contains jobs r × IsTrue (is_waiting_of name r) × (e ≡ entry_of r)
+  pub each : (r : Job) → Contains jobs r → IsTrue (is_waiting_of name r) → Contains items (entry_of r)

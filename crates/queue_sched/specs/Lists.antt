@@ -1,0 +1,31 @@
+-- What the fields of an index mean.
+use Rattle.std.specs.Prelude.{◌≡◌, ℕ, ◌<◌, ◌≤◌, List, length, map, min, vec_capacity, Option, None, Some}
+use Rattle.std.specs.List.{Contains, filter}
+use Rattle.queue_sched.specs.Index.{Waits, InOrder, is_startable}
+use Rattle.queue_sched.specs.declared.entry.Entry.{Entry}
+use Rattle.queue_sched.specs.declared.index.Index.TheInside.{Inside}
+
+abbrev pub waits_of : Inside → Waits
+waits_of a = record {
+  items = a.entries.items;
+  moment = a.moment;
+  room = min (vec_capacity a.entries) (min (vec_capacity a.jobs) (vec_capacity a.ready));
+}
+
+-- the moment is before this one, if there is one
+abbrev pub IsBefore : ℕ → Option ℕ → Type 0
+IsBefore m None = Unit {0}
+IsBefore m (Some due) = m < due
+
+-- until this moment, if there is one, the same entries may be started as now
+abbrev pub IsSameUntil : List Entry → ℕ → Option ℕ → Type 0
+IsSameUntil items now due = (e : Entry) → Contains items e → (m : ℕ) → now ≤ m → IsBefore m due → is_startable m e ≡ is_startable now e
+
+-- the numbers are those of the entries, and the ready ones those that may be started now; all of them
+-- could be ready
+pub record IsInStep (a : Inside) : Type 0 where
+  pub order : InOrder a.entries.items
+  pub jobs : a.jobs.items ≡ map (λ e. e.id) a.entries.items
+  pub ready : a.ready.items ≡ filter (is_startable a.moment) a.entries.items
+  pub room : length a.entries.items ≤ vec_capacity a.ready
+  pub due : IsSameUntil a.entries.items a.moment a.due

@@ -1,0 +1,72 @@
+//! What decides on the turn of a waiting job.
+ghost use Rattle.std.specs.Prelude.{◌≡◌, ◌↔◌, ℕ, false, nat_le, IsTrue, IsSome, IfSome, MatchOption};
+ghost use Rattle.spool_types.specs.Phases.{is_waiting};
+ghost use Rattle.spool_types.specs.State.{job_of};
+ghost use Rattle.queue_sched.specs.Index.{entry_of, goes_before, is_startable};
+
+use spool_types::{Hold, JobId, JobRow, Moment, Phase, Priority};
+
+/// A waiting job, as far as its turn goes.
+#[derive(Clone, Copy, Debug, PartialEq, Eq)]
+pub struct Entry {
+    pub id: JobId,
+    /// Whether it goes before all that aren't marked.
+    pub first: bool,
+    pub priority: Priority,
+    pub hold: Hold,
+    pub not_before: Moment,
+}
+
+impl Entry {
+    /// The entry of a waiting job; no other job has one.
+    pub fn of_row(row: &JobRow) -> Option<Entry>
+        ensures waiting { IsSome result ↔ IsTrue (is_waiting row.now.phase) }
+        ensures value { IfSome result (λ e. e ≡ entry_of (job_of row.now)) }
+    {
+        match row.phase {
+            Phase::Waiting {
+                hold,
+                not_before,
+                first,
+            } => Some(Entry {
+                id: row.id,
+                first,
+                priority: row.priority,
+                hold,
+                not_before,
+            }),
+            _ => None,
+        }
+    }
+
+    /// Whether its turn is before the other's: by the mark, the priority and the number.
+    pub fn goes_before(&self, other: &Entry) -> bool
+        ensures { result ≡ goes_before self.now other.now }
+    {
+        if self.first != other.first {
+            self.first
+        } else if self.priority != other.priority {
+            other.priority < self.priority
+        } else {
+            self.id < other.id
+        }
+    }
+
+    /// Whether nothing holds it at the moment now, and its own moment has come.
+    pub fn is_startable(&self, now: Moment) -> bool
+        ensures { result ≡ is_startable now self.now }
+    {
+        !self.hold.is_in_force(now) && self.not_before <= now
+    }
+
+    // The moment from which on it may be started. One that is held until it is released has none.
+    pub(crate) fn start(&self) -> Option<Moment>
+        ensures { MatchOption result ((m : ℕ) → is_startable m self.now ≡ false) (λ start. (m : ℕ) → is_startable m self.now ≡ nat_le start m) }
+    {
+        match self.hold {
+            Hold::Free => Some(self.not_before),
+            Hold::Indefinite(_) => None,
+            Hold::Until(moment) => Some(moment.max(self.not_before)),
+        }
+    }
+}

@@ -1,0 +1,155 @@
+//! The index of a queue's waiting jobs.
+ghost use Rattle.std.specs.Prelude.{◌≡◌, ◌<◌, ◌≤◌, ◌+◌, ◌↔◌, ◌⊎◌, [], length, map, IsOk, OnOk, IfSome};
+ghost use Rattle.std.specs.Option.{IsNone, option_copied};
+ghost use Rattle.std.specs.List.{Contains};
+ghost use Rattle.queue_sched.specs.Index.{InOrder, LacksJob, IsFirstStartable, NoneIsStartable};
+ghost use Rattle.queue_sched.specs.declared.entry.Entry.{Entry};
+
+use crate::entry::Entry;
+use crate::lists::{due_of, fill_ready, is_before, put, put_number, sooner, take};
+use spool_types::{JobId, Moment};
+use std::alloc::{AllocError, Global};
+use std::marker::Model;
+
+/// The waiting jobs of one queue in the order of their turns, at a moment.
+#[derive(Debug, Drop)]
+pub struct Index {
+    // In the order of their turns.
+    entries: Vec<Entry>,
+    // Their numbers.
+    jobs: Vec<JobId>,
+    // Those that may be started now, in the same order; there is always room for all.
+    ready: Vec<Entry>,
+    // Until this moment no other one may be started.
+    due: Option<Moment>,
+    moment: Moment,
+}
+
+impl Model for Index {
+    ghost use Rattle.queue_sched.specs.Index.{Waits};
+
+    ghost Value = { Waits };
+
+    ghost use Rattle.queue_sched.specs.Lists.{waits_of, IsInStep};
+
+    ghost view = { waits_of };
+
+    ghost invariant = { IsInStep };
+}
+
+impl Index {
+    /// An index without jobs, at the moment 0. It takes no memory.
+    pub fn new(alloc: Global) -> Index
+        ensures items { result.items ≡ [] }
+        ensures moment { result.moment ≡ 0 }
+        ensures room { result.room ≡ 0 }
+    {
+        Index {
+            entries: Vec::new(alloc),
+            jobs: Vec::new(alloc),
+            ready: Vec::new(alloc),
+            due: None,
+            moment: Moment::ZERO,
+        }
+    }
+
+    /// The numbers of the waiting jobs, in the order of their turns.
+    pub fn jobs(&self) -> &[JobId]
+        ensures numbers { result.now ≡ map (λ e. e.id) self.now.items }
+        ensures order { InOrder self.now.items }
+    {
+        &self.jobs
+    }
+
+    /// The moment now.
+    pub fn moment(&self) -> Moment
+        ensures { result ≡ self.now.moment }
+    {
+        self.moment
+    }
+
+    /// The entry of the job of this number, if there is one. It reads one after another.
+    pub fn entry(&self, id: JobId) -> Option<&Entry>
+        ensures found { IfSome (option_copied result) (λ e. Contains self.now.items e × (e.id ≡ id)) }
+        ensures absent { IsNone result → LacksJob self.now.items id }
+    {
+        let at = self.entries.iter().position(|entry| entry.id == id)?;
+        Some(&self.entries[at])
+    }
+
+    /// The job whose turn is first, among those that may be started now. No other job is looked at.
+    pub fn next(&self) -> Option<JobId>
+        ensures chosen { IfSome result (λ j. (e : Entry) × (e.id ≡ j) × IsFirstStartable self.now e) }
+        ensures none { IsNone result → NoneIsStartable self.now }
+    {
+        let entry = self.ready.first()?;
+        Some(entry.id)
+    }
+
+    /// Makes room for so many jobs in all. A list that has to grow is doubled at least, as `Vec::reserve` does it.
+    pub fn reserve(&mut self, count: usize) -> Result<(), AllocError>
+        ensures room { OnOk result (count ≤ self.new.room) }
+        ensures kept { self.old.room ≤ self.new.room }
+        ensures items { self.new.items ≡ self.old.items }
+        ensures moment { self.new.moment ≡ self.old.moment }
+
+        // Memory is asked for only where the room is missing.
+        ensures ready { count ≤ self.old.room → IsOk result }
+    {
+        let count = count.saturating_sub(self.entries.len());
+        self.entries.reserve(count)?;
+        self.jobs.reserve(count)?;
+        self.ready.reserve(self.entries.len().saturating_sub(self.ready.len()) + count)
+    }
+
+    /// Adds a job that isn't there. Its place is found by binary search, and one that goes to the end moves no other. It
+    /// takes no memory.
+    pub fn insert(&mut self, entry: Entry)
+        requires room { length self.old.items < self.old.room }
+        requires absent { LacksJob self.old.items entry.id }
+        ensures there { Contains self.new.items entry }
+        ensures items { (e : Entry) → Contains self.new.items e ↔ (Contains self.old.items e ⊎ (e ≡ entry)) }
+        ensures count { length self.new.items ≡ length self.old.items + 1 }
+        ensures moment { self.new.moment ≡ self.old.moment }
+        ensures room { self.new.room ≡ self.old.room }
+    {
+        let at = put(&mut self.entries, entry);
+        put_number(&mut self.jobs, at, entry.id);
+        if entry.is_startable(self.moment) {
+            put(&mut self.ready, entry);
+        } else {
+            self.due = sooner(self.due, entry.start());
+        }
+    }
+
+    /// Takes away a job that is there. It is found by binary search.
+    pub fn remove(&mut self, entry: Entry)
+        requires there { Contains self.old.items entry }
+        ensures gone { ¬ (Contains self.new.items entry) }
+        ensures items { (e : Entry) → Contains self.new.items e ↔ (Contains self.old.items e × ¬ (e ≡ entry)) }
+        ensures count { length self.new.items + 1 ≡ length self.old.items }
+        ensures moment { self.new.moment ≡ self.old.moment }
+        ensures room { self.new.room ≡ self.old.room }
+    {
+        let at = take(&mut self.entries, &entry);
+        self.jobs.remove(at);
+        if entry.is_startable(self.moment) {
+            take(&mut self.ready, &entry);
+        }
+    }
+
+    /// Brings a moment that isn't earlier. Where no job may be started by it that couldn't before, no job is looked at. It
+    /// takes no memory.
+    pub fn advance(&mut self, moment: Moment)
+        requires { self.old.moment ≤ moment }
+        ensures moment { self.new.moment ≡ moment }
+        ensures items { self.new.items ≡ self.old.items }
+        ensures room { self.new.room ≡ self.old.room }
+    {
+        self.moment = moment;
+        if !is_before(moment, self.due) {
+            fill_ready(&mut self.ready, &self.entries, moment);
+            self.due = due_of(&self.entries, moment);
+        }
+    }
+}

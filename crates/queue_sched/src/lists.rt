@@ -1,0 +1,106 @@
+//! The lists of an index.
+ghost use Rattle.std.specs.Prelude.{◌≡◌, ◌<◌, ◌≤◌, ◌↔◌, ℕ, IsTrue, true, false, length, slice_index_or, vec_capacity};
+ghost use Rattle.std.specs.List.{filter, insert, remove, AllWithin, Contains};
+ghost use Rattle.queue_sched.specs.Index.{goes_before, is_startable, InOrder};
+ghost use Rattle.queue_sched.specs.Lists.{IsBefore, IsSameUntil};
+
+use crate::entry::Entry;
+use spool_types::{JobId, Moment};
+
+// Where the entry stands, or would go.
+pub(crate) fn place_of(entries: &[Entry], entry: &Entry) -> usize
+    requires { InOrder entries.now }
+    ensures in_range { result ≤ length entries.now }
+    ensures before { AllWithin (λ e. goes_before e entry.now ≡ true) entries.now 0 result }
+    ensures behind { AllWithin (λ e. goes_before e entry.now ≡ false) entries.now result (length entries.now) }
+{
+    entries.partition_point(|other| other.goes_before(entry))
+}
+
+// Adds an entry where it goes, and answers where. There is room.
+pub(crate) fn put(entries: &mut Vec<Entry>, entry: Entry) -> usize
+    requires order { InOrder entries.old.items }
+    requires room { length entries.old.items < vec_capacity entries.old }
+    ensures in_range { result ≤ length entries.old.items }
+    ensures before { AllWithin (λ e. goes_before e entry ≡ true) entries.old.items 0 result }
+    ensures behind { AllWithin (λ e. goes_before e entry ≡ false) entries.old.items result (length entries.old.items) }
+    ensures items { entries.new.items ≡ insert entries.old.items result entry }
+    ensures capacity { vec_capacity entries.new ≡ vec_capacity entries.old }
+{
+    let at = place_of(entries, &entry);
+    entries.insert(at, entry).unwrap();
+    at
+}
+
+// Takes away an entry that is there, and answers where it stood.
+pub(crate) fn take(entries: &mut Vec<Entry>, entry: &Entry) -> usize
+    requires order { InOrder entries.old.items }
+    requires there { Contains entries.old.items entry.now }
+    ensures in_range { result < length entries.old.items }
+    ensures here { slice_index_or entries.old.items result entry.now ≡ entry.now }
+    ensures before { AllWithin (λ e. goes_before e entry.now ≡ true) entries.old.items 0 result }
+    ensures behind { AllWithin (λ e. goes_before e entry.now ≡ false) entries.old.items result (length entries.old.items) }
+    ensures items { entries.new.items ≡ remove entries.old.items result }
+    ensures capacity { vec_capacity entries.new ≡ vec_capacity entries.old }
+{
+    let at = place_of(entries, entry);
+    entries.remove(at);
+    at
+}
+
+// Adds a number at a place. There is room.
+pub(crate) fn put_number(jobs: &mut Vec<JobId>, at: usize, id: JobId)
+    requires in_range { at ≤ length jobs.old.items }
+    requires room { length jobs.old.items < vec_capacity jobs.old }
+    ensures items { jobs.new.items ≡ insert jobs.old.items at id }
+    ensures capacity { vec_capacity jobs.new ≡ vec_capacity jobs.old }
+{
+    jobs.insert(at, id).unwrap();
+}
+
+// Lists those that may be started now.
+pub(crate) fn fill_ready(ready: &mut Vec<Entry>, entries: &[Entry], now: Moment)
+    requires { length entries.now ≤ vec_capacity ready.old }
+    ensures items { ready.new.items ≡ filter (is_startable now) entries.now }
+    ensures room { vec_capacity ready.new ≡ vec_capacity ready.old }
+{
+    ready.clear();
+    for entry in entries {
+        if entry.is_startable(now) {
+            ready.push_reserved(*entry);
+        }
+    }
+}
+
+// The moment until which no other one may be started, if there are others that will be.
+pub(crate) fn due_of(entries: &[Entry], now: Moment) -> Option<Moment>
+    ensures { IsSameUntil entries.now now result }
+{
+    let mut due = None;
+    for entry in entries {
+        if !entry.is_startable(now) {
+            due = sooner(due, entry.start());
+        }
+    }
+    due
+}
+
+// Whether the moment is before the due one, if there is one.
+pub(crate) fn is_before(moment: Moment, due: Option<Moment>) -> bool
+    ensures { IsTrue result ↔ IsBefore moment due }
+{
+    match due {
+        Some(due) => moment < due,
+        None => true,
+    }
+}
+
+// What is before the result is before both.
+pub(crate) fn sooner(due: Option<Moment>, start: Option<Moment>) -> Option<Moment>
+    ensures { (m : ℕ) → IsBefore m result → IsBefore m due × IsBefore m start }
+{
+    match (due, start) {
+        (Some(due), Some(start)) => Some(due.min(start)),
+        (None, other) | (other, None) => other,
+    }
+}
