@@ -14,7 +14,9 @@ const CALLS_OF_OPEN: u64 = 5;
 fn send(alloc: Global, job: u32, bytes: &[u8]) -> Result<Event, Fail> {
     Ok(Event::Send {
         job: JobId::new(job).ok_or("no number")?,
-        bytes: Piece::new(Vec::from_slice(alloc, bytes)?).ok().ok_or("too many bytes")?,
+        bytes: Piece::new(Vec::from_slice(alloc, bytes)?)
+            .ok()
+            .ok_or("too many bytes")?,
     })
 }
 
@@ -39,7 +41,11 @@ fn three_sends(alloc: Global) -> Result<MemDisk, Fail> {
         add(alloc, &mut areas, send(alloc, 1, b"abc")?)?,
         add(alloc, &mut areas, send(alloc, 2, &long)?)?,
         add(alloc, &mut areas, send(alloc, 1, b"defgh")?)?,
-        add(alloc, &mut areas, Event::Cancel(JobId::new(2).ok_or("no number")?))?,
+        add(
+            alloc,
+            &mut areas,
+            Event::Cancel(JobId::new(2).ok_or("no number")?),
+        )?,
         add(alloc, &mut areas, send(alloc, 1, b"ij")?)?,
     ];
     if places == [21, 38, 65_588, 65_607, 65_617] {
@@ -56,8 +62,8 @@ fn read_twice(
     at: u64,
     into: &mut [u8],
 ) -> Result<(Result<(), ReadFault>, Result<(), ReadFault>), Fail>
-    requires { at + length into.old ≤ 10 }
-    requires { calls ≤ 100 }
+    requires inside { at + length into.old ≤ 10 }
+    requires few { calls ≤ 100 }
 {
     let disk = FuseDisk::new(three_sends(alloc)?, CALLS_OF_OPEN + calls);
     let opened = Areas::open(alloc, disk).ok().ok_or("open")?;
@@ -67,8 +73,14 @@ fn read_twice(
     let mut areas = opened.areas;
     let extents = [
         Extent { place: 30, len: 3 },
-        Extent { place: 65_597, len: 5 },
-        Extent { place: 65_626, len: 2 },
+        Extent {
+            place: 65_597,
+            len: 5,
+        },
+        Extent {
+            place: 65_626,
+            len: 2,
+        },
     ];
     let first = read_joined(&mut areas, &extents, at, into);
     let second = read_joined(&mut areas, &extents, at, into);
@@ -107,6 +119,9 @@ fn nothing_is_read_at_the_end(rt: HostRuntime) -> Result<(), Fail> {
 #[test]
 fn device_that_fails_within_a_document_ends_it(rt: HostRuntime) -> Result<(), Fail> {
     let mut got = [0; 10];
-    assert_eq!(rt; read_twice(rt.alloc(), 1, 0, &mut got)?, (Err(ReadFault::Disk), Err(ReadFault::Dead)));
+    assert_eq!(rt;
+        read_twice(rt.alloc(), 1, 0, &mut got)?,
+        (Err(ReadFault::Disk), Err(ReadFault::Dead))
+    );
     Ok(())
 }
