@@ -1,0 +1,107 @@
+-- The pieces of a listing.
+use Rattle.std.proofs.Common.{◌≡◌, ◌≢◌, ℕ, zero, suc, ◌+◌, ◌*◌, ◌/◌, ◌≤◌, List, [], ◌∷◌, ◌++◌, true, false, Some, length, take, drop, map, refl, sym, ◌∙◌, ap, arith, append_assoc, take-append-drop, length-drop, length-append}
+use Rattle.std.proofs.lemmas.List.{append-nil}
+use Rattle.std.proofs.lemmas.Bool.Decides.{nat_tests}
+use Rattle.std.specs.List.{flat_map, AllByRecursion}
+use Rattle.std.specs.Prelude.{◌==◌, if◌then◌else◌}
+use Rattle.spool_types.specs.State.{Job}
+use Rattle.spool_types.specs.Limits.{longest_send}
+use Rattle.spool_types.specs.declared.event.Event.{Event}
+use Rattle.spool_types.specs.declared.listing.Row.{Row}
+use Rattle.spool_types.specs.declared.listing.Row.TheVariants.{Head, Queue, Job as JobRow, Piece}
+use Rattle.event_codec.specs.Spelling.{spelling}
+use Rattle.event_codec.specs.RowSpelling.{row_spelling}
+use Rattle.job_table.specs.Listing.{parts, job_rows}
+use Rattle.gate_journal.specs.Entries.{records}
+use Rattle.spool_areas.specs.declared.extent.Extent.{Extent}
+use Rattle.spool_areas.specs.Header.{header_len}
+use Rattle.spool_areas.specs.Payloads.{HasPayloads, gate_after}
+use Rattle.documents.specs.Documents.{joined, size_of, LieIn}
+use Rattle.documents.specs.Placed.{sent_by, piece_of, sent_to, sent_in, sent, listed_pieces, document_in, placed_to, placed, placed_pieces, payloads_of, places_in, SpellsSent}
+use Rattle.documents.proofs.Joined.{size_of-append}
+use Rattle.documents.proofs.Placed.{front_of, sends_behind, spells_sent, joined-append, LieIn-append, wider_lie, held_all, held_last, lie_between, one_more, sized, gate_after-append}
+
+-- a piece spells its bytes behind nine others
+pub spells_pieces : SpellsSent row_spelling piece_of
+spells_pieces (Piece j part) k bytes is = (front_of 0x43 k bytes, refl, sends_behind 0x43 (j, part) (k, bytes) is)
+spells_pieces (Head head) k bytes is = absurd (cc is)
+spells_pieces (Queue q) k bytes is = absurd (cc is)
+spells_pieces (JobRow r) k bytes is = absurd (cc is)
+
+same_test : (k j : ℕ) → k ≡ j → (k == j) ≡ true
+same_test k j is = grind (arith, nat_tests)
+
+other_test : (k j : ℕ) → k ≢ j → (k == j) ≡ false
+other_test k j apart = grind (arith, nat_tests)
+
+-- as many parts as there are bytes for
+parts_whole : (k j n : ℕ) (bytes : List ℕ) → (k == j) ≡ true → length bytes ≤ n * 65536 → sent_in piece_of (map (λ b. Piece k b) (parts longest_send n bytes)) j ≡ bytes
+parts_whole k j zero [] same fits = refl
+parts_whole k j zero (b ∷ bytes) same fits = absurd (omega arith)
+parts_whole k j (suc n) bytes same fits =
+    ap (λ t. (if t then take longest_send bytes else []) ++ sent_in piece_of (map (λ b. Piece k b) (parts longest_send n (drop longest_send bytes))) j) same
+    ∙ ap (λ (l : List ℕ). take longest_send bytes ++ l) (parts_whole k j n (drop longest_send bytes) same (omega (arith, length-drop longest_send bytes, fits)))
+    ∙ take-append-drop longest_send bytes
+
+parts_other : (k j n : ℕ) (bytes : List ℕ) → (k == j) ≡ false → sent_in piece_of (map (λ b. Piece k b) (parts longest_send n bytes)) j ≡ []
+parts_other k j zero bytes apart = refl
+parts_other k j (suc n) bytes apart =
+    ap (λ t. (if t then take longest_send bytes else []) ++ sent_in piece_of (map (λ b. Piece k b) (parts longest_send n (drop longest_send bytes))) j) apart ∙ parts_other k j n (drop longest_send bytes) apart
+
+pub whole : (r : Job) → sent_in piece_of (job_rows r) r.id ≡ r.document
+whole r = parts_whole r.id r.id ((length r.document + 65535) / 65536) r.document (same_test r.id r.id refl) (omega arith)
+
+pub others : (r : Job) (j : ℕ) → r.id ≢ j → sent_in piece_of (job_rows r) j ≡ []
+others r j apart = parts_other r.id j ((length r.document + 65535) / 65536) r.document (other_test r.id j apart)
+
+sent-append : (xs ys : List Row) (j : ℕ) → sent_in piece_of (xs ++ ys) j ≡ sent_in piece_of xs j ++ sent_in piece_of ys j
+sent-append [] ys j = refl
+sent-append (x ∷ xs) ys j = ap (λ (l : List ℕ). sent_to j (piece_of x) ++ l) (sent-append xs ys j) ∙ sym (append_assoc (sent_to j (piece_of x)) (sent_in piece_of xs j) (sent_in piece_of ys j))
+
+none_of : (jobs : List Job) (j : ℕ) → AllByRecursion (λ (q : Job). q.id ≢ j) jobs → sent_in piece_of (flat_map job_rows jobs) j ≡ []
+none_of [] j apart = refl
+none_of (q ∷ jobs) j apart =
+    sent-append (job_rows q) (flat_map job_rows jobs) j ∙ ap (λ (l : List ℕ). l ++ sent_in piece_of (flat_map job_rows jobs) j) (others q j apart.0) ∙ none_of jobs j apart.1
+
+-- in a list of jobs with numbers of their own each has its document
+pub in_listing : (before after : List Job) (r : Job) → AllByRecursion (λ (q : Job). q.id ≢ r.id) before → AllByRecursion (λ (q : Job). q.id ≢ r.id) after
+    → sent_in piece_of (flat_map job_rows (before ++ r ∷ after)) r.id ≡ r.document
+in_listing [] after r one two =
+    sent-append (job_rows r) (flat_map job_rows after) r.id ∙ ap (λ (l : List ℕ). l ++ sent_in piece_of (flat_map job_rows after) r.id) (whole r)
+    ∙ ap (λ (l : List ℕ). r.document ++ l) (none_of after r.id two) ∙ append-nil r.document
+in_listing (q ∷ before) after r one two =
+    sent-append (job_rows q) (flat_map job_rows (before ++ r ∷ after)) r.id ∙ ap (λ (l : List ℕ). l ++ sent_in piece_of (flat_map job_rows (before ++ r ∷ after)) r.id) (others q r.id one.0)
+    ∙ in_listing before after r one.1 two
+
+-- ---- a listing, and events behind it
+
+pub history : (base j : ℕ) (rows : List Row) (events : List Event) (bytes : List ℕ) → HasPayloads base (payloads_of rows events) bytes → joined bytes (places_in base rows events j) ≡ document_in rows events j
+history base j rows events bytes has =
+    let gate = gate_after base (map row_spelling rows) in
+    joined-append bytes (placed_pieces (base + header_len) rows j) (placed gate events j)
+    ∙ ap (λ (l : List ℕ). l ++ joined bytes (placed gate events j)) (held_all row_spelling piece_of spells_pieces base bytes (map spelling events) rows j has)
+    ∙ ap (λ (l : List ℕ). listed_pieces rows j ++ l) (held_last spelling sent_by spells_sent base bytes (map row_spelling rows) events j has)
+
+pub history_within : (base j : ℕ) (rows : List Row) (events : List Event) → LieIn (base + header_len) (gate_after base (payloads_of rows events)) (places_in base rows events j)
+history_within base j rows events =
+    let first = base + header_len in
+    let gate = gate_after base (map row_spelling rows) in
+    let end = gate_after base (payloads_of rows events) in
+    let sum = gate_after-append base (map row_spelling rows) (map spelling events) in
+    LieIn-append first end (placed_pieces first rows j) (placed gate events j)
+    (wider_lie first gate first end (placed_pieces first rows j) (omega arith) (omega (arith, sum)) (lie_between row_spelling piece_of spells_pieces first rows j))
+    (wider_lie gate (gate + length (records (map spelling events))) first end (placed gate events j) (omega arith) (omega (arith, sum)) (lie_between spelling sent_by spells_sent gate events j))
+
+pub history_added : (base j : ℕ) (rows : List Row) (events : List Event) (e : Event) → places_in base rows (events ++ e ∷ []) j ≡ places_in base rows events j ++ placed_to (gate_after base (payloads_of rows events)) j (sent_by e)
+history_added base j rows events e =
+    let gate = gate_after base (map row_spelling rows) in
+    let front = placed_pieces (base + header_len) rows j in
+    ap (λ (l : List Extent). front ++ l)
+    (one_more spelling sent_by spells_sent gate events e j
+    ∙ ap (λ (n : ℕ). placed gate events j ++ placed_to n j (sent_by e)) (sym (gate_after-append base (map row_spelling rows) (map spelling events))))
+    ∙ sym (append_assoc front (placed gate events j) (placed_to (gate_after base (payloads_of rows events)) j (sent_by e)))
+
+pub history_size : (base j : ℕ) (rows : List Row) (events : List Event) → size_of (places_in base rows events j) ≡ length (document_in rows events j)
+history_size base j rows events =
+    let gate = gate_after base (map row_spelling rows) in
+    omega (arith, size_of-append (placed_pieces (base + header_len) rows j) (placed gate events j), sized row_spelling piece_of spells_pieces (base + header_len) rows j, sized spelling sent_by spells_sent gate events j, length-append (listed_pieces rows j) (sent events j))

@@ -1,0 +1,34 @@
+use Rattle.std.proofs.Common.{◌+◌}
+use Rattle.spool_areas.specs.Header.{header_len}
+use Rattle.event_codec.specs.RowSpelling.{row_spelling}
+use Rattle.documents.specs.Placed.{piece_of}
+use Rattle.documents.proofs.Placed.{held_first, lie_between, one_more}
+use Rattle.documents.proofs.Moved as moved
+use Rattle.documents.proofs.laws.moves_law.Goals as goal
+
+pub returns-clause-moved : goal.returns-clause-moved
+returns-clause-moved c base j rows bytes has = held_first row_spelling piece_of moved.spells_pieces base bytes rows j has
+
+pub returns-clause-within : goal.returns-clause-within
+returns-clause-within c base j rows = lie_between row_spelling piece_of moved.spells_pieces (base + header_len) rows j
+
+pub returns-clause-added : goal.returns-clause-added
+returns-clause-added c gate j rows row = one_more row_spelling piece_of moved.spells_pieces gate rows row j
+
+pub returns-clause-history : goal.returns-clause-history
+returns-clause-history c base j rows events bytes has = moved.history base j rows events bytes has
+
+pub returns-clause-history_within : goal.returns-clause-history_within
+returns-clause-history_within c base j rows events = moved.history_within base j rows events
+
+pub returns-clause-history_added : goal.returns-clause-history_added
+returns-clause-history_added c base j rows events e = moved.history_added base j rows events e
+
+pub returns-clause-pieces : goal.returns-clause-pieces
+returns-clause-pieces c r = moved.whole r
+
+pub returns-clause-listed : goal.returns-clause-listed
+returns-clause-listed c before after r one two = moved.in_listing before after r one two
+
+pub returns-clause-others : goal.returns-clause-others
+returns-clause-others c r j apart = moved.others r j apart

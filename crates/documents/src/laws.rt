@@ -1,0 +1,91 @@
+//! Why no append and no checkpoint breaks a document. The functions do nothing: their clauses are the laws.
+ghost use Rattle.std.specs.Prelude.{◌≡◌, ◌≢◌, ◌≤◌, ◌+◌, ◌⊎◌, ◌++◌, [], ◌∷◌, ℕ, List, length, map};
+ghost use Rattle.std.specs.List.{flat_map, AllByRecursion};
+ghost use Rattle.spool_disk.specs.Disk.{SameOutside};
+ghost use Rattle.gate_journal.specs.Entries.{records};
+ghost use Rattle.spool_areas.specs.declared.extent.Extent.{Extent};
+ghost use Rattle.spool_areas.specs.Extents.{bytes_of};
+ghost use Rattle.spool_areas.specs.Header.{header_len};
+ghost use Rattle.spool_areas.specs.Payloads.{HasPayloads, gate_after};
+ghost use Rattle.spool_types.specs.State.{Job};
+ghost use Rattle.spool_types.specs.declared.event.Event.{Event};
+ghost use Rattle.spool_types.specs.declared.listing.Row.{Row};
+ghost use Rattle.event_codec.specs.Spelling.{spelling};
+ghost use Rattle.event_codec.specs.RowSpelling.{row_spelling};
+ghost use Rattle.job_table.specs.Listing.{job_rows};
+ghost use Rattle.documents.specs.Documents.{joined, size_of, LieIn};
+ghost use Rattle.documents.specs.Placed.{sent_by, piece_of, sent, placed, placed_to, listed_pieces, placed_pieces, document_in, payloads_of, places_in};
+
+/// What extents hold.
+pub fn extents_law()
+    // Extents hold the same bytes while nothing changes in the range where they lie: an append changes bytes behind the
+    // gate, whatever it answers, and a checkpoint bytes of the other area.
+    ensures kept { (low high at n : ℕ) (xs : List Extent) (old new : List ℕ) → LieIn low high xs → (high ≤ at) ⊎ (at + n ≤ low) →
+        SameOutside at n old new → joined new xs ≡ joined old xs }
+
+    // A part of a payload stands so far behind the payload's gate, once the record is there.
+    ensures part { (base : ℕ) (before after : List (List ℕ)) (front part rest bytes : List ℕ) →
+        HasPayloads base (before ++ (front ++ (part ++ rest)) ∷ after) bytes →
+        bytes_of bytes (record { place = gate_after base before + 5 + length front; len = length part }) ≡ part }
+
+    // It lies before the gate behind all payloads.
+    ensures lies { (base : ℕ) (before after : List (List ℕ)) (front part rest : List ℕ) →
+        gate_after base before + 5 + length front + length part ≤ gate_after base (before ++ (front ++ (part ++ rest)) ∷ after) }
+
+    // One extent more holds so many bytes more.
+    ensures pushed { (xs : List Extent) (x : Extent) (bytes : List ℕ) → joined bytes (xs ++ x ∷ []) ≡ joined bytes xs ++ bytes_of bytes x }
+{}
+
+/// Where the documents lie that events sent, and what is there.
+pub fn placed_law()
+    // In every image with these payloads the places of a job hold what was sent to it.
+    ensures held { (base j : ℕ) (events : List Event) (bytes : List ℕ) → HasPayloads base (map spelling events) bytes →
+        joined bytes (placed (base + header_len) events j) ≡ sent events j }
+
+    // They lie between the header of the area and the gate behind the payloads.
+    ensures within { (base j : ℕ) (events : List Event) →
+        LieIn (base + header_len) (gate_after base (map spelling events)) (placed (base + header_len) events j) }
+
+    // One event more, journalled at the gate behind these, adds the extent of what it sends.
+    ensures added { (gate j : ℕ) (events : List Event) (e : Event) →
+        placed gate (events ++ e ∷ []) j ≡ placed gate events j ++ placed_to (gate + length (records (map spelling events))) j (sent_by e) }
+{}
+
+/// What a checkpoint moves: in the new area the places of a job hold what the pieces of the rows hold, and what events
+/// behind them sent.
+pub fn moves_law()
+    ensures moved { (base j : ℕ) (rows : List Row) (bytes : List ℕ) → HasPayloads base (map row_spelling rows) bytes →
+        joined bytes (placed_pieces (base + header_len) rows j) ≡ listed_pieces rows j }
+    ensures within { (base j : ℕ) (rows : List Row) →
+        LieIn (base + header_len) (gate_after base (map row_spelling rows)) (placed_pieces (base + header_len) rows j) }
+
+    // One row more adds the extent of its piece.
+    ensures added { (gate j : ℕ) (rows : List Row) (row : Row) →
+        placed_pieces gate (rows ++ row ∷ []) j ≡ placed_pieces gate rows j ++ placed_to (gate + length (records (map row_spelling rows))) j (piece_of row) }
+
+    // In every image with a listing and events behind it the places of a job hold its document. They lie between the header
+    // of the area and the gate behind the payloads, and one event more adds the extent of what it sends.
+    ensures history { (base j : ℕ) (rows : List Row) (events : List Event) (bytes : List ℕ) → HasPayloads base (payloads_of rows events) bytes →
+        joined bytes (places_in base rows events j) ≡ document_in rows events j }
+    ensures history_within { (base j : ℕ) (rows : List Row) (events : List Event) →
+        LieIn (base + header_len) (gate_after base (payloads_of rows events)) (places_in base rows events j) }
+    ensures history_added { (base j : ℕ) (rows : List Row) (events : List Event) (e : Event) →
+        places_in base rows (events ++ e ∷ []) j ≡ places_in base rows events j ++ placed_to (gate_after base (payloads_of rows events)) j (sent_by e) }
+
+    // The pieces of a document hold it whole, also in a listing of jobs with numbers of their own.
+    ensures pieces { (r : Job) → listed_pieces (job_rows r) r.id ≡ r.document }
+    ensures listed { (before after : List Job) (r : Job) → AllByRecursion (λ q. q.id ≢ r.id) before → AllByRecursion (λ q. q.id ≢ r.id) after →
+        listed_pieces (flat_map job_rows (before ++ r ∷ after)) r.id ≡ r.document }
+    ensures others { (r : Job) (j : ℕ) → r.id ≢ j → listed_pieces (job_rows r) j ≡ [] }
+{}
+
+/// How many bytes extents hold: a job's places have as many as were sent to it.
+pub fn size_law()
+    ensures sent { (gate j : ℕ) (events : List Event) → size_of (placed gate events j) ≡ length (sent events j) }
+    ensures listed { (gate j : ℕ) (rows : List Row) → size_of (placed_pieces gate rows j) ≡ length (listed_pieces rows j) }
+    ensures history { (base j : ℕ) (rows : List Row) (events : List Event) → size_of (places_in base rows events j) ≡ length (document_in rows events j) }
+    ensures pushed { (xs : List Extent) (x : Extent) → size_of (xs ++ x ∷ []) ≡ size_of xs + x.len }
+
+    // On a device on which the extents lie they hold so many bytes.
+    ensures joined { (low high : ℕ) (xs : List Extent) (bytes : List ℕ) → LieIn low high xs → high ≤ length bytes → length (joined bytes xs) ≡ size_of xs }
+{}
