@@ -1,5 +1,5 @@
 -- The pieces of a listing.
-use Rattle.std.proofs.Common.{◌≡◌, ◌≢◌, ℕ, zero, suc, ◌+◌, ◌*◌, ◌/◌, ◌≤◌, List, [], ◌∷◌, ◌++◌, true, false, Some, length, take, drop, map, refl, sym, ◌∙◌, ap, arith, append_assoc, take-append-drop, length-drop, length-append}
+use Rattle.std.proofs.Common.{◌≡◌, ◌≢◌, ℕ, zero, suc, ◌+◌, ◌*◌, ◌/◌, ◌≤◌, List, [], ◌∷◌, ◌++◌, true, false, length, take, drop, map, refl, sym, ◌∙◌, ap, arith, append_assoc, take-append-drop, length-drop, length-append}
 use Rattle.std.proofs.lemmas.List.{append-nil}
 use Rattle.std.proofs.lemmas.Bool.Decides.{nat_tests}
 use Rattle.std.specs.List.{flat_map, AllByRecursion}
@@ -92,14 +92,14 @@ history_within base j rows events =
     (wider_lie first gate first end (placed_pieces first rows j) (omega arith) (omega (arith, sum)) (lie_between row_spelling piece_of spells_pieces first rows j))
     (wider_lie gate (gate + length (records (map spelling events))) first end (placed gate events j) (omega arith) (omega (arith, sum)) (lie_between spelling sent_by spells_sent gate events j))
 
-pub history_added : (base j : ℕ) (rows : List Row) (events : List Event) (e : Event) → places_in base rows (events ++ e ∷ []) j ≡ places_in base rows events j ++ placed_to (gate_after base (payloads_of rows events)) j (sent_by e)
+pub history_added : (base j : ℕ) (rows : List Row) (events : List Event) (e : Event) → places_in base rows (events ++ e ∷ []) j ≡ places_in base rows events j ++ placed_to (gate_after base (payloads_of rows events) + 5) j (sent_by e)
 history_added base j rows events e =
     let gate = gate_after base (map row_spelling rows) in
     let front = placed_pieces (base + header_len) rows j in
     ap (λ (l : List Extent). front ++ l)
     (one_more spelling sent_by spells_sent gate events e j
-    ∙ ap (λ (n : ℕ). placed gate events j ++ placed_to n j (sent_by e)) (sym (gate_after-append base (map row_spelling rows) (map spelling events))))
-    ∙ sym (append_assoc front (placed gate events j) (placed_to (gate_after base (payloads_of rows events)) j (sent_by e)))
+    ∙ ap (λ (n : ℕ). placed gate events j ++ placed_to (n + 5) j (sent_by e)) (sym (gate_after-append base (map row_spelling rows) (map spelling events))))
+    ∙ sym (append_assoc front (placed gate events j) (placed_to (gate_after base (payloads_of rows events) + 5) j (sent_by e)))
 
 pub history_size : (base j : ℕ) (rows : List Row) (events : List Event) → size_of (places_in base rows events j) ≡ length (document_in rows events j)
 history_size base j rows events =

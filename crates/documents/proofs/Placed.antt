@@ -68,7 +68,7 @@ module _ {E : Type 0} (spell : E → List ℕ) (sends : E → Option (ℕ × Lis
   chosen r false gate part there = refl
 
   one_placed : (base : ℕ) (r : List ℕ) (before after : List (List ℕ)) (e : E) (j : ℕ) (o : Option (ℕ × List ℕ)) → sends e ≡ o → HasPayloads base (before ++ spell e ∷ after) r
-      → joined r (placed_to (gate_after base before) j o) ≡ sent_to j o
+      → joined r (placed_to (gate_after base before + 5) j o) ≡ sent_to j o
   one_placed base r before after e j None is has = refl
   one_placed base r before after e j (Some (k, bytes)) is has =
       let s = spelt e k bytes is in
@@ -81,11 +81,11 @@ module _ {E : Type 0} (spell : E → List ℕ) (sends : E → Option (ℕ × Lis
       let more = before ++ spell e ∷ [] in
       let gate : gate_after base more ≡ gate_after base before + 5 + length (spell e) = omega (arith, length-records-push before (spell e)) in
       let rest : HasPayloads base (more ++ (map spell es ++ after)) r = subst (λ (l : List (List ℕ)). HasPayloads base l r) (sym (append_assoc before (spell e ∷ []) (map spell es ++ after))) has in
-      joined-append r (placed_to (gate_after base before) j (sends e)) (placed_in spell sends (gate_after base before + 5 + length (spell e)) es j)
+      joined-append r (placed_to (gate_after base before + 5) j (sends e)) (placed_in spell sends (gate_after base before + 5 + length (spell e)) es j)
       ∙ ap (λ (l : List ℕ). l ++ joined r (placed_in spell sends (gate_after base before + 5 + length (spell e)) es j)) (one_placed base r before (map spell es ++ after) e j (sends e) refl has)
       ∙ ap (λ (l : List ℕ). sent_to j (sends e) ++ l) (ap (λ (n : ℕ). joined r (placed_in spell sends n es j)) (sym gate) ∙ held base r more after es j rest)
 
-  one_lies : (gate : ℕ) (e : E) (j : ℕ) (o : Option (ℕ × List ℕ)) → sends e ≡ o → LieIn gate (gate + 5 + length (spell e)) (placed_to gate j o)
+  one_lies : (gate : ℕ) (e : E) (j : ℕ) (o : Option (ℕ × List ℕ)) → sends e ≡ o → LieIn gate (gate + 5 + length (spell e)) (placed_to (gate + 5) j o)
   one_lies gate e j None is = tt
   one_lies gate e j (Some (k, bytes)) is = in_both (k == j)
     where
@@ -102,19 +102,19 @@ module _ {E : Type 0} (spell : E → List ℕ) (sends : E → Option (ℕ × Lis
       let end = gate + 5 + length (spell e) in
       let all = gate + length (records (map spell (e ∷ es))) in
       let there : end + length (records (map spell es)) ≡ all = omega (arith, length-append (spell e) (records (map spell es))) in
-      LieIn-append gate all (placed_to gate j (sends e)) (placed_in spell sends end es j)
-      (wider_lie gate end gate all (placed_to gate j (sends e)) (omega arith) (omega (arith, there)) (one_lies gate e j (sends e) refl))
+      LieIn-append gate all (placed_to (gate + 5) j (sends e)) (placed_in spell sends end es j)
+      (wider_lie gate end gate all (placed_to (gate + 5) j (sends e)) (omega arith) (omega (arith, there)) (one_lies gate e j (sends e) refl))
       (wider_lie end (end + length (records (map spell es))) gate all (placed_in spell sends end es j) (omega arith) (omega (arith, there)) (lie_between end es j))
 
-  pub one_more : (gate : ℕ) (es : List E) (e : E) (j : ℕ) → placed_in spell sends gate (es ++ e ∷ []) j ≡ placed_in spell sends gate es j ++ placed_to (gate + length (records (map spell es))) j (sends e)
+  pub one_more : (gate : ℕ) (es : List E) (e : E) (j : ℕ) → placed_in spell sends gate (es ++ e ∷ []) j ≡ placed_in spell sends gate es j ++ placed_to (gate + length (records (map spell es)) + 5) j (sends e)
   one_more gate [] e j =
       let at : gate ≡ gate + 0 = omega arith in
-      append-nil (placed_to gate j (sends e)) ∙ ap (λ (n : ℕ). placed_to n j (sends e)) at
+      append-nil (placed_to (gate + 5) j (sends e)) ∙ ap (λ (n : ℕ). placed_to (n + 5) j (sends e)) at
   one_more gate (d ∷ es) e j =
       let next = gate + 5 + length (spell d) in
       let at : next + length (records (map spell es)) ≡ gate + length (records (map spell (d ∷ es))) = omega (arith, length-append (spell d) (records (map spell es))) in
-      ap (λ (l : List Extent). placed_to gate j (sends d) ++ l) (one_more next es e j ∙ ap (λ (n : ℕ). placed_in spell sends next es j ++ placed_to n j (sends e)) at)
-      ∙ sym (append_assoc (placed_to gate j (sends d)) (placed_in spell sends next es j) (placed_to (gate + length (records (map spell (d ∷ es)))) j (sends e)))
+      ap (λ (l : List Extent). placed_to (gate + 5) j (sends d) ++ l) (one_more next es e j ∙ ap (λ (n : ℕ). placed_in spell sends next es j ++ placed_to (n + 5) j (sends e)) at)
+      ∙ sym (append_assoc (placed_to (gate + 5) j (sends d)) (placed_in spell sends next es j) (placed_to (gate + length (records (map spell (d ∷ es))) + 5) j (sends e)))
 
   pub held_all : (base : ℕ) (r : List ℕ) (after : List (List ℕ)) (es : List E) (j : ℕ) → HasPayloads base (map spell es ++ after) r → joined r (placed_in spell sends (base + header_len) es j) ≡ sent_in sends es j
   held_all base r after es j has =
@@ -127,7 +127,7 @@ module _ {E : Type 0} (spell : E → List ℕ) (sends : E → Option (ℕ × Lis
   pub held_first : (base : ℕ) (r : List ℕ) (es : List E) (j : ℕ) → HasPayloads base (map spell es) r → joined r (placed_in spell sends (base + header_len) es j) ≡ sent_in sends es j
   held_first base r es j has = held_all base r [] es j (subst (λ (l : List (List ℕ)). HasPayloads base l r) (sym (append-nil (map spell es))) has)
 
-  one_sized : (gate j : ℕ) (o : Option (ℕ × List ℕ)) → size_of (placed_to gate j o) ≡ length (sent_to j o)
+  one_sized : (gate j : ℕ) (o : Option (ℕ × List ℕ)) → size_of (placed_to (gate + 5) j o) ≡ length (sent_to j o)
   one_sized gate j None = refl
   one_sized gate j (Some (k, bytes)) = by_test (k == j)
     where
@@ -139,7 +139,7 @@ module _ {E : Type 0} (spell : E → List ℕ) (sends : E → Option (ℕ × Lis
   sized gate [] j = refl
   sized gate (e ∷ es) j =
       let next = gate + 5 + length (spell e) in
-      omega (arith, size_of-append (placed_to gate j (sends e)) (placed_in spell sends next es j), one_sized gate j (sends e), sized next es j, length-append (sent_to j (sends e)) (sent_in sends es j))
+      omega (arith, size_of-append (placed_to (gate + 5) j (sends e)) (placed_in spell sends next es j), one_sized gate j (sends e), sized next es j, length-append (sent_to j (sends e)) (sent_in sends es j))
 
 -- the gate behind some payloads and others
 pub gate_after-append : (base : ℕ) (some others : List (List ℕ)) → gate_after base (some ++ others) ≡ gate_after base some + length (records others)

@@ -64,16 +64,16 @@ document_in rows events j = listed_pieces rows j ++ sent events j
 abbrev pub bytes_behind : ℕ
 bytes_behind = 9
 
--- the extent of these bytes, if they are for this job, in the record whose gate stands there
+-- the extent of these bytes, if they are for this job, in the payload at this place
 abbrev pub placed_to : ℕ → ℕ → Option (ℕ × List ℕ) → List Extent
-placed_to gate j None = []
-placed_to gate j (Some (k, bytes)) = if k == j then record { place = gate + 5 + bytes_behind; len = length bytes } ∷ [] else []
+placed_to place j None = []
+placed_to place j (Some (k, bytes)) = if k == j then record { place = place + bytes_behind; len = length bytes } ∷ [] else []
 
 -- The same of each member, by its spelling and what it sends: the record of the first has its gate at this place, and the
 -- others follow.
 abbrev pub placed_in : {E : Type 0} → (E → List ℕ) → (E → Option (ℕ × List ℕ)) → ℕ → List E → ℕ → List Extent
 placed_in spell sends gate [] j = []
-placed_in spell sends gate (e ∷ es) j = placed_to gate j (sends e) ++ placed_in spell sends (gate + 5 + length (spell e)) es j
+placed_in spell sends gate (e ∷ es) j = placed_to (gate + 5) j (sends e) ++ placed_in spell sends (gate + 5 + length (spell e)) es j
 
 abbrev pub placed : ℕ → List Event → ℕ → List Extent
 placed gate events j = placed_in spelling sent_by gate events j

@@ -46,9 +46,9 @@ pub fn placed_law()
     ensures within { (base j : ℕ) (events : List Event) →
         LieIn (base + header_len) (gate_after base (map spelling events)) (placed (base + header_len) events j) }
 
-    // One event more, journalled at the gate behind these, adds the extent of what it sends.
+    // One event more, whose payload lies five bytes behind the gate of these, adds the extent of what it sends.
     ensures added { (gate j : ℕ) (events : List Event) (e : Event) →
-        placed gate (events ++ e ∷ []) j ≡ placed gate events j ++ placed_to (gate + length (records (map spelling events))) j (sent_by e) }
+        placed gate (events ++ e ∷ []) j ≡ placed gate events j ++ placed_to (gate + length (records (map spelling events)) + 5) j (sent_by e) }
 {}
 
 /// What a checkpoint moves: in the new area the places of a job hold what the pieces of the rows hold, and what events
@@ -61,7 +61,7 @@ pub fn moves_law()
 
     // One row more adds the extent of its piece.
     ensures added { (gate j : ℕ) (rows : List Row) (row : Row) →
-        placed_pieces gate (rows ++ row ∷ []) j ≡ placed_pieces gate rows j ++ placed_to (gate + length (records (map row_spelling rows))) j (piece_of row) }
+        placed_pieces gate (rows ++ row ∷ []) j ≡ placed_pieces gate rows j ++ placed_to (gate + length (records (map row_spelling rows)) + 5) j (piece_of row) }
 
     // In every image with a listing and events behind it the places of a job hold its document. They lie between the header
     // of the area and the gate behind the payloads, and one event more adds the extent of what it sends.
@@ -70,7 +70,7 @@ pub fn moves_law()
     ensures history_within { (base j : ℕ) (rows : List Row) (events : List Event) →
         LieIn (base + header_len) (gate_after base (payloads_of rows events)) (places_in base rows events j) }
     ensures history_added { (base j : ℕ) (rows : List Row) (events : List Event) (e : Event) →
-        places_in base rows (events ++ e ∷ []) j ≡ places_in base rows events j ++ placed_to (gate_after base (payloads_of rows events)) j (sent_by e) }
+        places_in base rows (events ++ e ∷ []) j ≡ places_in base rows events j ++ placed_to (gate_after base (payloads_of rows events) + 5) j (sent_by e) }
 
     // The pieces of a document hold it whole, also in a listing of jobs with numbers of their own.
     ensures pieces { (r : Job) → listed_pieces (job_rows r) r.id ≡ r.document }

@@ -1,9 +1,9 @@
-ghost use Rattle.std.specs.Prelude.{◌≤◌, ◌+◌, length};
+ghost use Rattle.std.specs.Prelude.{◌≡◌, ◌≤◌, ◌+◌, length};
 
 use super::*;
 use event_codec::encode_onto;
 use spool_areas::{Areas, Extent, ReadFault, make};
-use spool_disk::{FuseDisk, MemDisk};
+use spool_disk::{Disk, FuseDisk, MemDisk};
 use spool_types::{Event, JobId, Piece};
 use std::alloc::Global;
 use std::test::*;
@@ -55,22 +55,17 @@ fn three_sends(alloc: Global) -> Result<MemDisk, Fail> {
     }
 }
 
-// Reads job 1's document twice, on a device that fails after so many calls from the opening on.
-fn read_twice(
-    alloc: Global,
-    calls: u64,
+// Reads job 1's document twice.
+fn read_both<D: Disk>(
+    areas: &mut Areas<D>,
     at: u64,
     into: &mut [u8],
-) -> Result<(Result<(), ReadFault>, Result<(), ReadFault>), Fail>
+) -> (Result<(), ReadFault>, Result<(), ReadFault>)
     requires inside { at + length into.old ≤ 10 }
-    requires few { calls ≤ 100 }
+    requires base { areas.old.base ≡ 0 }
+    requires end { areas.old.end ≡ 65800 }
+    requires size { D.device.size areas.old.disk ≡ 131600 }
 {
-    let disk = FuseDisk::new(three_sends(alloc)?, CALLS_OF_OPEN + calls);
-    let opened = Areas::open(alloc, disk).ok().ok_or("open")?;
-    if opened.gate != 65_628 || opened.room != 172 {
-        return Err(Fail::from("another area"));
-    }
-    let mut areas = opened.areas;
     let extents = [
         Extent { place: 30, len: 3 },
         Extent {
@@ -82,9 +77,31 @@ fn read_twice(
             len: 2,
         },
     ];
-    let first = read_joined(&mut areas, &extents, at, into);
-    let second = read_joined(&mut areas, &extents, at, into);
-    Ok((first, second))
+    let first = read_joined(areas, &extents, at, into);
+    let second = read_joined(areas, &extents, at, into);
+    (first, second)
+}
+
+// The same on a device that fails after so many calls from the opening on.
+fn read_twice(
+    alloc: Global,
+    calls: u64,
+    at: u64,
+    into: &mut [u8],
+) -> Result<(Result<(), ReadFault>, Result<(), ReadFault>), Fail>
+    requires inside { at + length into.old ≤ 10 }
+    requires few { calls ≤ 100 }
+{
+    let disk = FuseDisk::new(three_sends(alloc)?, CALLS_OF_OPEN + calls);
+    if disk.len() != 131_600 {
+        return Err(Fail::from("another length"));
+    }
+    let opened = Areas::open(alloc, disk).ok().ok_or("open")?;
+    if opened.gate != 65_628 || opened.room != 172 {
+        return Err(Fail::from("another area"));
+    }
+    let mut areas = opened.areas;
+    Ok(read_both(&mut areas, at, into))
 }
 
 #[test]
