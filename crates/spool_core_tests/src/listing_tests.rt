@@ -42,8 +42,9 @@ fn listed(alloc: Global, payloads: &[&[u8]]) -> Result<MemDisk, Fail> {
     let mut disk = made(alloc, 400)?;
     let mut journal = Vec::new(alloc);
     for payload in payloads {
+        let len = u32::try_from(payload.len()).ok().ok_or("too long")?;
         journal.push(0xA5)?;
-        journal.extend_from_slice(&(payload.len() as u32).to_be_bytes())?;
+        journal.extend_from_slice(&len.to_be_bytes())?;
         journal.extend_from_slice(payload)?;
     }
     journal.push(0)?;
