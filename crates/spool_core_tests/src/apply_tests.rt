@@ -1,4 +1,4 @@
-use crate::samples::{id, made, opened};
+use crate::samples::{made, opened, read};
 use crate::test_words::{Device, check_rows, lasting};
 use spool_core::*;
 use spool_disk::{FuseDisk, MemDisk};
@@ -21,20 +21,6 @@ pub(crate) fn failing(alloc: Global, size: usize, calls: u32) -> Result<Spool<De
     let opening = calls_of_opening(alloc)?;
     let calls = u64::from(opening) + u64::from(calls);
     opened(alloc, FuseDisk::new(made(alloc, size)?, calls))
-}
-
-// Reads as many bytes of the document of job 1, from a place on, as there is room for, where it has them.
-fn read(
-    spool: &mut Spool<Device>,
-    at: usize,
-    into: &mut [u8],
-) -> Result<Result<(), ReadFault>, Fail> {
-    let job = id(1)?;
-    let len = spool.table().job(job).ok_or("no job")?.document.len();
-    if into.len() <= len && at <= len - into.len() {
-        return Ok(spool.read_document(job, at, into));
-    }
-    Err(Fail::from("not so long"))
 }
 
 #[test]

@@ -1,5 +1,5 @@
 //! Areas that begin with the rows of a listing.
-use crate::samples::{id, made, opened, write};
+use crate::samples::{id, made, opened, read, write};
 use spool_core::*;
 use spool_disk::MemDisk;
 use spool_types::{Moment, Phase};
@@ -63,7 +63,7 @@ fn a_listing_is_its_table(rt: HostRuntime) -> Result<(), Fail> {
     assert_eq!(rt; matches!(row.phase, Phase::Waiting { .. }), true);
     assert_eq!(rt; row.document.as_slice(), b"hi".as_slice());
     let mut bytes = [0; 2];
-    assert_eq!(rt; spool.read_document(id(1)?, 0, &mut bytes), Ok(()));
+    assert_eq!(rt; read(&mut spool, 0, &mut bytes)?, Ok(()));
     assert_eq!(rt; bytes.as_slice(), b"hi".as_slice());
     Ok(())
 }

@@ -1,5 +1,5 @@
 //! Events and disks for the tests.
-use spool_core::{Spool, make};
+use spool_core::{ReadFault, Spool, make};
 use spool_disk::{Disk, MemDisk};
 use spool_types::{
     AttemptNumber, Closing, Copies, Effect, Effects, Event, Exit, Filters, Interval, JobId,
@@ -84,6 +84,20 @@ pub(crate) fn write(disk: &mut MemDisk, place: u64, bytes: &[u8]) -> Result<(), 
 
 pub(crate) fn opened<D: Disk + Drop>(alloc: Global, disk: D) -> Result<Spool<D>, Fail> {
     Ok(Spool::open(alloc, disk).ok().ok_or("not opened")?)
+}
+
+// Reads as many bytes of the document of job 1, from a place on, as there is room for, where it has them.
+pub(crate) fn read<D: Disk + Drop>(
+    spool: &mut Spool<D>,
+    at: usize,
+    into: &mut [u8],
+) -> Result<Result<(), ReadFault>, Fail> {
+    let job = id(1)?;
+    let len = spool.table().job(job).ok_or("no job")?.document.len();
+    if into.len() <= len && at <= len - into.len() {
+        return Ok(spool.read_document(job, at, into));
+    }
+    Err(Fail::from("not so long"))
 }
 
 // The end of the first attempt of job 1, which prints its document, with these effects of its standard error.

@@ -148,22 +148,38 @@ create a ann x 1 50 \"\"\nclose 1 x\n\
 create b ann x 1 50 \"\"\nclose 2 x\n\
 create c ann x 1 50 \"\"\nclose 3 x\n";
 
+// What an engine answers to two rounds of three jobs where the disk fails after so many calls, if it can be opened, and
+// how many children it started and finished.
+fn two_rounds(alloc: Global, calls: u64) -> Result<Option<(String, usize, usize)>, Fail> {
+    let disk = FuseDisk::new(spool_disk(alloc)?, calls);
+    let three = children(alloc, &[true, false, true], &[0, 0])?;
+    match engine_over(alloc, disk, three)? {
+        Some(engine) => Ok(Some(rounds_of(alloc, engine)?)),
+        None => Ok(None),
+    }
+}
+
+fn rounds_of(
+    alloc: Global,
+    mut engine: Engine<FuseDisk<MemDisk>, MemChildren>,
+) -> Result<(String, usize, usize), Fail> {
+    replies(alloc, &mut engine, THREE_JOBS)?;
+    let text = replies(alloc, &mut engine, "round\nround\n")?;
+    let (_, children) = engine.into_parts();
+    Ok((text, children.orders().len(), children.finished()))
+}
+
 #[test]
 fn children_are_finished_after_a_fault_of_the_disk(rt: HostRuntime) -> Result<(), Fail> {
     let alloc = rt.alloc();
     let mut seen = false;
     for calls in 0..96 {
-        let disk = FuseDisk::new(spool_disk(alloc)?, calls);
-        let three = children(alloc, &[true, false, true], &[0, 0])?;
-        if let Some(mut engine) = engine_over(alloc, disk, three)? {
-            replies(alloc, &mut engine, THREE_JOBS)?;
-            let text = replies(alloc, &mut engine, "round\nround\n")?;
-            let (_, children) = engine.into_parts();
-            if children.orders().len() == 3 {
-                assert_eq!(rt; children.finished(), 2, "at {calls}");
+        if let Some((text, started, finished)) = two_rounds(alloc, calls)? {
+            if started == 3 {
+                assert_eq!(rt; finished, 2, "at {calls}");
                 seen |= text.as_str() == "error disk\nerror dead\n";
             } else {
-                assert_eq!(rt; children.orders().len(), 0, "at {calls}");
+                assert_eq!(rt; started, 0, "at {calls}");
             }
         }
     }

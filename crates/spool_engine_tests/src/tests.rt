@@ -58,18 +58,31 @@ fn engine_over<D: Disk + Drop>(alloc: Global, disk: D) -> Result<Engine<D, NoChi
     }
 }
 
-// What an engine replies where the disk fails after so many calls, if it can be opened.
-fn replies_until(alloc: Global, calls: u64) -> Result<Option<Vec<u8>>, Fail> {
-    let script = "queue a s:/ a/b abort-job\nqueue b s:/ a/b abort-job\nclose 1 x\n\
-create a ann t 1 50 c={x=1}\njobs\n";
-    let mut engine = match engine_over(alloc, FuseDisk::new(spool_disk(alloc)?, calls)) {
-        Ok(engine) => engine,
-        Err(_) => return Ok(None),
-    };
+// What an engine replies to these commands.
+fn replies<D: Disk + Drop>(
+    alloc: Global,
+    engine: &mut Engine<D, NoChildren>,
+    script: &str,
+) -> Result<String, Fail> {
     let mut written = Vec::new(alloc);
     engine.run(&mut script.as_bytes(), &mut written)?;
-    Ok(Some(written))
+    Ok(String::from_utf8(written)?)
 }
+
+// What an engine replies where the disk fails after so many calls, and whether it met a fault, if it can be opened.
+fn replies_until(alloc: Global, calls: u64, script: &str) -> Result<Option<(String, bool)>, Fail> {
+    let disk = FuseDisk::new(spool_disk(alloc)?, calls);
+    match engine_over(alloc, disk) {
+        Ok(mut engine) => {
+            let text = replies(alloc, &mut engine, script)?;
+            Ok(Some((text, engine.met_fault())))
+        }
+        Err(_) => Ok(None),
+    }
+}
+
+const FIVE: &str = "queue a s:/ a/b abort-job\nqueue b s:/ a/b abort-job\nclose 1 x\n\
+create a ann t 1 50 c={x=1}\njobs\n";
 
 const AT_FIRST: &str = "error disk\nerror dead\nerror dead\nerror options\nok 0\n";
 
@@ -82,10 +95,10 @@ fn a_disk_that_fails_is_dead_from_then_on(rt: HostRuntime) -> Result<(), Fail> {
     let alloc = rt.alloc();
     let mut seen = [false; 3];
     for calls in 0..64 {
-        if let Some(text) = replies_until(alloc, calls)? {
-            seen[0] |= text.as_slice() == AT_FIRST.as_bytes();
-            seen[1] |= text.as_slice() == THEN.as_bytes();
-            seen[2] |= text.as_slice() == NOT_AT_ALL.as_bytes();
+        if let Some((text, _)) = replies_until(alloc, calls, FIVE)? {
+            seen[0] |= text.as_str() == AT_FIRST;
+            seen[1] |= text.as_str() == THEN;
+            seen[2] |= text.as_str() == NOT_AT_ALL;
         }
     }
     assert_eq!(rt; seen, [true; 3]);
@@ -97,12 +110,9 @@ fn a_fault_of_the_disk_is_told_to_the_caller(rt: HostRuntime) -> Result<(), Fail
     let alloc = rt.alloc();
     let mut told = false;
     for calls in 0..64 {
-        let disk = FuseDisk::new(spool_disk(alloc)?, calls);
-        if let Ok(mut engine) = engine_over(alloc, disk) {
-            let mut written = Vec::new(alloc);
-            engine.run(&mut "clock 1\n".as_bytes(), &mut written)?;
-            let failed = written.as_slice() == b"error disk\n".as_slice();
-            assert_eq!(rt; engine.met_fault(), failed, "at {calls}");
+        if let Some((text, met)) = replies_until(alloc, calls, "clock 1\n")? {
+            let failed = text.as_str() == "error disk\n";
+            assert_eq!(rt; met, failed, "at {calls}");
             told |= failed;
         }
     }
@@ -110,16 +120,23 @@ fn a_fault_of_the_disk_is_told_to_the_caller(rt: HostRuntime) -> Result<(), Fail
     Ok(())
 }
 
+// The spool that these commands leave, where the replies are these.
+fn left_by(alloc: Global, script: &str, wanted: &str) -> Result<Spool<MemDisk>, Fail> {
+    let mut engine = engine_over(alloc, spool_disk(alloc)?)?;
+    let text = replies(alloc, &mut engine, script)?;
+    if text.as_str() != wanted {
+        return Err(Fail::from("other replies"));
+    }
+    let (spool, _) = engine.into_parts();
+    Ok(spool)
+}
+
 #[test]
 fn a_job_keeps_its_options_as_they_are_printed(rt: HostRuntime) -> Result<(), Fail> {
     let alloc = rt.alloc();
-    let mut engine = engine_over(alloc, spool_disk(alloc)?)?;
     let script = "queue lab s:/ a/b abort-job\n\
 create lab ann t 1 50 \"media=A4 nocollate duplex note='a b'\"\n";
-    let mut written = Vec::new(alloc);
-    engine.run(&mut script.as_bytes(), &mut written)?;
-    assert_eq!(rt; written.as_slice(), b"ok\nok job 1\n".as_slice());
-    let (spool, _) = engine.into_parts();
+    let spool = left_by(alloc, script, "ok\nok job 1\n")?;
     let number = JobId::new(1).ok_or("no number")?;
     let job = spool.table().job(number).ok_or("no job")?;
     assert_eq!(rt;
@@ -147,23 +164,26 @@ fn printed(alloc: Global) -> Result<Event, Fail> {
     }))
 }
 
+// What is listed once the disk of a spool is opened again.
+fn listed_on(alloc: Global, disk: MemDisk, command: &str) -> Result<String, Fail> {
+    let mut engine = engine_over(alloc, disk)?;
+    replies(alloc, &mut engine, command)
+}
+
 #[test]
 fn a_queue_lists_what_its_printer_lacks(rt: HostRuntime) -> Result<(), Fail> {
     let alloc = rt.alloc();
-    let mut engine = engine_over(alloc, spool_disk(alloc)?)?;
     let script = "queue lab s:/ application/octet-stream abort-job\n\
 create lab ann t 1 50 \"\"\nclose 1 x\n";
-    engine.run(&mut script.as_bytes(), &mut Vec::new(alloc))?;
-    let (mut spool, _) = engine.into_parts();
+    let wanted = "ok\nok job 1\nok type application/octet-stream stages 1\n";
+    let mut spool = left_by(alloc, script, wanted)?;
     let job = JobId::new(1).ok_or("no number")?;
     assert!(rt; spool.apply(Event::Start(job)).is_ok());
     assert!(rt; spool.apply(printed(alloc)?).is_ok());
-    let mut engine = engine_over(alloc, spool.into_disk())?;
-    let mut written = Vec::new(alloc);
-    engine.run(&mut "queues\n".as_bytes(), &mut written)?;
+    let text = listed_on(alloc, spool.into_disk(), "queues\n")?;
     let listing = "queue lab 3 accepting application/octet-stream abort-job 30 5 \
 media-empty,toner-low \"\"\nok 1\n";
-    assert_eq!(rt; str::from_utf8(&written)?, listing);
+    assert_eq!(rt; text.as_str(), listing);
     Ok(())
 }
 
@@ -179,12 +199,10 @@ create lab ann t 1 50 \"\"\nclose 1 x\n";
         ("round\n", "ok started 0 finished 1\n"),
         ("drain 5\n", "ok rounds 2\n"),
     ] {
-        let mut engine = engine_over(alloc, spool_disk(alloc)?)?;
         let script = format!(in alloc; "{job}{rounds}jobs\n")?;
-        let mut written = Vec::new(alloc);
-        engine.run(&mut script.as_bytes(), &mut written)?;
+        let text = listed_on(alloc, spool_disk(alloc)?, script.as_str())?;
         let wanted = format!(in alloc; "{made}{told}{aborted}")?;
-        assert_eq!(rt; str::from_utf8(&written)?, wanted.as_str());
+        assert_eq!(rt; text.as_str(), wanted.as_str());
     }
     Ok(())
 }
@@ -267,13 +285,8 @@ fn a_writer_that_fails_ends_the_run(rt: HostRuntime) -> Result<(), Fail> {
 
         // Another engine goes on from the disk that is left.
         let (spool, _) = engine.into_parts();
-        let mut next = engine_over(alloc, spool.into_disk())?;
-        let mut more = Vec::new(alloc);
-        next.run(&mut script.as_bytes(), &mut more)?;
-        assert_eq!(rt;
-            more.as_slice(),
-            b"error 2 QueueExists\nok 0\nok\n".as_slice()
-        );
+        let more = listed_on(alloc, spool.into_disk(), script)?;
+        assert_eq!(rt; more.as_str(), "error 2 QueueExists\nok 0\nok\n");
     }
     Ok(())
 }
