@@ -44,6 +44,10 @@ InOrder items = AllPairs (λ e f. IsTrue (goes_before e f)) items
 abbrev pub LacksJob : List Entry → ℕ → Type 0
 LacksJob items j = (e : Entry) → Contains items e → ¬ (e.id ≡ j)
 
+-- no two are the same job's
+abbrev pub HasEachOnce : List Entry → Type 0
+HasEachOnce items = AllPairs (λ e f. ¬ (e.id ≡ f.id)) items
+
 -- the first that may be started now
 pub record IsFirstStartable (w : Waits) (e : Entry) : Type 0 where
   pub there : Contains w.items e

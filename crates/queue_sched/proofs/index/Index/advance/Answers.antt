@@ -13,6 +13,9 @@ invariant_of-self-else-not-is_before c =
       order = c.self.invariant.order;
       jobs = c.self.invariant.jobs;
       ready = c.self.invariant.ready ∙ same_later a.entries.items a.moment c.args.moment a.due c.self.invariant.due le before;
-      room = c.self.invariant.room;
+      fits = c.self.invariant.fits;
+      room_of_entries = c.self.invariant.room_of_entries;
+      room_of_jobs = c.self.invariant.room_of_jobs;
+      room_of_ready = c.self.invariant.room_of_ready;
       due = until_later a.entries.items a.moment c.args.moment a.due c.self.invariant.due le before;
     }
