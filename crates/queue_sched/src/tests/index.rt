@@ -45,10 +45,10 @@ fn next(index: &Index) -> u32 {
 // Adds a job that isn't there.
 fn add(index: &mut Index, entry: Entry) -> Result<(), Fail> {
     index.reserve(index.jobs().len() + 1)?;
-    if index.entry(entry.id).is_some() {
-        return Err("the job is there")?;
+    match index.entry(entry.id) {
+        Some(_) => return Err("the job is there")?,
+        None => index.insert(entry),
     }
-    index.insert(entry);
     Ok(())
 }
 
@@ -58,6 +58,15 @@ fn take(index: &mut Index, number: u32) -> Result<Entry, Fail> {
     let entry = *index.entry(id).ok_or("the job isn't there")?;
     index.remove(entry);
     Ok(entry)
+}
+
+// Brings a moment that isn't earlier.
+fn bring(index: &mut Index, now: Moment) -> Result<(), Fail> {
+    if now < index.moment() {
+        return Err("the moment is past")?;
+    }
+    index.advance(now);
+    Ok(())
 }
 
 #[test]
@@ -72,7 +81,7 @@ fn the_worked_row(rt: HostRuntime) -> Result<(), Fail> {
     assert_eq!(rt; next(&index), 2);
     take(&mut index, 2)?;
     assert_eq!(rt; next(&index), 1);
-    index.advance(moment(100)?);
+    bring(&mut index, moment(100)?)?;
     assert_eq!(rt; next(&index), 3);
     take(&mut index, 1)?;
     let marked = Entry {
@@ -85,22 +94,14 @@ fn the_worked_row(rt: HostRuntime) -> Result<(), Fail> {
     Ok(())
 }
 
-// Brings a moment that isn't earlier.
-fn bring(index: &mut Index, now: Moment) -> Result<(), Fail> {
-    if now < index.moment() {
-        return Err("the moment is past")?;
-    }
-    index.advance(now);
-    Ok(())
-}
-
 #[test]
 fn an_empty_index(rt: HostRuntime) -> Result<(), Fail> {
     let alloc = rt.alloc();
     let mut index = Index::new(alloc);
     assert!(rt; lists(&index, &[]));
     assert_eq!(rt; next(&index), 0);
-    assert!(rt; index.entry(free(1, 50)?.id).is_none());
+    let absent = entry(1, 50, Hold::Free, Moment::ZERO)?;
+    assert!(rt; index.entry(absent.id).is_none());
     bring(&mut index, moment(100)?)?;
     assert!(rt; index.moment() == moment(100)?);
     assert_eq!(rt; next(&index), 0);
@@ -117,9 +118,10 @@ fn a_job_goes_to_the_front_the_middle_or_the_end(rt: HostRuntime) -> Result<(), 
     assert!(rt; lists(&index, &[4, 5]));
     add(&mut index, free(1, 80)?)?;
     assert!(rt; lists(&index, &[1, 4, 5]));
-    add(&mut index, free(2, 60)?)?;
+    let middle = entry(2, 60, Hold::Free, Moment::ZERO)?;
+    add(&mut index, middle)?;
     assert!(rt; lists(&index, &[1, 2, 4, 5]));
-    assert!(rt; index.entry(free(2, 1)?.id) == Some(&free(2, 60)?));
+    assert!(rt; index.entry(middle.id) == Some(&middle));
     take(&mut index, 1)?;
     take(&mut index, 4)?;
     assert!(rt; lists(&index, &[2, 5]));
