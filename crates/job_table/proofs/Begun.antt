@@ -1,32 +1,29 @@
 -- The jobs are put into the drafts one after another, in ascending order of number.
-use Rattle.std.proofs.Common.{◌≡◌, ℕ, ◌+◌, ◌<◌, ◌≤◌, ◌⊎◌, inl, inr, Bool, true, false, cond, List, [], length, get_or, set, map, Option, Some, None, IsTrue, refl, sym, ap, subst, ◌∙◌, arith}
+use Rattle.std.proofs.Common.{◌≡◌, ℕ, ◌+◌, ◌<◌, ◌≤◌, inl, inr, true, false, cond, List, [], length, get_or, set, map, Option, Some, None, IsTrue, refl, sym, ap, subst, ◌∙◌, arith}
 use Rattle.std.specs.Prelude.{nat_lt, T}
 use Rattle.std.specs.declared.cmp.Ordering.TheVariants.{Less}
-use Rattle.std.specs.List.{All, Contains}
+use Rattle.std.specs.List.{All}
 use Rattle.std.specs.Ordering.{nat_cmp, MatchOrdering}
 use Rattle.std.specs.Cmp.{nat_cmp_total, nat_cmp_is, ranks}
-use Rattle.std.specs.Cmp.Lexicographic.{slice_cmp}
 use Rattle.std.specs.FinMap as finite
 use Rattle.std.proofs.Math.ListN.{get_or-map}
 use Rattle.std.proofs.lemmas.Bool.{cases_eq, cases_lt}
 use Rattle.std.proofs.lemmas.Bool.Decides.{nat_tests}
 use Rattle.std.proofs.lemmas.List.{get_or_default, length-map}
-use Rattle.std.proofs.lemmas.List.Elements.{Contains-get_or}
 use Rattle.spool_types.specs.State.{State, Job, job_of, queue_at, job_at}
 use Rattle.spool_types.specs.declared.rows.JobRow.{JobRow}
-use Rattle.job_table.specs.Drafts.{drafted, IsBlank, IsDraft, AreDrafts}
+use Rattle.job_table.specs.Drafts.{IsBlank, IsDraft, AreDrafts}
 use Rattle.job_table.specs.Lanes.{standing_of, seat, IsReseated, AreBeside}
 use Rattle.job_table.specs.Legal.{IsLegal}
 use Rattle.job_table.specs.Places.{IsPlace, IsNameAt}
 use Rattle.job_table.specs.declared.lane.Standing.{Standing}
 use Rattle.job_table.specs.declared.lane.Standing.TheVariants.{Ended, Processing}
 use Rattle.job_table.specs.declared.lane.draft.Draft.{Draft}
-use Rattle.job_table.proofs.Changes.{some_same}
 use Rattle.job_table.proofs.Choice.{value_there, there_value}
 use Rattle.job_table.proofs.Drafts.{draft_as}
 use Rattle.job_table.proofs.Lanes.{none_left}
 use Rattle.job_table.proofs.Rows as rows
-use Rattle.job_table.proofs.Seats.{processing_phase, seat_absent, seat_else, seat_found, seat_here, beside_each, beside_set}
+use Rattle.job_table.proofs.Seats.{processing_phase, seat_absent, seat_else, seat_found, seat_here, beside_set}
 use Rattle.job_table.proofs.Tables.{map-same, needed_and_not}
 
 -- ## The jobs below a number

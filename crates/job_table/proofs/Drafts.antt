@@ -1,5 +1,5 @@
 -- The draft of a lane once a job is put in, and the lane that it becomes.
-use Rattle.std.proofs.Common.{◌≡◌, ◌↔◌, ℕ, suc, ◌+◌, ◌<◌, ◌≤◌, ◌⊎◌, inl, inr, List, [], ◌∷◌, ◌++◌, length, get_or, map, Option, Some, None, Vec, Global, refl, sym, ap, subst, ◌∙◌, arith}
+use Rattle.std.proofs.Common.{◌≡◌, ◌↔◌, ℕ, ◌+◌, ◌<◌, ◌≤◌, ◌⊎◌, inl, inr, List, [], ◌∷◌, ◌++◌, length, get_or, Some, None, Vec, Global, refl, sym, ap, subst, ◌∙◌, arith}
 use Rattle.std.specs.List.{All, Contains}
 use Rattle.std.specs.FinMap as finite
 use Rattle.std.proofs.lemmas.Bool.{cases_lt}
@@ -33,10 +33,13 @@ blank vs none = record {
 
 -- what is in the list, and the one that is put behind it
 pushed : (es : List Entry) (e f : Entry) → Contains (es ++ e ∷ []) f ↔ (Contains es f ⊎ (f ≡ e))
-pushed es e f = (λ there. elim (Contains-push_cases es e f there) [ inl before ↦ inl before | inr own ↦ inr (sym own) ], λ either. elim either [
-  | inl before ↦ Contains-append_left es (e ∷ []) f before
-  | inr own ↦ subst (λ g. Contains (es ++ e ∷ []) g) (sym own) (Contains-push es e)
-])
+pushed es e f = (
+  λ there. elim (Contains-push_cases es e f there) [ inl before ↦ inl before | inr own ↦ inr (sym own) ],
+  λ either. elim either [
+    | inl before ↦ Contains-append_left es (e ∷ []) f before
+    | inr own ↦ subst (λ g. Contains (es ++ e ∷ []) g) (sym own) (Contains-push es e)
+  ],
+)
 
 module _ (old new : ℕ → Standing) (j : ℕ) (d : Draft) (is : IsDraft old d) (was : old j ≡ Ended) (to : Standing) (seated : IsReseated old new j to) where
   -- with room for one job more

@@ -35,7 +35,7 @@ loop-row-preserved c =
     begun_more c.args.store.now.state c.jobs-rows.ensures.legal c.loop-row.row-index c.loop-row.drafts.items c.loop-row.invariant (job_of c.row-item.result) this
     c.in-Ok.place c.in-Ok.ensures.found c.index_mut.result.now c.add.new.self
     (λ before after is ended seated. c.in_ok-add.ensures.draft before after (subst (IsDraft before) (sym c.index_mut.ensures.value) is) ended
-        (subst (IsReseated before after c.row-item.result.id) (sym c.standing_of_row.ensures) seated))
+    (subst (IsReseated before after c.row-item.result.id) (sym c.standing_of_row.ensures) seated))
     (subst (λ d. c.add.new.self.live ≤ d.live + 1) c.index_mut.ensures.value c.in_ok-add.ensures.live)
 
 pub returns-clause-drafts : goal.returns-clause-drafts

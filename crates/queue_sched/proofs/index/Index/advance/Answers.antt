@@ -1,5 +1,5 @@
 -- before the due moment nothing changes
-use Rattle.std.proofs.Common.{◌≡◌, ◌≤◌, sym, subst, ◌∙◌}
+use Rattle.std.proofs.Common.{◌≤◌, sym, subst, ◌∙◌}
 use Rattle.queue_sched.specs.Lists.{IsBefore}
 use Rattle.queue_sched.proofs.Due.{same_later, until_later}
 use Rattle.queue_sched.proofs.index.Index.advance.Goals as goal

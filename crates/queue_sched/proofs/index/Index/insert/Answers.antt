@@ -1,11 +1,9 @@
 -- an entry more
-use Rattle.std.proofs.Common.{◌≡◌, ◌+◌, ◌<◌, ◌≤◌, ◌⊎◌, ◌↔◌, length, map, true, false, sym, ap, subst, ◌∙◌, arith, IsTrue}
-use Rattle.std.proofs.lemmas.List.{length-map}
+use Rattle.std.proofs.Common.{◌≡◌, ◌<◌, ◌⊎◌, ◌↔◌, length, map, true, false, sym, ap, subst, ◌∙◌, arith, IsTrue}
 use Rattle.std.proofs.lemmas.List.Edits.{length-insert}
 use Rattle.std.proofs.lemmas.List.Kept.{AllPairs-filter}
 use Rattle.std.specs.List.{Contains, filter, insert}
 use Rattle.queue_sched.specs.Index.{InOrder, LacksJob, goes_before, is_startable}
-use Rattle.queue_sched.specs.Lists.{IsSameUntil}
 use Rattle.queue_sched.proofs.Due.{with_ready, with_waiting}
 use Rattle.queue_sched.proofs.Startable.{numbers_insert, passed_over, put_among, fewer}
 use Rattle.queue_sched.proofs.Turns.{in_order_insert, has_more}

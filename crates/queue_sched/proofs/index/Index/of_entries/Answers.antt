@@ -1,7 +1,6 @@
 -- the sorted entries are the given ones
-use Rattle.std.proofs.Common.{◌≡◌, ◌↔◌, List, length, sym, subst}
+use Rattle.std.proofs.Common.{List, sym, subst}
 use Rattle.std.proofs.lemmas.List.Sorted.{length_permutation}
-use Rattle.std.specs.List.{Contains}
 use Rattle.std.specs.List.Sorted.{IsPermutation}
 use Rattle.queue_sched.specs.declared.entry.Entry.{Entry}
 use Rattle.queue_sched.proofs.Sorted.{same_entries}

@@ -1,5 +1,5 @@
 -- no list has more than fit
-use Rattle.std.proofs.Common.{◌≡◌, ◌<◌, length, ap, arith}
+use Rattle.std.proofs.Common.{length, ap, arith}
 use Rattle.queue_sched.specs.Index.{is_startable}
 use Rattle.queue_sched.proofs.Startable.{fewer}
 use Rattle.queue_sched.proofs.index.Index.reserve.Goals as goal
