@@ -5,6 +5,7 @@ It runs crates/spool_shell/out/spool_shell (made by `rt run` in that folder) wit
 (here, where none is given), and prints
 
 - the time of an event, and its ratio to the floor: two writes and two syncs an event by a plain program (floor.c);
+- the same of the longest sends, each of 65,536 bytes, sixteen a document;
 - the time of a checkpoint as the table grows, and its ratio to the floor: a checkpoint appends each row as an event is
   appended. Beside it stands the time in which the same bytes are written and synced at once.
 
@@ -25,15 +26,18 @@ shell = os.path.join(here, "..", "crates", "spool_shell", "out", "spool_shell")
 QUEUE = b"queue lab spoolfile:/out application/octet-stream abort-job\n"
 CREATE = b'create lab ann "A title" 1 50 ""\n'
 EVENTS = 2000
+PIECE = 65_536
+PIECES = 16  # of a document of the full size
+DOCUMENTS = 32
 
 HEADER = 16  # bytes of an area's header
 GATE = b"\xa5"
 
 
-def run(root, script):
+def run(root, script, *words):
     """The seconds of a script over the spool in this folder."""
     start = time.perf_counter()
-    done = subprocess.run([shell, "--root", "."], cwd=root, input=script, stdout=subprocess.PIPE, check=True)
+    done = subprocess.run([shell, "--root", ".", *words], cwd=root, input=script, stdout=subprocess.PIPE, check=True)
     took = time.perf_counter() - start
     if b"error" in done.stdout:
         sys.exit("a reply was an error")
@@ -81,6 +85,23 @@ def events(folder):
         )
 
 
+def sends(folder):
+    """The longest sends beside their floor, in turns. The floor has no pipe to read them from."""
+    count = DOCUMENTS * PIECES
+    print(f"{count} sends of {PIECE} bytes, each beside two writes and two syncs")
+    piece = bytes(PIECE)
+    for turn in range(3):
+        root = os.path.join(folder, f"sends-{turn}")
+        os.mkdir(root)
+        run(root, QUEUE + CREATE * DOCUMENTS, "--size", str(4 * DOCUMENTS * PIECES * PIECE))
+        lines = (b"send %d %d\n%b\n" % (job, PIECE, piece) for job in range(1, DOCUMENTS + 1) for _ in range(PIECES))
+        script = b"".join(lines)
+        opened = min(run(root, b"") for _ in range(3))
+        took = run(root, script) - opened
+        least = floor(folder, count, record_length(9 + PIECE))
+        print(f"  {count / took:8.0f} a second, the floor {count / least:8.0f}, ratio {took / least:5.2f}")
+
+
 def written(folder, size):
     """The seconds in which so many bytes are written and synced at once."""
     there = bytes(size)
@@ -115,6 +136,7 @@ def main():
         sys.exit("no program: run `rt run` in crates/spool_shell first")
     with tempfile.TemporaryDirectory(dir=sys.argv[1] if len(sys.argv) > 1 else ".") as folder:
         events(folder)
+        sends(folder)
         checkpoints(folder)
 
 

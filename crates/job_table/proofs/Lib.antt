@@ -19,3 +19,12 @@ pub mod Ascending
 pub mod Pieces
 pub mod Taken
 pub mod Reloaded
+pub mod Names
+pub mod Moves
+pub mod Lanes
+pub mod Seats
+pub mod Indexed
+pub mod Busy
+pub mod Held
+pub mod Drafts
+pub mod Begun

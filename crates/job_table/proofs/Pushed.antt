@@ -12,7 +12,7 @@ use Rattle.job_table.specs.Legal.{IsLegal}
 use Rattle.job_table.specs.Loading.{IsAbove, with_queue, with_job}
 use Rattle.job_table.specs.Rows.{IsFreed}
 use Rattle.job_table.specs.Seen.{contents_of, IsOrdered}
-use Rattle.job_table.specs.declared.table.Table.TheInside.{Inside}
+use Rattle.job_table.specs.declared.store.Store.TheInside.{Inside}
 use Rattle.job_table.proofs.Above.{insert_last, last_gap}
 use Rattle.job_table.proofs.Rooms.{freed_insert}
 use Rattle.job_table.proofs.Tables.{IsQueueGap, IsJobGap, insert_queue, sorted_insert_queue, keys_queues, insert_job, sorted_insert_job, keys_jobs}

@@ -9,7 +9,7 @@ use Rattle.job_table.specs.Loading.{Progress, IsNewJob}
 use Rattle.job_table.specs.declared.loading.Loading.TheInside.{Inside}
 
 abbrev pub progress_of : Inside → Progress
-progress_of a = record { state = a.table.state; begun = a.begun; partial = option_map job_of a.partial }
+progress_of a = record { state = a.store.state; begun = a.begun; partial = option_map job_of a.partial }
 
 -- whole pieces of the document are there, and some bytes are still to come
 pub record IsPartial (s : State) (r : Job) : Type 0 where

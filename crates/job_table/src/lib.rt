@@ -6,6 +6,10 @@
 //! [`Table::commit`] changes the rows. So whoever keeps a journal writes the event down between the two, when it can
 //! neither be refused nor find no memory.
 //!
+//! A table is its rows (`Store`) and, for each queue, a lane (`Lane`): the index of the queue's waiting jobs, its processing
+//! job, and how many of its jobs haven't ended. The lanes tell nothing that the rows don't; they are there so that no choice
+//! looks through the rows.
+//!
 //! # What an event does
 //!
 //! `specs/` says it, and the crates above cite it:
@@ -33,7 +37,9 @@
 //!   the step (`step`). Each reader gives exactly what the state has.
 //! - *ExactChoice* for a table: [`Table::next`] names the job of a queue that is to be started next (`IsNextJob`), and
 //!   none exactly where no job of the queue is eligible (`next_of`). A Start of any other waiting job is refused as NotNext
-//!   (`is_next`). [`Table::is_idle`] tells whether no job is processing (`HasNoProcessing`).
+//!   (`is_next`). [`Table::index`] lends the index of a queue, which has exactly its waiting jobs (`IsIndexOf`), each before
+//!   those that it beats. [`Table::processing`] names the job of a queue that is processing (`busy_of`), and
+//!   [`Table::is_idle`] tells whether none is in any queue (`HasNoProcessing`).
 //! - *Reopening* ([`reopening`]): the event Reopen applies to each processing job the error policy of its queue, and
 //!   changes nothing else but that a queue stops where the policy says so. No job is processing after it, and where none
 //!   was before, it changes nothing.
@@ -61,10 +67,21 @@
 //!    job comes last, as its number is above all others, so no row moves for it. No call copies a document or a text of an
 //!    event.
 //! 5. A job that has ended holds no memory for its document (`IsFreedWhenEnded`).
+//! 6. Each queue has its lane, in the order of the queues (`AreLanes`). The lane's index has the queue's waiting jobs and the
+//!    table's moment, its processing job is the queue's, and no more of the queue's jobs haven't ended than it counts
+//!    (`IsLane`). It has room for all of these to wait, and for as many new jobs as the table has room for: whichever of
+//!    them comes to wait, by an event or by a reopening, its index takes no memory.
+//! 7. The rows of a loading are legal. Its last job stands beside them while the document is short: whole pieces of it are
+//!    there, and the job may be put in as the last row (`IsReading`). The memory for the row and for the whole document is
+//!    asked for when the job comes, so that no piece has to move the document. No clause says so. The lanes are made once
+//!    all rows are there.
 //!
-//! 6. The table of a loading is legal. Its last job stands beside it while the document is short: whole pieces of it are
-//!    there, and the job may be put in as the table's last row (`IsReading`). The memory for the row and for the whole
-//!    document is asked for when the job comes, so that no piece has to move the document. No clause says so.
+//! # Cost
+//!
+//! A row is found by binary search. The next job, and the processing one, is read from a lane. An event about a job takes
+//! its entry from the lane's index and puts it where it goes now, each by binary search. A clock goes to each lane, and
+//! looks through the jobs of one only where a job of it may be started from then on. [`Loading::into_table`] sorts each
+//! queue's waiting jobs once.
 //!
 //! # Faults
 //!
@@ -73,9 +90,11 @@
 //! against what is so of each table, or there was no memory for it.
 #![tactic(auto)]
 
+mod lane;
 mod laws;
 mod listing;
 mod loading;
+mod store;
 mod table;
 
 pub use laws::{
@@ -84,4 +103,5 @@ pub use laws::{
 };
 pub use listing::listed;
 pub use loading::{LoadFault, Loading};
-pub use table::{PrepareFault, Table, is_in_stage};
+pub use store::is_in_stage;
+pub use table::{PrepareFault, Table};

@@ -14,6 +14,7 @@ ghost use Rattle.job_table.specs.Legal.{IsLegal, Fits, IsUntyped, IsStartable, I
 ghost use Rattle.job_table.specs.Loading.{IsWhole, IsPlaced, IsNewQueue, IsNewJob, IsNextQueue, IsNextJob, IsNextPiece, IsPieceOf, begin_loading, loaded, unlisted, document_len, with_job, with_piece};
 ghost use Rattle.job_table.specs.Rows.{IsFreed};
 
+use crate::store::Store;
 use crate::table::Table;
 use spool_types::{
     Attribute, Head, JobId, JobRow, LONGEST_DOCUMENT, LONGEST_SEND, ListedJob, MOST_QUEUES, Phase,
@@ -45,7 +46,7 @@ impl From<AllocError> for LoadFault {
 #[derive(Debug, Drop)]
 pub struct Loading {
     // All that is whole.
-    table: Table,
+    store: Store,
     // Whether the head has come.
     begun: bool,
     // The last job while its document is short.
@@ -75,7 +76,7 @@ impl Loading {
         ensures { result ≡ begin_loading }
     {
         Loading {
-            table: Table::new(alloc),
+            store: Store::new(alloc),
             begun: false,
             partial: None,
             alloc,
@@ -105,12 +106,13 @@ impl Loading {
         self.partial.is_none()
     }
 
-    /// The table that the rows list. Only a whole listing gives one, which `is_whole` tells.
-    pub fn into_table(self) -> Table
+    /// The table that the rows list. Only a whole listing gives one, which `is_whole` tells. The lanes of all queues are
+    /// built at once, which takes memory.
+    pub fn into_table(self) -> Result<Table, AllocError>
         requires { IsWhole self }
-        ensures { result.state ≡ self.state }
+        ensures { IfOk result (λ table. table.state ≡ self.state) }
     {
-        self.table
+        Table::of_rows(self.alloc, self.store)
     }
 
     fn load_head(&mut self, head: Head) -> Result<(), LoadFault>
@@ -122,7 +124,7 @@ impl Loading {
         if self.begun || JobId::GREATEST < head.highest {
             return Err(LoadFault::Misplaced);
         }
-        self.table.set_head(head);
+        self.store.set_head(head);
         self.begun = true;
         Ok(())
     }
@@ -136,7 +138,7 @@ impl Loading {
         if !self.takes_queue(&queue) {
             return Err(LoadFault::Misplaced);
         }
-        self.table.push_queue(queue)?;
+        self.store.push_queue(queue)?;
         Ok(())
     }
 
@@ -149,9 +151,9 @@ impl Loading {
         if !self.takes_job(&job) {
             return Err(LoadFault::Misplaced);
         }
-        self.table.reserve_job()?;
+        self.store.reserve_job()?;
         let row = unlisted_row(self.alloc, job)?;
-        self.partial = settle(&mut self.table, row);
+        self.partial = settle(&mut self.store, row);
         Ok(())
     }
 
@@ -164,10 +166,10 @@ impl Loading {
         if !self.takes_piece(job, bytes) {
             return Err(LoadFault::Misplaced);
         }
-        self.table.reserve_job()?;
+        self.store.reserve_job()?;
         append_piece(&mut self.partial, bytes)?;
         if let Some(row) = self.partial.take() {
-            self.partial = settle(&mut self.table, row);
+            self.partial = settle(&mut self.store, row);
         }
         Ok(())
     }
@@ -176,14 +178,14 @@ impl Loading {
         ensures yes { IsTrue result → IsNextQueue self.now queue.now }
         ensures no { result ≡ false → ¬ (IsNextQueue self.now queue.now) }
     {
-        self.begun && self.partial.is_none() && is_new_queue(&self.table, queue)
+        self.begun && self.partial.is_none() && is_new_queue(&self.store, queue)
     }
 
     fn takes_job(&self, job: &ListedJob) -> bool
         ensures yes { IsTrue result → IsNextJob self.now job.now }
         ensures no { result ≡ false → ¬ (IsNextJob self.now job.now) }
     {
-        self.begun && self.partial.is_none() && is_new_job(&self.table, job)
+        self.begun && self.partial.is_none() && is_new_job(&self.store, job)
     }
 
     fn takes_piece(&self, job: JobId, bytes: &[u8]) -> bool
@@ -219,41 +221,41 @@ fn append_piece(last: &mut Option<JobRow>, bytes: &[u8]) -> Result<(), AllocErro
 }
 
 // Whether the queue may be added to the table: behind its queues, and before its jobs.
-fn is_new_queue(table: &Table, queue: &QueueRow) -> bool
-    ensures yes { IsTrue result → IsNewQueue table.now.state queue.now }
-    ensures no { result ≡ false → ¬ (IsNewQueue table.now.state queue.now) }
+fn is_new_queue(store: &Store, queue: &QueueRow) -> bool
+    ensures yes { IsTrue result → IsNewQueue store.now.state queue.now }
+    ensures no { result ≡ false → ¬ (IsNewQueue store.now.state queue.now) }
 {
-    has_no_jobs(table)
-        && table.queue_count() < MOST_QUEUES
-        && table.is_above_queues(&queue.name)
+    has_no_jobs(store)
+        && store.queue_count() < MOST_QUEUES
+        && store.is_above_queues(&queue.name)
         && is_in_order(queue)
 }
 
-fn has_no_jobs(table: &Table) -> bool
-    ensures yes { IsTrue result → finite.values table.now.state.jobs ≡ [] }
-    ensures no { result ≡ false → ¬ (finite.values table.now.state.jobs ≡ []) }
+fn has_no_jobs(store: &Store) -> bool
+    ensures yes { IsTrue result → finite.values store.now.state.jobs ≡ [] }
+    ensures no { result ≡ false → ¬ (finite.values store.now.state.jobs ≡ []) }
 {
-    table.jobs().is_empty()
+    store.jobs().is_empty()
 }
 
 // Whether the job may be added to the table, behind its jobs.
-fn is_new_job(table: &Table, job: &ListedJob) -> bool
-    ensures yes { IsTrue result → IsNewJob table.now.state (unlisted job.now) }
-    ensures no { result ≡ false → ¬ (IsNewJob table.now.state (unlisted job.now)) }
+fn is_new_job(store: &Store, job: &ListedJob) -> bool
+    ensures yes { IsTrue result → IsNewJob store.now.state (unlisted job.now) }
+    ensures no { result ≡ false → ¬ (IsNewJob store.now.state (unlisted job.now)) }
 {
-    table.is_above_jobs(job.id)
-        && job.id.get() <= table.highest()
-        && table.queue(&job.queue).is_some()
+    store.is_above_jobs(job.id)
+        && job.id.get() <= store.highest()
+        && store.queue(&job.queue).is_some()
         && fits(job)
         && job.size as usize <= LONGEST_DOCUMENT
-        && is_alone(table, job)
+        && is_alone(store, job)
 }
 
 // Whether no other job of its queue is processing, where it is. Only then the jobs are looked through.
-fn is_alone(table: &Table, job: &ListedJob) -> bool
-    ensures { result ≡ not (is_processing job.now.phase && is_busy (finite.values table.now.state.jobs) job.now.queue) }
+fn is_alone(store: &Store, job: &ListedJob) -> bool
+    ensures { result ≡ not (is_processing job.now.phase && is_busy (finite.values store.now.state.jobs) job.now.queue) }
 {
-    !(job.phase.is_processing() && is_busy(table.jobs(), &job.queue))
+    !(job.phase.is_processing() && is_busy(store.jobs(), &job.queue))
 }
 
 // Whether the phase fits the rest of the row.
@@ -351,16 +353,16 @@ fn unlisted_row(alloc: Global, job: ListedJob) -> Result<JobRow, AllocError>
 }
 
 // The job goes into the table where its document is whole, and else is given back.
-fn settle(table: &mut Table, row: JobRow) -> Option<JobRow>
-    requires room { 0 < table.old.room.jobs }
-    requires legal { IsLegal table.old.state }
-    requires new { IsNewJob table.old.state (job_of row) }
+fn settle(store: &mut Store, row: JobRow) -> Option<JobRow>
+    requires room { 0 < store.old.room.jobs }
+    requires legal { IsLegal store.old.state }
+    requires new { IsNewJob store.old.state (job_of row) }
     requires freed { IsFreed row }
-    ensures state { table.new.state ≡ cond (length row.document.items == document_len (job_of row)) (with_job table.old.state (job_of row)) table.old.state }
+    ensures state { store.new.state ≡ cond (length row.document.items == document_len (job_of row)) (with_job store.old.state (job_of row)) store.old.state }
     ensures rest { option_map job_of result ≡ cond (length row.document.items == document_len (job_of row)) None (Some (job_of row)) }
 {
     if row.document.len() == document_len(row.phase, row.size) {
-        table.push_job(row);
+        store.push_job(row);
         None
     } else {
         Some(row)

@@ -2,6 +2,8 @@
 #![tactic(auto)]
 
 #[cfg(test)]
+mod index_tests;
+#[cfg(test)]
 mod loading;
 #[cfg(test)]
 mod test_answers;

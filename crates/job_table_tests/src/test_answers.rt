@@ -1,7 +1,7 @@
 //! What a table says to the rows of tests, as text.
 use crate::test_words::{event_of, job_id, queue_name};
 use job_table::{PrepareFault, Table};
-use spool_types::{Event, Hold, JobRow, Phase, QueueRow, Reply};
+use spool_types::{Event, Hold, JobId, JobRow, Phase, QueueRow, Reply};
 use std::alloc::{AllocError, Global};
 use std::process::Abort;
 use std::test::Fail;
@@ -98,8 +98,10 @@ fn answer(alloc: Global, table: &Table, question: &str, words: &[&str]) -> Resul
         "idle" => flag_text(alloc, table.is_idle()),
         "queues" => queue_names(alloc, table.queues()),
         "jobs" => job_numbers(alloc, table.jobs()),
-        "next" => match table.next(&queue_name(alloc, words)?) {
-            Some(job) => number_text(alloc, u64::from(job.get())),
+        "next" => job_text(alloc, table.next(&queue_name(alloc, words)?)),
+        "busy" => job_text(alloc, table.processing(&queue_name(alloc, words)?)),
+        "index" => match table.index(&queue_name(alloc, words)?) {
+            Some(index) => index_text(alloc, index.jobs()),
             None => Ok(String::from_str(alloc, "none")?),
         },
         _ => match table.queue(&queue_name(alloc, words)?) {
@@ -111,6 +113,13 @@ fn answer(alloc: Global, table: &Table, question: &str, words: &[&str]) -> Resul
 
 fn number_text(alloc: Global, number: u64) -> Result<String, Fail> {
     Ok(format!(in alloc; "{number}")?)
+}
+
+fn job_text(alloc: Global, job: Option<JobId>) -> Result<String, Fail> {
+    match job {
+        Some(job) => number_text(alloc, u64::from(job.get())),
+        None => Ok(String::from_str(alloc, "none")?),
+    }
 }
 
 fn flag_text(alloc: Global, flag: bool) -> Result<String, Fail> {
@@ -130,6 +139,16 @@ fn job_numbers(alloc: Global, rows: &[JobRow]) -> Result<String, Fail> {
     let mut text = String::new(alloc);
     for row in rows {
         let number = number_text(alloc, u64::from(row.id.get()))?;
+        text.push(' ')?;
+        text.push_str(number.as_str())?;
+    }
+    Ok(text)
+}
+
+fn index_text(alloc: Global, jobs: &[JobId]) -> Result<String, Fail> {
+    let mut text = String::new(alloc);
+    for job in jobs {
+        let number = number_text(alloc, u64::from(job.get()))?;
         text.push(' ')?;
         text.push_str(number.as_str())?;
     }

@@ -184,7 +184,7 @@ pub(super) fn table_of(loading: Loading) -> Result<Table, Fail> {
     if !loading.is_whole() {
         return Err(Fail::from("a document is short"));
     }
-    Ok(loading.into_table())
+    Ok(loading.into_table()?)
 }
 
 fn take_job(alloc: Global, loading: &mut Loading, job: &JobRow) -> Result<(), Fail> {

@@ -18,7 +18,8 @@ use Rattle.spool_types.specs.Busy.{is_of}
 use Rattle.spool_types.specs.Phases.{is_processing}
 use Rattle.spool_types.specs.State.{State, Job, job_at}
 use Rattle.child_pipeline.specs.Told.{is_in}
-use Rattle.print_rounds.specs.Choice.{busy_of, busy_jobs, with_busy}
+use Rattle.job_table.specs.Attempts.{busy_of}
+use Rattle.print_rounds.specs.Choice.{busy_jobs, with_busy}
 use Rattle.print_rounds.specs.Finished.{AreDistinct, AllRest, HasNoneRunning}
 use Rattle.child_pipeline.specs.Slots.{Slots}
 
@@ -112,15 +113,6 @@ busy_more s (n ∷ names) name = by_busy (busy_more s names name) (busy_of s n)
     by_busy : busy_jobs s (names ++ name ∷ []) ≡ busy_jobs s names ++ with_busy (busy_of s name) [] → (o : Option ℕ) → with_busy o (busy_jobs s (names ++ name ∷ [])) ≡ with_busy o (busy_jobs s names) ++ with_busy (busy_of s name) []
     by_busy rest None = rest
     by_busy rest (Some k) = ap (λ js. k ∷ js) rest
-
--- what is found among the pictures of some things is the picture of what is found among them
-pub find_map : {X Y : Type 0} (p : Y → Bool) (f : X → Y) (xs : List X) → find p (map f xs) ≡ option_map f (find (λ x. p (f x)) xs)
-find_map p f [] = refl
-find_map p f (x ∷ xs) = by_test (p (f x)) (find_map p f xs)
-  where
-    by_test : (b : Bool) → find p (map f xs) ≡ option_map f (find (λ y. p (f y)) xs) → cond b (Some (f x)) (find p (map f xs)) ≡ option_map f (cond b (Some x) (find (λ y. p (f y)) xs))
-    by_test true rest = refl
-    by_test false rest = rest
 
 -- the list after one queue more, whose job is known
 pub busy_further : (s : State) (names : List (List ℕ)) (i : ℕ) (name : List ℕ) → i < length names → name ≡ get_or names i name → (o : Option ℕ) → o ≡ busy_of s name → (js : List ℕ) → js ≡ busy_jobs s (take i names) → js ++ with_busy o [] ≡ busy_jobs s (take (i + 1) names)

@@ -1,19 +1,12 @@
 -- Which jobs are processing, queue by queue, and whether the stage of one is to be started.
 use Rattle.std.specs.Prelude.{ℕ, Bool, true, false, cond, ◌&&◌, ◌==◌, List, [], ◌∷◌, Option, None, Some}
-use Rattle.std.specs.Option.{option_map}
-use Rattle.std.specs.List.{find}
 use Rattle.std.specs.FinMap as map
 use Rattle.spool_types.specs.declared.phase.Phase.{Phase}
 use Rattle.spool_types.specs.declared.phase.Phase.TheVariants.{Incoming, Waiting, Processing, Completed, Canceled, Aborted}
-use Rattle.spool_types.specs.Busy.{is_of}
-use Rattle.spool_types.specs.Phases.{is_processing}
 use Rattle.spool_types.specs.State.{State, Job}
+use Rattle.job_table.specs.Attempts.{busy_of}
 use Rattle.child_pipeline.specs.Slots.{Slots, begun_in, is_ready}
 use Rattle.child_pipeline.specs.declared.runner.Slot.{Slot}
-
--- the job of the queue that is processing, if one is
-abbrev pub busy_of : State → List ℕ → Option ℕ
-busy_of s name = option_map (λ (r : Job). r.id) (find (λ r. is_of name r && is_processing r.phase) (map.values s.jobs))
 
 abbrev pub with_busy : Option ℕ → List ℕ → List ℕ
 with_busy None js = js

@@ -38,8 +38,8 @@
 //!
 //! # Cost
 //!
-//! A round visits the slots once, and for each queue the rows of the jobs twice. It takes memory for the list of the jobs
-//! before all else, and then for each order and each event.
+//! A round visits the slots once. The table tells each queue's next job and its processing one without a look at the rows of
+//! jobs. A round takes memory for the list of the jobs before all else, and then for each order and each event.
 #![tactic(auto)]
 
 mod busy;

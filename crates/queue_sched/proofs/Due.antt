@@ -1,11 +1,11 @@
 -- Until when the same entries may be started.
-use Rattle.std.proofs.Common.{◌≡◌, ℕ, ◌+◌, ◌<◌, ◌≤◌, ◌⊎◌, Bool, true, false, nat_le, List, [], ◌∷◌, ◌++◌, length, take, get_or, Option, None, Some, MatchOption, inl, inr, refl, sym, ap, subst, ◌∙◌, arith}
+use Rattle.std.proofs.Common.{◌≡◌, ℕ, ◌+◌, ◌<◌, ◌≤◌, ◌⊎◌, true, false, nat_le, List, [], ◌∷◌, ◌++◌, length, Option, None, Some, MatchOption, inl, inr, refl, sym, ap, subst, ◌∙◌, append_assoc, arith}
 use Rattle.std.proofs.Math.Logic.{⊎_elim}
 use Rattle.std.proofs.lemmas.Bool.{both_ways}
 use Rattle.std.proofs.lemmas.Bool.Decides.{nat_tests}
-use Rattle.std.proofs.lemmas.List.{take_more}
+use Rattle.std.proofs.lemmas.List.{append-nil, nil_from_length}
 use Rattle.std.proofs.lemmas.List.Elements.{Contains-push_cases}
-use Rattle.std.specs.List.{Contains, filter, insert}
+use Rattle.std.specs.List.{Contains, filter}
 use Rattle.spool_types.specs.declared.phase.Hold.{Hold}
 use Rattle.spool_types.specs.declared.phase.Hold.TheVariants.{Free, Indefinite, Until}
 use Rattle.queue_sched.specs.Index.{is_startable}
@@ -56,8 +56,40 @@ pub until_later : (xs : List Entry) (now m : ℕ) (due : Option ℕ) → IsSameU
 until_later xs now m due same le before e there m' le' before' =
     same e there m' (omega (arith, le, le')) before' ∙ sym (same e there m le before)
 
--- in a loop
-pub one_more : (xs : List Entry) (i : ℕ) (e : Entry) → i < length xs → e ≡ get_or xs i e → (f : Entry) → Contains (take (i + 1) xs) f → Contains (take i xs) f ⊎ (f ≡ e)
-one_more xs i e inside is f there =
-    ⊎_elim (λ old. inl old) (λ (same : get_or xs i e ≡ f). inr (sym same ∙ sym is))
-    (Contains-push_cases (take i xs) (get_or xs i e) f (subst (λ l. Contains l f) (take_more xs i e inside) there))
+-- in a loop that has passed some entries, and has these left
+pub record IsSameSoFar (xs left : List Entry) (now : ℕ) (due : Option ℕ) : Type 0 where
+  pub done : List Entry
+  pub rest : done ++ left ≡ xs
+  pub same : IsSameUntil done now due
+
+pub none_so_far : (xs left : List Entry) (now : ℕ) (due : Option ℕ) → left ≡ xs → IsSameSoFar xs left now due
+none_so_far xs left now due all = record {
+  done = [];
+  rest = all;
+  same = λ e there. absurd (omega (arith, there.1));
+}
+
+module _ (xs left : List Entry) (e : Entry) (left' : List Entry) (now : ℕ) (due : Option ℕ) (so_far : IsSameSoFar xs left now due) (is : left ≡ e ∷ left') where
+  cases : (f : Entry) → Contains (so_far.done ++ e ∷ []) f → Contains so_far.done f ⊎ (f ≡ e)
+  cases f there = ⊎_elim (λ old. inl old) (λ (same : e ≡ f). inr (sym same)) (Contains-push_cases so_far.done e f there)
+
+  passed : (so_far.done ++ e ∷ []) ++ left' ≡ xs
+  passed = append_assoc so_far.done (e ∷ []) left' ∙ ap (λ l. so_far.done ++ l) (sym is) ∙ so_far.rest
+
+  pub one_ready : is_startable now e ≡ true → IsSameSoFar xs left' now due
+  one_ready so = record {
+    done = so_far.done ++ e ∷ [];
+    rest = passed;
+    same = with_ready so_far.done (so_far.done ++ e ∷ []) e now cases due so_far.same so;
+  }
+
+  pub one_waiting : (start due' : Option ℕ) → IsStart e start → is_startable now e ≡ false → ((m : ℕ) → IsBefore m due' → IsBefore m due × IsBefore m start) → IsSameSoFar xs left' now due'
+  one_waiting start due' starts not_so sooner = record {
+    done = so_far.done ++ e ∷ [];
+    rest = passed;
+    same = with_waiting so_far.done (so_far.done ++ e ∷ []) e now cases due so_far.same start due' starts not_so sooner;
+  }
+
+pub none_left : (xs left : List Entry) (now : ℕ) (due : Option ℕ) → IsSameSoFar xs left now due → length left ≡ 0 → IsSameUntil xs now due
+none_left xs left now due so_far empty =
+    subst (λ l. IsSameUntil l now due) (sym (append-nil so_far.done) ∙ ap (λ l. so_far.done ++ l) (sym (nil_from_length left empty)) ∙ so_far.rest) so_far.same

@@ -1,5 +1,5 @@
 -- The first entry that may be started, and the next job.
-use Rattle.std.proofs.Common.{◌≡◌, ℕ, ◌<◌, Bool, true, false, ◌&&◌, List, length, get_or, refl, sym, ap, subst, ◌∙◌, arith, IsTrue}
+use Rattle.std.proofs.Common.{◌≡◌, ℕ, ◌<◌, Bool, true, false, List, length, get_or, refl, sym, ap, subst, ◌∙◌, arith, IsTrue}
 use Rattle.std.proofs.Math.Logic.{⊎_elim}
 use Rattle.std.proofs.lemmas.Bool.{both_ways, and_parts, and_from, false_from_ne_true, cases_order}
 use Rattle.std.proofs.lemmas.List.{get_or_default}
@@ -11,8 +11,8 @@ use Rattle.spool_types.specs.declared.phase.Phase.TheVariants.{Incoming, Waiting
 use Rattle.spool_types.specs.Busy.{is_of}
 use Rattle.spool_types.specs.Phases.{is_waiting, hold_of}
 use Rattle.spool_types.specs.State.{Job}
-use Rattle.queue_sched.specs.Index.{Waits, InOrder, IsFirstStartable, NoneIsStartable, IsIndexOf, is_waiting_of, entry_of, goes_before, is_startable, not_before_of}
-use Rattle.queue_sched.specs.Next.{beats_job, may_start, is_ready, is_free, is_ready_of, is_eligible, IsNextJob}
+use Rattle.queue_sched.specs.Index.{Waits, InOrder, IsFirstStartable, NoneIsStartable, IsIndexOf, entry_of, goes_before, is_startable, not_before_of}
+use Rattle.queue_sched.specs.Next.{may_start, is_ready, is_free, is_ready_of, is_eligible, IsNextJob}
 use Rattle.queue_sched.specs.declared.entry.Entry.{Entry}
 use Rattle.queue_sched.proofs.Startable.{Contains-filter, Contains-unfilter}
 use Rattle.queue_sched.proofs.Turns.{itself, onward}

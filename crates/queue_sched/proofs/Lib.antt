@@ -3,7 +3,7 @@ pub mod Any
 pub mod Best
 pub mod Next
 pub mod Turns
+pub mod Sorted
 pub mod Startable
 pub mod Due
 pub mod Indexed
-pub mod Rooms

@@ -1,22 +1,25 @@
 -- Entries in the order of their turns, with one more and with one less.
-use Rattle.std.proofs.Common.{◌≡◌, ℕ, ◌+◌, ◌-◌, ◌<◌, ◌≤◌, ◌⊎◌, ◌↔◌, Bool, true, false, List, [], ◌∷◌, ◌++◌, length, get_or, inl, inr, refl, sym, ap, subst, ◌∙◌, arith, IsTrue}
+use Rattle.std.proofs.Common.{◌≡◌, ℕ, ◌+◌, ◌-◌, ◌<◌, ◌≤◌, ◌⊎◌, ◌↔◌, true, false, List, [], ◌∷◌, length, get_or, inl, inr, refl, sym, subst, ◌∙◌, arith, IsTrue}
 use Rattle.std.proofs.Math.Logic.{⊎_elim}
 use Rattle.std.proofs.lemmas.Bool.{both_ways, cases_lt, cases_order}
 use Rattle.std.proofs.lemmas.List.Edits.{length-insert, length-remove, get_or-insert_below, get_or-insert_at, get_or-insert_above, get_or-remove_below, get_or-remove_above}
-use Rattle.std.proofs.lemmas.List.Elements.{Contains-get_or, Contains-append_left, Contains-append_right, Contains-append_cases, Contains-push_cases}
+use Rattle.std.proofs.lemmas.List.Elements.{Contains-get_or, Contains-append_right, Contains-append_cases, Contains-push_cases}
 use Rattle.std.proofs.lemmas.List.Quantifiers.{all_pairs_remove}
 use Rattle.std.proofs.lemmas.List.Sorted.{IsPermutation-insert, IsPermutation-remove, IsPermutation-sym, Contains-permutation}
 use Rattle.std.specs.List.{Contains, AllWithin, insert, remove}
 use Rattle.std.specs.List.Sorted.{IsPartitionedBy}
 use Rattle.queue_sched.specs.Index.{goes_before, InOrder, LacksJob}
 use Rattle.queue_sched.specs.declared.entry.Entry.{Entry}
-use Rattle.queue_sched.proofs.Order.{first_itself, first_on, first_other_way}
+use Rattle.queue_sched.proofs.Order.{first_itself, first_on, first_not_on, first_other_way}
 
 pub itself : (e : Entry) → goes_before e e ≡ false
 itself e = first_itself e.first e.priority e.id
 
 pub onward : (e f g : Entry) → goes_before e f ≡ true → goes_before f g ≡ true → goes_before e g ≡ true
 onward e f g = first_on e.first e.priority e.id f.first f.priority f.id g.first g.priority g.id
+
+pub not_onward : (e f g : Entry) → goes_before e f ≡ false → goes_before f g ≡ false → goes_before e g ≡ false
+not_onward e f g = first_not_on e.first e.priority e.id f.first f.priority f.id g.first g.priority g.id
 
 pub other_way : (e f : Entry) → ¬ (e.id ≡ f.id) → goes_before f e ≡ false → goes_before e f ≡ true
 other_way e f = first_other_way e.first e.priority e.id f.first f.priority f.id

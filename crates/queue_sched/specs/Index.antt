@@ -1,5 +1,5 @@
 -- The index of a queue's waiting jobs, as its callers see it.
-use Rattle.std.specs.Prelude.{◌≡◌, ℕ, ◌<◌, ◌≤◌, Bool, false, ◌&&◌, nat_le, List, Option, None, Some, IsTrue}
+use Rattle.std.specs.Prelude.{◌≡◌, ℕ, Bool, false, ◌&&◌, List, IsTrue}
 use Rattle.std.specs.List.{Contains, AllPairs}
 use Rattle.spool_types.specs.declared.phase.Phase.{Phase}
 use Rattle.spool_types.specs.declared.phase.Phase.TheVariants.{Waiting}
@@ -43,6 +43,10 @@ InOrder items = AllPairs (λ e f. IsTrue (goes_before e f)) items
 -- none is this job's
 abbrev pub LacksJob : List Entry → ℕ → Type 0
 LacksJob items j = (e : Entry) → Contains items e → ¬ (e.id ≡ j)
+
+-- no two are the same job's
+abbrev pub HasEachOnce : List Entry → Type 0
+HasEachOnce items = AllPairs (λ e f. ¬ (e.id ≡ f.id)) items
 
 -- the first that may be started now
 pub record IsFirstStartable (w : Waits) (e : Entry) : Type 0 where

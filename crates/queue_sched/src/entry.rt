@@ -1,10 +1,12 @@
 //! What decides on the turn of a waiting job.
 ghost use Rattle.std.specs.Prelude.{◌≡◌, ◌↔◌, ℕ, false, nat_le, IsTrue, IsSome, IfSome, MatchOption};
+ghost use Rattle.std.specs.Ordering.{is_lt};
 ghost use Rattle.spool_types.specs.Phases.{is_waiting};
 ghost use Rattle.spool_types.specs.State.{job_of};
 ghost use Rattle.queue_sched.specs.Index.{entry_of, goes_before, is_startable};
 
 use spool_types::{Hold, JobId, JobRow, Moment, Phase, Priority};
+use std::cmp::Ordering;
 
 /// A waiting job, as far as its turn goes.
 #[derive(Clone, Copy, Debug, PartialEq, Eq)]
@@ -49,6 +51,19 @@ impl Entry {
             other.priority < self.priority
         } else {
             self.id < other.id
+        }
+    }
+
+    // The order of the turns. Only a job and itself are equal in it.
+    pub(crate) fn turn(&self, other: &Entry) -> Ordering
+        ensures { is_lt result ≡ goes_before self.now other.now }
+    {
+        if self.goes_before(other) {
+            Ordering::Less
+        } else if other.goes_before(self) {
+            Ordering::Greater
+        } else {
+            Ordering::Equal
         }
     }
 

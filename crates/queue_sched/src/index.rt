@@ -1,25 +1,30 @@
 //! The index of a queue's waiting jobs.
-ghost use Rattle.std.specs.Prelude.{◌≡◌, ◌<◌, ◌≤◌, ◌+◌, ◌↔◌, ◌⊎◌, [], length, map, IsOk, OnOk, IfSome};
+ghost use Rattle.std.specs.Prelude.{◌≡◌, ◌<◌, ◌≤◌, ◌+◌, ◌↔◌, ◌⊎◌, [], length, map, vec_capacity, IsOk, OnOk, OnErr, IfOk, IfSome};
 ghost use Rattle.std.specs.Option.{IsNone, option_copied};
 ghost use Rattle.std.specs.List.{Contains};
-ghost use Rattle.queue_sched.specs.Index.{InOrder, LacksJob, IsFirstStartable, NoneIsStartable};
+ghost use Rattle.queue_sched.specs.Index.{InOrder, LacksJob, HasEachOnce, IsFirstStartable, NoneIsStartable};
 ghost use Rattle.queue_sched.specs.declared.entry.Entry.{Entry};
 
 use crate::entry::Entry;
-use crate::lists::{due_of, fill_ready, is_before, put, put_number, sooner, take};
+use crate::lists::{
+    due_of, fill_numbers, fill_ready, is_before, put, put_number, sooner, sort, take,
+};
 use spool_types::{JobId, Moment};
 use std::alloc::{AllocError, Global};
+use std::collections::VecDeque;
 use std::marker::Model;
 
 /// The waiting jobs of one queue in the order of their turns, at a moment.
 #[derive(Debug, Drop)]
 pub struct Index {
     // In the order of their turns.
-    entries: Vec<Entry>,
-    // Their numbers.
+    entries: VecDeque<Entry>,
+    // Their numbers, which are lent as a slice.
     jobs: Vec<JobId>,
-    // Those that may be started now, in the same order; there is always room for all.
-    ready: Vec<Entry>,
+    // Those that may be started now, in the same order.
+    ready: VecDeque<Entry>,
+    // Each list has room for so many, the ready ones too: all could be ready.
+    room: usize,
     // Until this moment no other one may be started.
     due: Option<Moment>,
     moment: Moment,
@@ -45,12 +50,41 @@ impl Index {
         ensures room { result.room ≡ 0 }
     {
         Index {
-            entries: Vec::new(alloc),
+            entries: VecDeque::new(alloc),
             jobs: Vec::new(alloc),
-            ready: Vec::new(alloc),
+            ready: VecDeque::new(alloc),
+            room: 0,
             due: None,
             moment: Moment::ZERO,
         }
+    }
+
+    /// An index of these jobs, in whatever order they come, with as much room as the list has. It sorts them once, which
+    /// is faster than adding each.
+    pub fn of_entries(mut entries: Vec<Entry>, moment: Moment) -> Result<Index, AllocError>
+        requires { HasEachOnce entries.items }
+        ensures items { IfOk result (λ w. (e : Entry) → Contains w.items e ↔ Contains entries.items e) }
+        ensures count { IfOk result (λ w. length w.items ≡ length entries.items) }
+        ensures moment { IfOk result (λ w. w.moment ≡ moment) }
+        ensures room { IfOk result (λ w. w.room ≡ vec_capacity entries) }
+    {
+        let alloc = *entries.allocator();
+        let room = entries.capacity();
+        let mut jobs = Vec::with_capacity(alloc, room)?;
+        let mut ready = VecDeque::with_capacity(alloc, room)?;
+        sort(&mut entries);
+        fill_numbers(&mut jobs, &entries);
+        let entries = VecDeque::from_vec(entries);
+        fill_ready(&mut ready, &entries, moment);
+        let due = due_of(&entries, moment);
+        Ok(Index {
+            entries,
+            jobs,
+            ready,
+            room,
+            due,
+            moment,
+        })
     }
 
     /// The numbers of the waiting jobs, in the order of their turns.
@@ -82,28 +116,34 @@ impl Index {
         ensures chosen { IfSome result (λ j. (e : Entry) × (e.id ≡ j) × IsFirstStartable self.now e) }
         ensures none { IsNone result → NoneIsStartable self.now }
     {
-        let entry = self.ready.first()?;
+        let entry = self.ready.front()?;
         Some(entry.id)
     }
 
-    /// Makes room for so many jobs in all. A list that has to grow is doubled at least, as `Vec::reserve` does it.
+    /// Makes room for so many jobs in all. A list that has to grow is doubled at least, as `Vec::reserve` does it. A fault
+    /// changes nothing.
     pub fn reserve(&mut self, count: usize) -> Result<(), AllocError>
         ensures room { OnOk result (count ≤ self.new.room) }
         ensures kept { self.old.room ≤ self.new.room }
         ensures items { self.new.items ≡ self.old.items }
         ensures moment { self.new.moment ≡ self.old.moment }
+        ensures same { OnErr result (self.new ≡ self.old) }
 
         // Memory is asked for only where the room is missing.
         ensures ready { count ≤ self.old.room → IsOk result }
     {
-        let count = count.saturating_sub(self.entries.len());
-        self.entries.reserve(count)?;
-        self.jobs.reserve(count)?;
-        self.ready.reserve(self.entries.len().saturating_sub(self.ready.len()) + count)
+        if count <= self.room {
+            return Ok(());
+        }
+        self.entries.reserve(count - self.entries.len())?;
+        self.jobs.reserve(count - self.jobs.len())?;
+        self.ready.reserve(count - self.ready.len())?;
+        self.room = count;
+        Ok(())
     }
 
-    /// Adds a job that isn't there. Its place is found by binary search, and one that goes to the end moves no other. It
-    /// takes no memory.
+    /// Adds a job that isn't there. Its place is found by binary search, and an entry that goes first or last moves no
+    /// other. It takes no memory.
     pub fn insert(&mut self, entry: Entry)
         requires room { length self.old.items < self.old.room }
         requires absent { LacksJob self.old.items entry.id }

@@ -24,9 +24,10 @@
 //! # What an index keeps
 //!
 //! 1. Its entries stand in the order of their turns, and beside them their numbers.
-//! 2. Those that may be started now stand in a list of their own, in the same order, which has room for all.
+//! 2. Those that may be started now stand in a list of their own, in the same order.
 //! 3. Until the due moment no other entry may be started, and where there is no due moment, none ever will. So a moment
 //!    before it changes no list.
+//! 4. Each of the three lists has the index's room, since all entries may come to be ones that may be started.
 //!
 //! # Cost and faults
 //!
@@ -34,8 +35,9 @@
 //! neither their order nor that their numbers differ.
 //!
 //! The choice of an index looks at one entry. Adding and taking away find their place by binary search and move the entries
-//! behind it. A moment before the due one looks at none, and any other goes through all. Only [`Index::reserve`] takes
-//! memory, and where it fails, the index is as before, but for its room.
+//! before it or behind it, whichever are fewer, and the numbers behind it. A moment before the due one looks at none, and
+//! any other goes through all. [`Index::of_entries`] sorts its entries once. Only that and [`Index::reserve`] take memory,
+//! and where `reserve` fails, the index is as before.
 #![tactic(auto)]
 
 mod choice;

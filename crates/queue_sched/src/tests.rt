@@ -7,6 +7,8 @@ use spool_types::{
 use std::alloc::Global;
 use std::test::Fail;
 
+mod index;
+
 fn moment(seconds: u64) -> Result<Moment, Fail> {
     Ok(Moment::new(seconds).ok_or("no moment")?)
 }

@@ -113,7 +113,7 @@ pub record IsCutShort (payloads : List (List ℕ)) : Type 0 where
 abbrev pub IsFinishFault : List (List ℕ) → ℕ → OpenFault → Type 0
 IsFinishFault payloads gate NotASpool = ⊥
 IsFinishFault payloads gate (Damaged place) = (place ≡ gate) × IsCutShort payloads
-IsFinishFault payloads gate Memory = ⊥
+IsFinishFault payloads gate Memory = ⊤
 IsFinishFault payloads gate Disk = ⊥
 
 -- why no payload was read

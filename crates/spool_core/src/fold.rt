@@ -123,7 +123,10 @@ fn take_row(
         },
         Ok(None) => {
             if loading.is_whole() {
-                add_event(loading.into_table(), alloc, payload, extent)
+                match loading.into_table() {
+                    Ok(table) => add_event(table, alloc, payload, extent),
+                    Err(_) => Err(OpenFault::Memory),
+                }
             } else {
                 Err(OpenFault::Damaged(extent.place - HEAD_LEN))
             }
@@ -203,7 +206,10 @@ fn finish(reading: Reading, gate: u64) -> Result<Table, OpenFault>
     match reading {
         Reading::Rows(loading) => {
             if loading.is_whole() {
-                Ok(loading.into_table())
+                match loading.into_table() {
+                    Ok(table) => Ok(table),
+                    Err(_) => Err(OpenFault::Memory),
+                }
             } else {
                 Err(OpenFault::Damaged(gate))
             }

@@ -7,7 +7,7 @@ ghost use Rattle.spool_types.specs.State.{job_of, job_at};
 ghost use Rattle.job_table.specs.Step.{about_job, about_queue, first_cause, refusal_of, where_it};
 
 use super::Table;
-use super::attempts::is_in_stage;
+use crate::store::is_in_stage;
 use spool_types::{
     Event, JobId, JobRow, LONGEST_DOCUMENT, MOST_QUEUES, Moment, NewJob, NewQueue, Piece,
     QueueName, QueueNotes, Refusal, StageEnd,

@@ -6,4 +6,4 @@ use Rattle.job_table.proofs.loading.settle.Goals as goal
 
 pub push_job-requires-clause-legal : goal.push_job-requires-clause-legal
 push_job-requires-clause-legal c =
-    legal_new_job c.args.table.now.state (job_of c.args.row) c.requires.legal c.requires.new (omega (arith, c.args.row.document.ok.0, c.len.ensures, c.if-len-document_len.true, c.document_len.ensures))
+    legal_new_job c.args.store.now.state (job_of c.args.row) c.requires.legal c.requires.new (omega (arith, c.args.row.document.ok.0, c.len.ensures, c.if-len-document_len.true, c.document_len.ensures))

@@ -17,8 +17,8 @@ loop-queue-preserved c =
     let i = c.loop-queue.queue-index in
     let at = name_at rows names c.queues-queue-items.ensures.names i c.queue-item.result c.queue-item.is in
     let lt : i < length names = subst (λ n. i < n) (queue_count rows names c.queues-queue-items.ensures.names) c.loop-queue-test.true in
-    let further = busy_further s names i c.queue-item.result.name lt at c.busy_of.result c.busy_of.ensures c.loop-queue.jobs.items c.loop-queue.invariant.jobs in
-    elim c.match-busy_of.branch [
+    let further = busy_further s names i c.queue-item.result.name lt at c.processing.result c.processing.ensures c.loop-queue.jobs.items c.loop-queue.invariant.jobs in
+    elim c.match-processing.branch [
       | in-Some w ↦ record {
         jobs = ap (λ v. v.items) w.jobs-is ∙ w.push_reserved.ensures.items ∙ subst (λ o. c.loop-queue.jobs.items ++ with_busy o [] ≡ busy_jobs s (take (i + 1) names)) w.in-Some.is further;
         few = let len = ap vec_len w.jobs-is ∙ w.push_reserved.ensures.len in let few = c.loop-queue.invariant.few in omega (arith, len, few);

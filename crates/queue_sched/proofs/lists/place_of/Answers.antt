@@ -7,10 +7,10 @@ use Rattle.queue_sched.proofs.lists.place_of.Goals as goal
 
 pub returns-clause-before : goal.returns-clause-before
 returns-clause-before c =
-    (IsPartitionPoint-from_clause (λ f. goes_before f c.args.entry.now) c.args.entries.now _ c.partition_point.ensures.partitioned
-    (parted c.args.entries.now c.args.entry.now c.requires) (λ a r g called. (search rules, search rules))).0
+    (IsPartitionPoint-from_clause (λ f. goes_before f c.args.entry.now) c.args.entries.now.items _ c.partition_point.ensures.partitioned
+    (parted c.args.entries.now.items c.args.entry.now c.requires) (λ a r g called. (search rules, search rules))).0
 
 pub returns-clause-behind : goal.returns-clause-behind
 returns-clause-behind c =
-    (IsPartitionPoint-from_clause (λ f. goes_before f c.args.entry.now) c.args.entries.now _ c.partition_point.ensures.partitioned
-    (parted c.args.entries.now c.args.entry.now c.requires) (λ a r g called. (search rules, search rules))).1
+    (IsPartitionPoint-from_clause (λ f. goes_before f c.args.entry.now) c.args.entries.now.items _ c.partition_point.ensures.partitioned
+    (parted c.args.entries.now.items c.args.entry.now c.requires) (λ a r g called. (search rules, search rules))).1

@@ -7,9 +7,9 @@ use Rattle.spool_core.proofs.fold.finish.Goals as goal
 never : false ≡ true → ⊥
 never is = absurd (cc)
 
-pub returns-then-is_whole-clause-table : goal.returns-then-is_whole-clause-table
-returns-then-is_whole-clause-table c = λ payloads has.
-    rows_finished payloads c.in-Rows.loading c.into_table.result.state (subst (λ r. HasRead r payloads) c.in-Rows.is has) (c.if-is_whole.ensures.0 refl) c.into_table.ensures
+pub returns-in-Ok-clause-table : goal.returns-in-Ok-clause-table
+returns-in-Ok-clause-table c = λ payloads has.
+    rows_finished payloads c.in-Rows.loading c.in-Ok.table.state (subst (λ r. HasRead r payloads) c.in-Rows.is has) (c.if-is_whole.ensures.0 refl) c.in-Ok.ensures
 
 pub returns-else-is_whole-clause-fault : goal.returns-else-is_whole-clause-fault
 returns-else-is_whole-clause-fault c = λ payloads has. (

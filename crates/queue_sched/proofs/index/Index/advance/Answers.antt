@@ -1,5 +1,5 @@
 -- before the due moment nothing changes
-use Rattle.std.proofs.Common.{◌≡◌, ◌≤◌, sym, subst, ◌∙◌}
+use Rattle.std.proofs.Common.{◌≤◌, sym, subst, ◌∙◌}
 use Rattle.queue_sched.specs.Lists.{IsBefore}
 use Rattle.queue_sched.proofs.Due.{same_later, until_later}
 use Rattle.queue_sched.proofs.index.Index.advance.Goals as goal
@@ -13,6 +13,9 @@ invariant_of-self-else-not-is_before c =
       order = c.self.invariant.order;
       jobs = c.self.invariant.jobs;
       ready = c.self.invariant.ready ∙ same_later a.entries.items a.moment c.args.moment a.due c.self.invariant.due le before;
-      room = c.self.invariant.room;
+      fits = c.self.invariant.fits;
+      room_of_entries = c.self.invariant.room_of_entries;
+      room_of_jobs = c.self.invariant.room_of_jobs;
+      room_of_ready = c.self.invariant.room_of_ready;
       due = until_later a.entries.items a.moment c.args.moment a.due c.self.invariant.due le before;
     }

@@ -1,10 +1,9 @@
 -- an entry less
-use Rattle.std.proofs.Common.{◌≡◌, ◌+◌, ◌<◌, ◌≤◌, ◌↔◌, length, map, true, false, sym, ap, subst, ◌∙◌, arith, IsTrue}
+use Rattle.std.proofs.Common.{◌≡◌, ◌+◌, ◌≤◌, ◌↔◌, length, map, true, false, sym, ap, subst, ◌∙◌, arith, IsTrue}
 use Rattle.std.proofs.lemmas.List.Edits.{length-remove}
 use Rattle.std.proofs.lemmas.List.Kept.{AllPairs-filter}
 use Rattle.std.specs.List.{Contains, filter, remove}
 use Rattle.queue_sched.specs.Index.{InOrder, goes_before, is_startable}
-use Rattle.queue_sched.proofs.Rooms.{same_room}
 use Rattle.queue_sched.proofs.Startable.{numbers_remove, left_out, take_among, Contains-filter}
 use Rattle.queue_sched.proofs.Turns.{in_order_remove, has_less, not_left}
 use Rattle.queue_sched.proofs.index.Index.remove.Goals as goal
@@ -37,7 +36,10 @@ invariant_of-self c =
       ready = c.take.ensures.items
           ∙ take_among p xs a.ready.items c.self.invariant.ready e passes at c.take-at.ensures.before c.take-at.ensures.behind c.take.result c.take.ensures.before c.take.ensures.behind inside here within
           ∙ ap (filter p) (sym c.take-at.ensures.items);
-      room = omega (arith, ap length c.take-at.ensures.items, length-remove xs at inside, c.self.invariant.room, c.take.ensures.capacity);
+      fits = omega (arith, ap length c.take-at.ensures.items, length-remove xs at inside, c.self.invariant.fits);
+      room_of_entries = omega (arith, c.self.invariant.room_of_entries, c.take-at.ensures.capacity);
+      room_of_jobs = omega (arith, c.self.invariant.room_of_jobs, c.remove.ensures.capacity);
+      room_of_ready = omega (arith, c.self.invariant.room_of_ready, c.take.ensures.capacity);
       due = λ f there. c.self.invariant.due f ((has_less xs e at inside here c.self.invariant.order f).0 (subst (λ l. Contains l f) c.take-at.ensures.items there)).0;
     }
 
@@ -55,7 +57,10 @@ invariant_of-self-else-is_startable c =
       order = subst InOrder (sym c.take-at.ensures.items) (in_order_remove xs e at inside here c.self.invariant.order);
       jobs = c.remove.ensures.items ∙ ap (λ l. remove l at) c.self.invariant.jobs ∙ sym (numbers_remove (λ f. f.id) xs at) ∙ ap (map (λ f. f.id)) (sym c.take-at.ensures.items);
       ready = c.self.invariant.ready ∙ sym (left_out p xs e at inside here fails) ∙ ap (filter p) (sym c.take-at.ensures.items);
-      room = omega (arith, ap length c.take-at.ensures.items, length-remove xs at inside, c.self.invariant.room);
+      fits = omega (arith, ap length c.take-at.ensures.items, length-remove xs at inside, c.self.invariant.fits);
+      room_of_entries = omega (arith, c.self.invariant.room_of_entries, c.take-at.ensures.capacity);
+      room_of_jobs = omega (arith, c.self.invariant.room_of_jobs, c.remove.ensures.capacity);
+      room_of_ready = c.self.invariant.room_of_ready;
       due = λ f there. c.self.invariant.due f ((has_less xs e at inside here c.self.invariant.order f).0 (subst (λ l. Contains l f) c.take-at.ensures.items there)).0;
     }
 

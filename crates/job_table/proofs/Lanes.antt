@@ -1,0 +1,358 @@
+-- What a lane has when a job leaves it, or is put in.
+use Rattle.std.proofs.Common.{◌≡◌, ℕ, suc, ◌+◌, ◌<◌, ◌≤◌, ◌⊎◌, inl, inr, true, false, List, [], ◌∷◌, length, get_or, set, map, Option, Some, None, IsTrue, refl, sym, ap, subst, ◌∙◌, arith, rules}
+use Rattle.std.specs.Prelude.{◌↔◌}
+use Rattle.std.specs.List.{Contains, AllByRecursion}
+use Rattle.std.proofs.lemmas.Bool.{cases_eq}
+use Rattle.std.proofs.lemmas.List.{length-map, length-set, get_or-set_same, get_or-set_other}
+use Rattle.queue_sched.specs.Index.{Waits, InOrder, goes_before, LacksJob}
+use Rattle.queue_sched.specs.declared.entry.Entry.{Entry}
+use Rattle.job_table.specs.declared.lane.Lane.{Lane}
+use Rattle.job_table.specs.declared.lane.Standing.{Standing}
+use Rattle.job_table.specs.declared.lane.Standing.TheVariants.{Ended, Incoming, Waiting, Processing}
+use Rattle.job_table.specs.Lanes.{is_live, AllDiffer, AtMostLive, IsLane, IsReseated, IsSameLane}
+
+-- ## Numbers that differ
+
+module _ {X : Type 0} where
+  all_weaker : (P Q : X → Type 0) → ((x : X) → P x → Q x) → (xs : List X) → AllByRecursion P xs → AllByRecursion Q xs
+  all_weaker P Q weaker [] all = tt
+  all_weaker P Q weaker (x ∷ xs) all = (weaker x all.0, all_weaker P Q weaker xs all.1)
+
+  all_both : (P Q : X → Type 0) → (xs : List X) → AllByRecursion P xs → AllByRecursion Q xs → AllByRecursion (λ x. P x × Q x) xs
+  all_both P Q [] all all_too = tt
+  all_both P Q (x ∷ xs) all all_too = ((all.0, all_too.0), all_both P Q xs all.1 all_too.1)
+
+  later : (y : X) (ys : List X) (x : X) → Contains ys x → Contains (y ∷ ys) x
+  later y ys x there = (suc there.0, omega (arith, there.1), there.2)
+
+  all_from : (P : X → Type 0) (xs : List X) → ((x : X) → Contains xs x → P x) → AllByRecursion P xs
+  all_from P [] each = tt
+  all_from P (x ∷ xs) each = (each x (0, omega arith, refl), all_from P xs (λ y there. each y (later x xs y there)))
+
+  all_at : (P : X → Type 0) (xs : List X) → ((k : ℕ) (d : X) → k < length xs → P (get_or xs k d)) → AllByRecursion P xs
+  all_at P [] each = tt
+  all_at P (x ∷ xs) each = (each 0 x (omega arith), all_at P xs (λ k d lt. each (suc k) d (omega (arith, lt))))
+
+-- all but one of them
+record Removed (P : ℕ → Type 0) (j : ℕ) (xs : List ℕ) : Type 0 where
+  kept : List ℕ
+  differ : AllDiffer kept
+  all : AllByRecursion (λ y. (¬ (y ≡ j)) × P y) kept
+  count : length xs ≤ length kept + 1
+
+removed : (P : ℕ → Type 0) (j : ℕ) (xs : List ℕ) → AllDiffer xs → AllByRecursion P xs → Removed P j xs
+removed P j [] differ all = record { kept = []; differ = tt; all = tt; count = omega arith }
+removed P j (x ∷ xs) differ all = elim (cases_eq x j) [
+  | inl same ↦ record {
+    kept = xs;
+    differ = differ.1;
+    all = all_both (λ y. ¬ (y ≡ j)) P xs (all_weaker (λ y. ¬ (y ≡ x)) (λ y. ¬ (y ≡ j)) (λ y apart is. apart (is ∙ sym same)) xs differ.0) all.1;
+    count = omega arith;
+  }
+  | inr other ↦
+      (let rest = removed (λ y. P y × (¬ (y ≡ x))) j xs differ.1 (all_both P (λ y. ¬ (y ≡ x)) xs all.1 differ.0) in
+      record {
+        kept = x ∷ rest.kept;
+        differ = (all_weaker _ (λ y. ¬ (y ≡ x)) (λ y has. has.1.1) rest.kept rest.all, rest.differ);
+        all = ((other, all.0), all_weaker _ (λ y. (¬ (y ≡ j)) × P y) (λ y has. (has.0, has.1.0)) rest.kept rest.all);
+        count = omega (arith, rest.count);
+      })
+]
+
+-- ## How many jobs haven't ended
+
+live_waiting : (to : Standing) (e : Entry) → to ≡ Waiting e → is_live to ≡ true
+live_waiting to e is = ap is_live is
+
+live_processing : (to : Standing) → to ≡ Processing → is_live to ≡ true
+live_processing to is = ap is_live is
+
+ended_and_live : (to : Standing) → to ≡ Ended → is_live to ≡ true → ⊥
+ended_and_live to is live = (let no : false ≡ true = sym (ap is_live is) ∙ live in absurd (cc))
+
+module _ (old new : ℕ → Standing) (j : ℕ) (n : ℕ) (most : AtMostLive old n) where
+  pub one_live : is_live (old j) ≡ true → 1 ≤ n
+  one_live live = most (j ∷ []) (tt, tt) (live, tt)
+
+  -- a job that hasn't ended goes
+  pub one_less : IsReseated old new j Ended → is_live (old j) ≡ true → (m : ℕ) → m + 1 ≡ n → AtMostLive new m
+  one_less seated live m is = λ js differ all.
+      let apart : AllByRecursion (λ k. ¬ (k ≡ j)) js = all_weaker (λ k. is_live (new k) ≡ true) (λ k. ¬ (k ≡ j)) (λ k alive same. ended_and_live (new k) (ap new same ∙ seated.own) alive) js all in
+      let were : AllByRecursion (λ k. is_live (old k) ≡ true) js =
+      all_weaker (λ k. (¬ (k ≡ j)) × (is_live (new k) ≡ true)) (λ k. is_live (old k) ≡ true) (λ k has. sym (ap is_live (seated.others k has.0)) ∙ has.1) js (all_both _ _ js apart all) in
+      let bound : suc (length js) ≤ n = most (j ∷ js) (apart, differ) (live, were) in
+      omega (arith, bound, is)
+
+  -- a job is put in
+  pub one_live_more : (to : Standing) → IsReseated old new j to → AtMostLive new (n + 1)
+  one_live_more to seated = λ js differ all.
+      let rest = removed (λ k. is_live (new k) ≡ true) j js differ all in
+      let bound : length rest.kept ≤ n =
+      most rest.kept rest.differ (all_weaker _ (λ k. is_live (old k) ≡ true) (λ k has. sym (ap is_live (seated.others k has.0)) ∙ has.1) rest.kept rest.all) in
+      omega (arith, bound, rest.count)
+
+  -- as many as before where the job has ended before and after
+  pub as_many : IsReseated old new j Ended → AtMostLive new n
+  as_many seated = λ js differ all. most js differ (all_weaker (λ k. is_live (new k) ≡ true) (λ k. is_live (old k) ≡ true)
+      (λ k alive. elim (cases_eq k j) [
+        | inl same ↦ absurd (ended_and_live (new k) (ap new same ∙ seated.own) alive)
+        | inr other ↦ sym (ap is_live (seated.others k other)) ∙ alive
+      ]) js all)
+
+-- ## How many wait
+
+not_before_itself : (e : Entry) → goes_before e e ≡ false
+not_before_itself e = search rules
+
+same_entry : (e f : Entry) → Waiting e ≡ Waiting f → e ≡ f
+same_entry e f is = cc
+
+module _ (seats : ℕ → Standing) where
+  abbrev IsItem : Entry → Type 0
+  IsItem e = seats e.id ≡ Waiting e
+
+  -- those that are in order, and stand where they say, have different numbers
+  differ_numbers : (es : List Entry) → InOrder es → AllByRecursion IsItem es → AllDiffer (map (λ e. e.id) es)
+  differ_numbers [] order items = tt
+  differ_numbers (e ∷ es) order items = (
+    apart es (all_both (λ f. IsTrue (goes_before e f)) IsItem es (all_at (λ f. IsTrue (goes_before e f)) es (λ k d lt. order 0 (suc k) d (omega arith) (omega (arith, lt)))) items.1),
+    differ_numbers es (λ i k d lt within. order (suc i) (suc k) d (omega (arith, lt)) (omega (arith, within))) items.1,
+  )
+    where
+      apart : (fs : List Entry) → AllByRecursion (λ f. IsTrue (goes_before e f) × IsItem f) fs → AllByRecursion (λ k. ¬ (k ≡ e.id)) (map (λ f. f.id) fs)
+      apart [] all = tt
+      apart (f ∷ fs) all = (
+        (λ same.
+            let itself : e ≡ f = same_entry e f (sym items.0 ∙ ap seats (sym same) ∙ all.0.1) in
+            let yes : goes_before e e ≡ true = subst (λ g. goes_before e g ≡ true) (sym itself) all.0.0 in
+            let no : goes_before e e ≡ false = not_before_itself e in
+            absurd (cc)),
+        apart fs all.1,
+      )
+
+  alive : (es : List Entry) → AllByRecursion IsItem es → AllByRecursion (λ k. is_live (seats k) ≡ true) (map (λ e. e.id) es)
+  alive [] items = tt
+  alive (e ∷ es) items = (live_waiting (seats e.id) e items.0, alive es items.1)
+
+  pub as_many_wait : (lane : Lane) → IsLane seats lane → InOrder lane.index.items → length lane.index.items ≤ lane.live
+  as_many_wait lane is order =
+      let items = all_from IsItem lane.index.items is.waiting in
+      subst (λ n. n ≤ lane.live) (length-map lane.index.items (λ e. e.id))
+      (is.live (map (λ e. e.id) lane.index.items) (differ_numbers lane.index.items order items) (alive lane.index.items items))
+
+-- ## A job leaves, or is put in
+
+module _ (old new : ℕ → Standing) (j : ℕ) (lane : Lane) (is : IsLane old lane) where
+  -- a job that waits is none that is processing, or the other way round
+  apart_waiting : (k : ℕ) (e : Entry) → old k ≡ Waiting e → old k ≡ Processing → ⊥
+  apart_waiting k e p q = (let no : Waiting e ≡ Processing = sym p ∙ q in absurd (cc))
+
+  module _ (seated : IsReseated old new j Ended) where
+    pub left_ended : old j ≡ Ended → IsLane new lane
+    left_ended was =
+        let same : (k : ℕ) → new k ≡ old k = λ k. elim (cases_eq k j) [ inl own ↦ ap new own ∙ seated.own ∙ sym was ∙ ap old (sym own) | inr other ↦ seated.others k other ] in
+        record {
+          waiting = λ e there. same e.id ∙ is.waiting e there;
+          listed = λ k e waits. is.listed k e (sym (same k) ∙ waits);
+          processing = λ k at. same k ∙ is.processing k at;
+          found = λ k at. is.found k (sym (same k) ∙ at);
+          live = as_many old new j lane.live is.live seated;
+          room = is.room;
+          reserved = is.reserved;
+        }
+
+    -- what stands elsewhere than the job that left
+    stood : (k : ℕ) (x : Standing) → new k ≡ x → is_live x ≡ true → (¬ (k ≡ j)) × (old k ≡ x)
+    stood k x at alive = elim (cases_eq k j) [
+      | inl own ↦ absurd (ended_and_live x (sym at ∙ ap new own ∙ seated.own) alive)
+      | inr other ↦ (other, sym (seated.others k other) ∙ at)
+    ]
+
+    pub left_incoming : old j ≡ Incoming → (n : ℕ) → n + 1 ≡ lane.live → IsLane new (record lane { live = n })
+    left_incoming was n less = record {
+      waiting = λ e there. seated.others e.id (λ own. (let no : Waiting e ≡ Incoming = sym (is.waiting e there) ∙ ap old own ∙ was in absurd (cc))) ∙ is.waiting e there;
+      listed = λ k e waits. is.listed k e (stood k (Waiting e) waits refl).1;
+      processing = λ k at. seated.others k (λ own. (let no : Processing ≡ Incoming = sym (is.processing k at) ∙ ap old own ∙ was in absurd (cc))) ∙ is.processing k at;
+      found = λ k at. is.found k (stood k Processing at refl).1;
+      live = one_less old new j lane.live is.live seated (ap is_live was) n less;
+      room = omega (arith, less, is.room);
+      reserved = is.reserved;
+    }
+
+    pub left_processing : old j ≡ Processing → (n : ℕ) → n + 1 ≡ lane.live → IsLane new (record lane { processing = None; live = n })
+    left_processing was n less = record {
+      waiting = λ e there. seated.others e.id (λ own. apart_waiting e.id e (is.waiting e there) (ap old own ∙ was)) ∙ is.waiting e there;
+      listed = λ k e waits. is.listed k e (stood k (Waiting e) waits refl).1;
+      processing = λ k at. absurd (cc);
+      found = λ k at.
+          let before = stood k Processing at refl in
+          absurd (before.0 (some_number k j (sym (is.found k before.1) ∙ is.found j was)));
+      live = one_less old new j lane.live is.live seated (ap is_live was) n less;
+      room = omega (arith, less, is.room);
+      reserved = is.reserved;
+    }
+      where
+        some_number : (k m : ℕ) → Some k ≡ Some m → k ≡ m
+        some_number k m e = cc
+
+    pub left_waiting : (e : Entry) → old j ≡ Waiting e → (w : Waits) → ((f : Entry) → Contains w.items f ↔ (Contains lane.index.items f × (¬ (f ≡ e)))) → w.room ≡ lane.index.room
+        → (n : ℕ) → n + 1 ≡ lane.live → IsLane new (record lane { index = w; live = n })
+    left_waiting e was w items room n less = record {
+      waiting = λ f there.
+          let kept = (items f).0 there in
+          seated.others f.id (λ own. kept.1 (same_entry f e (sym (is.waiting f kept.0) ∙ ap old own ∙ was))) ∙ is.waiting f kept.0;
+      listed = λ k f waits.
+          let before = stood k (Waiting f) waits refl in
+          let there = is.listed k f before.1 in
+          (there.0, (items f).1 (there.1, λ same. before.0 (sym there.0 ∙ ap (λ (g : Entry). g.id) same ∙ (is.listed j e was).0)));
+      processing = λ k at. seated.others k (λ own. apart_waiting j e was (ap old (sym own) ∙ is.processing k at)) ∙ is.processing k at;
+      found = λ k at. is.found k (stood k Processing at refl).1;
+      live = one_less old new j lane.live is.live seated (ap is_live was) n less;
+      room = omega (arith, less, is.room);
+      reserved = rw room is.reserved;
+    }
+
+  module _ (to : Standing) (seated : IsReseated old new j to) (was : old j ≡ Ended) where
+    -- all that stood before stand as they did
+    stands : (k : ℕ) (x : Standing) → old k ≡ x → is_live x ≡ true → new k ≡ x
+    stands k x at alive = seated.others k (λ own. ended_and_live x (sym at ∙ ap old own ∙ was) alive) ∙ at
+
+    pub put_incoming : to ≡ Incoming → lane.live < lane.reserved → (n : ℕ) → n ≡ lane.live + 1 → IsLane new (record lane { live = n })
+    put_incoming is_to space n more = record {
+      waiting = λ e there. stands e.id (Waiting e) (is.waiting e there) refl;
+      listed = λ k e waits. is.listed k e (before k (Waiting e) waits (λ same. (let no : Waiting e ≡ Incoming = same ∙ is_to in absurd (cc))));
+      processing = λ k at. stands k Processing (is.processing k at) refl;
+      found = λ k at. is.found k (before k Processing at (λ same. (let no : Processing ≡ Incoming = same ∙ is_to in absurd (cc))));
+      live = subst (AtMostLive new) (sym more) (one_live_more old new j lane.live is.live to seated);
+      room = omega (arith, space, more);
+      reserved = is.reserved;
+    }
+      where
+        before : (k : ℕ) (x : Standing) → new k ≡ x → (x ≡ to → ⊥) → old k ≡ x
+        before k x at apart = sym (seated.others k (λ own. apart (sym at ∙ ap new own ∙ seated.own))) ∙ at
+
+    pub put_processing : to ≡ Processing → lane.processing ≡ None → lane.live < lane.reserved → (n : ℕ) → n ≡ lane.live + 1 → IsLane new (record lane { processing = Some j; live = n })
+    put_processing is_to free space n more = record {
+      waiting = λ e there. stands e.id (Waiting e) (is.waiting e there) refl;
+      listed = λ k e waits. is.listed k e (sym (seated.others k (λ own. (let no : Waiting e ≡ Processing = sym waits ∙ ap new own ∙ seated.own ∙ is_to in absurd (cc)))) ∙ waits);
+      processing = λ k at. ap new (sym (some_number j k at)) ∙ seated.own ∙ is_to;
+      found = λ k at. elim (cases_eq k j) [
+        | inl own ↦ ap Some (sym own)
+        | inr other ↦ absurd (not_some k (sym free ∙ is.found k (sym (seated.others k other) ∙ at)))
+      ];
+      live = subst (AtMostLive new) (sym more) (one_live_more old new j lane.live is.live to seated);
+      room = omega (arith, space, more);
+      reserved = is.reserved;
+    }
+      where
+        some_number : (k m : ℕ) → Some k ≡ Some m → k ≡ m
+        some_number k m e = cc
+
+        not_some : (k : ℕ) → None ≡ Some k → ⊥
+        not_some k e = cc
+
+    pub put_waiting : (e : Entry) → to ≡ Waiting e → e.id ≡ j → (w : Waits) → ((f : Entry) → Contains w.items f ↔ (Contains lane.index.items f ⊎ (f ≡ e))) → w.room ≡ lane.index.room
+        → lane.live < lane.reserved → (n : ℕ) → n ≡ lane.live + 1 → IsLane new (record lane { index = w; live = n })
+    put_waiting e is_to own_number w items room space n more = record {
+      waiting = λ f there. elim ((items f).0 there) [
+        | inl kept ↦ stands f.id (Waiting f) (is.waiting f kept) refl
+        | inr same ↦ ap (λ (g : Entry). new g.id) same ∙ ap new own_number ∙ seated.own ∙ is_to ∙ ap Waiting (sym same)
+      ];
+      listed = λ k f waits. elim (cases_eq k j) [
+        | inl own ↦ (let same : f ≡ e = same_entry f e (sym waits ∙ ap new own ∙ seated.own ∙ is_to) in
+            (ap (λ (g : Entry). g.id) same ∙ own_number ∙ sym own, (items f).1 (inr same)))
+        | inr other ↦ (let there = is.listed k f (sym (seated.others k other) ∙ waits) in (there.0, (items f).1 (inl there.1)))
+      ];
+      processing = λ k at. stands k Processing (is.processing k at) refl;
+      found = λ k at. is.found k (sym (seated.others k (λ own. (let no : Waiting e ≡ Processing = sym is_to ∙ sym seated.own ∙ ap new (sym own) ∙ at in absurd (cc)))) ∙ at);
+      live = subst (AtMostLive new) (sym more) (one_live_more old new j lane.live is.live to seated);
+      room = omega (arith, space, more);
+      reserved = rw room is.reserved;
+    }
+
+-- the index has no job that stands elsewhere
+pub lacks : (seats : ℕ → Standing) (lane : Lane) (j : ℕ) → IsLane seats lane → seats j ≡ Ended → LacksJob lane.index.items j
+lacks seats lane j is ended = λ e there same. (let no : Waiting e ≡ Ended = sym (is.waiting e there) ∙ ap seats same ∙ ended in absurd (cc))
+
+-- ## A lane by itself
+
+pub empty_lane : (w : Waits) → w.items ≡ [] → (seats : ℕ → Standing) → ((j : ℕ) → seats j ≡ Ended) → IsLane seats (record { index = w; processing = None; live = 0; reserved = 0 })
+empty_lane w none seats ended = record {
+  waiting = λ e there. absurd (nothing e (subst (λ es. Contains es e) none there));
+  listed = λ j e waits. (let no : Waiting e ≡ Ended = sym waits ∙ ended j in absurd (cc));
+  processing = λ j at. absurd (cc);
+  found = λ j at. (let no : Processing ≡ Ended = sym at ∙ ended j in absurd (cc));
+  live = λ js differ all. none_live js all;
+  room = omega arith;
+  reserved = omega arith;
+}
+  where
+    nothing : (e : Entry) → Contains [] e → ⊥
+    nothing e there = omega (arith, there.1)
+
+    none_live : (js : List ℕ) → AllByRecursion (λ j. is_live (seats j) ≡ true) js → length js ≤ 0
+    none_live [] all = omega arith
+    none_live (j ∷ js) all = absurd (ended_and_live (seats j) (ended j) all.0)
+
+-- the same entries, and no less room
+pub lane_with : (lane : Lane) (w : Waits) → w.items ≡ lane.index.items → (n : ℕ) → lane.live ≤ n → n ≤ w.room → (seats : ℕ → Standing) → IsLane seats lane → IsLane seats (record lane { index = w; reserved = n })
+lane_with lane w items n live room seats is = record {
+  waiting = λ e there. is.waiting e (subst (λ es. Contains es e) items there);
+  listed = λ j e waits. (let there = is.listed j e waits in (there.0, subst (λ es. Contains es e) (sym items) there.1));
+  processing = is.processing;
+  found = is.found;
+  live = is.live;
+  room = live;
+  reserved = room;
+}
+
+-- the jobs without one, which may then be put in elsewhere
+pub taken : (ℕ → Standing) → ℕ → ℕ → Standing
+taken seats j k = elim (cases_eq k j) [ inl same ↦ Ended | inr other ↦ seats k ]
+
+pub taken_own : (seats : ℕ → Standing) (j : ℕ) → IsReseated seats (taken seats j) j Ended
+unfolding taken
+taken_own seats j = record { own = own (cases_eq j j); others = λ k other. others k other (cases_eq k j) }
+  where
+    own : (o : (j ≡ j) ⊎ (j ≡ j → ⊥)) → elim o [ inl same ↦ Ended | inr other ↦ seats j ] ≡ Ended
+    own (inl same) = refl
+    own (inr other) = absurd (other refl)
+
+    others : (k : ℕ) → (k ≡ j → ⊥) → (o : (k ≡ j) ⊎ (k ≡ j → ⊥)) → elim o [ inl same ↦ Ended | inr other ↦ seats k ] ≡ seats k
+    others k other (inl same) = absurd (other same)
+    others k other (inr apart) = refl
+
+pub put_back : (old new : ℕ → Standing) (j : ℕ) (to : Standing) → IsReseated old new j to → IsReseated (taken old j) new j to
+put_back old new j to seated = record { own = seated.own; others = λ k other. seated.others k other ∙ sym ((taken_own old j).others k other) }
+
+-- ## A list whose elements change one after another
+
+module _ {Y : Type 0} (R : Y → Y → Type 0) (first now : List Y) (at : ℕ) (new : Y) (within : at < length now) where
+  pub set_done : ((i : ℕ) (d : Y) → i < at → R (get_or first i d) (get_or now i d)) → ((d : Y) → R (get_or first at d) new)
+      → (i : ℕ) (d : Y) → i < at + 1 → R (get_or first i d) (get_or (set now at new) i d)
+  set_done done step i d lt = elim (cases_eq i at) [
+    | inl same ↦ subst (λ n. R (get_or first n d) (get_or (set now at new) n d)) (sym same) (subst (λ y. R (get_or first at d) y) (sym (get_or-set_same now at new d within)) (step d))
+    | inr other ↦ subst (λ y. R (get_or first i d) y) (sym (get_or-set_other now at i new d other)) (done i d (omega (arith, lt, other)))
+  ]
+
+  pub set_all : ((i : ℕ) (d : Y) → i < length now → R (get_or first i d) (get_or now i d)) → ((d : Y) → R (get_or first at d) (get_or now at d) → R (get_or first at d) new)
+      → (i : ℕ) (d : Y) → i < length (set now at new) → R (get_or first i d) (get_or (set now at new) i d)
+  set_all all step i d lt = elim (cases_eq i at) [
+    | inl same ↦ subst (λ n. R (get_or first n d) (get_or (set now at new) n d)) (sym same) (subst (λ y. R (get_or first at d) y) (sym (get_or-set_same now at new d within)) (step d (all at d within)))
+    | inr other ↦ subst (λ y. R (get_or first i d) y) (sym (get_or-set_other now at i new d other)) (all i d (subst (λ n. i < n) (length-set now at new) lt))
+  ]
+
+  pub set_rest : ((i : ℕ) (d : Y) → at ≤ i → get_or now i d ≡ get_or first i d) → (i : ℕ) (d : Y) → at + 1 ≤ i → get_or (set now at new) i d ≡ get_or first i d
+  set_rest rest i d le = get_or-set_other now at i new d (λ same. omega (arith, le, same)) ∙ rest i d (omega (arith, le))
+
+pub none_left : (o : Option ℕ) → ((k : ℕ) → o ≡ Some k → ⊥) → o ≡ None
+none_left None never = refl
+none_left (Some k) never = absurd (never k refl)
+
+pub same_then : (a b c : Lane) → IsSameLane a b → IsSameLane b c → IsSameLane a c
+same_then a b c first second = record {
+  lane = λ seats is. second.lane seats (first.lane seats is);
+  live = second.live ∙ first.live;
+  moment = second.moment ∙ first.moment;
+  reserved = omega (arith, first.reserved, second.reserved);
+}

@@ -1,0 +1,28 @@
+-- the last row has the greatest key
+use Rattle.std.proofs.Common.{sym, ap, subst, ◌∙◌}
+use Rattle.std.specs.Ordering.{nat_cmp}
+use Rattle.std.specs.Cmp.{nat_cmp_total}
+use Rattle.spool_types.specs.State.{job_of}
+use Rattle.std.specs.FinMap as finite
+use Rattle.job_table.specs.Loading.{IsAbove}
+use Rattle.job_table.proofs.Above.{above_yes, above_no, above_none}
+use Rattle.job_table.proofs.Tables.{keys_jobs}
+use Rattle.job_table.proofs.store.Store.is_above_jobs.Goals as goal
+
+pub returns-in-Some-clause-yes : goal.returns-in-Some-clause-yes
+returns-in-Some-clause-yes c = λ lt.
+    let keys = ap (λ v. finite.keys v.state.jobs) (sym c.self.view_is) ∙ keys_jobs c.self.inside.jobs.items c.self.invariant.jobs in
+    let item = rw c.deref.ensures.value at c.in-Some.ensures.item in
+    subst (IsAbove nat_cmp c.args.id) (sym keys) (above_yes nat_cmp nat_cmp_total (λ r. r.id) job_of c.args.id c.self.inside.jobs.items c.self.invariant.jobs c.in-Some.last.now item.3.0 item.1 (sym c.lt.ensures ∙ lt))
+
+pub returns-in-Some-clause-no : goal.returns-in-Some-clause-no
+returns-in-Some-clause-no c = λ lt above.
+    let keys = ap (λ v. finite.keys v.state.jobs) (sym c.self.view_is) ∙ keys_jobs c.self.inside.jobs.items c.self.invariant.jobs in
+    let item = rw c.deref.ensures.value at c.in-Some.ensures.item in
+    above_no nat_cmp nat_cmp_total (λ r. r.id) job_of c.args.id c.self.inside.jobs.items c.in-Some.last.now item.3.0 item.1 (sym c.lt.ensures ∙ lt) (subst (IsAbove nat_cmp c.args.id) keys above)
+
+pub returns-in-None-clause-yes : goal.returns-in-None-clause-yes
+returns-in-None-clause-yes c = λ _.
+    let keys = ap (λ v. finite.keys v.state.jobs) (sym c.self.view_is) ∙ keys_jobs c.self.inside.jobs.items c.self.invariant.jobs in
+    let item = rw c.deref.ensures.value at c.in-None.ensures.item in
+    subst (IsAbove nat_cmp c.args.id) (sym keys) (above_none nat_cmp nat_cmp_total (λ r. r.id) job_of c.args.id c.self.inside.jobs.items item.3)

@@ -1,0 +1,20 @@
+-- no rows make empty maps
+use Rattle.std.proofs.Common.{refl, sym, subst, arith}
+use Rattle.std.specs.Ordering.{nat_cmp}
+use Rattle.std.specs.Cmp.Lexicographic.{slice_cmp}
+use Rattle.job_table.specs.Legal.{IsLegal}
+use Rattle.job_table.proofs.Rows.{map_none}
+use Rattle.job_table.proofs.Legal.{legal_nothing}
+use Rattle.job_table.proofs.store.Store.new.Goals as goal
+
+pub returns-clause-state : goal.returns-clause-state
+returns-clause-state c = rw (c.new.ensures.items, c.new-2.ensures.items) (λ i. record { queues = map_none (slice_cmp nat_cmp) i; jobs = map_none nat_cmp i; highest = 0; moment = 0 })
+
+pub invariant_of-result-2 : goal.invariant_of-result-2
+invariant_of-result-2 c = record {
+  queues = rw c.new.ensures.items refl;
+  jobs = rw c.new-2.ensures.items refl;
+  highest = omega arith;
+  freed = rw c.new-2.ensures.items tt;
+  legal = subst IsLegal (sym (returns-clause-state c)) legal_nothing;
+}

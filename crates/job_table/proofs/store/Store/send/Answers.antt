@@ -1,0 +1,63 @@
+-- the row is changed where it stands
+use Rattle.std.proofs.Common.{◌+◌, ◌≤◌, length, Some, refl, sym, ap, subst, ◌∙◌}
+use Rattle.std.specs.FinMap as finite
+use Rattle.spool_types.specs.declared.event.Event.TheVariants.{Send}
+use Rattle.spool_types.specs.declared.event.Reply.TheVariants.{Size}
+use Rattle.spool_types.specs.State.{job_of}
+use Rattle.job_table.specs.Contents.{document_room}
+use Rattle.job_table.specs.Changes.{with_bytes}
+use Rattle.job_table.specs.Step.{after, refusal_of, size_found}
+use Rattle.job_table.proofs.Rooms.{room_seen}
+use Rattle.job_table.proofs.Tables.{get_job, get_no_job, there_and_not}
+use Rattle.job_table.proofs.Accepted.{job_there, accepted_short}
+use Rattle.job_table.specs.Seen.{contents_of}
+use Rattle.job_table.proofs.Legal.{legal_after}
+use Rattle.job_table.proofs.Steps.{change_state, change_ordered, change_room, document_fits}
+use Rattle.job_table.proofs.store.Store.send.Goals as goal
+
+pub unreachable-requires : goal.unreachable-requires
+unreachable-requires c =
+    let there = job_there c.args.self.now.state (Send c.args.job c.args.bytes) c.args.job _ refl c.requires.accepted in
+    there_and_not _ _ _ there.1
+    (get_no_job c.self.inside.jobs.items c.self.invariant.jobs c.args.job c.in-Err.field-0 (rw c.deref.ensures.value at c.in-Err.ensures.absent))
+    (sym (ap (λ v. finite.get v.state.jobs c.args.job) c.self.view_is))
+
+pub add_bytes-requires-clause-room : goal.add_bytes-requires-clause-room
+add_bytes-requires-clause-room c =
+    document_fits c.self.inside c.self.invariant c.args.job c.in-Ok.at c.index_mut.result.now (rw c.deref.ensures.value at c.in-Ok.ensures.found) (length c.args.bytes)
+    (subst (λ v. length c.args.bytes ≤ document_room v.room c.args.job) (sym c.self.view_is) c.requires.room)
+    c.index_mut.result.now c.index_mut.ensures.value
+
+pub add_bytes-requires-clause-short : goal.add_bytes-requires-clause-short
+add_bytes-requires-clause-short c =
+    accepted_short c.args.self.now.state c.args.job c.args.bytes (job_of c.index_mut.result.now)
+    (ap (λ v. finite.get v.state.jobs c.args.job) (sym c.self.view_is)
+    ∙ get_job c.self.inside.jobs.items c.self.invariant.jobs c.args.job c.in-Ok.at c.index_mut.result.now (rw c.deref.ensures.value at c.in-Ok.ensures.found)
+    ∙ ap (λ r. Some (job_of r)) (sym c.index_mut.ensures.value))
+    c.requires.accepted
+
+pub invariant_of-self : goal.invariant_of-self
+invariant_of-self c = change_ordered c.self.inside c.self.invariant c.args.job c.in-Ok.at c.index_mut.result.now c.add_bytes.new.row c.index_mut.ensures.value
+    (rw c.deref.ensures.value at c.in-Ok.ensures.found) (with_bytes c.args.bytes) (λ x. refl)
+    c.add_bytes.ensures.row c.add_bytes.ensures.memory
+    (legal_after (contents_of c.self.inside).state (Send c.args.job c.args.bytes) tt (ap (λ v. refusal_of v.state (Send c.args.job c.args.bytes)) c.self.view_is ∙ c.requires.accepted) c.self.invariant.legal)
+
+pub returns-clause-state : goal.returns-clause-state
+returns-clause-state c =
+    change_state c.self.inside c.self.invariant c.args.job c.in-Ok.at c.index_mut.result.now c.add_bytes.new.row c.index_mut.ensures.value
+    (rw c.deref.ensures.value at c.in-Ok.ensures.found) (with_bytes c.args.bytes) (λ x. refl)
+    c.add_bytes.ensures.row c.add_bytes.ensures.memory
+    ∙ ap (λ v. after v.state (Send c.args.job c.args.bytes)) c.self.view_is
+
+pub returns-clause-room : goal.returns-clause-room
+returns-clause-room c = room_seen c.self.view_is
+    (change_room c.self.inside c.self.invariant c.args.job c.in-Ok.at c.index_mut.result.now c.add_bytes.new.row c.index_mut.ensures.value
+    (rw c.deref.ensures.value at c.in-Ok.ensures.found) (with_bytes c.args.bytes) (λ x. refl)
+    c.add_bytes.ensures.row c.add_bytes.ensures.memory)
+
+pub returns-clause-reply : goal.returns-clause-reply
+returns-clause-reply c =
+    ap Size (c.add_bytes.ensures.size ∙ ap (λ o. size_found o + length c.args.bytes) (sym (
+    ap (λ v. finite.get v.state.jobs c.args.job) (sym c.self.view_is)
+    ∙ get_job c.self.inside.jobs.items c.self.invariant.jobs c.args.job c.in-Ok.at c.index_mut.result.now (rw c.deref.ensures.value at c.in-Ok.ensures.found)
+    ∙ ap (λ r. Some (job_of r)) (sym c.index_mut.ensures.value))))

@@ -1,0 +1,39 @@
+-- the row is changed where it stands
+use Rattle.std.proofs.Common.{refl, ap, ◌∙◌}
+use Rattle.std.specs.FinMap as finite
+use Rattle.spool_types.specs.declared.event.Event.TheVariants.{SetAccept}
+use Rattle.job_table.specs.Changes.{with_accepting}
+use Rattle.job_table.specs.Step.{after, refusal_of}
+use Rattle.job_table.specs.Seen.{contents_of}
+use Rattle.job_table.proofs.Accepted.{queue_there}
+use Rattle.job_table.proofs.Legal.{legal_after}
+use Rattle.job_table.proofs.Steps.{change_queue_state, change_queue_ordered, change_queue_room}
+use Rattle.job_table.proofs.Rooms.{same_room, room_seen}
+use Rattle.job_table.proofs.Tables.{get_no_queue, needed_and_not}
+use Rattle.job_table.proofs.store.Store.set_accept.Goals as goal
+
+pub unreachable-requires : goal.unreachable-requires
+unreachable-requires c =
+    needed_and_not _ _ (queue_there c.args.self.now.state (SetAccept c.args.queue c.args.accepting) c.args.queue _ refl c.requires)
+    (get_no_queue c.self.inside.queues.items c.self.invariant.queues c.args.queue c.in_default.field-0 (rw c.deref.ensures.value at c.in_default.ensures.absent))
+    (ap (λ v. finite.get v.state.queues c.args.queue) c.self.view_is)
+
+pub invariant_of-self : goal.invariant_of-self
+invariant_of-self c = change_queue_ordered c.self.inside c.self.invariant c.args.queue c.in-Ok.at c.index_mut.result.now c.set_accepting.new.row c.self.inside.spare
+    (rw c.deref.ensures.value at c.in-Ok.ensures.found) (with_accepting c.args.accepting) (λ x. refl)
+    (c.set_accepting.ensures ∙ ap (with_accepting c.args.accepting) c.index_mut.ensures.value)
+    (legal_after (contents_of c.self.inside).state (SetAccept c.args.queue c.args.accepting) tt (ap (λ v. refusal_of v.state (SetAccept c.args.queue c.args.accepting)) c.self.view_is ∙ c.requires) c.self.invariant.legal)
+
+pub returns-clause-state : goal.returns-clause-state
+returns-clause-state c =
+    change_queue_state c.self.inside c.self.invariant c.args.queue c.in-Ok.at c.index_mut.result.now c.set_accepting.new.row c.self.inside.spare
+    (rw c.deref.ensures.value at c.in-Ok.ensures.found) (with_accepting c.args.accepting) (λ x. refl)
+    (c.set_accepting.ensures ∙ ap (with_accepting c.args.accepting) c.index_mut.ensures.value)
+    ∙ ap (λ v. after v.state (SetAccept c.args.queue c.args.accepting)) c.self.view_is
+
+pub returns-clause-room : goal.returns-clause-room
+returns-clause-room c = room_seen c.self.view_is
+    (change_queue_room c.self.inside c.self.invariant c.args.queue c.in-Ok.at c.index_mut.result.now c.set_accepting.new.row c.self.inside.spare
+    (rw c.deref.ensures.value at c.in-Ok.ensures.found) (with_accepting c.args.accepting) (λ x. refl)
+    (c.set_accepting.ensures ∙ ap (with_accepting c.args.accepting) c.index_mut.ensures.value)
+    (same_room _) (same_room _))

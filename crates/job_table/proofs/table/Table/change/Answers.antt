@@ -1,0 +1,22 @@
+-- an event about a queue that is there leaves the jobs, and so the lanes
+use Rattle.std.proofs.Common.{◌≡◌, None, sym, ap, subst, ◌∙◌}
+use Rattle.job_table.specs.Legal.{IsLegal}
+use Rattle.job_table.specs.Step.{refusal_of, after}
+use Rattle.job_table.proofs.Held.{stepped, stays_about}
+use Rattle.job_table.proofs.Legal.{keeps_each, legal_after}
+use Rattle.job_table.proofs.Moves.{Stays}
+use Rattle.job_table.proofs.Seats.{lanes_stay}
+use Rattle.job_table.proofs.table.Table.change.Goals as goal
+
+pub invariant_of-self : goal.invariant_of-self
+invariant_of-self c =
+    let s = c.self.inside.store.state in
+    let t = c.commit.new.self.state in
+    let e = c.args.event in
+    let accepted : refusal_of s e ≡ None = ap (λ v. refusal_of v.state e) c.self.view_is ∙ c.requires.prepared.accepted in
+    let after_it : t ≡ after s e = (stepped s e t c.commit.result accepted c.commit.ensures.step).0 in
+    let stays : Stays s t = subst (Stays s) (sym after_it) (stays_about s e c.requires.about (sym c.in-None.ensures)) in
+    record {
+      legal = subst IsLegal (sym after_it) (legal_after s e (keeps_each c.queues_stay_in_order.ensures.stays e) accepted c.self.invariant.legal);
+      lanes = lanes_stay s t c.self.inside.vacant c.self.inside.lanes.items c.self.invariant.lanes stays;
+    }

@@ -1,0 +1,8 @@
+-- the drafts so far have no jobs
+use Rattle.std.proofs.Common.{◌≡◌, length}
+use Rattle.std.specs.List.{All}
+use Rattle.job_table.specs.Drafts.{IsBlank}
+use Rattle.job_table.proofs.table.build.empty_drafts.Given as goal
+
+abbrev pub invariant-loop : goal.invariant-loop
+invariant-loop l = (length l.drafts.items ≡ l.counter) × All IsBlank l.drafts.items

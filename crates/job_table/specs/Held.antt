@@ -1,0 +1,20 @@
+-- What the fields of a table mean.
+use Rattle.std.specs.Prelude.{◌-◌, min, vec_len, vec_capacity}
+use Rattle.job_table.specs.Contents.{Contents}
+use Rattle.job_table.specs.Lanes.{AreLanes}
+use Rattle.job_table.specs.Legal.{IsLegal}
+use Rattle.job_table.specs.declared.table.Table.TheInside.{Inside}
+
+abbrev pub table_of : Inside → Contents
+table_of a = record {
+  state = a.store.state;
+  room = record a.store.room {
+    queues = min a.store.room.queues (vec_capacity a.lanes - vec_len a.lanes);
+    jobs = min a.store.room.jobs a.vacant;
+  };
+}
+
+-- each queue has its lane, which has room for all of the queue's jobs that haven't ended and for the new ones
+pub record IsInLanes (a : Inside) : Type 0 where
+  pub legal : IsLegal a.store.state
+  pub lanes : AreLanes a.store.state a.vacant a.lanes.items

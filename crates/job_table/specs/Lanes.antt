@@ -1,0 +1,102 @@
+-- The lanes of a table, one for each queue: what stands in one.
+use Rattle.std.specs.Prelude.{◌≡◌, ℕ, ◌+◌, ◌<◌, ◌≤◌, Bool, true, false, cond, List, [], ◌∷◌, length, slice_index_or, Option, None, Some}
+use Rattle.std.specs.List.{Contains, AllByRecursion}
+use Rattle.std.specs.FinMap as finite
+use Rattle.spool_types.specs.Busy.{is_of}
+use Rattle.spool_types.specs.State.{State, Job, job_at}
+use Rattle.spool_types.specs.declared.phase.Phase.{Phase}
+use Rattle.spool_types.specs.declared.phase.Phase.TheVariants as phases
+use Rattle.queue_sched.specs.Index.{entry_of}
+use Rattle.queue_sched.specs.declared.entry.Entry.{Entry}
+use Rattle.job_table.specs.declared.lane.Lane.{Lane}
+use Rattle.job_table.specs.declared.lane.Standing.{Standing}
+use Rattle.job_table.specs.declared.lane.Standing.TheVariants.{Ended, Incoming, Waiting, Processing}
+
+-- ## Where a job stands
+
+abbrev pub standing_in : Job → Phase → Standing
+standing_in r (phases.Incoming hold) = Incoming
+standing_in r (phases.Waiting hold not_before first) = Waiting (entry_of r)
+standing_in r (phases.Processing attempt stage stages) = Processing
+standing_in r phase = Ended
+
+abbrev pub standing_of : Job → Standing
+standing_of r = standing_in r r.phase
+
+-- a job that isn't in the queue stands there as one that has ended
+abbrev pub seat_of : List ℕ → Option Job → Standing
+seat_of name None = Ended
+seat_of name (Some r) = cond (is_of name r) (standing_of r) Ended
+
+-- where the job of this number stands in the queue of this name
+abbrev pub seat : State → List ℕ → ℕ → Standing
+seat s name j = seat_of name (job_at s j)
+
+abbrev pub is_live : Standing → Bool
+is_live Ended = false
+is_live standing = true
+
+abbrev pub live_count : Standing → ℕ
+live_count standing = cond (is_live standing) 1 0
+
+-- ## What a lane has
+
+-- no number is there twice
+abbrev pub AllDiffer : List ℕ → Type 0
+AllDiffer [] = Unit {0}
+AllDiffer (j ∷ js) = AllByRecursion (λ k. ¬ (k ≡ j)) js × AllDiffer js
+
+-- no more than so many jobs haven't ended
+abbrev pub AtMostLive : (ℕ → Standing) → ℕ → Type 0
+AtMostLive seats n = (js : List ℕ) → AllDiffer js → AllByRecursion (λ j. is_live (seats j) ≡ true) js → length js ≤ n
+
+-- the lane is that of the jobs that stand so
+pub record IsLane (seats : ℕ → Standing) (lane : Lane) : Type 0 where
+  pub waiting : (e : Entry) → Contains lane.index.items e → seats e.id ≡ Waiting e
+  pub listed : (j : ℕ) (e : Entry) → seats j ≡ Waiting e → (e.id ≡ j) × Contains lane.index.items e
+  pub processing : (j : ℕ) → lane.processing ≡ Some j → seats j ≡ Processing
+  pub found : (j : ℕ) → seats j ≡ Processing → lane.processing ≡ Some j
+  pub live : AtMostLive seats lane.live
+  pub room : lane.live ≤ lane.reserved
+  pub reserved : lane.reserved ≤ lane.index.room
+
+-- one job stands elsewhere, and all others as before
+pub record IsReseated (old new : ℕ → Standing) (j : ℕ) (to : Standing) : Type 0 where
+  pub own : new j ≡ to
+  pub others : (k : ℕ) → ¬ (k ≡ j) → new k ≡ old k
+
+-- the lane has a job that stands so
+pub record HasSeat (owner : Lane) (j : ℕ) (standing : Standing) : Type 0 where
+  pub seats : ℕ → Standing
+  pub lane : IsLane seats owner
+  pub own : seats j ≡ standing
+
+-- the same jobs, and as much room at least
+pub record IsSameLane (old new : Lane) : Type 0 where
+  pub lane : (seats : ℕ → Standing) → IsLane seats old → IsLane seats new
+  pub live : new.live ≡ old.live
+  pub moment : new.index.moment ≡ old.index.moment
+  pub reserved : old.reserved ≤ new.reserved
+
+-- the same jobs and as much room, at another moment
+pub record IsAdvanced (now : ℕ) (old new : Lane) : Type 0 where
+  pub lane : (seats : ℕ → Standing) → IsLane seats old → IsLane seats new
+  pub live : new.live ≡ old.live
+  pub moment : new.index.moment ≡ now
+  pub reserved : new.reserved ≡ old.reserved
+
+-- ## The lanes of all queues
+
+-- each of the one list beside the one of the other that has its place
+pub record AreBeside {K Y : Type 0} (P : K → Y → Type 0) (ks : List K) (ys : List Y) : Type 0 where
+  pub count : length ys ≡ length ks
+  pub each : (i : ℕ) (k : K) (y : Y) → i < length ys → P (slice_index_or ks i k) (slice_index_or ys i y)
+
+-- the lane of a queue, with room for so many new jobs
+pub record IsLaneOf (s : State) (vacant : ℕ) (name : List ℕ) (owner : Lane) : Type 0 where
+  pub lane : IsLane (seat s name) owner
+  pub moment : owner.index.moment ≡ s.moment
+  pub spare : owner.live + vacant ≤ owner.reserved
+
+abbrev pub AreLanes : State → ℕ → List Lane → Type 0
+AreLanes s vacant lanes = AreBeside (IsLaneOf s vacant) (finite.keys s.queues) lanes

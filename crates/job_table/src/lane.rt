@@ -1,0 +1,218 @@
+//! The lane of a queue: its waiting jobs in the order of their turns, its processing job, and how many of its jobs haven't
+//! ended.
+ghost use Rattle.std.specs.Prelude.{◌≡◌, ℕ, ◌+◌, ◌<◌, ◌≤◌, ◌↔◌, ◌⊎◌, true, false, List, length, slice_index_or, None, Some, IfSome, OnOk};
+ghost use Rattle.std.specs.Option.{IsNone};
+ghost use Rattle.std.specs.List.{Contains};
+ghost use Rattle.queue_sched.specs.Index.{IsFirstStartable, NoneIsStartable};
+ghost use Rattle.queue_sched.specs.declared.entry.Entry.{Entry};
+ghost use Rattle.spool_types.specs.State.{job_of};
+ghost use Rattle.job_table.specs.Lanes.{standing_of, is_live, live_count, IsLane, IsReseated, HasSeat, IsSameLane, IsAdvanced};
+ghost use Rattle.job_table.specs.declared.lane.Standing.{Standing};
+ghost use Rattle.job_table.specs.declared.lane.Lane.{Lane};
+
+use queue_sched::{Entry, Index};
+use spool_types::{JobId, JobRow, Moment, Phase};
+use std::alloc::{AllocError, Global};
+
+mod draft;
+
+pub(crate) use draft::Draft;
+
+/// Where a job stands in the lane of its queue.
+#[derive(Clone, Copy, Debug)]
+pub(crate) enum Standing {
+    /// It has ended, or isn't there.
+    Ended,
+    Incoming,
+    Waiting(Entry),
+    Processing,
+}
+
+// Where the job stands in the lane of its queue.
+pub(crate) fn standing_of_row(row: &JobRow) -> Standing
+    ensures { result ≡ standing_of (job_of row.now) }
+{
+    match row.phase {
+        Phase::Incoming(_) => Standing::Incoming,
+        Phase::Waiting { .. } => match Entry::of_row(row) {
+            Some(entry) => Standing::Waiting(entry),
+            None => unreachable!(),
+        },
+        Phase::Processing { .. } => Standing::Processing,
+        Phase::Completed | Phase::Canceled | Phase::Aborted(_) => Standing::Ended,
+    }
+}
+
+/// The lane of a queue.
+#[derive(Debug, Drop)]
+pub(crate) struct Lane {
+    // The waiting jobs.
+    pub index: Index,
+    processing: Option<JobId>,
+    // How many jobs haven't ended. Each of them may come to wait.
+    live: usize,
+    // For how many waiting jobs the index has room.
+    reserved: usize,
+}
+
+impl Lane {
+    /// The lane of a queue without jobs. It takes no memory.
+    pub(crate) fn new(alloc: Global, moment: Moment) -> Lane
+        ensures lane { (seats : ℕ → Standing) → ((j : ℕ) → seats j ≡ Standing.Ended) → IsLane seats result }
+        ensures moment { result.index.moment ≡ moment }
+        ensures live { result.live ≡ 0 }
+    {
+        let mut index = Index::new(alloc);
+        index.advance(moment);
+        Lane {
+            index,
+            processing: None,
+            live: 0,
+            reserved: 0,
+        }
+    }
+
+    /// Makes room for a job more.
+    pub(crate) fn reserve(&mut self) -> Result<(), AllocError>
+        ensures room { OnOk result (self.old.live + 1 ≤ self.new.reserved) }
+        ensures lane { (seats : ℕ → Standing) → IsLane seats self.old → IsLane seats self.new }
+        ensures live { self.new.live ≡ self.old.live }
+        ensures moment { self.new.index.moment ≡ self.old.index.moment }
+        ensures kept { self.old.reserved ≤ self.new.reserved }
+    {
+        let count = self.live.checked_add(1).ok_or(AllocError)?;
+        self.index.reserve(count)?;
+        self.reserved = self.reserved.max(count);
+        Ok(())
+    }
+
+    /// The job of the queue that is to be started next, where the queue isn't stopped.
+    pub(crate) fn next(&self) -> Option<JobId>
+        ensures chosen { IfSome result (λ j. (self.now.processing ≡ None) × ((e : Entry) × (e.id ≡ j) × IsFirstStartable self.now.index e)) }
+        ensures none { IsNone result → (self.now.processing ≡ None) → NoneIsStartable self.now.index }
+    {
+        match self.processing {
+            Some(_) => None,
+            None => self.index.next(),
+        }
+    }
+
+    /// The job that is processing, if one is.
+    pub(crate) fn processing(&self) -> Option<JobId>
+        ensures { result ≡ self.now.processing }
+    {
+        self.processing
+    }
+
+    /// Brings a moment that isn't earlier.
+    pub(crate) fn advance(&mut self, moment: Moment)
+        requires { self.old.index.moment ≤ moment }
+        ensures lane { (seats : ℕ → Standing) → IsLane seats self.old → IsLane seats self.new }
+        ensures moment { self.new.index.moment ≡ moment }
+        ensures live { self.new.live ≡ self.old.live }
+        ensures reserved { self.new.reserved ≡ self.old.reserved }
+    {
+        self.index.advance(moment);
+    }
+
+    /// Puts a job where it stands now. It takes no memory.
+    pub(crate) fn reseat(&mut self, job: JobId, from: Standing, to: Standing)
+        requires there { HasSeat self.old job from }
+        requires own { (e : Entry) → to ≡ Standing.Waiting e → e.id ≡ job }
+        requires room { is_live to ≡ true → is_live from ≡ false → self.old.live < self.old.reserved }
+        requires alone { to ≡ Standing.Processing → (k : ℕ) → self.old.processing ≡ Some k → k ≡ job }
+        ensures lane { (old new : ℕ → Standing) → IsLane old self.old → old job ≡ from → IsReseated old new job to → IsLane new self.new }
+        ensures live { self.new.live + live_count from ≡ self.old.live + live_count to }
+        ensures moment { self.new.index.moment ≡ self.old.index.moment }
+        ensures reserved { self.new.reserved ≡ self.old.reserved }
+    {
+        self.leave(job, from);
+        self.enter(job, to);
+    }
+
+    // Takes a job away.
+    fn leave(&mut self, _job: JobId, from: Standing)
+        requires { HasSeat self.old _job from }
+        ensures lane { (old new : ℕ → Standing) → IsLane old self.old → old _job ≡ from → IsReseated old new _job Standing.Ended → IsLane new self.new }
+        ensures live { self.new.live + live_count from ≡ self.old.live }
+        ensures processing { (k : ℕ) → self.new.processing ≡ Some k → self.old.processing ≡ Some k }
+        ensures moment { self.new.index.moment ≡ self.old.index.moment }
+        ensures reserved { self.new.reserved ≡ self.old.reserved }
+    {
+        match from {
+            Standing::Ended => {}
+            Standing::Incoming => self.live -= 1,
+            Standing::Waiting(entry) => {
+                self.index.remove(entry);
+                self.live -= 1;
+            }
+            Standing::Processing => {
+                self.processing = None;
+                self.live -= 1;
+            }
+        }
+    }
+
+    // Puts a job in that isn't there.
+    fn enter(&mut self, job: JobId, to: Standing)
+        requires there { HasSeat self.old job Standing.Ended }
+        requires own { (e : Entry) → to ≡ Standing.Waiting e → e.id ≡ job }
+        requires room { is_live to ≡ true → self.old.live < self.old.reserved }
+        requires alone { to ≡ Standing.Processing → self.old.processing ≡ None }
+        ensures lane { (old new : ℕ → Standing) → IsLane old self.old → old job ≡ Standing.Ended → IsReseated old new job to → IsLane new self.new }
+        ensures live { self.new.live ≡ self.old.live + live_count to }
+        ensures moment { self.new.index.moment ≡ self.old.index.moment }
+        ensures reserved { self.new.reserved ≡ self.old.reserved }
+    {
+        match to {
+            Standing::Ended => {}
+            Standing::Incoming => self.live += 1,
+            Standing::Waiting(entry) => {
+                self.list(entry);
+                self.live += 1;
+            }
+            Standing::Processing => {
+                self.processing = Some(job);
+                self.live += 1;
+            }
+        }
+    }
+
+    // Adds a waiting job to the index. A job that hasn't ended is one of those that the index has room for.
+    fn list(&mut self, entry: Entry)
+        requires there { HasSeat self.old entry.id Standing.Ended }
+        requires room { self.old.live < self.old.reserved }
+        ensures items { (e : Entry) → Contains self.new.index.items e ↔ (Contains self.old.index.items e ⊎ (e ≡ entry)) }
+        ensures moment { self.new.index.moment ≡ self.old.index.moment }
+        ensures room { self.new.index.room ≡ self.old.index.room }
+        ensures rest { (self.new.processing ≡ self.old.processing) × (self.new.live ≡ self.old.live) × (self.new.reserved ≡ self.old.reserved) }
+    {
+        let waiting = self.index.jobs().len();
+        let has_room = waiting < self.reserved;
+        prove!(has_room);
+        self.index.insert(entry);
+    }
+}
+
+/// Makes room for a job more in each lane.
+pub(crate) fn reserve_each(lanes: &mut [Lane]) -> Result<(), AllocError>
+    ensures count { length lanes.new ≡ length lanes.old }
+    ensures each { (i : ℕ) (d : Lane) → i < length lanes.new → IsSameLane (slice_index_or lanes.old i d) (slice_index_or lanes.new i d) }
+    ensures room { OnOk result ((i : ℕ) (d : Lane) → i < length lanes.new → (slice_index_or lanes.new i d).live + 1 ≤ (slice_index_or lanes.new i d).reserved) }
+{
+    for at in 0..lanes.len() {
+        lanes[at].reserve()?;
+    }
+    Ok(())
+}
+
+/// Brings a moment that isn't earlier to each lane.
+pub(crate) fn advance_each(lanes: &mut [Lane], moment: Moment)
+    requires { (i : ℕ) (d : Lane) → i < length lanes.old → (slice_index_or lanes.old i d).index.moment ≤ moment }
+    ensures count { length lanes.new ≡ length lanes.old }
+    ensures each { (i : ℕ) (d : Lane) → i < length lanes.new → IsAdvanced moment (slice_index_or lanes.old i d) (slice_index_or lanes.new i d) }
+{
+    for at in 0..lanes.len() {
+        lanes[at].advance(moment);
+    }
+}

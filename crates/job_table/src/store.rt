@@ -1,0 +1,129 @@
+//! The rows of a table, and what is read from them.
+ghost use Rattle.std.specs.Prelude.{◌≡◌, ◌≤◌, Some, map};
+ghost use Rattle.std.specs.Option.{option_copied, option_map};
+ghost use Rattle.std.specs.List.{Contains};
+ghost use Rattle.std.specs.FinMap as finite;
+ghost use Rattle.spool_types.specs.Limits.{greatest_number};
+ghost use Rattle.spool_types.specs.State.{Job, nothing, job_of, queue_at, job_at};
+ghost use Rattle.job_table.specs.Contents.{no_room, IsFreedWhenEnded};
+ghost use Rattle.job_table.specs.Legal.{IsLegal};
+
+use lookup::{job_place, queue_place};
+use row_effects::Spare;
+use spool_types::{JobId, JobRow, Moment, QueueName, QueueRow};
+use std::alloc::Global;
+use std::marker::Model;
+
+mod attempts;
+mod commit;
+mod load;
+mod lookup;
+mod reserve;
+mod row_changes;
+
+pub use attempts::is_in_stage;
+
+/// The rows of queues and jobs.
+#[derive(Debug, Drop)]
+pub(crate) struct Store {
+    // In ascending order of name, each name once.
+    queues: Vec<QueueRow>,
+    // In ascending order of number, each number once.
+    jobs: Vec<JobRow>,
+    highest: u32,
+    moment: Moment,
+    // Set aside for the effects of a stage.
+    spare: Spare,
+}
+
+impl Model for Store {
+    ghost use Rattle.job_table.specs.Contents.{Contents};
+    ghost use Rattle.std.specs.Coded.{codes};
+    ghost use Rattle.std.specs.FinMap as map;
+
+    ghost Value = { Contents };
+
+    ghost coded = { Prim.hlevel (codes, map.code) };
+
+    ghost use Rattle.job_table.specs.Seen.{contents_of, IsOrdered};
+
+    ghost view = { contents_of };
+
+    ghost invariant = { IsOrdered };
+}
+
+impl Store {
+    /// No queues and no jobs, at the moment 0. It takes no memory.
+    pub fn new(alloc: Global) -> Store
+        ensures state { result.state ≡ nothing }
+        ensures room { result.room ≡ no_room }
+    {
+        Store {
+            queues: Vec::new(alloc),
+            jobs: Vec::new(alloc),
+            highest: 0,
+            moment: Moment::ZERO,
+            spare: Spare::new(alloc),
+        }
+    }
+
+    /// The moment now: the greatest that a clock event has brought, or 0.
+    pub fn now(&self) -> Moment
+        ensures { result ≡ self.now.state.moment }
+    {
+        self.moment
+    }
+
+    /// The highest number that a job was given, or 0.
+    pub fn highest(&self) -> u32
+        ensures value { result ≡ self.now.state.highest }
+        ensures at_most { result ≤ greatest_number }
+    {
+        self.highest
+    }
+
+    /// The queue of this name, if there is one. It is found by binary search.
+    pub fn queue(&self, name: &QueueName) -> Option<&QueueRow>
+        ensures { option_copied result ≡ queue_at self.now.state name.now }
+    {
+        match queue_place(&self.queues, name) {
+            Ok(at) => Some(&self.queues[at]),
+            Err(_) => None,
+        }
+    }
+
+    /// The job of this number, if there is one. It is found by binary search.
+    pub fn job(&self, id: JobId) -> Option<&JobRow>
+        ensures { option_map job_of (option_copied result) ≡ job_at self.now.state id }
+    {
+        match job_place(&self.jobs, id) {
+            Ok(at) => Some(&self.jobs[at]),
+            Err(_) => None,
+        }
+    }
+
+    /// All queues, in ascending order of name.
+    pub fn queues(&self) -> &[QueueRow]
+        ensures rows { result.now ≡ finite.values self.now.state.queues }
+        ensures names { map (λ row. row.name) result.now ≡ finite.keys self.now.state.queues }
+        ensures legal { IsLegal self.now.state }
+    {
+        &self.queues
+    }
+
+    /// All jobs, in ascending order of number.
+    pub fn jobs(&self) -> &[JobRow]
+        ensures rows { map job_of result.now ≡ finite.values self.now.state.jobs }
+        ensures found { (row : Job) → Contains (finite.values self.now.state.jobs) row → job_at self.now.state row.id ≡ Some row }
+        ensures legal { IsLegal self.now.state }
+        ensures freed { IsFreedWhenEnded self.now }
+    {
+        &self.jobs
+    }
+
+    pub(crate) fn queue_count(&self) -> usize
+        ensures { result ≡ finite.len self.now.state.queues }
+    {
+        self.queues.len()
+    }
+}

@@ -1,0 +1,191 @@
+//! Attempts at jobs: the start of an attempt, the end of a stage, and attempts that are lost.
+ghost use Rattle.std.specs.Prelude.{◌≡◌, false, None, Some, IsSome};
+ghost use Rattle.job_table.specs.Attempts.{is_in_stage, is_last_stage, is_processing_at, lost_by, with_pages, rule_at, stage_verdict, with_effects};
+ghost use Rattle.job_table.specs.Changes.{change_job, change_queue_of};
+ghost use Rattle.job_table.specs.Contents.{HasNoMore};
+ghost use Rattle.job_table.specs.Legal.{IsLegal};
+ghost use Rattle.row_effects.specs.Fold.{queue_after};
+ghost use Rattle.row_effects.specs.Room.{HasRoom};
+ghost use Rattle.spool_types.specs.State.{Job, job_of, queue_at, job_at};
+ghost use Rattle.job_table.specs.Step.{refusal_of, after, reply_to, phase_found};
+ghost use Rattle.spool_types.specs.declared.event.Event.{Event};
+ghost use Rattle.spool_types.specs.declared.rows.QueueRow.{QueueRow};
+
+use super::Store;
+use super::lookup::{job_place, queue_place};
+use super::row_changes::{add_pages, rule_queue_row, rule_row, start_row};
+use backend_codes::{Verdict, lost_verdict, verdict};
+use row_effects::{fold_queue, queues_stay_in_order};
+use spool_types::{
+    AttemptNumber, Effect, Exit, JobId, JobRow, Phase, QueueRow, Reply, StageEnd, StageNumber,
+};
+
+impl Store {
+    // Answers the phase that the job has then.
+    pub(super) fn start(&mut self, job: JobId) -> Phase
+        requires { refusal_of self.old.state (Event.Start job) ≡ None }
+        ensures state { self.new.state ≡ after self.old.state (Event.Start job) }
+        ensures reply { Reply.Phase result ≡ reply_to self.old.state (Event.Start job) }
+        ensures room { HasNoMore self.old.room self.new.room }
+    {
+        match job_place(&self.jobs, job) {
+            Ok(at) => start_row(&mut self.jobs[at]),
+            Err(_) => unreachable!(),
+        }
+    }
+
+    // Folds the effects of the stage, and then rules on the job. Answers the phase that the job has then.
+    pub(super) fn end_stage(&mut self, end: StageEnd) -> Phase
+        requires accepted { refusal_of self.old.state (Event.Stage end) ≡ None }
+        requires room { HasRoom self.old.room.spare end.effects }
+        ensures state { self.new.state ≡ after self.old.state (Event.Stage end) }
+        ensures reply { Reply.Phase result ≡ reply_to self.old.state (Event.Stage end) }
+        ensures room { HasNoMore self.old.room self.new.room }
+    {
+        let job = end.job;
+        let exit = end.exit;
+        self.fold_effects(job, end.effects.into_vec());
+        let verdict = self.stage_verdict(job, exit);
+        self.rule(job, verdict)
+    }
+
+    // The effects of a stage of this job, in order.
+    fn fold_effects(&mut self, job: JobId, effects: Vec<Effect>)
+        requires there { IsSome (job_at self.old.state job) }
+        requires room { HasRoom self.old.room.spare effects.items }
+        ensures state { self.new.state ≡ with_effects self.old.state job effects.items }
+        ensures there { IsSome (job_at self.new.state job) }
+        ensures room { HasNoMore self.old.room self.new.room }
+    {
+        self.fold_into_job(job, &effects);
+        self.fold_into_queue(job, effects);
+    }
+
+    // The job's pages.
+    fn fold_into_job(&mut self, job: JobId, effects: &[Effect])
+        requires { IsSome (job_at self.old.state job) }
+        ensures state { self.new.state ≡ change_job self.old.state job (with_pages effects.now) }
+        ensures there { IsSome (job_at self.new.state job) }
+        ensures room { HasNoMore self.old.room self.new.room }
+        ensures spare { self.new.room.spare ≡ self.old.room.spare }
+    {
+        match job_place(&self.jobs, job) {
+            Ok(at) => add_pages(&mut self.jobs[at], effects),
+            Err(_) => unreachable!(),
+        }
+    }
+
+    // The reasons, attributes and message of the job's queue.
+    fn fold_into_queue(&mut self, job: JobId, effects: Vec<Effect>)
+        requires there { IsSome (job_at self.old.state job) }
+        requires room { HasRoom self.old.room.spare effects.items }
+        ensures state { self.new.state ≡ change_queue_of self.old.state job (queue_after effects.items) }
+        ensures room { HasNoMore self.old.room self.new.room }
+    {
+        queues_stay_in_order();
+        let Ok(at) = job_place(&self.jobs, job) else {
+            unreachable!()
+        };
+        let Ok(queue_at) = queue_place(&self.queues, &self.jobs[at].queue) else {
+            unreachable!()
+        };
+        fold_queue(&mut self.queues[queue_at], &mut self.spare, effects);
+    }
+
+    // Answers the phase that the job has then.
+    pub(super) fn abandon(&mut self, job: JobId) -> Phase
+        requires { refusal_of self.old.state (Event.Abandon job) ≡ None }
+        ensures state { self.new.state ≡ after self.old.state (Event.Abandon job) }
+        ensures reply { Reply.Phase result ≡ reply_to self.old.state (Event.Abandon job) }
+        ensures room { HasNoMore self.old.room self.new.room }
+    {
+        let verdict = self.verdict_on_lost(job);
+        self.rule(job, verdict)
+    }
+
+    pub(crate) fn is_processing(&self, job: JobId) -> bool
+        ensures { result ≡ is_processing_at (job_at self.now.state job) }
+    {
+        match self.job(job) {
+            Some(row) => row.phase.is_processing(),
+            None => false,
+        }
+    }
+
+    // The verdict on the end of a stage, by the job's queue.
+    fn stage_verdict(&self, job: JobId, exit: Exit) -> Verdict
+        requires { IsSome (job_at self.now.state job) }
+        ensures { (r : Job) (q : QueueRow) → job_at self.now.state job ≡ Some r → queue_at self.now.state r.queue ≡ Some q → result ≡ stage_verdict exit r q }
+    {
+        let (row, queue) = self.with_queue(job);
+        let last_stage = is_last_stage(row.phase);
+        verdict(exit, last_stage, queue.policy, row.attempts, queue.limit)
+    }
+
+    // The verdict on an attempt whose end nobody saw, by the job's queue.
+    fn verdict_on_lost(&self, job: JobId) -> Verdict
+        requires { IsSome (job_at self.now.state job) }
+        ensures { (r : Job) (q : QueueRow) → job_at self.now.state job ≡ Some r → queue_at self.now.state r.queue ≡ Some q → result ≡ lost_by r q }
+    {
+        let (row, queue) = self.with_queue(job);
+        lost_verdict(queue.policy, row.attempts, queue.limit)
+    }
+
+    // A job that is there, and its queue, which is there too.
+    fn with_queue(&self, job: JobId) -> (&JobRow, &QueueRow)
+        requires { IsSome (job_at self.now.state job) }
+        ensures row { job_at self.now.state job ≡ Some (job_of result.0.now) }
+        ensures queue { queue_at self.now.state result.0.now.queue ≡ Some result.1.now }
+    {
+        let Ok(at) = job_place(&self.jobs, job) else {
+            unreachable!()
+        };
+        let row = &self.jobs[at];
+        let Ok(queue_at) = queue_place(&self.queues, &row.queue) else {
+            unreachable!()
+        };
+        (row, &self.queues[queue_at])
+    }
+
+    // Changes a job by a verdict on it, and stops its queue where the verdict says so. Answers the phase that the job has
+    // then.
+    fn rule(&mut self, job: JobId, verdict: Verdict) -> Phase
+        requires there { IsSome (job_at self.old.state job) }
+        requires legal { IsLegal self.old.state → IsLegal (rule_at self.old.state job (λ r q. verdict)) }
+        ensures state { self.new.state ≡ rule_at self.old.state job (λ r q. verdict) }
+        ensures phase { result ≡ phase_found (job_at self.new.state job) }
+        ensures room { HasNoMore self.old.room self.new.room }
+    {
+        let now = self.moment;
+        let Ok(at) = job_place(&self.jobs, job) else {
+            unreachable!()
+        };
+        let Ok(queue_at) = queue_place(&self.queues, &self.jobs[at].queue) else {
+            unreachable!()
+        };
+        let interval = self.queues[queue_at].interval;
+        rule_queue_row(&mut self.queues[queue_at], verdict);
+        rule_row(&mut self.jobs[at], verdict, now, interval)
+    }
+}
+
+// Whether the backend runs, behind the filters.
+fn is_last_stage(phase: Phase) -> bool
+    ensures { result ≡ is_last_stage phase }
+{
+    matches!(phase, Phase::Processing { stage, stages, .. } if stage == stages)
+}
+
+/// Whether a job of this phase is in this stage of this attempt.
+pub fn is_in_stage(phase: Phase, attempt: AttemptNumber, stage: StageNumber) -> bool
+    ensures { result ≡ is_in_stage attempt stage phase }
+{
+    match phase {
+        Phase::Processing {
+            attempt: newest,
+            stage: running,
+            ..
+        } => newest == attempt.get() && u32::from(running) == stage.get(),
+        _ => false,
+    }
+}

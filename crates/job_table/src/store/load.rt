@@ -1,0 +1,68 @@
+//! What a listing adds: each of its rows goes last.
+ghost use Rattle.std.specs.Prelude.{◌≡◌, ◌<◌, ◌≤◌, false, IsTrue, OnOk, OnErr};
+ghost use Rattle.std.specs.Ordering.{nat_cmp};
+ghost use Rattle.std.specs.Cmp.Lexicographic.{slice_cmp};
+ghost use Rattle.std.specs.FinMap as finite;
+ghost use Rattle.spool_types.specs.Limits.{greatest_number};
+ghost use Rattle.spool_types.specs.State.{nothing, job_of};
+ghost use Rattle.job_table.specs.Legal.{IsLegal};
+ghost use Rattle.job_table.specs.Loading.{IsAbove, headed, with_queue, with_job};
+ghost use Rattle.job_table.specs.Rows.{IsFreed};
+
+use super::Store;
+use spool_types::{Head, JobId, JobRow, QueueName, QueueRow};
+use std::alloc::AllocError;
+
+impl Store {
+    // What the head tells of a table without rows.
+    pub(crate) fn set_head(&mut self, head: Head)
+        requires empty { self.old.state ≡ nothing }
+        requires highest { head.highest ≤ greatest_number }
+        ensures { self.new.state ≡ headed head }
+    {
+        self.highest = head.highest;
+        self.moment = head.moment;
+    }
+
+    // Whether the name is above the names of all queues, of which the last is the greatest.
+    pub(crate) fn is_above_queues(&self, name: &QueueName) -> bool
+        ensures yes { IsTrue result → IsAbove (slice_cmp nat_cmp) name.now (finite.keys self.now.state.queues) }
+        ensures no { result ≡ false → ¬ (IsAbove (slice_cmp nat_cmp) name.now (finite.keys self.now.state.queues)) }
+    {
+        match self.queues.last() {
+            Some(last) => last.name < *name,
+            None => true,
+        }
+    }
+
+    // Whether the number is above the numbers of all jobs, of which the last is the greatest.
+    pub(crate) fn is_above_jobs(&self, id: JobId) -> bool
+        ensures yes { IsTrue result → IsAbove nat_cmp id (finite.keys self.now.state.jobs) }
+        ensures no { result ≡ false → ¬ (IsAbove nat_cmp id (finite.keys self.now.state.jobs)) }
+    {
+        match self.jobs.last() {
+            Some(last) => last.id < id,
+            None => true,
+        }
+    }
+
+    pub(crate) fn push_queue(&mut self, queue: QueueRow) -> Result<(), AllocError>
+        requires above { IsAbove (slice_cmp nat_cmp) queue.name (finite.keys self.old.state.queues) }
+        requires legal { IsLegal (with_queue self.old.state queue) }
+        ensures added { OnOk result (self.new.state ≡ with_queue self.old.state queue) }
+        ensures same { OnErr result (self.new.state ≡ self.old.state) }
+    {
+        self.queues.push(queue)?;
+        Ok(())
+    }
+
+    pub(crate) fn push_job(&mut self, row: JobRow)
+        requires room { 0 < self.old.room.jobs }
+        requires above { IsAbove nat_cmp row.id (finite.keys self.old.state.jobs) }
+        requires legal { IsLegal (with_job self.old.state (job_of row)) }
+        requires freed { IsFreed row }
+        ensures { self.new.state ≡ with_job self.old.state (job_of row) }
+    {
+        self.jobs.push(row).unwrap();
+    }
+}

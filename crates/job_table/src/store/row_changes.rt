@@ -1,0 +1,227 @@
+//! New rows, and what events change in a row.
+ghost use Rattle.std.specs.Prelude.{◌≡◌, ◌+◌, ◌<◌, ◌≤◌, true, cond, ◌++◌, length, vec_len, vec_capacity};
+ghost use Rattle.job_table.specs.Attempts.{started, with_pages, ruled, stops_queue, next_stage};
+ghost use Rattle.spool_types.specs.Limits.{longest_document, greatest_attempts};
+ghost use Rattle.spool_types.specs.State.{job_of};
+ghost use Rattle.job_table.specs.Losses.{HasNextStage};
+ghost use Rattle.job_table.specs.Changes.{new_queue, with_notes, with_accepting, with_stopped, new_job, with_bytes, ended, closed, held};
+ghost use Rattle.job_table.specs.Rows.{TakesNone};
+
+use backend_codes::Verdict;
+use row_effects::pages_after;
+use spool_types::{
+    AbortReason, Closing, Effect, Hold, Interval, Items, JobRow, Moment, NewJob, NewQueue, Phase,
+    Piece, QueueNotes, QueueRow, Text,
+};
+use std::alloc::Global;
+
+// A new queue accepts, isn't stopped, and has empty texts and lists.
+pub(super) fn new_queue_row(alloc: Global, queue: NewQueue) -> QueueRow
+    ensures { result ≡ new_queue queue }
+{
+    QueueRow {
+        name: queue.name,
+        uri: queue.uri,
+        target: queue.target,
+        policy: queue.policy,
+        interval: queue.interval,
+        limit: queue.limit,
+        info: Text::empty(alloc),
+        location: Text::empty(alloc),
+        accepting: true,
+        stopped: false,
+        message: Text::empty(alloc),
+        reasons: Items::empty(alloc),
+        attributes: Items::empty(alloc),
+    }
+}
+
+pub(super) fn set_notes(row: &mut QueueRow, notes: QueueNotes)
+    ensures { row.new ≡ with_notes notes row.old }
+{
+    row.info = notes.info;
+    row.location = notes.location;
+}
+
+pub(super) fn set_accepting(row: &mut QueueRow, accepting: bool)
+    ensures { row.new ≡ with_accepting accepting row.old }
+{
+    row.accepting = accepting;
+}
+
+pub(super) fn set_stopped(row: &mut QueueRow, stopped: bool)
+    ensures { row.new ≡ with_stopped stopped row.old }
+{
+    row.stopped = stopped;
+}
+
+// A new job is incoming and free, and has no bytes.
+pub(super) fn new_job_row(alloc: Global, job: NewJob) -> JobRow
+    ensures row { job_of result ≡ new_job job }
+    ensures room { vec_capacity result.document ≡ 0 }
+{
+    JobRow {
+        id: job.job,
+        queue: job.queue,
+        user: job.user,
+        title: job.title,
+        copies: job.copies,
+        priority: job.priority,
+        options: job.options,
+        media: None,
+        filters: Items::empty(alloc),
+        attempts: 0,
+        pages: 0,
+        size: 0,
+        phase: Phase::Incoming(Hold::Free),
+        document: Vec::new(alloc),
+    }
+}
+
+// Adds the bytes to the document, and answers its size.
+pub(super) fn add_bytes(row: &mut JobRow, bytes: Piece) -> u32
+    requires room { vec_len row.old.document + length bytes ≤ vec_capacity row.old.document }
+    requires short { row.old.size + length bytes ≤ longest_document }
+    ensures row { job_of row.new ≡ with_bytes bytes (job_of row.old) }
+    ensures size { result ≡ row.old.size + length bytes }
+    ensures memory { TakesNone row.old row.new }
+{
+    let bytes = bytes.as_slice();
+    append_in_place(&mut row.document, bytes);
+    row.size += bytes.len() as u32;
+    row.size
+}
+
+// Appends byte by byte, since of all that append only `push_reserved` tells that a vector with room keeps its block.
+fn append_in_place(document: &mut Vec<u8>, bytes: &[u8])
+    requires { vec_len document.old + length bytes.now ≤ vec_capacity document.old }
+    ensures items { document.new.items ≡ document.old.items ++ bytes.now }
+    ensures capacity { vec_capacity document.new ≡ vec_capacity document.old }
+{
+    for byte in bytes {
+        document.push_reserved(*byte);
+    }
+}
+
+// A job that ends loses its document.
+pub(super) fn end_row(row: &mut JobRow, phase: Phase)
+    ensures row { job_of row.new ≡ ended phase (job_of row.old) }
+    ensures memory { TakesNone row.old row.new }
+{
+    let alloc = *row.document.allocator();
+    row.phase = phase;
+    row.document = Vec::new(alloc);
+}
+
+// A closed job waits with the hold that it had, or ends where no filters lead to its queue.
+pub(super) fn close_row(row: &mut JobRow, closing: Closing)
+    ensures row { job_of row.new ≡ closed closing (job_of row.old) }
+    ensures memory { TakesNone row.old row.new }
+{
+    row.media = Some(closing.media);
+    match closing.filters {
+        Some(filters) => {
+            row.filters = filters;
+            row.phase = Phase::Waiting {
+                hold: row.phase.hold(),
+                not_before: Moment::ZERO,
+                first: false,
+            };
+        }
+        None => end_row(row, Phase::Aborted(AbortReason::NoFilter)),
+    }
+}
+
+// A job that waits or is still incoming gets this hold.
+pub(super) fn hold_row(row: &mut JobRow, hold: Hold)
+    ensures row { job_of row.new ≡ held hold (job_of row.old) }
+    ensures memory { TakesNone row.old row.new }
+{
+    row.phase = row.phase.with_hold(hold);
+}
+
+// Begins a further attempt: the first of the job's stages, its filters in order and then the backend.
+pub(super) fn start_row(row: &mut JobRow) -> Phase
+    requires { row.old.attempts < greatest_attempts }
+    ensures row { job_of row.new ≡ started (job_of row.old) }
+    ensures phase { result ≡ row.new.phase }
+    ensures memory { TakesNone row.old row.new }
+{
+    row.attempts += 1;
+    row.pages = 0;
+    row.phase = Phase::Processing {
+        attempt: row.attempts,
+        stage: 1,
+        stages: row.filters.as_slice().len() as u8 + 1,
+    };
+    row.phase
+}
+
+// The pages that the effects of a stage tell.
+pub(super) fn add_pages(row: &mut JobRow, effects: &[Effect])
+    ensures row { job_of row.new ≡ with_pages effects.now (job_of row.old) }
+    ensures memory { TakesNone row.old row.new }
+{
+    row.pages = pages_after(row.pages, effects);
+}
+
+// One verdict on a job stops its queue.
+pub(super) fn rule_queue_row(row: &mut QueueRow, verdict: Verdict)
+    ensures { row.new ≡ cond (stops_queue verdict) (with_stopped true row.old) row.old }
+{
+    if verdict == Verdict::StopQueue {
+        row.stopped = true;
+    }
+}
+
+// What a verdict makes of a job, at the moment now, where its queue tries a job again after the interval.
+pub(super) fn rule_row(row: &mut JobRow, verdict: Verdict, now: Moment, interval: Interval) -> Phase
+    requires { verdict ≡ Verdict.NextStage → HasNextStage row.old.phase }
+    ensures row { job_of row.new ≡ ruled now interval verdict (job_of row.old) }
+    ensures phase { result ≡ row.new.phase }
+    ensures memory { TakesNone row.old row.new }
+{
+    match verdict {
+        Verdict::NextStage => row.phase = next_stage(row.phase),
+        Verdict::Completed => end_row(row, Phase::Completed),
+        Verdict::Aborted(reason) => end_row(row, Phase::Aborted(reason)),
+        Verdict::Canceled => end_row(row, Phase::Canceled),
+        Verdict::Held(reason) => row.phase = waiting(Hold::Indefinite(reason), Moment::ZERO, false),
+        Verdict::StopQueue => row.phase = waiting(Hold::Free, Moment::ZERO, false),
+        Verdict::RetryAt => {
+            let not_before = now.plus(u64::from(interval.get()));
+            row.phase = waiting(Hold::Free, not_before, false);
+        }
+        Verdict::RetryFirst => row.phase = waiting(Hold::Free, Moment::ZERO, true),
+    }
+    row.phase
+}
+
+fn waiting(hold: Hold, not_before: Moment, first: bool) -> Phase
+    ensures { result ≡ Phase.Waiting hold not_before first }
+{
+    Phase::Waiting {
+        hold,
+        not_before,
+        first,
+    }
+}
+
+// The stage after this one. A job has at most 16 stages, so none is passed by.
+fn next_stage(phase: Phase) -> Phase
+    requires { HasNextStage phase }
+    ensures { result ≡ next_stage phase }
+{
+    match phase {
+        Phase::Processing {
+            attempt,
+            stage,
+            stages,
+        } => Phase::Processing {
+            attempt,
+            stage: stage + 1,
+            stages,
+        },
+        other => other,
+    }
+}

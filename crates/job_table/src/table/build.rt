@@ -1,0 +1,69 @@
+//! A table from its rows. Its lanes are built at once: one pass over the jobs hands each to the draft of its queue's lane,
+//! and then the waiting jobs of each draft are sorted. So it takes n log n for n jobs, in whatever order their turns are.
+ghost use Rattle.std.specs.Prelude.{◌≡◌, length, IfOk};
+ghost use Rattle.std.specs.List.{All};
+ghost use Rattle.queue_sched.specs.Index.{HasEachOnce};
+ghost use Rattle.job_table.specs.Drafts.{drafted, AreDrafts, IsBlank};
+ghost use Rattle.job_table.specs.Lanes.{AreBeside, IsAdvanced};
+ghost use Rattle.job_table.specs.Legal.{IsLegal};
+
+use super::Table;
+use crate::lane::{Draft, Lane, standing_of_row};
+use crate::store::Store;
+use spool_types::Moment;
+use std::alloc::{AllocError, Global};
+
+impl Table {
+    /// The table that has these rows.
+    pub(crate) fn of_rows(alloc: Global, store: Store) -> Result<Table, AllocError>
+        ensures { IfOk result (λ table. table.state ≡ store.state) }
+    {
+        let drafts = drafts_of(alloc, &store)?;
+        let lanes = lanes_of(alloc, drafts, store.now())?;
+        Ok(Table {
+            store,
+            lanes,
+            vacant: 0,
+        })
+    }
+}
+
+// The draft of each queue's lane, in the order of the queues. Each job's queue is found by binary search.
+fn drafts_of(alloc: Global, store: &Store) -> Result<Vec<Draft>, AllocError>
+    ensures legal { IsLegal store.now.state }
+    ensures drafts { IfOk result (λ drafts. AreDrafts store.now.state drafts.items) }
+{
+    let rows = store.jobs();
+    let mut drafts = empty_drafts(alloc, store.queue_count())?;
+    for row in rows {
+        let Ok(place) = store.queue_place(&row.queue) else {
+            unreachable!()
+        };
+        drafts[place].add(row.id, standing_of_row(row))?;
+    }
+    Ok(drafts)
+}
+
+// So many drafts without jobs.
+fn empty_drafts(alloc: Global, count: usize) -> Result<Vec<Draft>, AllocError>
+    ensures count { IfOk result (λ drafts. length drafts.items ≡ count) }
+    ensures each { IfOk result (λ drafts. All IsBlank drafts.items) }
+{
+    let mut drafts = Vec::with_capacity(alloc, count)?;
+    for _ in 0..count {
+        drafts.push(Draft::new(alloc))?;
+    }
+    Ok(drafts)
+}
+
+// The lanes that the drafts are of, at this moment.
+fn lanes_of(alloc: Global, drafts: Vec<Draft>, moment: Moment) -> Result<Vec<Lane>, AllocError>
+    requires { All (λ d. HasEachOnce d.waiting.items) drafts.items }
+    ensures { IfOk result (λ lanes. AreBeside (λ d lane. IsAdvanced moment (drafted d) lane) drafts.items lanes.items) }
+{
+    let mut lanes = Vec::with_capacity(alloc, drafts.len())?;
+    for draft in drafts {
+        lanes.push(draft.into_lane(moment)?)?;
+    }
+    Ok(lanes)
+}
