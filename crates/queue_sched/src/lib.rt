@@ -50,6 +50,3 @@ pub use choice::{beats, next_job};
 pub use entry::Entry;
 pub use index::Index;
 pub use laws::{index_law, order_law};
-
-#[cfg(test)]
-mod tests;

@@ -15,16 +15,15 @@ use Rattle.spool_areas.specs.declared.fault.OpenFault.TheVariants.{NotASpool, Da
 use Rattle.spool_areas.specs.Header.{header_len}
 use Rattle.spool_areas.specs.Payloads.{gate_after}
 use Rattle.spool_areas.specs.Extents.{bytes_of, payloads_at, Follow}
-use Rattle.event_codec.specs.Spelling.{spelling, IsSpellable}
 use Rattle.event_codec.specs.RowSpelling.{row_spelling, IsRowSpellable}
 use Rattle.event_codec.proofs.RowLaws.{apart}
 use Rattle.job_table.specs.Fold.{after_all}
 use Rattle.job_table.specs.Loading.{Progress, IsWhole, IsPlaced, begin_loading, loaded}
 use Rattle.spool_core.specs.History.{IsHistory}
-use Rattle.spool_core.specs.Image.{Begins, IsNoNext}
+use Rattle.spool_core.specs.Image.{Begins}
 use Rattle.spool_core.specs.declared.fold.Reading.{Reading}
 use Rattle.spool_core.specs.declared.fold.Reading.TheVariants.{Rows, Events}
-use Rattle.spool_core.specs.Folding.{IsPayloadAt, IsReadFault, IsTakeFault, IsFinishFault, IsEventFault, IsNextEvent, IsAfterEvent, IsNoEvent, IsBeyondRows, HasRead, IsStopped, StopsAt, EndsShort, IsFoldFault, IsFolded, IsRead}
+use Rattle.spool_core.specs.Folding.{IsPayloadAt, IsReadFault, IsTakeFault, IsFinishFault, IsEventFault, IsNextEvent, IsAfterEvent, IsBeyondRows, HasRead, IsStopped, IsFoldFault, IsFolded, IsRead}
 use Rattle.spool_areas.specs.Current.{Current}
 use Rattle.spool_core.proofs.HistoryLaws.{after_more, begins_none, begins_row, begins_event, history_of}
 

@@ -9,7 +9,6 @@ use Rattle.spool_disk.specs.Disk.{Reads}
 use Rattle.gate_journal.proofs.Places.{read_told}
 use Rattle.spool_areas.specs.declared.extent.Extent.{Extent}
 use Rattle.spool_areas.specs.declared.fault.OpenFault.TheVariants as open_fault
-use Rattle.spool_areas.specs.Extents.{bytes_of}
 use Rattle.spool_areas.specs.declared.fault.OpenFault.{OpenFault}
 use Rattle.spool_types.specs.declared.listing.Row.{Row}
 use Rattle.spool_types.specs.State.{State}
