@@ -50,6 +50,10 @@
 //! [`SideFault`] says why nothing more was read or written. After Read and Memory the bytes that were read hold no
 //! further whole packet; after Cut the reader is at its end. Memory is taken only for the data of a packet that keeps
 //! them, at most 2,048 bytes, before they are read. Data above that are skipped through a buffer on the stack.
+//!
+//! No clause says that Read and Write come only from a reader or a writer that failed. `Read` and `Write` of std tell
+//! nothing of when they fail, so a clause could only repeat that the answer is a fault. A call that answers such a fault
+//! at once meets its clauses; it fails the tests, whose readers and writers work, or fail where they are told to.
 #![tactic(auto)]
 
 mod answers;
