@@ -1,3 +1,8 @@
+ghost use Rattle.std.specs.Prelude.{◌≡◌};
+ghost use Rattle.std.specs.Option.{option_map};
+ghost use Rattle.std.specs.List.{find};
+ghost use Rattle.std.specs.Str.{bytes_eq};
+
 use super::*;
 use crate::child_files::read_at_most;
 use crate::devices::Discovery;
@@ -540,6 +545,16 @@ struct Texts<'a> {
     texts: &'a [(&'a str, &'a [u8])],
 }
 
+impl<'a> Texts<'a> {
+    // The text of this path.
+    fn text_of(&self, path: &str) -> Option<&'a [u8]>
+        ensures { option_map (λ text. text.now) result ≡ option_map (λ text. text.1.now) (find (λ text. bytes_eq text.0.now path.now) self.now.texts.now) }
+    {
+        let text = self.texts.iter().find(|text| text.0 == path)?;
+        Some(text.1)
+    }
+}
+
 impl<'a> Discovery for Texts<'a> {
     ghost use Rattle.std.specs.Prelude.{Some};
     ghost use Rattle.std.specs.Option.{option_map};
@@ -550,9 +565,8 @@ impl<'a> Discovery for Texts<'a> {
         Some (option_map (λ text. text.1.now) (find (λ text. bytes_eq text.0.now program.path) told.texts.now)) };
 
     fn ask(&self, program: &ListedProgram) -> io::Result<Vec<u8>> {
-        let path = program.path.as_str();
-        match self.texts.iter().find(|text| text.0 == path) {
-            Some(text) => Ok(text.1.to_vec(self.alloc)?),
+        match self.text_of(program.path.as_str()) {
+            Some(text) => Ok(text.to_vec(self.alloc)?),
             None => Err(io::Error::from(ErrorKind::NotFound)),
         }
     }
