@@ -593,11 +593,14 @@ def devices(folder):
     folder.lines.append(f"backend absent {folder.at('absent')}")
     folder.program("filter", "one", '#!/bin/sh\necho \'direct filter:/x "A" "B"\'\n')
     folder.program("backend", "a", '#!/bin/sh\nprintf \'network  a "Unknown" "A"\\ndirect b:/\\377 "A" "B"\\nfile c "Unknown" "C"\'\nexit 1\n')
+    # The line behind the first 1,048,576 bytes is not looked at, and who prints without end is ended by the closed pipe.
+    folder.program("backend", "much", "#!/bin/sh\necho 'file much:/early \"A\" \"B\"'\nhead -c 1048576 /dev/zero | tr '\\0' x\necho\necho 'file much:/late \"A\" \"B\"'\n")
+    folder.program("backend", "endless", "#!/bin/sh\necho 'file endless:/ \"A\" \"B\"'\nexec yes\n")
     folder.side()
     for root in ("spool", "absent"):
         run = subprocess.run([*folder.words()[:1], "--root", root, "--programs", "programs", "--devices"], cwd=folder.path, input=b"jobs\n", capture_output=True, timeout=60)
         same("devices", (run.returncode, run.stderr), (0, b""))
-        wanted = b'direct one:/x "A B" "C" "MFG:X;" ""\nnetwork  a "Unknown" "A"\nfile c "Unknown" "C"\n'
+        wanted = b'direct one:/x "A B" "C" "MFG:X;" ""\nnetwork  a "Unknown" "A"\nfile c "Unknown" "C"\nfile much:/early "A" "B"\nfile endless:/ "A" "B"\n'
         same("devices", run.stdout, wanted)
     same("words", folder.read("backend-one.words"), b"1a-word\n")
     same("environment", folder.read("backend-one.environment"), b"")

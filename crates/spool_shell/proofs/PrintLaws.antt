@@ -1,10 +1,13 @@
 -- Lines that are printed one after another.
-use Rattle.std.proofs.Common.{◌≡◌, ◌∙◌, ℕ, ◌+◌, ◌≤◌, List, [], ◌∷◌, ◌++◌, Option, Result, Ok, Err, IfOk, OnErr, refl, sym, ap, subst, inl, inr, arith}
-use Rattle.std.proofs.lemmas.List.{append_assoc, append-nil, flat_map_more, length-append}
-use Rattle.std.specs.List.{flat_map}
+use Rattle.std.proofs.Common.{◌≡◌, ◌∙◌, ℕ, List, [], ◌∷◌, ◌++◌, Option, None, Some, Result, Ok, Err, IfErr, IfOk, OnErr, refl, sym, ap, subst, inl, inr}
+use Rattle.std.proofs.lemmas.List.{append_assoc, append-nil, flat_map_more}
+use Rattle.std.specs.List.{AllZip, flat_map}
 use Rattle.std.specs.Io.KnownBytes.{Appends}
-use Rattle.std.proofs.KnownBytes.{Appends-trans}
-use Rattle.spool_shell.specs.DeviceLines.{ArePrinted, IsDevice, PrintsDevices, PrintsIfDevice, PrintsTold, lines_of, with_feed}
+use Rattle.std.proofs.KnownBytes.{Appends-nil, Appends-trans}
+use Rattle.program_lists.specs.declared.kinds.BackendNameKind.{BackendNameKind}
+use Rattle.program_lists.specs.declared.line.Listed.{Listed}
+use Rattle.program_lists.specs.declared.line.ListedProgram.{ListedProgram}
+use Rattle.spool_shell.specs.DeviceLines.{ArePrinted, IsDevice, Knows, PrintsDevices, PrintsIfDevice, PrintsTold, lines_of, lines_told, with_feed}
 
 joined : (line rest more text : List ℕ) → text ≡ with_feed line ++ rest → text ++ more ≡ with_feed line ++ (rest ++ more)
 joined line rest more text e = ap (λ t. t ++ more) e ∙ append_assoc (with_feed line) rest more
@@ -30,26 +33,47 @@ both [] ys s t e h = subst (λ x. ArePrinted ys (x ++ t)) (sym e) h
 both (x ∷ xs) ys s t (inl (is, g)) h = inl (is, record { rest = g.rest ++ t; whole = joined x g.rest t s g.whole; are = both xs ys g.rest t g.are h })
 both (x ∷ xs) ys s t (inr (none, g)) h = inr (none, both xs ys s t g h)
 
--- one backend more told this text
-tells_more : (count : ℕ) (text : List ℕ) (a b c : Option (List ℕ)) → PrintsTold count a b → PrintsDevices (lines_of text) b c → PrintsTold (count + 1) a c
-tells_more count text a b c h more =
-    let lines : flat_map lines_of h.texts ++ lines_of text ≡ flat_map lines_of (h.texts ++ text ∷ []) = flat_map_more lines_of [] h.texts text in
+-- what was told is printed after the lines before
+lines_more : (lines others : List (List ℕ)) (a b c : Option (List ℕ)) → PrintsDevices lines a b → PrintsDevices others b c → PrintsDevices (lines ++ others) a c
+lines_more lines others a b c h more = record {
+  text = h.text ++ more.text;
+  are = both lines others h.text more.text h.are more.are;
+  wrote = Appends-trans a b c h.text more.text h.wrote more.wrote;
+}
+
+-- one more at the end of each list
+zip_more : {A B : Type 0} (R : A → B → Type 0) (xs : List A) (ys : List B) (x : A) (y : B) → AllZip R xs ys → R x y → AllZip R (xs ++ x ∷ []) (ys ++ y ∷ [])
+zip_more R [] [] x y h r = (r, tt)
+zip_more R [] (b ∷ ys) x y h r = absurd h
+zip_more R (a ∷ xs) [] x y h r = absurd h
+zip_more R (a ∷ xs) (b ∷ ys) x y h r = (h.0, zip_more R xs ys x y h.1 r)
+
+-- one backend more told this
+pub tells_more : (tells : ListedProgram → Option (Option (List ℕ))) (backends : List (Listed BackendNameKind)) (backend : Listed BackendNameKind) (told : Option (List ℕ)) (a b c : Option (List ℕ))
+    → PrintsTold tells backends a b → Knows (tells backend.program) told → PrintsDevices (lines_told told) b c → PrintsTold tells (backends ++ backend ∷ []) a c
+tells_more tells backends backend told a b c h knows more =
+    let lines : flat_map lines_told h.told ++ lines_told told ≡ flat_map lines_told (h.told ++ told ∷ []) = flat_map_more lines_told [] h.told told in
     record {
-      texts = h.texts ++ text ∷ [];
-      each = subst (λ n. n ≤ count + 1) (sym (length-append h.texts (text ∷ []))) (let e = h.each in omega arith);
-      printed = subst (λ ls. PrintsDevices ls a c) lines (record {
-        text = h.printed.text ++ more.text;
-        are = both (flat_map lines_of h.texts) (lines_of text) h.printed.text more.text h.printed.are more.are;
-        wrote = Appends-trans a b c h.printed.text more.text h.printed.wrote more.wrote;
-      });
+      told = h.told ++ told ∷ [];
+      each = zip_more (λ (backend : Listed BackendNameKind) (text : Option (List ℕ)). Knows (tells backend.program) text) backends h.told backend told h.each knows;
+      printed = subst (λ ls. PrintsDevices ls a c) lines (lines_more (flat_map lines_told h.told) (lines_told told) a b c h.printed more);
     }
 
--- one backend more told nothing
-tells_nothing : (count : ℕ) (a b c : Option (List ℕ)) → PrintsTold count a b → c ≡ b → PrintsTold (count + 1) a c
-tells_nothing count a b c h e = subst (PrintsTold (count + 1) a) (sym e) (record { texts = h.texts; each = let e = h.each in omega arith; printed = h.printed })
+-- The same of what was asked. What found no memory ends the printing.
+pub asked_more : {V E : Type 0} (text_of : V → List ℕ) (is_memory : E → Type 0) (asked : Result V E)
+    (tells : ListedProgram → Option (Option (List ℕ))) (backends : List (Listed BackendNameKind)) (backend : Listed BackendNameKind) (a b c : Option (List ℕ))
+    → PrintsTold tells backends a b
+    → IfOk asked (λ v. Knows (tells backend.program) (Some (text_of v))) → IfErr asked (λ e. ¬ (is_memory e) → Knows (tells backend.program) None)
+    → IfOk asked (λ v. PrintsDevices (lines_of (text_of v)) b c) → OnErr asked (c ≡ b) → IfErr asked (λ e. ¬ (is_memory e))
+    → PrintsTold tells (backends ++ backend ∷ []) a c
+asked_more text_of is_memory (Ok v) tells backends backend a b c h knows none lines nothing other =
+    tells_more tells backends backend (Some (text_of v)) a b c h knows lines
+asked_more text_of is_memory (Err e) tells backends backend a b c h knows none lines nothing other =
+    let no_lines : PrintsDevices [] b c = record { text = []; are = refl; wrote = subst (λ x. Appends b x []) (sym nothing) (Appends-nil b) } in
+    tells_more tells backends backend None a b c h (none other) no_lines
 
--- one backend more told a text, or could not be read
-pub tells : {V E : Type 0} (text_of : V → List ℕ) (told : Result V E) (count : ℕ) (a b c : Option (List ℕ)) → PrintsTold count a b
-    → IfOk told (λ v. PrintsDevices (lines_of (text_of v)) b c) → OnErr told (c ≡ b) → PrintsTold (count + 1) a c
-tells text_of (Ok v) count a b c h lines nothing = tells_more count (text_of v) a b c h lines
-tells text_of (Err e) count a b c h lines nothing = tells_nothing count a b c h nothing
+-- a call that went well although nothing was told met no want of memory
+pub no_memory : {V E U F : Type 0} (is_memory : E → Type 0) (asked : Result V E) (done : U) (fault : F)
+    → IfErr asked (λ e. is_memory e → Ok done ≡ Err fault) → IfErr asked (λ e. ¬ (is_memory e))
+no_memory is_memory (Ok v) done fault h = tt
+no_memory is_memory (Err e) done fault h = λ was. let is = h was in absurd (cc)

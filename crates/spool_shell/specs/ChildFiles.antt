@@ -1,5 +1,6 @@
--- The files of an order's child.
-use Rattle.std.specs.Prelude.{ℕ, List}
+-- The files of an order's child, and what is read of one.
+use Rattle.std.specs.Prelude.{ℕ, ◌<◌, ◌≤◌, List, length, Option}
+use Rattle.std.specs.Io.KnownBytes.{Consumes, IsAtEnd}
 use Rattle.filter_args.specs.Files.{file_name}
 use Rattle.filter_args.specs.declared.files.ChildFile.{ChildFile}
 use Rattle.child_pipeline.specs.declared.order.Order.{Order}
@@ -7,3 +8,9 @@ use Rattle.child_pipeline.specs.declared.order.Order.{Order}
 -- one of them, in the folder `root`
 abbrev pub file_of : ChildFile → List ℕ → Order → List ℕ
 file_of file root order = file_name file root order.job order.attempt order.stage
+
+-- these bytes were read and no others: all that there are, or else as many as may be
+pub record ReadsUpTo (most : ℕ) (old new : Option (List ℕ)) (bytes : List ℕ) : Type 0 where
+  pub few : length bytes ≤ most
+  pub read : Consumes old new bytes
+  pub all : length bytes < most → IsAtEnd new

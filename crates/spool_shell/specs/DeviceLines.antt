@@ -1,9 +1,12 @@
 -- What is printed of the lines of backends.
-use Rattle.std.specs.Prelude.{◌≡◌, ℕ, ◌⊎◌, ◌≤◌, ◌==◌, List, [], ◌∷◌, ◌++◌, length, Option, IsUtf8}
-use Rattle.std.specs.List.{flat_map, slice_split}
+use Rattle.std.specs.Prelude.{◌≡◌, ℕ, ◌⊎◌, ◌==◌, List, [], ◌∷◌, ◌++◌, Option, None, Some, IfSome, IsUtf8}
+use Rattle.std.specs.List.{AllZip, flat_map, slice_split}
 use Rattle.std.specs.Io.KnownBytes.{Appends}
 use Rattle.device_uri.specs.Lines.{IsDeviceLine}
 use Rattle.device_uri.specs.declared.line.DeviceLine.{DeviceLine}
+use Rattle.program_lists.specs.declared.kinds.BackendNameKind.{BackendNameKind}
+use Rattle.program_lists.specs.declared.line.Listed.{Listed}
+use Rattle.program_lists.specs.declared.line.ListedProgram.{ListedProgram}
 use Rattle.spool_shell.specs.declared.fault.ShellFault.{ShellFault}
 use Rattle.spool_shell.specs.declared.fault.ShellFault.TheVariants.{Memory, Write}
 
@@ -40,15 +43,26 @@ pub record PrintsDevices (lines : List (List ℕ)) (old new : Option (List ℕ))
   pub are : ArePrinted lines text
   pub wrote : Appends old new text
 
--- at most so many backends told a text, and the devices among the lines of all were printed in their order
-pub record PrintsTold (backends : ℕ) (old new : Option (List ℕ)) : Type 0 where
-  pub texts : List (List ℕ)
-  pub each : length texts ≤ backends
-  pub printed : PrintsDevices (flat_map lines_of texts) old new
-
 -- one line was, if it reads so
 abbrev pub PrintsIfDevice : List ℕ → Option (List ℕ) → Option (List ℕ) → Type 0
 PrintsIfDevice line old new = (IsDevice line × Appends old new (with_feed line)) ⊎ (¬ (IsDevice line) × (new ≡ old))
+
+-- ---- the backends
+
+-- What a backend tells is a text, or none where it can't be run or read. If it is known, it is this.
+abbrev pub Knows : Option (Option (List ℕ)) → Option (List ℕ) → Type 0
+Knows known told = IfSome known (λ this. told ≡ this)
+
+abbrev pub lines_told : Option (List ℕ) → List (List ℕ)
+lines_told None = []
+lines_told (Some text) = lines_of text
+
+-- each backend told once, in their order, and the devices among the lines of all were printed
+pub record PrintsTold
+    (tells : ListedProgram → Option (Option (List ℕ))) (backends : List (Listed BackendNameKind)) (old new : Option (List ℕ)) : Type 0 where
+  pub told : List (Option (List ℕ))
+  pub each : AllZip (λ backend text. Knows (tells backend.program) text) backends told
+  pub printed : PrintsDevices (flat_map lines_told told) old new
 
 -- ---- faults
 

@@ -1,5 +1,5 @@
 -- What a launcher makes of an order, and of an end.
-use Rattle.std.specs.Prelude.{ℕ, ℤ, List, codes, Option, None, Some, pos, negsuc}
+use Rattle.std.specs.Prelude.{◌≡◌, ℕ, List, codes, Option, None, Some, IsSome, pos}
 use Rattle.std.specs.Option.{option_map}
 use Rattle.std.specs.Process.{exit_code, exit_signal}
 use Rattle.std.specs.declared.process.status.ExitStatus.{ExitStatus}
@@ -12,7 +12,7 @@ use Rattle.program_lists.specs.Programs.{Programs, program_named}
 use Rattle.program_lists.specs.declared.line.ListedProgram.{ListedProgram}
 use Rattle.side_channel.specs.declared.devices.Device.{Device}
 use Rattle.spool_types.specs.declared.effect.Exit.{Exit}
-use Rattle.spool_types.specs.declared.effect.Exit.TheVariants.{Code, Signal}
+use Rattle.spool_types.specs.declared.effect.Exit.TheVariants.{Code, Lost, NoStart, Signal}
 use Rattle.spool_shell.specs.SideDevice.{device_in, uri_among}
 
 -- the program that an order names, where the list has it
@@ -29,13 +29,12 @@ input_name path (inputs.Bytes content) = path
 abbrev pub device_for : Programs → Order → Option Device
 device_for list order = option_map (λ (program : ListedProgram). device_in (uri_among order.environment)) list.side
 
--- the end of a process that has this exit status, or else was ended by this signal; a negative number is no exit status
-abbrev pub end_by : Option ℤ → Option ℤ → Option Exit
-end_by (Some (pos code)) signal = Some (Code code)
-end_by (Some (negsuc n)) signal = None
-end_by None (Some signal) = Some Signal
-end_by None None = None
+-- The end that a status tells: an exit with a code, or a signal. Of a process that was stopped it tells neither.
+abbrev pub TellsEnd : ExitStatus → Exit → Type 0
+TellsEnd status (Code code) = exit_code status ≡ Some (pos code)
+TellsEnd status Signal = IsSome (exit_signal status)
+TellsEnd status NoStart = ⊥
+TellsEnd status Lost = ⊥
 
--- the end that a status tells: none where it is of a process that was stopped
-abbrev pub exit_of : ExitStatus → Option Exit
-exit_of status = end_by (exit_code status) (exit_signal status)
+abbrev pub TellsNoEnd : ExitStatus → Type 0
+TellsNoEnd status = (exit_code status ≡ None) × (exit_signal status ≡ None)

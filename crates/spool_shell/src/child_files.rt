@@ -1,7 +1,7 @@
 //! The files of a child, in the spool's folder.
-ghost use Rattle.std.specs.Prelude.{◌≡◌, IfOk, IfSome, take};
+ghost use Rattle.std.specs.Prelude.{◌≡◌, IfOk};
 ghost use Rattle.std.specs.String.{string_bytes};
-ghost use Rattle.spool_shell.specs.ChildFiles.{file_of};
+ghost use Rattle.spool_shell.specs.ChildFiles.{ReadsUpTo, file_of};
 ghost use Rattle.filter_args.specs.declared.files.ChildFile.TheVariants as files;
 
 use crate::device::new_file;
@@ -12,6 +12,9 @@ use std::fs::{File, Files};
 use std::io::{ErrorKind, Read, Write};
 use std::path::Path;
 use std::{fs, io};
+
+// How many bytes are read at once.
+const PIECE: usize = 65_536;
 
 /// The paths of a child's files.
 #[derive(Debug, Drop)]
@@ -84,15 +87,30 @@ pub(crate) fn make_file_of<R: Files<File = File>>(
     make_file(rt, path)?.write_all(bytes)
 }
 
-/// Reads up to so many bytes. Where the reader fails before them this is its error.
-pub(crate) fn read_at_most<R: Read + Drop>(
+/// Reads up to so many bytes, and leaves the others unread. Where the reader fails before them this is its error.
+pub(crate) fn read_at_most<R: Read>(
     alloc: Global,
-    reader: R,
-    most: u64,
+    reader: &mut R,
+    most: usize,
 ) -> io::Result<Vec<u8>>
-    ensures { IfOk result (λ bytes. IfSome (R.remaining reader) (λ told. bytes.items ≡ take most told)) }
+    ensures { IfOk result (λ bytes. ReadsUpTo most (R.remaining reader.old) (R.remaining reader.new) bytes.items) }
 {
+    let mut piece = [0u8; PIECE];
     let mut bytes = Vec::new(alloc);
-    reader.take(most).read_to_end(&mut bytes)?;
-    Ok(bytes)
+    'pieces: for _ in 0..u64::MAX {
+        let room = PIECE.min(most - bytes.len());
+        if room == 0 {
+            return Ok(bytes);
+        }
+        match reader.read(&mut piece[..room]) {
+            Ok(0) => return Ok(bytes),
+            Ok(n) => bytes.extend_from_slice(&piece[..n])?,
+            Err(error) => {
+                if error.kind() != ErrorKind::Interrupted {
+                    return Err(error);
+                }
+            }
+        }
+    }
+    Err(io::Error::from(ErrorKind::Other))
 }

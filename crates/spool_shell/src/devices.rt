@@ -5,10 +5,11 @@
 //! one that hangs is the user's to stop. Its standard error goes nowhere, and so does what it prints behind its first
 //! 1,048,576 bytes.
 
-ghost use Rattle.std.specs.Prelude.{◌≡◌, ◌≢◌, ◌∷◌, Err, IfErr, IfOk, IsOk, OnErr, OnOk, codes, length, true};
+ghost use Rattle.std.specs.Prelude.{◌≡◌, ◌≢◌, ℕ, ◌∷◌, List, None, Option, Some, Err, IfErr, IfOk, IsOk, OnErr, OnOk, codes, true};
 ghost use Rattle.std.specs.IoError.{error_kind};
 ghost use Rattle.std.specs.Process.{clears_env, command_args, command_program};
-ghost use Rattle.spool_shell.specs.DeviceLines.{IsOfPrinting, PrintsDevices, PrintsTold, lines_of};
+ghost use Rattle.spool_shell.specs.DeviceLines.{IsOfPrinting, Knows, PrintsDevices, PrintsTold, lines_of};
+ghost use Rattle.program_lists.specs.declared.line.ListedProgram.{ListedProgram};
 ghost use Rattle.spool_shell.specs.Script.{program_words};
 
 use crate::child_files::read_at_most;
@@ -25,20 +26,32 @@ use std::{io, str};
 const ENV: &str = "/usr/bin/env";
 
 // How many bytes of a backend's lines are read.
-const MOST_LINES: u64 = 1_048_576;
+const MOST_LINES: usize = 1_048_576;
+
+/// What asks a backend for its devices.
+pub(crate) trait Discovery {
+    // What a program tells, where that is known: a text, or none where it can't be run or read.
+    ghost tells: { Self → ListedProgram → Option (Option (List ℕ)) } = { λ _ _. None };
+
+    /// What the program tells. Only where there was no memory this is a fault of the one who asks.
+    fn ask(&self, program: &ListedProgram) -> io::Result<Vec<u8>>
+        ensures text { IfOk result (λ text. Knows (tells self.now program.now) (Some text.items)) }
+        ensures none { IfErr result (λ error. error_kind error ≢ ErrorKind.OutOfMemory → Knows (tells self.now program.now) None) };
+}
 
 /// Prints the devices of each backend, in the file's order. A backend that can't be run, or read, tells none.
-pub(crate) fn print_devices<R: Processes + AllocGlobal, W: Write>(
-    rt: &R,
+pub(crate) fn print_devices<D: Discovery, W: Write>(
+    alloc: Global,
+    discovery: &D,
     list: &ProgramList,
     writer: &mut W,
 ) -> Result<(), ShellFault>
-    ensures told { OnOk result (PrintsTold (length list.now.backends) (W.contents writer.old) (W.contents writer.new)) }
+    ensures told { OnOk result (PrintsTold (D.tells discovery.now) list.now.backends (W.contents writer.old) (W.contents writer.new)) }
     ensures fault { IfErr result IsOfPrinting }
 {
     for backend in list.backends() {
-        let told = told_by(rt, &backend.program);
-        print_told(rt.alloc(), told, writer)?;
+        let told = discovery.ask(&backend.program);
+        print_told(alloc, told, writer)?;
     }
     Ok(())
 }
@@ -62,23 +75,34 @@ fn print_told<W: Write>(
     }
 }
 
-// What a backend prints.
-fn told_by<R: Processes + AllocGlobal>(rt: &R, program: &ListedProgram) -> io::Result<Vec<u8>> {
-    let mut command = discovery(rt.alloc(), program)?;
-    command.stdin(Stdio::null());
-    command.stdout(Stdio::piped());
-    command.stderr(Stdio::null());
-    let mut child = command.spawn(rt)?;
-    let told = match child.stdout.take() {
-        Some(output) => read_at_most(rt.alloc(), output, MOST_LINES),
-        None => Ok(Vec::new(rt.alloc())),
-    };
-    let _ = child.wait();
-    told
+/// Runs each backend as a child process. What it tells is known by its run alone.
+#[derive(Clone, Copy, Debug)]
+pub(crate) struct ChildDiscovery<'a, R> {
+    pub rt: &'a R,
+}
+
+impl<'a, R: Processes + AllocGlobal> Discovery for ChildDiscovery<'a, R> {
+    fn ask(&self, program: &ListedProgram) -> io::Result<Vec<u8>> {
+        let alloc = self.rt.alloc();
+        let mut command = command_of(alloc, program)?;
+        command.stdin(Stdio::null());
+        command.stdout(Stdio::piped());
+        command.stderr(Stdio::null());
+        let mut child = command.spawn(self.rt)?;
+        let told = match child.stdout.take() {
+            Some(output) => {
+                let mut output = output;
+                read_at_most(alloc, &mut output, MOST_LINES)
+            }
+            None => Ok(Vec::new(alloc)),
+        };
+        let _ = child.wait();
+        told
+    }
 }
 
 // How a backend is run to tell its devices.
-fn discovery(alloc: Global, program: &ListedProgram) -> Result<Command, AllocError>
+fn command_of(alloc: Global, program: &ListedProgram) -> Result<Command, AllocError>
     ensures program { IfOk result (λ command. command_program command ≡ codes "/usr/bin/env") }
     ensures arguments { IfOk result (λ command. command_args command ≡ codes "-i" ∷ program_words program.now) }
     ensures cleared { IfOk result (λ command. clears_env command ≡ true) }

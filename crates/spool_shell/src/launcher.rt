@@ -17,9 +17,12 @@
 //! All are [`ChildFault`]. Of `start`: the program isn't in the list, or no file that can be run lies there; a file can't
 //! be made, or filled; there is no process or no memory left. What was made is removed then. Of `finish`: the end can't
 //! be known, or what the child wrote can't be read. A status is never made up. The child is waited for in any case.
-ghost use Rattle.std.specs.Prelude.{◌≡◌, None, Some, IfOk, IsErr, IsOkAnd, string_bytes};
+ghost use Rattle.std.specs.Prelude.{◌≡◌, ◌+◌, None, IfOk, IfSome, IsErr, IsOkAnd, string_bytes};
 ghost use Rattle.std.specs.Option.{option_map};
-ghost use Rattle.spool_shell.specs.Launching.{device_for, exit_of, input_name, program_for};
+ghost use Rattle.spool_types.specs.Limits.{longest_document};
+ghost use Rattle.child_pipeline.specs.Finishes.{most_errors};
+ghost use Rattle.spool_shell.specs.ChildFiles.{ReadsUpTo};
+ghost use Rattle.spool_shell.specs.Launching.{TellsEnd, TellsNoEnd, device_for, input_name, program_for};
 
 use crate::child_files::{ChildPaths, make_file, make_file_of, read_at_most};
 use crate::script::Call;
@@ -31,6 +34,7 @@ use program_lists::{ListedProgram, ProgramList};
 use spool_types::{Exit, LONGEST_DOCUMENT};
 use std::alloc::Global;
 use std::fs::{File, Files};
+use std::io::Read;
 use std::net::Net;
 use std::os::unix::fs::PermissionsExt;
 use std::os::unix::process::ExitStatusExt;
@@ -38,10 +42,10 @@ use std::process::{Child, ExitStatus, OpenProcess, Processes, Stdio};
 use std::{fs, io};
 
 // How many bytes of standard output are read: one more than a document may have shows that there were too many.
-const MOST_OUTPUT: u64 = LONGEST_DOCUMENT as u64 + 1;
+const MOST_OUTPUT: usize = LONGEST_DOCUMENT + 1;
 
 // How many bytes of standard error are read.
-const MOST_ERRORS: u64 = 1_048_576;
+const MOST_ERRORS: usize = 1_048_576;
 
 // The standard input of a first stage.
 const NOTHING: &str = "/dev/null";
@@ -205,12 +209,13 @@ impl<'a, R: Files<File = File> + Net + Processes + AllocGlobal> Children for Lau
             side,
         } = ticket;
         let alloc = self.rt.alloc();
+        let (mut output, mut errors) = (output, errors);
         let mut child = match side {
             Some(side) => side.answer(alloc, child),
             None => child,
         };
         let ended = child.wait();
-        let finish = finish_of(alloc, ended, output, errors);
+        let finish = finish_of(alloc, ended, &mut output, &mut errors);
         paths.remove(self.rt, self.list.side().is_some());
         match finish {
             Ok(finish) => Ok(finish),
@@ -220,13 +225,15 @@ impl<'a, R: Files<File = File> + Net + Processes + AllocGlobal> Children for Lau
 }
 
 // What is known of a child that ended so, and wrote these files.
-fn finish_of(
+fn finish_of<O: Read, E: Read>(
     alloc: Global,
     ended: io::Result<ExitStatus>,
-    output: File,
-    errors: File,
+    output: &mut O,
+    errors: &mut E,
 ) -> io::Result<Finish>
-    ensures { IfOk result (λ finish. IsOkAnd ended (λ status. exit_of status ≡ Some finish.exit)) }
+    ensures exit { IfOk result (λ finish. IsOkAnd ended (λ status. TellsEnd status finish.exit)) }
+    ensures output { IfOk result (λ finish. ReadsUpTo (longest_document + 1) (O.remaining output.old) (O.remaining output.new) finish.output) }
+    ensures errors { IfOk result (λ finish. ReadsUpTo most_errors (E.remaining errors.old) (E.remaining errors.new) finish.errors) }
 {
     let Some(exit) = exit_of(ended?) else {
         return Err(io::Error::from(io::ErrorKind::Other));
@@ -241,8 +248,9 @@ fn finish_of(
 }
 
 // How a child ended, where its status tells an end.
-fn exit_of(status: ExitStatus) -> Option<Exit>
-    ensures { result ≡ exit_of status }
+pub(crate) fn exit_of(status: ExitStatus) -> Option<Exit>
+    ensures told { IfSome result (TellsEnd status) }
+    ensures none { result ≡ None → TellsNoEnd status }
 {
     if let Some(code) = status.code() {
         return Some(Exit::Code(code as u8));

@@ -22,9 +22,10 @@
 //!   channel, the variables, the program and its words, in this order (`arguments_of`). So nothing of a job is ever part
 //!   of the script's text. The files are those that the engine's words name (`file_of`).
 //! - [`launcher`] looks up exactly the program that an order names (`program_for`), hands a document over by its name
-//!   alone (`input_name`), and tells an end exactly as the system did (`exit_of`), and none else.
+//!   alone (`input_name`), and tells an end exactly as the system did (`TellsEnd`), and none else.
 //! - [`side_device::device_of`] is exactly the device of a URI's options, with their defaults (`device_in`).
-//! - [`device_lines::print_lines`] prints exactly the lines that read as a device's (`ArePrinted`).
+//! - [`device_lines::print_lines`] prints exactly the lines that read as a device's (`ArePrinted`), and
+//!   [`devices::print_devices`] those of each backend, in the order of the file (`PrintsTold`).
 //! - [`memory_device`] is a spool with an empty table, of exactly the bytes that the words say.
 //! - A file that isn't named counts as an empty one, and a fault of a file names it ([`files::read_rules`]).
 //! - Each fault below the program is told as it is (`from_gives` in [`fault`]).
@@ -82,7 +83,7 @@ mod words;
 
 use child_pipeline::{Children, NoChildren};
 use device::SpoolFolder;
-use devices::print_devices;
+use devices::{ChildDiscovery, print_devices};
 use fault::ShellFault;
 use files::read_rules;
 use filter_args::Place;
@@ -186,7 +187,7 @@ where
 {
     let (types, convs, programs) = read_rules(logged, words.types, words.convs, words.programs)?;
     if words.devices {
-        return print_devices(rt, &programs, writer);
+        return print_devices(rt.alloc(), &ChildDiscovery { rt }, &programs, writer);
     }
     let rules = (types, convs);
     match words.root {

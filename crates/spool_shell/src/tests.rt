@@ -1,11 +1,23 @@
+ghost use Rattle.std.specs.Prelude.{◌≡◌};
+ghost use Rattle.std.specs.Option.{option_map};
+ghost use Rattle.std.specs.List.{find};
+ghost use Rattle.std.specs.Str.{bytes_eq};
+
 use super::*;
+use crate::child_files::read_at_most;
+use crate::devices::Discovery;
+use crate::launcher::exit_of;
+use program_lists::ListedProgram;
 use spool_core::OpenFault;
 use spool_disk::FuseDisk;
+use spool_types::Exit;
 use std::alloc::AllocError;
 use std::cell::RefCell;
 use std::fmt::Display;
 use std::fs;
 use std::os::unix::fs::{MetadataExt, PermissionsExt, symlink};
+use std::os::unix::process::ExitStatusExt;
+use std::process::ExitStatus;
 use std::test::*;
 
 fn is_refused(alloc: Global, words: &[&str]) -> bool {
@@ -524,4 +536,106 @@ fn files_are_text(rt: HostRuntime) -> Result<(), Fail> {
     );
     fs::remove_dir_all(&rt, "spool_shell_tests.bytes")?;
     Ok(())
+}
+
+// Programs that are known to tell these texts, each under its path. The others can't be run.
+#[derive(Clone, Copy)]
+struct Texts<'a> {
+    alloc: Global,
+    texts: &'a [(&'a str, &'a [u8])],
+}
+
+impl<'a> Texts<'a> {
+    // The text of this path.
+    fn text_of(&self, path: &str) -> Option<&'a [u8]>
+        ensures { option_map (λ text. text.now) result ≡ option_map (λ text. text.1.now) (find (λ text. bytes_eq text.0.now path.now) self.now.texts.now) }
+    {
+        let text = self.texts.iter().find(|text| text.0 == path)?;
+        Some(text.1)
+    }
+}
+
+impl<'a> Discovery for Texts<'a> {
+    ghost use Rattle.std.specs.Prelude.{Some};
+    ghost use Rattle.std.specs.Option.{option_map};
+    ghost use Rattle.std.specs.List.{find};
+    ghost use Rattle.std.specs.Str.{bytes_eq};
+
+    ghost tells = { λ told program.
+        Some (option_map (λ text. text.1.now) (find (λ text. bytes_eq text.0.now program.path) told.texts.now)) };
+
+    fn ask(&self, program: &ListedProgram) -> io::Result<Vec<u8>> {
+        match self.text_of(program.path.as_str()) {
+            Some(text) => Ok(text.to_vec(self.alloc)?),
+            None => Err(io::Error::from(ErrorKind::NotFound)),
+        }
+    }
+}
+
+#[test]
+fn devices_are_those_of_each_backend_in_turn(rt: HostRuntime) -> Result<(), Fail> {
+    let programs = "backend one /one\nfilter f /f\nbackend absent /absent\nbackend a /a word\n";
+    let Ok(list) = ProgramList::read(rt.alloc(), programs) else {
+        return Err(Fail::from("the programs don't read"));
+    };
+    let discovery = Texts {
+        alloc: rt.alloc(),
+        texts: &[
+            (
+                "/a",
+                b"network  a \"Unknown\" \"A\"\ndirect b:/\xff \"A\" \"B\"\nfile c \"Unknown\" \"C\"",
+            ),
+            ("/f", b"direct filter:/x \"A\" \"B\"\n"),
+            (
+                "/one",
+                b"direct one:/x \"A B\" \"C\" \"MFG:X;\" \"\"\nnothing\n",
+            ),
+        ],
+    };
+    let mut printed = Vec::new(rt.alloc());
+    assert!(rt; print_devices(rt.alloc(), &discovery, &list, &mut printed).is_ok());
+    let wanted = concat!(
+        "direct one:/x \"A B\" \"C\" \"MFG:X;\" \"\"\n",
+        "network  a \"Unknown\" \"A\"\n",
+        "file c \"Unknown\" \"C\"\n",
+    );
+    assert_eq!(rt; printed.as_slice(), wanted.as_bytes());
+    Ok(())
+}
+
+#[test]
+fn no_more_is_read_than_asked(rt: HostRuntime) -> Result<(), Fail> {
+    for (most, read, left) in [
+        (0, "", "0123456789"),
+        (4, "0123", "456789"),
+        (10, "0123456789", ""),
+        (11, "0123456789", ""),
+    ] {
+        let mut reader = "0123456789".as_bytes();
+        let bytes = read_at_most(rt.alloc(), &mut reader, most)?;
+        assert_eq!(rt; bytes.as_slice(), read.as_bytes());
+        assert_eq!(rt; reader, left.as_bytes());
+    }
+    let bytes = read_at_most(rt.alloc(), &mut io::repeat(7), 131_073)?;
+    assert_eq!(rt; bytes.len(), 131_073);
+    Ok(())
+}
+
+#[test]
+fn each_status_tells_its_end(rt: HostRuntime) {
+    for code in 0..=255u8 {
+        let status = ExitStatus::from_raw(i32::from(code) * 256);
+        assert_eq!(rt; exit_of(status), Some(Exit::Code(code)));
+    }
+    for signal in 1..=64 {
+        assert_eq!(rt; exit_of(ExitStatus::from_raw(signal)), Some(Exit::Signal));
+        // With a dump of its memory.
+        assert_eq!(rt;
+            exit_of(ExitStatus::from_raw(128 + signal)),
+            Some(Exit::Signal)
+        );
+    }
+    for stopped in [0x137f, 0xffff] {
+        assert_eq!(rt; exit_of(ExitStatus::from_raw(stopped)), None);
+    }
 }
