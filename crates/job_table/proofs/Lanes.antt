@@ -270,6 +270,41 @@ module _ (old new : ℕ → Standing) (j : ℕ) (lane : Lane) (is : IsLane old l
       reserved = rw room is.reserved;
     }
 
+  -- a job waits otherwise than before
+  module _ (e f : Entry) (was : old j ≡ Waiting e) (seated : IsReseated old new j (Waiting f)) where
+    as_live : (js : List ℕ) → AllByRecursion (λ k. is_live (new k) ≡ true) js → AllByRecursion (λ k. is_live (old k) ≡ true) js
+    as_live [] all = tt
+    as_live (k ∷ js) all = (
+      elim (cases_eq k j) [
+        | inl own ↦ ap is_live (ap old own ∙ was)
+        | inr other ↦ ap is_live (sym (seated.others k other)) ∙ all.0
+      ],
+      as_live js all.1,
+    )
+
+    pub changed_waiting : f.id ≡ j → (w : Waits) → ((g : Entry) → Contains w.items g ↔ ((Contains lane.index.items g × (¬ (g ≡ e))) ⊎ (g ≡ f))) → w.room ≡ lane.index.room → IsLane new (record lane { index = w })
+    changed_waiting own_number w items room = record {
+      waiting = λ g there. elim ((items g).0 there) [
+        | inl kept ↦ seated.others g.id (λ own. kept.1 (same_entry g e (sym (is.waiting g kept.0) ∙ ap old own ∙ was))) ∙ is.waiting g kept.0
+        | inr same ↦ ap (λ (h : Entry). new h.id) same ∙ ap new own_number ∙ seated.own ∙ ap Waiting (sym same)
+      ];
+      listed = λ k g waits. elim (cases_eq k j) [
+        | inl own ↦ (let same : g ≡ f = same_entry g f (sym waits ∙ ap new own ∙ seated.own) in
+            (ap (λ (h : Entry). h.id) same ∙ own_number ∙ sym own, (items g).1 (inr same)))
+        | inr other ↦ (let there = is.listed k g (sym (seated.others k other) ∙ waits) in
+            (there.0, (items g).1 (inl (there.1, λ same. other (sym there.0 ∙ ap (λ (h : Entry). h.id) same ∙ (is.listed j e was).0)))))
+      ];
+      processing = λ k at. seated.others k (λ own. apart_waiting j e was (ap old (sym own) ∙ is.processing k at)) ∙ is.processing k at;
+      found = λ k at. is.found k (sym (seated.others k (λ own. (let no : Waiting f ≡ Processing = sym seated.own ∙ ap new (sym own) ∙ at in absurd (cc)))) ∙ at);
+      live = λ js differ all. is.live js differ (as_live js all);
+      room = is.room;
+      reserved = rw room is.reserved;
+    }
+
+-- a waiting job has one entry
+pub only_entry : (seats : ℕ → Standing) (lane : Lane) (j : ℕ) (e : Entry) → IsLane seats lane → seats j ≡ Waiting e → (f : Entry) → Contains lane.index.items f → f.id ≡ e.id → f ≡ e
+only_entry seats lane j e is at f there same = same_entry f e (sym (is.waiting f there) ∙ ap seats (same ∙ (is.listed j e at).0) ∙ at)
+
 -- the index has no job that stands elsewhere
 pub lacks : (seats : ℕ → Standing) (lane : Lane) (j : ℕ) → IsLane seats lane → seats j ≡ Ended → LacksJob lane.index.items j
 lacks seats lane j is ended = λ e there same. (let no : Waiting e ≡ Ended = sym (is.waiting e there) ∙ ap seats same ∙ ended in absurd (cc))

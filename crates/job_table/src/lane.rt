@@ -115,7 +115,7 @@ impl Lane {
         self.index.advance(moment);
     }
 
-    /// Puts a job where it stands now. It takes no memory.
+    /// Puts a job where it stands now. One that waits before and after keeps its place where its turn stays. It takes no memory.
     pub(crate) fn reseat(&mut self, job: JobId, from: Standing, to: Standing)
         requires there { HasSeat self.old job from }
         requires own { (e : Entry) → to ≡ Standing.Waiting e → e.id ≡ job }
@@ -126,8 +126,15 @@ impl Lane {
         ensures moment { self.new.index.moment ≡ self.old.index.moment }
         ensures reserved { self.new.reserved ≡ self.old.reserved }
     {
-        self.leave(job, from);
-        self.enter(job, to);
+        match (from, to) {
+            (Standing::Waiting(before), Standing::Waiting(entry)) => {
+                self.index.replace(before, entry)
+            }
+            _ => {
+                self.leave(job, from);
+                self.enter(job, to);
+            }
+        }
     }
 
     // Takes a job away.

@@ -7,3 +7,4 @@ pub mod Sorted
 pub mod Startable
 pub mod Due
 pub mod Indexed
+pub mod Exchanged

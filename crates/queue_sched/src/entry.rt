@@ -54,6 +54,13 @@ impl Entry {
         }
     }
 
+    // Whether the two have the same turn, but for their numbers.
+    pub(crate) fn has_turn_of(&self, other: &Entry) -> bool
+        ensures { IsTrue result ↔ ((self.now.first ≡ other.now.first) × (self.now.priority ≡ other.now.priority)) }
+    {
+        self.first == other.first && self.priority == other.priority
+    }
+
     // The order of the turns. Only a job and itself are equal in it.
     pub(crate) fn turn(&self, other: &Entry) -> Ordering
         ensures { is_lt result ≡ goes_before self.now other.now }

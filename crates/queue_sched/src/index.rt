@@ -7,7 +7,8 @@ ghost use Rattle.queue_sched.specs.declared.entry.Entry.{Entry};
 
 use crate::entry::Entry;
 use crate::lists::{
-    due_of, fill_numbers, fill_ready, is_before, put, put_number, sooner, sort, take,
+    due_of, exchange, fill_numbers, fill_ready, is_before, put, put_number, sooner, sort, take,
+    take_ready,
 };
 use spool_types::{JobId, Moment};
 use std::alloc::{AllocError, Global};
@@ -168,6 +169,7 @@ impl Index {
         ensures gone { ¬ (Contains self.new.items entry) }
         ensures items { (e : Entry) → Contains self.new.items e ↔ (Contains self.old.items e × ¬ (e ≡ entry)) }
         ensures count { length self.new.items + 1 ≡ length self.old.items }
+        ensures spare { length self.new.items < self.new.room }
         ensures moment { self.new.moment ≡ self.old.moment }
         ensures room { self.new.room ≡ self.old.room }
     {
@@ -175,6 +177,46 @@ impl Index {
         self.jobs.remove(at);
         if entry.is_startable(self.moment) {
             take(&mut self.ready, &entry);
+        }
+    }
+
+    /// Puts another entry of a job in the place of the one that is there. Where its turn stays, nothing moves but the jobs
+    /// that may be started now; else it is taken away and added. It takes no memory.
+    pub fn replace(&mut self, from: Entry, to: Entry)
+        requires there { Contains self.old.items from }
+        requires only { (e : Entry) → Contains self.old.items e → e.id ≡ from.id → e ≡ from }
+        requires own { to.id ≡ from.id }
+        ensures there { Contains self.new.items to }
+        ensures items { (e : Entry) → Contains self.new.items e ↔ ((Contains self.old.items e × ¬ (e ≡ from)) ⊎ (e ≡ to)) }
+        ensures count { length self.new.items ≡ length self.old.items }
+        ensures moment { self.new.moment ≡ self.old.moment }
+        ensures room { self.new.room ≡ self.old.room }
+    {
+        if from.has_turn_of(&to) {
+            self.put_in_place(from, to);
+        } else {
+            self.remove(from);
+            self.insert(to);
+        }
+    }
+
+    // Puts an entry in the place of the one that has the same turn.
+    fn put_in_place(&mut self, from: Entry, to: Entry)
+        requires there { Contains self.old.items from }
+        requires only { (e : Entry) → Contains self.old.items e → e.id ≡ from.id → e ≡ from }
+        requires own { to.id ≡ from.id }
+        requires turn { (from.first ≡ to.first) × (from.priority ≡ to.priority) }
+        ensures items { (e : Entry) → Contains self.new.items e ↔ ((Contains self.old.items e × ¬ (e ≡ from)) ⊎ (e ≡ to)) }
+        ensures count { length self.new.items ≡ length self.old.items }
+        ensures moment { self.new.moment ≡ self.old.moment }
+        ensures room { self.new.room ≡ self.old.room }
+    {
+        exchange(&mut self.entries, &from, to);
+        take_ready(&mut self.ready, &from, self.moment);
+        if to.is_startable(self.moment) {
+            put(&mut self.ready, to);
+        } else {
+            self.due = sooner(self.due, to.start());
         }
     }
 

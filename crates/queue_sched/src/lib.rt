@@ -35,8 +35,9 @@
 //! neither their order nor that their numbers differ.
 //!
 //! The choice of an index looks at one entry. Adding and taking away find their place by binary search and move the entries
-//! before it or behind it, whichever are fewer, and the numbers behind it. A moment before the due one looks at none, and
-//! any other goes through all. [`Index::of_entries`] sorts its entries once. Only that and [`Index::reserve`] take memory,
+//! before it or behind it, whichever are fewer, and the numbers behind it. An entry whose job keeps its turn is replaced where
+//! it stands, and only the ready ones beside it move. A moment before the due one looks at none, and any other goes through
+//! all. [`Index::of_entries`] sorts its entries once. Only that and [`Index::reserve`] take memory,
 //! and where `reserve` fails, the index is as before.
 #![tactic(auto)]
 

@@ -1,10 +1,11 @@
 //! The lists of an index.
-ghost use Rattle.std.specs.Prelude.{◌≡◌, ◌<◌, ◌≤◌, ◌↔◌, ℕ, IsTrue, true, false, length, map, slice_index_or, vec_capacity};
+ghost use Rattle.std.specs.Prelude.{◌≡◌, ◌<◌, ◌≤◌, ◌↔◌, ℕ, IsTrue, true, false, List, length, map, slice_index_or, vec_capacity};
 ghost use Rattle.std.specs.List.{filter, insert, remove, AllWithin, Contains};
 ghost use Rattle.std.specs.List.Sorted.{IsPermutation};
 ghost use Rattle.std.specs.VecDeque.{deque_capacity};
 ghost use Rattle.queue_sched.specs.Index.{goes_before, is_startable, HasEachOnce, InOrder};
 ghost use Rattle.queue_sched.specs.Lists.{IsBefore, IsSameUntil};
+ghost use Rattle.queue_sched.specs.declared.entry.Entry.{Entry};
 
 use crate::entry::Entry;
 use spool_types::{JobId, Moment};
@@ -51,6 +52,34 @@ pub(crate) fn take(entries: &mut VecDeque<Entry>, entry: &Entry) -> usize
     let at = place_of(entries, entry);
     entries.remove(at);
     at
+}
+
+// Puts an entry in the place of one that is there, and answers which place it is. No other entry moves.
+pub(crate) fn exchange(entries: &mut VecDeque<Entry>, from: &Entry, to: Entry) -> usize
+    requires order { InOrder entries.old.items }
+    requires there { Contains entries.old.items from.now }
+    ensures in_range { result < length entries.old.items }
+    ensures here { slice_index_or entries.old.items result from.now ≡ from.now }
+    ensures before { AllWithin (λ e. goes_before e from.now ≡ true) entries.old.items 0 result }
+    ensures behind { AllWithin (λ e. goes_before e from.now ≡ false) entries.old.items result (length entries.old.items) }
+    ensures items { entries.new.items ≡ insert (remove entries.old.items result) result to }
+    ensures capacity { deque_capacity entries.new ≡ deque_capacity entries.old }
+{
+    let at = place_of(entries, from);
+    entries[at] = to;
+    at
+}
+
+// Takes an entry away from the ready ones, if it may be started now and so is among them.
+pub(crate) fn take_ready(ready: &mut VecDeque<Entry>, entry: &Entry, now: Moment)
+    requires order { InOrder ready.old.items }
+    requires there { is_startable now entry.now ≡ true → Contains ready.old.items entry.now }
+    ensures items { (all : List Entry) (at : ℕ) → InOrder all → at < length all → slice_index_or all at entry.now ≡ entry.now → ready.old.items ≡ filter (is_startable now) all → ready.new.items ≡ filter (is_startable now) (remove all at) }
+    ensures capacity { deque_capacity ready.new ≡ deque_capacity ready.old }
+{
+    if entry.is_startable(now) {
+        take(ready, entry);
+    }
 }
 
 // Adds a number at a place. There is room.

@@ -1,8 +1,8 @@
--- the job leaves, and is put in again
+-- the job leaves, and is put in again, or keeps its place
 use Rattle.std.proofs.Common.{◌≡◌, sym, ap, ◌∙◌}
 use Rattle.job_table.specs.declared.lane.Standing.TheVariants.{Ended, Processing}
 use Rattle.job_table.specs.Lanes.{IsLane}
-use Rattle.job_table.proofs.Lanes.{taken, taken_own, put_back, none_left}
+use Rattle.job_table.proofs.Lanes.{changed_waiting, taken, taken_own, put_back, none_left}
 use Rattle.job_table.proofs.lane.Lane.reseat.Goals as goal
 
 pub enter-requires-clause-there : goal.enter-requires-clause-there
@@ -23,8 +23,14 @@ enter-requires-clause-alone c = λ busy.
     let no : Processing ≡ Ended = sym (left.processing k at) ∙ ap (taken seats c.args.job) own ∙ (taken_own seats c.args.job).own in
     absurd (cc))
 
-pub returns-clause-lane : goal.returns-clause-lane
-returns-clause-lane c = λ old new is was seated.
+pub returns-in-Waiting-Waiting-clause-lane : goal.returns-in-Waiting-Waiting-clause-lane
+returns-in-Waiting-Waiting-clause-lane c = λ old new is was seated.
+    let both = c.in-Waiting-Waiting in
+    changed_waiting old new c.args.job c.args.self.now is both.before both.entry (was ∙ both.is-0) (record { own = seated.own ∙ both.is-1; others = seated.others })
+    (c.requires.own both.entry both.is-1) c.replace.new.self c.replace.ensures.items c.replace.ensures.room
+
+pub returns-in_default-clause-lane : goal.returns-in_default-clause-lane
+returns-in_default-clause-lane c = λ old new is was seated.
     c.enter.ensures.lane (taken old c.args.job) new
     (c.leave.ensures.lane old (taken old c.args.job) is was (taken_own old c.args.job))
     (taken_own old c.args.job).own (put_back old new c.args.job c.args.to seated)

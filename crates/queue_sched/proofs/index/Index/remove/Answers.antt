@@ -93,3 +93,11 @@ pub returns-else-is_startable-clause-count : goal.returns-else-is_startable-clau
 returns-else-is_startable-clause-count c =
     subst (λ w. length c.take-at.new.entries.items + 1 ≡ length w.items) c.self.view_is
     (ap (λ l. length l + 1) c.take-at.ensures.items ∙ length-remove c.self.inside.entries.items c.take-at.result c.take-at.ensures.in_range)
+
+pub returns-then-is_startable-clause-spare : goal.returns-then-is_startable-clause-spare
+returns-then-is_startable-clause-spare c =
+    omega (arith, ap length c.take-at.ensures.items, length-remove c.self.inside.entries.items c.take-at.result c.take-at.ensures.in_range, c.self.invariant.fits)
+
+pub returns-else-is_startable-clause-spare : goal.returns-else-is_startable-clause-spare
+returns-else-is_startable-clause-spare c =
+    omega (arith, ap length c.take-at.ensures.items, length-remove c.self.inside.entries.items c.take-at.result c.take-at.ensures.in_range, c.self.invariant.fits)
