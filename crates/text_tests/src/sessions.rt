@@ -1,6 +1,8 @@
 ghost use Rattle.std.specs.Prelude.{◌≤◌, IfOk};
 
-use super::*;
+use side_channel::{
+    Command, Device, DeviceId, Ending, Packet, SideFault, Status, answer, serve, state_bits,
+};
 use std::alloc::Global;
 use std::io;
 use std::io::{ErrorKind, Read, Write};
