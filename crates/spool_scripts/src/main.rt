@@ -29,6 +29,10 @@ mod case;
 mod compare;
 mod cut;
 mod fault;
+mod fuse;
+mod limits;
+mod orders;
+mod outcomes;
 mod paced;
 mod served;
 mod ways;
@@ -36,7 +40,7 @@ mod ways;
 use case::{Case, case_names, read_case};
 use compare::{Difference, find_difference};
 use fault::CaseFault;
-use served::replies;
+use served::serve;
 use std::alloc::Global;
 use std::fs::{File, Files};
 use std::process::ExitCode;
@@ -44,24 +48,49 @@ use std::rt::Env;
 use std::{env, io};
 use ways::{Way, ways};
 
-// How the replies to a case differ from those that are wanted, if they do: by the first way in which they do.
+// How what comes of a case differs from what is wanted, if it does: by the first way, and the least number of calls after
+// which the disk fails, in which it does.
 fn first_difference(alloc: Global, case: &Case) -> Result<Option<String>, CaseFault> {
     for way in ways() {
-        let got = replies(alloc, case, way)?;
-        if let Some(found) = find_difference(&case.replies, &got) {
-            return Ok(Some(told(alloc, &found, way)?));
+        for calls in case.fuse.first..=case.fuse.last {
+            let found = difference(alloc, case, way, calls)?;
+            if found.is_some() {
+                return Ok(found);
+            }
         }
     }
     Ok(None)
 }
 
+// How what comes of a case differs from what is wanted, if it does: in its replies first.
+fn difference(
+    alloc: Global,
+    case: &Case,
+    way: Way,
+    calls: u64,
+) -> Result<Option<String>, CaseFault> {
+    let served = serve(alloc, case, way, calls)?;
+    if let Some(found) = find_difference(&case.replies, &served.replies) {
+        return Ok(Some(told(alloc, "", &found, way)?));
+    }
+    match find_difference(&case.account, &served.account) {
+        Some(found) => Ok(Some(told(alloc, " of its account", &found, way)?)),
+        None => Ok(None),
+    }
+}
+
 // What is told of a difference.
-fn told(alloc: Global, found: &Difference<'_>, way: Way) -> Result<String, CaseFault> {
+fn told(
+    alloc: Global,
+    place: &str,
+    found: &Difference<'_>,
+    way: Way,
+) -> Result<String, CaseFault> {
     let Difference { line, wanted, got } = found;
     let wanted = wanted.escape_ascii();
     let got = got.escape_ascii();
     let name = way.name;
-    Ok(format!(in alloc; "differs at line {line}: wanted {wanted}, got {got}, {name}")?)
+    Ok(format!(in alloc; "differs at line {line}{place}: wanted {wanted}, got {got}, {name}")?)
 }
 
 // Serves a case and prints how it went. Whether the replies were those that are wanted.
