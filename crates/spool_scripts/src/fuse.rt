@@ -1,5 +1,4 @@
 //! After how many calls a disk fails.
-ghost use Rattle.std.specs.Prelude.{◌≡◌, ◌≤◌, IfOk, length};
 
 use crate::fault::CaseFault;
 

@@ -5,6 +5,7 @@
 //! `no start`, where it can't be started. Behind it stands what it writes, a line for each piece: `output COUNT TEXT` is the
 //! text on standard output so many times, `errors COUNT TEXT` the text on standard error, and `line COUNT TEXT` the text
 //! and a line feed there. Children behind the last can't be started, and give no order to the account.
+ghost use Rattle.std.specs.Prelude.{◌≡◌, [], IfOk};
 
 use crate::fault::CaseFault;
 use child_pipeline::{ChildFault, Content, Finish, MemChildren};
@@ -19,8 +20,11 @@ enum Outcome {
     Ended(Finish),
 }
 
-/// The children that a text tells.
-pub fn read_children(alloc: Global, text: &str) -> Result<MemChildren, CaseFault> {
+/// The children that a text tells. None of them was started.
+pub fn read_children(alloc: Global, text: &str) -> Result<MemChildren, CaseFault>
+    ensures unstarted { IfOk result (λ c. c.orders ≡ []) }
+    ensures unfinished { IfOk result (λ c. c.finished ≡ 0) }
+{
     let mut starts = Vec::new(alloc);
     let mut finishes = Vec::new(alloc);
     if !text.is_empty() {

@@ -1,5 +1,5 @@
 //! Readers and writers over memory that keep a pace.
-ghost use Rattle.std.specs.Prelude.{◌≡◌, ◌<◌, Some};
+ghost use Rattle.std.specs.Prelude.{◌≡◌, ◌<◌, [], Some};
 
 use crate::limits::Limits;
 use std::alloc::Global;
@@ -55,7 +55,9 @@ pub struct PacedReader<'a> {
 }
 
 impl<'a> PacedReader<'a> {
-    pub fn new(bytes: &'a [u8], pace: Pace, fails: bool) -> PacedReader<'a> {
+    pub fn new(bytes: &'a [u8], pace: Pace, fails: bool) -> PacedReader<'a>
+        ensures { result.rest.now ≡ bytes.now }
+    {
         PacedReader {
             rest: bytes,
             pace,
@@ -92,7 +94,9 @@ pub struct PacedWriter {
 }
 
 impl PacedWriter {
-    pub fn new(alloc: Global, pace: Pace, limits: Limits) -> PacedWriter {
+    pub fn new(alloc: Global, pace: Pace, limits: Limits) -> PacedWriter
+        ensures { result.bytes.items ≡ [] }
+    {
         PacedWriter {
             bytes: Vec::new(alloc),
             pace,
