@@ -1,4 +1,5 @@
 //! After how many calls a disk fails.
+ghost use Rattle.std.specs.Prelude.{◌≡◌, ◌^◌, ◌-◌, [], IfOk};
 
 use crate::fault::CaseFault;
 
@@ -18,7 +19,9 @@ impl Fuse {
 }
 
 /// The two numbers of a text. Where there is no text the disk doesn't fail.
-pub fn read_fuse(text: &str) -> Result<Fuse, CaseFault> {
+pub fn read_fuse(text: &str) -> Result<Fuse, CaseFault>
+    ensures never { text.now ≡ [] → IfOk result (λ f. f ≡ record { first = 2 ^ 64 - 1; last = 2 ^ 64 - 1 }) }
+{
     if text.is_empty() {
         return Ok(Fuse::NEVER);
     }

@@ -1,4 +1,5 @@
 //! What a reader gives and a writer takes before it fails.
+ghost use Rattle.std.specs.Prelude.{◌≡◌, ◌^◌, ◌-◌, [], false, IfOk};
 
 use crate::fault::CaseFault;
 
@@ -24,15 +25,18 @@ impl Limits {
 
 /// The limits that a text says: `reader fails`, `writer fails ROOM` or `writer takes ROOM`. Where there is no text there
 /// are none.
-pub fn read_limits(text: &str) -> Result<Limits, CaseFault> {
-    let text = text.trim_end();
-    match text {
-        "" => Ok(Limits::NONE),
+pub fn read_limits(text: &str) -> Result<Limits, CaseFault>
+    ensures none { text.now ≡ [] → IfOk result (λ l. l ≡ record { reader_fails = false; room = 2 ^ 64 - 1; writer_fails = false }) }
+{
+    if text.is_empty() {
+        return Ok(Limits::NONE);
+    }
+    match text.trim_end() {
         "reader fails" => Ok(Limits {
             reader_fails: true,
             ..Limits::NONE
         }),
-        _ => writer_limits(text),
+        line => writer_limits(line),
     }
 }
 

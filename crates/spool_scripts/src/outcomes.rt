@@ -5,7 +5,9 @@
 //! `no start`, where it can't be started. Behind it stands what it writes, a line for each piece: `output COUNT TEXT` is the
 //! text on standard output so many times, `errors COUNT TEXT` the text on standard error, and `line COUNT TEXT` the text
 //! and a line feed there. Children behind the last can't be started, and give no order to the account.
-ghost use Rattle.std.specs.Prelude.{◌≡◌, [], IfOk};
+ghost use Rattle.std.specs.Prelude.{◌≡◌, ◌∷◌, ◌++◌, [], map, is_ok, IfOk, OnOk};
+ghost use Rattle.child_pipeline.specs.Told.{finish_in};
+ghost use Rattle.spool_scripts.specs.Outcomes.{is_started, ends_of};
 
 use crate::fault::CaseFault;
 use child_pipeline::{ChildFault, Content, Finish, MemChildren};
@@ -20,18 +22,20 @@ enum Outcome {
     Ended(Finish),
 }
 
-/// The children that a text tells. None of them was started.
+/// The children that a text tells. None of them was started, and where there is no text none can be.
 pub fn read_children(alloc: Global, text: &str) -> Result<MemChildren, CaseFault>
     ensures unstarted { IfOk result (λ c. c.orders ≡ []) }
     ensures unfinished { IfOk result (λ c. c.finished ≡ 0) }
+    ensures none { text.now ≡ [] → IfOk result (λ c. c.starts ≡ []) }
 {
     let mut starts = Vec::new(alloc);
     let mut finishes = Vec::new(alloc);
-    if !text.is_empty() {
-        for child in text.split("\n\n") {
-            let outcome = read_outcome(alloc, child)?;
-            push_outcome(&mut starts, &mut finishes, outcome)?;
-        }
+    if text.is_empty() {
+        return Ok(MemChildren::new(alloc, starts, finishes)?);
+    }
+    for child in text.split("\n\n") {
+        let outcome = read_outcome(alloc, child)?;
+        push_outcome(&mut starts, &mut finishes, outcome)?;
     }
     Ok(MemChildren::new(alloc, starts, finishes)?)
 }
@@ -41,7 +45,10 @@ fn push_outcome(
     starts: &mut Vec<Result<(), ChildFault>>,
     finishes: &mut Vec<Result<Finish, ChildFault>>,
     outcome: Outcome,
-) -> Result<(), AllocError> {
+) -> Result<(), AllocError>
+    ensures starts { OnOk result (map is_ok starts.new.items ≡ map is_ok starts.old.items ++ is_started outcome ∷ []) }
+    ensures finishes { OnOk result (map finish_in finishes.new.items ≡ map finish_in finishes.old.items ++ ends_of outcome) }
+{
     match outcome {
         Outcome::NoStart => starts.push(Err(ChildFault))?,
         Outcome::Unknown => {
