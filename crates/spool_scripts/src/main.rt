@@ -93,12 +93,7 @@ fn difference(
 }
 
 // What is told of a difference.
-fn told(
-    alloc: Global,
-    place: &str,
-    found: &Difference<'_>,
-    way: Way,
-) -> Result<String, CaseFault> {
+fn told(alloc: Global, place: &str, found: &Difference<'_>, way: Way) -> Result<String, CaseFault> {
     let Difference { line, wanted, got } = found;
     let wanted = wanted.escape_ascii();
     let got = got.escape_ascii();

@@ -22,7 +22,10 @@ fn push_order(text: &mut String, placed: &Placed) -> Result<(), CaseFault> {
     let job = order.job.get();
     let attempt = order.attempt.get();
     let stage = order.stage.get();
-    writeln!(text, "job {job} attempt {attempt} stage {stage} behind {before}")?;
+    writeln!(
+        text,
+        "job {job} attempt {attempt} stage {stage} behind {before}"
+    )?;
     match &order.program {
         Program::Filter(name) => push_program(text, "filter", name.as_str())?,
         Program::Backend(scheme) => push_program(text, "backend", scheme.as_str())?,

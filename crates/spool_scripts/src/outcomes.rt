@@ -120,12 +120,7 @@ fn read_finish(alloc: Global, exit: Exit, pieces: &str) -> Result<Finish, CaseFa
 }
 
 // Adds a text and its end so many times as the piece says.
-fn push_piece(
-    alloc: Global,
-    bytes: &mut Vec<u8>,
-    piece: &str,
-    end: &str,
-) -> Result<(), CaseFault> {
+fn push_piece(alloc: Global, bytes: &mut Vec<u8>, piece: &str, end: &str) -> Result<(), CaseFault> {
     let (count, text) = match piece.split_once(' ') {
         Some(halves) => halves,
         None => (piece, ""),
