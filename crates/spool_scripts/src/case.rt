@@ -1,6 +1,8 @@
 //! The files of a case.
 
 use crate::fault::CaseFault;
+use crate::fuse::{Fuse, read_fuse};
+use crate::limits::{Limits, read_limits};
 use std::fs::{File, Files};
 use std::io::ErrorKind;
 use std::{fs, io};
@@ -13,12 +15,20 @@ const USUAL_SIZE: usize = 4_194_304;
 pub struct Case {
     pub script: Vec<u8>,
     pub replies: Vec<u8>,
+    /// What is told beside the replies.
+    pub account: Vec<u8>,
     /// Rules of types, as in mime.types(5).
     pub types: String,
     /// Conversions, as in mime.convs(5).
     pub convs: String,
     /// The length of the disk in bytes.
     pub size: usize,
+    /// How the children go.
+    pub children: String,
+    /// After how many calls the disk fails.
+    pub fuse: Fuse,
+    /// How far the reader and the writer go.
+    pub limits: Limits,
 }
 
 /// The names of the cases in a folder, each once, in ascending order: what is left of each
@@ -59,12 +69,20 @@ pub fn read_case<R: Files<File = File> + AllocGlobal>(
     let Some(replies) = file_of(rt, path, "replies")? else {
         return Err(CaseFault::NoReplies);
     };
+    let account = match file_of(rt, path, "account")? {
+        Some(account) => account,
+        None => Vec::new(rt.alloc()),
+    };
     Ok(Case {
         script,
         replies,
+        account,
         types: text_of(rt, path, "types")?,
         convs: text_of(rt, path, "convs")?,
         size: size_of(text_of(rt, path, "size")?.as_str())?,
+        children: text_of(rt, path, "children")?,
+        fuse: read_fuse(text_of(rt, path, "fuse")?.as_str())?,
+        limits: read_limits(text_of(rt, path, "limits")?.as_str())?,
     })
 }
 

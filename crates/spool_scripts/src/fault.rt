@@ -1,9 +1,8 @@
 //! Why a case can't be served.
 
 use spool_core::{MakeFault, OpenFault};
-use spool_engine::RunFault;
 use std::alloc::AllocError;
-use std::io;
+use std::{fmt, io};
 use thiserror::Error;
 
 /// Why a case can't be served. Its text follows the name of the case.
@@ -19,6 +18,15 @@ pub enum CaseFault {
     /// The file of the disk's length holds no number.
     #[error("has a size that is no number")]
     NoSize,
+    /// The file of the disk's calls doesn't hold two numbers.
+    #[error("has a fuse that is no two numbers")]
+    NoFuse,
+    /// The file of limits says none.
+    #[error("has limits that are none")]
+    NoLimits,
+    /// The file of children tells none.
+    #[error("has children that can't be read")]
+    NoChildren,
     /// A file is there and can't be read.
     #[error("can't be read: {0}")]
     Unread(io::Error),
@@ -28,9 +36,6 @@ pub enum CaseFault {
     /// What was written is no spool.
     #[error("can't be opened: {0:?}")]
     Unopened(OpenFault),
-    /// The run ended before its script did.
-    #[error("ends too early: {0:?}")]
-    Ended(RunFault),
     #[error("finds no memory")]
     Memory,
 }
@@ -59,8 +64,8 @@ impl From<OpenFault> for CaseFault {
     }
 }
 
-impl From<RunFault> for CaseFault {
-    fn from(fault: RunFault) -> CaseFault {
-        CaseFault::Ended(fault)
+impl From<fmt::Error> for CaseFault {
+    fn from(_error: fmt::Error) -> CaseFault {
+        CaseFault::Memory
     }
 }

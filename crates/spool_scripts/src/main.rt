@@ -3,32 +3,49 @@
 //!
 //! # Cases
 //!
-//! A case lies in the folder that the first word names, or in that in which the program runs: `NAME.script` has the commands and `NAME.replies` the replies
-//! that are wanted. Where there is need, `NAME.types` has rules of types, `NAME.convs` conversions, and `NAME.size` the
-//! length of the disk in bytes, which is else 4,194,304. A line `# reopen` cuts a script: what follows it is served by
-//! a new engine, over the spool that is opened again on the same disk.
+//! A case lies in the folder that the first word names, or in that in which the program runs: `NAME.script` has the
+//! commands and `NAME.replies` the replies that are wanted. A line `# reopen` cuts a script: what follows it is served by
+//! a new engine, over the spool that is opened again on the same disk. Further files are there where there is need:
+//!
+//! - `NAME.types` has rules of types, and `NAME.convs` conversions.
+//! - `NAME.size` has the length of the disk in bytes, which is else 4,194,304.
+//! - `NAME.children` tells how the children of rounds go ([`outcomes`]). Without it none can be started.
+//! - `NAME.fuse` has two numbers ([`fuse`]): the case is served with a disk that fails after the first number of calls, and
+//!   so on up to the last. Without it the disk doesn't fail.
+//! - `NAME.limits` says that the reader fails, or how many bytes the writer takes ([`limits`]).
+//! - `NAME.account` has what is wanted beside the replies ([`served::Served`]), and is empty where it is absent: which part
+//!   of the script met a fault of the reader, of the writer or of the disk, and then the orders of the children ([`orders`]).
+//!
+//! The fuse and the limits hold for the first part of a script. What follows a cut goes without them, and the children go
+//! on from where they are.
 //!
 //! Each case is served several times ([`ways::ways`]): the script read whole, byte by byte and in pieces, the replies
-//! written whole and few bytes at a time, with reads and writes that are interrupted. The replies have to be the same
-//! each time.
+//! written whole and few bytes at a time, with reads and writes that are interrupted. The replies and the account have to
+//! be the same each time. The children begin anew each time.
 //!
 //! # Output
 //!
-//! A line for each case in the order of the names, `NAME ok`, `NAME differs at line N: wanted .., got ..` or `NAME` and
-//! why it can't be served; then `N scripts, M differ`. The status is 1 where one differs. Each file in the folder belongs
-//! to a case, and a case without a script or without replies counts as one that differs: so none is passed over.
+//! A line for each case in the order of the names, `NAME ok`, `NAME differs at line N: wanted .., got ..` (or `at line N of
+//! its account`) or `NAME` and why it can't be served; then `N scripts, M differ`. The status is 1 where one differs. Each
+//! file in the folder belongs to a case, and a case without a script or without replies counts as one that differs: so none
+//! is passed over.
 //!
 //! # Promises
 //!
-//! - [`compare::find_difference`]: replies pass exactly where they are the bytes that are wanted.
+//! - [`compare::find_difference`]: replies, and an account, pass exactly where they are the bytes that are wanted.
 //! - [`cut::next_part`]: a part, the line that cuts and what follows it are the script, and no such line comes before.
-//! - [`paced`]: a reader gives the bytes of the script and a writer keeps what it takes, whatever their pace.
+//! - [`paced`]: a reader gives the bytes of the script and a writer keeps what it takes, whatever their pace and limits.
+//! - [`outcomes::read_children`]: no child was started before the script is served.
 #![tactic(auto)]
 
 mod case;
 mod compare;
 mod cut;
 mod fault;
+mod fuse;
+mod limits;
+mod orders;
+mod outcomes;
 mod paced;
 mod served;
 mod ways;
@@ -36,7 +53,7 @@ mod ways;
 use case::{Case, case_names, read_case};
 use compare::{Difference, find_difference};
 use fault::CaseFault;
-use served::replies;
+use served::serve;
 use std::alloc::Global;
 use std::fs::{File, Files};
 use std::process::ExitCode;
@@ -44,24 +61,44 @@ use std::rt::Env;
 use std::{env, io};
 use ways::{Way, ways};
 
-// How the replies to a case differ from those that are wanted, if they do: by the first way in which they do.
+// How what comes of a case differs from what is wanted, if it does: by the first way, and the least number of calls after
+// which the disk fails, in which it does.
 fn first_difference(alloc: Global, case: &Case) -> Result<Option<String>, CaseFault> {
     for way in ways() {
-        let got = replies(alloc, case, way)?;
-        if let Some(found) = find_difference(&case.replies, &got) {
-            return Ok(Some(told(alloc, &found, way)?));
+        for calls in case.fuse.first..=case.fuse.last {
+            let found = difference(alloc, case, way, calls)?;
+            if found.is_some() {
+                return Ok(found);
+            }
         }
     }
     Ok(None)
 }
 
+// How what comes of a case differs from what is wanted, if it does: in its replies first.
+fn difference(
+    alloc: Global,
+    case: &Case,
+    way: Way,
+    calls: u64,
+) -> Result<Option<String>, CaseFault> {
+    let served = serve(alloc, case, way, calls)?;
+    if let Some(found) = find_difference(&case.replies, &served.replies) {
+        return Ok(Some(told(alloc, "", &found, way)?));
+    }
+    match find_difference(&case.account, &served.account) {
+        Some(found) => Ok(Some(told(alloc, " of its account", &found, way)?)),
+        None => Ok(None),
+    }
+}
+
 // What is told of a difference.
-fn told(alloc: Global, found: &Difference<'_>, way: Way) -> Result<String, CaseFault> {
+fn told(alloc: Global, place: &str, found: &Difference<'_>, way: Way) -> Result<String, CaseFault> {
     let Difference { line, wanted, got } = found;
     let wanted = wanted.escape_ascii();
     let got = got.escape_ascii();
     let name = way.name;
-    Ok(format!(in alloc; "differs at line {line}: wanted {wanted}, got {got}, {name}")?)
+    Ok(format!(in alloc; "differs at line {line}{place}: wanted {wanted}, got {got}, {name}")?)
 }
 
 // Serves a case and prints how it went. Whether the replies were those that are wanted.

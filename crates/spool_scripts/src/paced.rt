@@ -1,6 +1,7 @@
 //! Readers and writers over memory that keep a pace.
-ghost use Rattle.std.specs.Prelude.{◌≡◌, ◌<◌, Some};
+ghost use Rattle.std.specs.Prelude.{◌≡◌, ◌<◌, [], Some};
 
+use crate::limits::Limits;
 use std::alloc::Global;
 use std::io;
 use std::io::{ErrorKind, Read, Write};
@@ -44,20 +45,24 @@ impl Pace {
     }
 }
 
-/// A reader of bytes at a pace.
+/// A reader of bytes at a pace, which may fail behind them.
 #[derive(Drop)]
 pub struct PacedReader<'a> {
     rest: &'a [u8],
     pace: Pace,
     interrupts: bool,
+    fails: bool,
 }
 
 impl<'a> PacedReader<'a> {
-    pub fn new(bytes: &'a [u8], pace: Pace) -> PacedReader<'a> {
+    pub fn new(bytes: &'a [u8], pace: Pace, fails: bool) -> PacedReader<'a>
+        ensures { result.rest.now ≡ bytes.now }
+    {
         PacedReader {
             rest: bytes,
             pace,
             interrupts: false,
+            fails,
         }
     }
 }
@@ -70,26 +75,42 @@ impl Read for PacedReader<'_> {
         if self.interrupts {
             return Err(io::Error::from(ErrorKind::Interrupted));
         }
+        if self.fails && self.rest.is_empty() {
+            return Err(io::Error::from(ErrorKind::Other));
+        }
         let most = self.pace.piece.min(buf.len());
         self.rest.read(&mut buf[..most])
     }
 }
 
-/// A writer that keeps what it takes, at a pace.
+/// A writer that keeps what it takes, at a pace. Where its room is spent it fails or takes none.
 #[derive(Drop)]
 pub struct PacedWriter {
     bytes: Vec<u8>,
     pace: Pace,
     interrupts: bool,
+    room: usize,
+    fails: bool,
 }
 
 impl PacedWriter {
-    pub fn new(alloc: Global, pace: Pace) -> PacedWriter {
+    pub fn new(alloc: Global, pace: Pace, limits: Limits) -> PacedWriter
+        ensures { result.bytes.items ≡ [] }
+    {
         PacedWriter {
             bytes: Vec::new(alloc),
             pace,
             interrupts: false,
+            room: limits.room,
+            fails: limits.writer_fails,
         }
+    }
+
+    /// Takes all from now on.
+    pub fn lift(&mut self)
+        ensures { self.new.bytes ≡ self.old.bytes }
+    {
+        self.room = usize::MAX;
     }
 
     /// What was written.
@@ -109,8 +130,12 @@ impl Write for PacedWriter {
         if self.interrupts {
             return Err(io::Error::from(ErrorKind::Interrupted));
         }
-        let most = self.pace.piece.min(buf.len());
+        if self.room == 0 && self.fails {
+            return Err(io::Error::from(ErrorKind::Other));
+        }
+        let most = self.pace.piece.min(buf.len()).min(self.room);
         self.bytes.extend_from_slice(&buf[..most])?;
+        self.room -= most;
         Ok(most)
     }
 

@@ -1,63 +1,124 @@
-//! What an engine replies to a script.
+//! What an engine does with a script.
 
 use crate::case::Case;
 use crate::cut::next_part;
 use crate::fault::CaseFault;
+use crate::orders::push_orders;
+use crate::outcomes::read_children;
 use crate::paced::{PacedReader, PacedWriter};
 use crate::ways::Way;
-use child_pipeline::NoChildren;
+use child_pipeline::MemChildren;
 use filter_args::Place;
 use mime_costs::Convs;
 use mime_rules::Types;
 use spool_core::{Spool, make};
-use spool_disk::MemDisk;
-use spool_engine::Engine;
+use spool_disk::{FuseDisk, MemDisk};
+use spool_engine::{Engine, RunFault};
 use std::alloc::Global;
 
-/// The replies to the script of a case, on a new spool.
-pub fn replies(alloc: Global, case: &Case, way: Way) -> Result<Vec<u8>, CaseFault> {
-    let mut disk = MemDisk::new(alloc, case.size)?;
-    make(&mut disk)?;
-    let mut writer = PacedWriter::new(alloc, way.writing);
+/// What came of a script.
+#[derive(Drop)]
+pub struct Served {
+    pub replies: Vec<u8>,
+    /// What is told beside the replies: of each part in turn that its reader, its writer or its disk failed, and then the
+    /// orders of the children.
+    pub account: Vec<u8>,
+}
+
+// What goes on from one part of a script to the next.
+#[derive(Drop)]
+struct Bench {
+    disk: MemDisk,
+    children: MemChildren,
+    account: String,
+}
+
+/// What comes of the script of a case, on a new spool. While its first part is served, the disk fails after so many calls,
+/// and the limits of the case hold.
+pub fn serve(alloc: Global, case: &Case, way: Way, calls: u64) -> Result<Served, CaseFault> {
+    let mut bench = new_bench(alloc, case)?;
+    let mut writer = PacedWriter::new(alloc, way.writing, case.limits);
+    let mut reader_fails = case.limits.reader_fails;
+    let mut calls = calls;
     let mut rest: &[u8] = &case.script;
     for _ in 0..u64::MAX {
         let (part, after) = next_part(rest);
-        let mut reader = PacedReader::new(part, way.reading);
-        disk = serve(alloc, disk, case, &mut reader, &mut writer)?;
+        let mut reader = PacedReader::new(part, way.reading, reader_fails);
+        bench = serve_part(alloc, case, bench, calls, &mut reader, &mut writer)?;
         match after {
             Some(script) => rest = script,
             None => break,
         }
+        writer.lift();
+        reader_fails = false;
+        calls = u64::MAX;
     }
-    Ok(writer.into_bytes())
+    let Bench {
+        children,
+        mut account,
+        ..
+    } = bench;
+    push_orders(&mut account, &children)?;
+    Ok(Served {
+        replies: writer.into_bytes(),
+        account: account.into_bytes(),
+    })
 }
 
-// Serves a part of a script on the spool of a disk, and gives the disk back.
-fn serve(
+fn new_bench(alloc: Global, case: &Case) -> Result<Bench, CaseFault> {
+    let mut disk = MemDisk::new(alloc, case.size)?;
+    make(&mut disk)?;
+    Ok(Bench {
+        disk,
+        children: read_children(alloc, case.children.as_str())?,
+        account: String::new(alloc),
+    })
+}
+
+// Serves a part of a script on the spool of a disk that fails after so many calls.
+fn serve_part(
     alloc: Global,
-    disk: MemDisk,
     case: &Case,
+    bench: Bench,
+    calls: u64,
     reader: &mut PacedReader<'_>,
     writer: &mut PacedWriter,
-) -> Result<MemDisk, CaseFault> {
-    let spool = match Spool::open(alloc, disk) {
+) -> Result<Bench, CaseFault> {
+    let Bench {
+        disk,
+        children,
+        mut account,
+    } = bench;
+    let spool = match Spool::open(alloc, FuseDisk::new(disk, calls)) {
         Ok(spool) => spool,
         Err(error) => return Err(CaseFault::from(error.fault)),
     };
     let (types, _) = Types::read(alloc, case.types.as_str())?;
     let (convs, _) = Convs::read(alloc, case.convs.as_str())?;
-    let mut engine = Engine::new(alloc, spool, NoChildren, types, convs, nowhere(alloc));
-    engine.run(reader, writer)?;
-    let (spool, _) = engine.into_parts();
-    Ok(spool.into_disk())
+    let mut engine = Engine::new(alloc, spool, children, types, convs, place(alloc)?);
+    match engine.run(reader, writer) {
+        Ok(()) => {}
+        Err(RunFault::Read) => account.push_str("the reader failed\n")?,
+        Err(RunFault::Write) => account.push_str("the writer failed\n")?,
+        Err(RunFault::Memory) => return Err(CaseFault::Memory),
+    }
+    if engine.met_fault() {
+        account.push_str("the disk failed\n")?;
+    }
+    let (spool, children) = engine.into_parts();
+    Ok(Bench {
+        disk: spool.into_disk().into_disk(),
+        children,
+        account,
+    })
 }
 
-// A place without names: no child runs there.
-fn nowhere(alloc: Global) -> Place {
-    Place {
-        root: String::new(alloc),
-        lang: String::new(alloc),
-        path: String::new(alloc),
+// Where the children run.
+fn place(alloc: Global) -> Result<Place, CaseFault> {
+    Ok(Place {
+        root: String::from_str(alloc, "/r")?,
+        lang: String::from_str(alloc, "C")?,
+        path: String::from_str(alloc, "/bin")?,
         side: false,
-    }
+    })
 }

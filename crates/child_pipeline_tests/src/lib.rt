@@ -1,5 +1,0 @@
-//! The tests of `child_pipeline`.
-#![tactic(auto)]
-
-#[cfg(test)]
-mod tests;

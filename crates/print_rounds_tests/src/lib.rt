@@ -1,5 +1,0 @@
-//! The tests of `print_rounds`.
-#![tactic(auto)]
-
-#[cfg(test)]
-mod tests;
