@@ -22,7 +22,7 @@ import sys
 top = os.path.join(os.path.dirname(os.path.abspath(__file__)), "..")
 stored = os.path.join(top, "tests", "allocations.txt")
 
-CRATES = ["filter_args_tests", "row_effects", "stderr_lines_tests"]
+CRATES = ["filter_args_tests", "decision_tests", "stderr_lines_tests"]
 MOST = 32
 AT_ONCE = 4
 

@@ -31,6 +31,3 @@ mod verdicts;
 
 pub use exits::{lost_verdict, verdict};
 pub use verdicts::Verdict;
-
-#[cfg(test)]
-mod tests;

@@ -44,6 +44,3 @@ pub fn last_value<'a>(options: &'a [DeviceOption], name: &str) -> Option<&'a str
     }
     found
 }
-
-#[cfg(test)]
-mod tests;

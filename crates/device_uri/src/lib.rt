@@ -33,6 +33,3 @@ pub use fields::Field;
 pub use line::{DeviceClass, DeviceClassKind, DeviceLine, LineFault, read_device_line};
 pub use options::{DeviceOption, OptionsFault};
 pub use uri::{DeviceUri, UriFault};
-
-#[cfg(test)]
-mod tests;

@@ -30,6 +30,3 @@ mod faults;
 
 pub use disk::ImageDisk;
 pub use faults::Faults;
-
-#[cfg(test)]
-mod tests;

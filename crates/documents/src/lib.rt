@@ -28,6 +28,3 @@ mod reading;
 
 pub use laws::{extents_law, moves_law, placed_law, size_law};
 pub use reading::read_joined;
-
-#[cfg(test)]
-mod tests;

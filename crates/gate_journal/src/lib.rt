@@ -60,6 +60,3 @@ pub use journal::{Journal, JournalFault};
 pub use law::entries_law;
 pub use layout::{HEAD_LEN, KEPT_ROOM, OPEN_GATE};
 pub use window::Window;
-
-#[cfg(test)]
-mod tests;

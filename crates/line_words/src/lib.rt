@@ -37,6 +37,3 @@ pub use blanks::{after_blanks, first_word, is_blank, split_at_blank, trim};
 pub use quotes::{has_quote, is_backslash, is_quote, push_escaped, read_quoted};
 pub use quoting::Quoting;
 pub use words::Word;
-
-#[cfg(test)]
-mod tests;

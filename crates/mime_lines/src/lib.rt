@@ -24,6 +24,3 @@ mod numbers;
 
 pub use lines::{JoinedLine, LineText, joined_lines};
 pub use numbers::{Number, read_number};
-
-#[cfg(test)]
-mod tests;

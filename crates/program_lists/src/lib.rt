@@ -39,6 +39,3 @@ pub use kinds::{
 };
 pub use line::{Listed, ListedBackend, ListedFilter, ListedProgram};
 pub use list::{ListFault, ProgramList};
-
-#[cfg(test)]
-mod tests;

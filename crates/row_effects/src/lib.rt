@@ -53,6 +53,3 @@ pub use laws::{
 pub use pages::pages_after;
 pub use queue::fold_queue;
 pub use spare::Spare;
-
-#[cfg(test)]
-mod tests;

@@ -74,6 +74,3 @@ pub use laws::{answers_are_joined, written_is_read};
 pub use packets::Packet;
 pub use replies::{Answer, AnswerBody};
 pub use sessions::serve;
-
-#[cfg(test)]
-mod tests;

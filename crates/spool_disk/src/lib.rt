@@ -47,6 +47,3 @@ pub use durable::persist;
 pub use file::FileDisk;
 pub use fuse::FuseDisk;
 pub use memory::MemDisk;
-
-#[cfg(test)]
-mod tests;

@@ -50,6 +50,3 @@ pub fn write_whole<W: Write>(writer: &mut W, bytes: &[u8]) -> Result<(), WriteFa
         Err(WriteFault)
     }
 }
-
-#[cfg(test)]
-mod tests;

@@ -1,4 +1,4 @@
-use super::*;
+use program_lists::{ListFault, ListedProgram, ProgramList};
 use std::alloc::{AllocError, Global};
 use std::test::Fail;
 

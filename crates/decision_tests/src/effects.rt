@@ -1,7 +1,7 @@
 ghost use Rattle.std.specs.Prelude.{IfOk, OnOk};
 ghost use Rattle.row_effects.specs.Fold.{IsInOrder};
 
-use super::*;
+use row_effects::{Spare, fold_queue, pages_after, queues_stay_in_order};
 use spool_types::{
     Attribute, AttributeName, Attributes, Effect, Interval, Items, Level, MediaType, Message, Note,
     Policy, QueueName, QueueRow, Reason, Reasons, Uri, Words,

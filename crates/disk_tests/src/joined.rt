@@ -1,6 +1,6 @@
 ghost use Rattle.std.specs.Prelude.{◌≡◌, ◌≤◌, ◌+◌, length};
 
-use super::*;
+use documents::read_joined;
 use event_codec::encode_onto;
 use spool_areas::{Areas, Extent, ReadFault, make};
 use spool_disk::{Disk, FuseDisk, MemDisk};

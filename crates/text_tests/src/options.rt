@@ -1,4 +1,6 @@
-use super::*;
+use device_options::{last_value, options_or_none};
+use device_uri::DeviceUri;
+use std::alloc::Global;
 use std::test::Fail;
 
 // The last value of a name among the options of a URI, or a hyphen where there is none.

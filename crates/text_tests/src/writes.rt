@@ -1,7 +1,8 @@
-use super::*;
 use std::alloc::Global;
 use std::io;
+use std::io::{ErrorKind, Write};
 use std::test::Fail;
+use whole_writes::{WriteFault, write_whole};
 
 // A writer that takes `piece` bytes at once and is interrupted before each. It fails, or takes nothing, once `most` bytes
 // were written.

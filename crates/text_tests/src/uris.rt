@@ -1,4 +1,4 @@
-use super::*;
+use device_uri::{DeviceUri, Field, LineFault, OptionsFault, UriFault, read_device_line};
 use std::alloc::Global;
 use std::test::Fail;
 

@@ -1,4 +1,4 @@
-use super::*;
+use gate_journal::{Found, Journal, JournalFault, Window, next_entry};
 use spool_disk::{DeviceFault, Disk, FuseDisk, MemDisk};
 use std::test::*;
 

@@ -1,4 +1,4 @@
-use super::*;
+use spool_disk::{DeviceFault, Disk, FileDisk, FuseDisk, MemDisk};
 use std::fs;
 use std::fs::File;
 use std::test::*;
@@ -31,7 +31,7 @@ fn fuse_passes_two_calls(rt: HostRuntime) -> Result<(), Fail> {
 
 #[test]
 fn file_holds_what_was_written(rt: HostRuntime) -> Result<(), Fail> {
-    let name = "spool_disk_tests.disk";
+    let name = "disk_tests.disk";
     let file = File::options()
         .read(true)
         .write(true)
@@ -53,7 +53,7 @@ fn file_holds_what_was_written(rt: HostRuntime) -> Result<(), Fail> {
 
 #[test]
 fn file_that_cannot_be_written_fails(rt: HostRuntime) -> Result<(), Fail> {
-    let name = "spool_disk_tests.short";
+    let name = "disk_tests.short";
     let file = File::options()
         .read(true)
         .write(true)

@@ -1,4 +1,4 @@
-use super::*;
+use disk_images::{Faults, ImageDisk};
 use spool_disk::{DeviceFault, Disk};
 use std::test::*;
 

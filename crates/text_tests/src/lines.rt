@@ -1,4 +1,4 @@
-use super::*;
+use mime_lines::{Number, joined_lines, read_number};
 use std::test::Fail;
 
 fn texts(rt: HostRuntime, text: &str) -> Result<Vec<u8>, Fail> {

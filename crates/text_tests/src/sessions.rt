@@ -1,6 +1,8 @@
 ghost use Rattle.std.specs.Prelude.{◌≤◌, IfOk};
 
-use super::*;
+use side_channel::{
+    Command, Device, DeviceId, Ending, Packet, SideFault, Status, answer, serve, state_bits,
+};
 use std::alloc::Global;
 use std::io;
 use std::io::{ErrorKind, Read, Write};
@@ -26,77 +28,82 @@ fn with_data(alloc: Global, head: &[u8], count: usize) -> Result<Vec<u8>, Fail> 
     Ok(bytes)
 }
 
+// A request, how many bytes FF follow it, what is answered, and how the session ends.
+type Asked = (
+    &'static [u8],
+    usize,
+    &'static [u8],
+    Result<Ending, SideFault>,
+);
+
+const REQUESTS: [Asked; 25] = [
+    (b"\x03\0\0\0", 0, b"\x03\x01\0\x01\x01", Ok(Ending::Stopped)),
+    (
+        b"\x04\0\0\0",
+        0,
+        b"\x04\x01\0\x06MFG:X;",
+        Ok(Ending::Stopped),
+    ),
+    (b"\x05\0\0\0", 0, b"\x05\x01\0\x01\x21", Ok(Ending::Stopped)),
+    (b"\x06\0\0\0", 0, b"\x06\x07\0\0", Ok(Ending::Stopped)),
+    (b"\x07\0\0\0", 0, b"\x07\x07\0\0", Ok(Ending::Stopped)),
+    (b"\x08\0\0\0", 0, b"\x08\x01\0\x01\0", Ok(Ending::Stopped)),
+    (b"\x09\0\0\0", 0, b"\x09\x05\0\0", Ok(Ending::Stopped)),
+    (b"\0\0\0\0", 0, b"\0\x05\0\0", Ok(Ending::Stopped)),
+    (b"\x02\0\0\0", 0, b"\x02\x01\0\0", Ok(Ending::Stopped)),
+    (b"\x01\0\0\x02AB", 0, b"\x01\x01\0\0", Ok(Ending::Stopped)),
+    (
+        b"\x03\x07\0\0",
+        0,
+        b"\x03\x01\0\x01\x01",
+        Ok(Ending::Stopped),
+    ),
+    (b"", 0, b"", Ok(Ending::Stopped)),
+    (b"\xFF\0\0\0", 0, b"", Ok(Ending::End)),
+    (b"\xFF\0\0\0\x03\0\0\0", 0, b"", Ok(Ending::End)),
+    (
+        b"\x03\0\0\0\xFF\0\0\0",
+        0,
+        b"\x03\x01\0\x01\x01",
+        Ok(Ending::End),
+    ),
+    (b"\xFF\x01\0\0", 0, b"\xFF\x05\0\0", Ok(Ending::Stopped)),
+    (b"\xFF\0\0\x01A", 0, b"\xFF\x05\0\0", Ok(Ending::Stopped)),
+    (b"\x03\0\0", 0, b"", Err(SideFault::Cut)),
+    (b"\x03\0\x08\0", 2047, b"", Err(SideFault::Cut)),
+    (
+        b"\x03\0\x08\0",
+        2048,
+        b"\x03\x01\0\x01\x01",
+        Ok(Ending::Stopped),
+    ),
+    (b"\x03\0\x08\x01", 2048, b"", Err(SideFault::Cut)),
+    (
+        b"\x03\0\x08\x01",
+        2049,
+        b"\x03\x06\0\0",
+        Ok(Ending::Stopped),
+    ),
+    (
+        b"\xFF\0\x08\x01",
+        2049,
+        b"\xFF\x06\0\0",
+        Ok(Ending::Stopped),
+    ),
+    (b"\x09\0\xFF\xFF", 65534, b"", Err(SideFault::Cut)),
+    (
+        b"\x09\0\xFF\xFF",
+        65535,
+        b"\x09\x06\0\0",
+        Ok(Ending::Stopped),
+    ),
+];
+
 #[test]
 fn each_request_has_its_answer(rt: HostRuntime) -> Result<(), Fail> {
     let alloc = rt.alloc();
     let device = printer(alloc)?;
-    for (request, count, wanted, ending) in [
-        (
-            b"\x03\0\0\0".as_slice(),
-            0,
-            b"\x03\x01\0\x01\x01".as_slice(),
-            Ok(Ending::Stopped),
-        ),
-        (
-            b"\x04\0\0\0",
-            0,
-            b"\x04\x01\0\x06MFG:X;",
-            Ok(Ending::Stopped),
-        ),
-        (b"\x05\0\0\0", 0, b"\x05\x01\0\x01\x21", Ok(Ending::Stopped)),
-        (b"\x06\0\0\0", 0, b"\x06\x07\0\0", Ok(Ending::Stopped)),
-        (b"\x07\0\0\0", 0, b"\x07\x07\0\0", Ok(Ending::Stopped)),
-        (b"\x08\0\0\0", 0, b"\x08\x01\0\x01\0", Ok(Ending::Stopped)),
-        (b"\x09\0\0\0", 0, b"\x09\x05\0\0", Ok(Ending::Stopped)),
-        (b"\0\0\0\0", 0, b"\0\x05\0\0", Ok(Ending::Stopped)),
-        (b"\x02\0\0\0", 0, b"\x02\x01\0\0", Ok(Ending::Stopped)),
-        (b"\x01\0\0\x02AB", 0, b"\x01\x01\0\0", Ok(Ending::Stopped)),
-        (
-            b"\x03\x07\0\0",
-            0,
-            b"\x03\x01\0\x01\x01",
-            Ok(Ending::Stopped),
-        ),
-        (b"", 0, b"", Ok(Ending::Stopped)),
-        (b"\xFF\0\0\0", 0, b"", Ok(Ending::End)),
-        (b"\xFF\0\0\0\x03\0\0\0", 0, b"", Ok(Ending::End)),
-        (
-            b"\x03\0\0\0\xFF\0\0\0",
-            0,
-            b"\x03\x01\0\x01\x01",
-            Ok(Ending::End),
-        ),
-        (b"\xFF\x01\0\0", 0, b"\xFF\x05\0\0", Ok(Ending::Stopped)),
-        (b"\xFF\0\0\x01A", 0, b"\xFF\x05\0\0", Ok(Ending::Stopped)),
-        (b"\x03\0\0", 0, b"", Err(SideFault::Cut)),
-        (b"\x03\0\x08\0", 2047, b"", Err(SideFault::Cut)),
-        (
-            b"\x03\0\x08\0",
-            2048,
-            b"\x03\x01\0\x01\x01",
-            Ok(Ending::Stopped),
-        ),
-        (b"\x03\0\x08\x01", 2048, b"", Err(SideFault::Cut)),
-        (
-            b"\x03\0\x08\x01",
-            2049,
-            b"\x03\x06\0\0",
-            Ok(Ending::Stopped),
-        ),
-        (
-            b"\xFF\0\x08\x01",
-            2049,
-            b"\xFF\x06\0\0",
-            Ok(Ending::Stopped),
-        ),
-        (b"\x09\0\xFF\xFF", 65534, b"", Err(SideFault::Cut)),
-        (
-            b"\x09\0\xFF\xFF",
-            65535,
-            b"\x09\x06\0\0",
-            Ok(Ending::Stopped),
-        ),
-    ] {
+    for (request, count, wanted, ending) in REQUESTS {
         let bytes = with_data(alloc, request, count)?;
         let mut written = Vec::new(alloc);
         let ended = serve(alloc, &mut bytes.as_slice(), &mut written, &device);

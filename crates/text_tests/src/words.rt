@@ -1,4 +1,7 @@
-use super::*;
+use line_words::{
+    Word, after_blanks, first_word, has_quote, is_backslash, is_blank, is_quote, push_escaped,
+    read_quoted, split_at_blank, trim,
+};
 use std::alloc::Global;
 use std::test::Fail;
 

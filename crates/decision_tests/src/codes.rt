@@ -1,4 +1,4 @@
-use super::*;
+use backend_codes::{Verdict, lost_verdict, verdict};
 use spool_types::{AbortReason, Exit, HoldReason, Policy};
 
 const POLICIES: [Policy; 4] = [
