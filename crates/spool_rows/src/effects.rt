@@ -2,9 +2,7 @@
 
 use crate::fault::RowFault;
 use crate::words::{small, word};
-use spool_types::{
-    Attribute, AttributeName, Effect, Effects, Exit, Level, Message, Reason, Words,
-};
+use spool_types::{Attribute, AttributeName, Effect, Effects, Exit, Level, Message, Reason, Words};
 use std::alloc::Global;
 
 /// `signal`, `no-start`, `lost` or a status.

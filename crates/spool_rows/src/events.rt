@@ -2,7 +2,9 @@
 
 use crate::effects::{effects, exit};
 use crate::fault::RowFault;
-use crate::words::{counting, job_at, job_id, moment, piece, queue_name, size, small, word, word_or};
+use crate::words::{
+    counting, job_at, job_id, moment, piece, queue_name, size, small, word, word_or,
+};
 use spool_types::{
     AttemptNumber, Closing, Copies, Event, FilterName, Filters, Interval, MediaType, Moment,
     NewJob, NewQueue, Note, OptionText, Piece, Policy, Priority, QueueNotes, StageEnd, StageNumber,
@@ -10,7 +12,18 @@ use spool_types::{
 };
 use std::alloc::Global;
 
-/// The event that a word and those behind it are.
+/// The event that a word and those behind it are:
+///
+/// - `queue`, NAME, POLICY, LIMIT, URI, TARGET: a queue that tries a job again after 30 seconds; the last two may be left out;
+/// - `info`, QUEUE, INFO, LOCATION; `accept`, `reject`, `stop` or `resume`, QUEUE;
+/// - `create`, QUEUE, NUMBER, PRIORITY, USER, TITLE: one copy, and the last two may be left out;
+/// - `send`, JOB, TEXT, TIMES: the text once, or so many times; `count`, JOB, FROM, COUNT: so many of the bytes that count from
+///   0 to 250 over and over, from a place on;
+/// - `close`, JOB, FILTERS.. or `unprintable`;
+/// - `hold`, JOB, MOMENT, which may be left out; `release`, `cancel`, `start` or `abandon`, JOB;
+/// - `stage`, JOB, ATTEMPT, STAGE, EXIT, EFFECTS..: an exit is a status, `signal`, `no-start` or `lost`, and an effect
+///   `pages PAGE COPIES`, `total PAGES`, `INFO: MESSAGE`, `NAME=VALUE`, or reasons behind `=`, `+` or `-`;
+/// - `clock`, MOMENT; `reopen`.
 pub fn event_of(alloc: Global, kind: &str, words: &[&str]) -> Result<Event, RowFault> {
     match kind {
         "queue" => add_queue(alloc, words),

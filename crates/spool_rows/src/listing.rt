@@ -9,7 +9,12 @@ use spool_types::{
 };
 use std::alloc::Global;
 
-/// The row of a listing that words are.
+/// The row of a listing that words are:
+///
+/// - `head`, HIGHEST, MOMENT;
+/// - `queue`, NAME, REASONS, ATTRIBUTES: the last two may be left out, and have blanks between reasons and between names;
+/// - `job`, NUMBER, QUEUE, KIND, SIZE: the kind says how often the job was started, its phase, and whether it has a type;
+/// - `piece`, JOB, TEXT, TIMES: the text once, or so many times.
 pub fn listed_row(alloc: Global, words: &[&str]) -> Result<Row, RowFault> {
     let (kind, words) = words.split_first().ok_or(RowFault::NoWord)?;
     match *kind {

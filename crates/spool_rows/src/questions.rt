@@ -7,7 +7,15 @@ use job_table::Table;
 use spool_types::{JobId, JobRow, QueueRow};
 use std::alloc::{AllocError, Global};
 
-/// The answer of a table to a question.
+/// The answer of a table to a question:
+///
+/// - `highest`, `now`, `idle`, `queues`, `jobs`, `queue-count` and `job-count`;
+/// - of a queue: `next`, `busy`, `index`, `accepting`, `stopped`, `info`, `location`, `uri`, `target`, `policy`, `limit`,
+///   `message`, `reasons` and `attributes`;
+/// - of a job: `phase`, `attempts`, `pages`, `size`, `user`, `title`, `document`, and `counted`: how many bytes its document
+///   has, where they are those that count.
+///
+/// Where there is no such queue or job, it is `none`.
 pub fn answer_of(
     alloc: Global,
     table: &Table,

@@ -29,10 +29,7 @@ pub fn add_word(text: &mut String, word: &str) -> Result<(), AllocError> {
 }
 
 /// The reply to an event, or the refusal's name.
-pub fn answer_text(
-    alloc: Global,
-    answer: Result<Reply, Refusal>,
-) -> Result<String, AllocError> {
+pub fn answer_text(alloc: Global, answer: Result<Reply, Refusal>) -> Result<String, AllocError> {
     match answer {
         Ok(reply) => reply_text(alloc, reply),
         Err(refusal) => text(alloc, refusal.name()),

@@ -95,11 +95,7 @@ fn copied(alloc: Global, disk: &MemDisk) -> Result<MemDisk, RowFault> {
 }
 
 /// Copies of the first events of a plan.
-pub fn first_events(
-    alloc: Global,
-    plan: &[Event],
-    count: usize,
-) -> Result<Vec<Event>, RowFault> {
+pub fn first_events(alloc: Global, plan: &[Event], count: usize) -> Result<Vec<Event>, RowFault> {
     let mut events = Vec::new(alloc);
     for event in plan.iter().take(count) {
         events.push(event.copy()?)?;

@@ -37,7 +37,11 @@ pub fn load(alloc: Global, loading: &mut Loading, row: Row) -> Result<&'static s
 }
 
 fn misplaced(same: bool) -> &'static str {
-    if same { "misplaced" } else { "misplaced and changed" }
+    if same {
+        "misplaced"
+    } else {
+        "misplaced and changed"
+    }
 }
 
 /// The table of a loading, if no document is short.
