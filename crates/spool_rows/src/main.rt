@@ -58,6 +58,7 @@ mod effects;
 mod events;
 mod fault;
 mod listing;
+mod outcomes;
 mod questions;
 mod replies;
 mod run;

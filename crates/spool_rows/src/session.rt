@@ -3,11 +3,9 @@
 use crate::events::event_of;
 use crate::fault::RowFault;
 use crate::listing::listed_row;
+use crate::outcomes::{checkpoint_text, ending_text, make_text, open_fault_text};
 use crate::questions::answer_of;
-use crate::replies::{
-    add_word, answer_text, checkpoint_text, ending_text, flag_text, make_text, number_text,
-    open_fault_text, text,
-};
+use crate::replies::{add_word, answer_text, flag_text, number_text, text};
 use crate::spools::{
     Device, bytes_text, calls_of_opening, cut, driven, is_kept, planned, read, write,
 };

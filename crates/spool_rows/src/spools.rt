@@ -1,7 +1,8 @@
 //! Spools on disks in memory, whose device fails once its calls are spent.
 
 use crate::fault::RowFault;
-use crate::replies::{apply_fault_text, read_fault_text, reply_text, text};
+use crate::outcomes::{apply_fault_text, read_fault_text};
+use crate::replies::{reply_text, text};
 use crate::tables::is_same;
 use job_table::Table;
 use spool_core::{Driven, Spool, drive, replay};
