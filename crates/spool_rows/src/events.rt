@@ -68,10 +68,12 @@ fn until(words: &[&str]) -> Result<Option<Moment>, RowFault> {
 
 // `NAME|POLICY|LIMIT|URI|TARGET`: it tries a job again after 30 seconds.
 fn add_queue(alloc: Global, words: &[&str]) -> Result<Event, RowFault> {
+    let uri = word_or(words, 3, "s:/");
+    let target = word_or(words, 4, "a/b");
     Ok(Event::AddQueue(NewQueue {
         name: queue_name(alloc, words)?,
-        uri: Uri::read(alloc, word_or(words, 3, "s:/"))?,
-        target: MediaType::read(alloc, word_or(words, 4, "a/b"))?,
+        uri: Uri::read(alloc, uri)?,
+        target: MediaType::read(alloc, target)?,
         policy: policy(word(words, 1)?)?,
         interval: Interval::new(30).ok_or(RowFault::OutOfRange)?,
         limit: word(words, 2)?.parse::<u16>()?,
@@ -117,11 +119,13 @@ fn set_stop(alloc: Global, words: &[&str], stopped: bool) -> Result<Event, RowFa
 
 // `QUEUE|NUMBER|PRIORITY|USER|TITLE`.
 fn create(alloc: Global, words: &[&str]) -> Result<Event, RowFault> {
+    let user = word_or(words, 3, "u");
+    let title = word_or(words, 4, "");
     Ok(Event::Create(NewJob {
         queue: queue_name(alloc, words)?,
         job: job_at(words, 1)?,
-        user: UserName::read(alloc, word_or(words, 3, "u"))?,
-        title: Title::read(alloc, word_or(words, 4, ""))?,
+        user: UserName::read(alloc, user)?,
+        title: Title::read(alloc, title)?,
         copies: Copies::new(1).ok_or(RowFault::OutOfRange)?,
         priority: Priority::new(small(words, 2)?).ok_or(RowFault::OutOfRange)?,
         options: OptionText::read(alloc, "")?,
@@ -143,15 +147,19 @@ fn count(alloc: Global, words: &[&str]) -> Result<Event, RowFault> {
 
 // `JOB|FILTER..` or `JOB|unprintable`.
 fn close(alloc: Global, words: &[&str]) -> Result<Event, RowFault> {
-    let filters = match word_or(words, 1, "") {
-        "unprintable" => None,
-        _ => Some(filters(alloc, words)?),
-    };
     Ok(Event::Close(Closing {
         job: job_id(words)?,
         media: MediaType::read(alloc, "a/b")?,
-        filters,
+        filters: filters_or_none(alloc, words)?,
     }))
+}
+
+fn filters_or_none(alloc: Global, words: &[&str]) -> Result<Option<Filters>, RowFault> {
+    let first = word_or(words, 1, "");
+    if first == "unprintable" {
+        return Ok(None);
+    }
+    Ok(Some(filters(alloc, words)?))
 }
 
 fn filters(alloc: Global, words: &[&str]) -> Result<Filters, RowFault> {

@@ -39,6 +39,8 @@ fn head(words: &[&str]) -> Result<Row, RowFault> {
 
 // `NAME|REASONS|ATTRIBUTES`, with blanks between reasons and between the names of attributes.
 fn queue(alloc: Global, words: &[&str]) -> Result<Row, RowFault> {
+    let listed = word_or(words, 1, "");
+    let named = word_or(words, 2, "");
     Ok(Row::Queue(QueueRow {
         name: queue_name(alloc, words)?,
         uri: Uri::read(alloc, "s:/")?,
@@ -51,8 +53,8 @@ fn queue(alloc: Global, words: &[&str]) -> Result<Row, RowFault> {
         accepting: true,
         stopped: false,
         message: Message::empty(alloc),
-        reasons: reasons(alloc, word_or(words, 1, ""))?,
-        attributes: attributes(alloc, word_or(words, 2, ""))?,
+        reasons: reasons(alloc, listed)?,
+        attributes: attributes(alloc, named)?,
     }))
 }
 

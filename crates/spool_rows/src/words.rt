@@ -53,7 +53,8 @@ pub fn moment(words: &[&str], at: usize) -> Result<Moment, RowFault> {
 
 /// The bytes of the second word, as often as the third one says, or once.
 pub fn piece(alloc: Global, words: &[&str]) -> Result<Piece, RowFault> {
-    let times = word_or(words, 2, "1").parse::<usize>()?;
+    let times = word_or(words, 2, "1");
+    let times = times.parse::<usize>()?;
     let bytes = word(words, 1)?.repeat(alloc, times)?.into_bytes();
     Piece::new(bytes).ok().ok_or(RowFault::TooMany)
 }
