@@ -13,7 +13,7 @@ pub fn word<'a>(words: &[&'a str], at: usize) -> Result<&'a str, RowFault> {
 }
 
 /// The word at this place, or another one where the words end before.
-pub fn word_or<'a>(words: &[&'a str], at: usize, other: &'a str) -> &'a str {
+pub fn word_or<'a>(words: &[&'a str], at: usize, other: &'static str) -> &'a str {
     match words.get(at) {
         Some(word) => *word,
         None => other,
