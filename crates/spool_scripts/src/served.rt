@@ -75,6 +75,22 @@ fn new_bench(alloc: Global, case: &Case) -> Result<Bench, CaseFault> {
     })
 }
 
+// An engine on the spool of a disk.
+fn engine_on(
+    alloc: Global,
+    case: &Case,
+    disk: FuseDisk<MemDisk>,
+    children: MemChildren,
+) -> Result<Engine<FuseDisk<MemDisk>, MemChildren>, CaseFault> {
+    let (types, _) = Types::read(alloc, case.types.as_str())?;
+    let (convs, _) = Convs::read(alloc, case.convs.as_str())?;
+    let place = place(alloc)?;
+    match Spool::open(alloc, disk) {
+        Ok(spool) => Ok(Engine::new(alloc, spool, children, types, convs, place)),
+        Err(error) => Err(CaseFault::from(error.fault)),
+    }
+}
+
 // Serves a part of a script on the spool of a disk that fails after so many calls.
 fn serve_part(
     alloc: Global,
@@ -89,13 +105,7 @@ fn serve_part(
         children,
         mut account,
     } = bench;
-    let spool = match Spool::open(alloc, FuseDisk::new(disk, calls)) {
-        Ok(spool) => spool,
-        Err(error) => return Err(CaseFault::from(error.fault)),
-    };
-    let (types, _) = Types::read(alloc, case.types.as_str())?;
-    let (convs, _) = Convs::read(alloc, case.convs.as_str())?;
-    let mut engine = Engine::new(alloc, spool, children, types, convs, place(alloc)?);
+    let mut engine = engine_on(alloc, case, FuseDisk::new(disk, calls), children)?;
     match engine.run(reader, writer) {
         Ok(()) => {}
         Err(RunFault::Read) => account.push_str("the reader failed\n")?,
