@@ -4,8 +4,8 @@ memory of each job.
 
 It runs crates/spool_shell/out/spool_shell (made by `rt run` in that folder) on a spool in memory. The jobs are made first,
 and then the commands are timed, from the first to the last reply: `clock` (an event that no job waits for), `hold` and
-`release` of the job in the middle (two events that change its turn), and `round` (the choice, a Start and a Stage: there
-no child can be started, so each round ends the job that it starts). All of it is done again where all but the jobs of the
+`release` of the job in the middle, `close` of a job of the highest priority (whose turn is before all others), and `round`
+(the choice, a Start and a Stage: there no child can be started, so each round ends the job that it starts). All of it is done again where all but the jobs of the
 rounds are held.
 
 The memory is what the resident set grew by while the jobs were made, with the part of the spool's image that their events
@@ -68,7 +68,7 @@ def resident(running):
 
 
 def measured(count, held):
-    """The seconds of a `clock`, of a `hold` or a `release`, and of a round, and the bytes of a job."""
+    """The seconds of a `clock`, of a `hold` or a `release`, of an urgent `close` and of a round, and the bytes of a job."""
     with subprocess.Popen([shell, "--size", str(SIZE)], stdin=subprocess.PIPE, stdout=subprocess.PIPE) as running:
         ask(running, QUEUE)
         before = resident(running)
@@ -82,9 +82,11 @@ def measured(count, held):
         turned = ask(running, b"hold %d indefinite\nrelease %d\n" % (middle, middle) * TURNS)
         if held:
             ask(running, b"hold %d indefinite\n" % middle)
+        ask(running, b'create lab ann t 1 100 ""\n' * TURNS)
+        urgent = ask(running, b"".join(b"close %d x\n" % job for job in range(count + 1, count + TURNS + 1)))
         rounds = ask(running, b"round\n" * free)
         running.stdin.close()
-    return clock / TURNS, turned / (2 * TURNS), rounds / free, grown / count
+    return clock / TURNS, turned / (2 * TURNS), urgent / TURNS, rounds / free, grown / count
 
 
 def main():
@@ -93,8 +95,10 @@ def main():
     for held in (False, True):
         print(f"all but {ROUNDS} are held" if held else "none is held")
         for count in COUNTS:
-            clock, turned, choice, memory = measured(count, held)
-            print(f"  {count:9,} jobs: clock {1e6 * clock:9.1f} us, hold or release {1e6 * turned:9.1f} us, round {1e6 * choice:9.1f} us, {memory:8.0f} bytes a job")
+            clock, turned, urgent, choice, memory = measured(count, held)
+            times = [("clock", clock), ("hold or release", turned), ("urgent close", urgent), ("round", choice)]
+            told = ", ".join(f"{name} {1e6 * seconds:7.1f} us" for name, seconds in times)
+            print(f"  {count:9,} jobs: {told}, {memory:5.0f} bytes a job")
 
 
 main()
