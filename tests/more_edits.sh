@@ -1,7 +1,7 @@
 #!/usr/bin/env bash
 # Tries the wrong bodies that the gate leaves out: more_edits.sh [CRATE..]
 #
-# The gate tries two to five edits of some crates, those in crates/NAME/must-fail. The others are in
+# The gate tries a few edits of most crates, those in crates/NAME/must-fail. The others are in
 # crates/NAME/more-edits, in the same form. This script tries these, of the named crates or of all, in a copy of the
 # repository: the prover has to refuse each.
 #
