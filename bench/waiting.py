@@ -5,8 +5,8 @@ memory of each job.
 It runs crates/spool_shell/out/spool_shell (made by `rt run` in that folder) on a spool in memory. The jobs are made first,
 and then the commands are timed, from the first to the last reply: `clock` (an event that no job waits for), `hold` and
 `release` of the job in the middle, `close` of a job of the highest priority (whose turn is before all others), and `round`
-(the choice, a Start and a Stage: there no child can be started, so each round ends the job that it starts). All of it is done again where all but the jobs of the
-rounds are held.
+(the choice, a Start and a Stage: there no child can be started, so each round ends the job that it starts). All of it is
+done again where all but a few jobs are held.
 
 The memory is what the resident set grew by while the jobs were made, with the part of the spool's image that their events
 fill, for each job. Times depend on the machine; only the ratios are of interest, and no test reads them.

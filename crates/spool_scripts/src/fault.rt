@@ -18,8 +18,8 @@ pub enum CaseFault {
     /// The file of the disk's length holds no number.
     #[error("has a size that is no number")]
     NoSize,
-    /// The file of the disk's calls doesn't hold two numbers.
-    #[error("has a fuse that is no two numbers")]
+    /// The file of the disk's calls doesn't hold two numbers, the first no greater than the last.
+    #[error("has a fuse that is no two rising numbers")]
     NoFuse,
     /// The file of limits says none.
     #[error("has limits that are none")]

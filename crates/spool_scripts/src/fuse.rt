@@ -1,5 +1,5 @@
 //! After how many calls a disk fails.
-ghost use Rattle.std.specs.Prelude.{◌≡◌, ◌^◌, ◌-◌, [], IfOk};
+ghost use Rattle.std.specs.Prelude.{◌≡◌, ◌^◌, ◌-◌, ◌≤◌, [], IfOk};
 
 use crate::fault::CaseFault;
 
@@ -18,9 +18,11 @@ impl Fuse {
     };
 }
 
-/// The two numbers of a text. Where there is no text the disk doesn't fail.
+/// The two numbers of a text, of which the first is no greater than the last: so a case is served at least once. Where there is no
+/// text the disk doesn't fail.
 pub fn read_fuse(text: &str) -> Result<Fuse, CaseFault>
     ensures never { text.now ≡ [] → IfOk result (λ f. f ≡ record { first = 2 ^ 64 - 1; last = 2 ^ 64 - 1 }) }
+    ensures served { IfOk result (λ f. f.first ≤ f.last) }
 {
     if text.is_empty() {
         return Ok(Fuse::NEVER);
@@ -29,10 +31,20 @@ pub fn read_fuse(text: &str) -> Result<Fuse, CaseFault>
         Some((first, last)) => {
             let first = calls_of(first)?;
             let last = calls_of(last)?;
-            Ok(Fuse { first, last })
+            fuse_between(first, last)
         }
         None => Err(CaseFault::NoFuse),
     }
+}
+
+// The fuse from one number of calls to another.
+fn fuse_between(first: u64, last: u64) -> Result<Fuse, CaseFault>
+    ensures { IfOk result (λ f. f.first ≤ f.last) }
+{
+    if last < first {
+        return Err(CaseFault::NoFuse);
+    }
+    Ok(Fuse { first, last })
 }
 
 // A number of calls.
