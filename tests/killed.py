@@ -10,7 +10,8 @@ has to make or open the spool there, with what was answered.
 
 Several lives follow in the last of these folders. A life gets one command at a time, and is killed after some reply,
 inside the text of a command, or with a command under way. One command in five is a checkpoint. The next life's `jobs`
-has to list exactly what was answered, and beside it at most the command that was under way.
+has to list exactly what was answered, and beside it at most the command that was under way. The documents of the jobs that
+haven't ended have to be on the disk, which this script reads by itself.
 
 What has to be listed is told by a table of this script's own. The last line is `50 of 50`, with status 0, or the first
 difference, with status 1.
@@ -18,6 +19,8 @@ difference, with status 1.
 import copy
 import os
 import random
+import string
+import struct
 import subprocess
 import sys
 import tempfile
@@ -35,6 +38,14 @@ TYPE = "application/octet-stream"
 FIRST = ("queue", "lab")
 
 
+# A header and a gate's record, and the payloads that have bytes of a document: a piece of a listing and a send.
+HEADER = struct.Struct(">BBQ6x")
+RECORD = struct.Struct(">BI")
+PART = struct.Struct(">BII")
+OPEN = 0xA5
+PARTS = (0x43, 0x06)
+
+
 class Lost(Exception):
     """The spool doesn't hold what it has to."""
 
@@ -42,7 +53,7 @@ class Lost(Exception):
 class Job:
     def __init__(self, title):
         self.title = title
-        self.size = 0
+        self.document = ""
         self.shown = "4 job-incoming"
 
 
@@ -56,9 +67,13 @@ class Table:
     def listing(self):
         """What `jobs` answers."""
         lines = [
-            f'job {n} lab {job.shown} "ann" {job.size} 0 "{job.title}"' for n, job in enumerate(self.jobs, 1)
+            f'job {n} lab {job.shown} "ann" {len(job.document)} 0 "{job.title}"' for n, job in enumerate(self.jobs, 1)
         ]
         return lines + [f"ok {len(lines)}"]
+
+    def documents(self):
+        """The documents of the jobs that haven't ended."""
+        return {n: job.document for n, job in enumerate(self.jobs, 1) if not job.shown.startswith("7")}
 
     def after(self, command):
         """The table after a command, and the command's reply."""
@@ -76,8 +91,8 @@ class Table:
             return f"ok job {len(self.jobs)}"
         job = self.jobs[words[0] - 1]
         if name == "send":
-            job.size += words[1]
-            return f"ok bytes {job.size}"
+            job.document += words[1]
+            return f"ok bytes {len(job.document)}"
         if name == "close":
             job.shown = "3 none"
             return f"ok type {TYPE} stages 1"
@@ -92,7 +107,7 @@ def text_of(name, *words):
     if name == "create":
         return f'create lab ann "{words[0]}" 1 50 ""\n'
     if name == "send":
-        return f"send {words[0]} {words[1]}\n{'x' * words[1]}\n"
+        return f"send {words[0]} {len(words[1])}\n{words[1]}\n"
     if name == "close":
         return f"close {words[0]} page.txt\n"
     if name == "checkpoint":
@@ -111,7 +126,8 @@ def next_command(table, chance):
         return ("create", f"Job {len(table.jobs) + 1}")
     shown = table.jobs[number - 1].shown
     if shown == "4 job-incoming":
-        return chance.choice([("send", number, chance.randrange(1, 3000)), ("close", number), ("cancel", number)])
+        document = "".join(chance.choices(string.ascii_letters, k=chance.randrange(1, 3000)))
+        return chance.choice([("send", number, document), ("close", number), ("cancel", number)])
     if shown == "3 none":
         return ("cancel", number)
     return ("create", f"Job {len(table.jobs) + 1}")
@@ -159,6 +175,31 @@ class Life:
         return left
 
 
+def on_disk(root):
+    """The documents that the current area of the spool has, by the numbers of their jobs."""
+    with open(os.path.join(root, "spool.disk"), "rb") as it:
+        disk = it.read()
+    headers = [(HEADER.unpack_from(disk, base), base) for base in (0, len(disk) // 2)]
+    _, base = max((epoch, base) for (gate, _, epoch), base in headers if gate == OPEN)
+    at, documents = base + HEADER.size, {}
+    while disk[at] == OPEN:
+        _, length = RECORD.unpack_from(disk, at)
+        payload = disk[at + RECORD.size : at + RECORD.size + length]
+        if payload[0] in PARTS:
+            _, job, _ = PART.unpack_from(payload)
+            documents[job] = documents.get(job, "") + payload[PART.size :].decode()
+        at += RECORD.size + length
+    return documents
+
+
+def look_for_documents(root, table):
+    """Whether the disk has the table's documents."""
+    found = on_disk(root)
+    for job, document in table.documents().items():
+        if found.get(job, "") != document:
+            raise Lost(f"job {job} has the document {found.get(job)!r}, not {document!r}")
+
+
 def recognised(listed, tables):
     """The tables that are listed so: two where a queue was under way, since `jobs` lists no queues."""
     found = [table for table in tables if table.listing() == listed]
@@ -172,6 +213,7 @@ def live(root, tables, chance):
     life = Life(root)
     try:
         found = recognised(life.jobs(), tables)
+        look_for_documents(root, found[0])
         for _ in range(chance.randrange(12)):
             command = next_command(found[0], chance)
             after, reply = found[0].after(command)

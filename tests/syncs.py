@@ -17,8 +17,9 @@ Calls in order, at a first start on a fresh folder and at a second one on the sa
 
 Calls that fail, one in each run: strace answers EIO or ENOSPC in its place, and the call isn't made:
 
-- of an event: it is answered `error disk`, each later one `error dead`, `jobs` still answers, and the program ends with
-  status 1 and `spool: disk`; the folder then opens, with the answered jobs, or these and the one under way;
+- of an event, and of a close also the read of its document: it is answered `error disk`, each later one `error dead`, `jobs`
+  still answers, and the program ends with status 1 and `spool: disk`; the folder then opens, with the answered jobs, or
+  these and the one under way;
 - of a start: `spool: disk`, status 1 and no reply; the folder has no `spool.disk` or a whole one, and no file at all
   where there was no room for its bytes; a later start serves it.
 
@@ -432,6 +433,15 @@ def failing_events(run):
             yield place, call
 
 
+def failing_reads(run):
+    """The place of the close among the commands, and the read of its document."""
+    calls = run.calls[first_index(run.calls, "reply") :]
+    read = calls[first_index(calls, "read", FILE)]
+    for place, command in enumerate(with_listings([], script(0))):
+        if command.text.startswith("close"):
+            yield place, read
+
+
 def failing_starts(run):
     """The calls of a start that may fail, each with its error."""
     for call in run.calls[: first_index(run.calls, "reply")]:
@@ -461,6 +471,9 @@ def failures(first, second, kept):
     for place, call in failing_events(first):
         error = ("EIO", "ENOSPC")[count // 4 % 2]
         in_folder(None, f"{call} fails by {error}", event_fails, place, call, error)
+        count += 1
+    for place, call in failing_reads(first):
+        in_folder(None, f"{call} fails", event_fails, place, call, "EIO")
         count += 1
     for call, error in failing_starts(first):
         in_folder(None, f"at a first start {call} fails by {error}", start_fails, [], call, error)

@@ -8,11 +8,12 @@ use borrow.Rule.Slice.PartMut.{put_mid, same_len_mid}
 use Rattle.spool_disk.specs.Disk.{SameOutside}
 use Rattle.gate_journal.specs.Entries.{records}
 use Rattle.gate_journal.proofs.Places.{at_entry, records-append}
-use Rattle.spool_areas.specs.declared.extent.Extent.{Extent}
+use Rattle.extents.specs.declared.extent.Extent.{Extent}
 use Rattle.spool_areas.specs.Header.{header_len}
 use Rattle.spool_areas.specs.Extents.{bytes_of}
 use Rattle.spool_areas.specs.Payloads.{HasPayloads, gate_after}
-use Rattle.documents.specs.Documents.{joined, size_of, LieIn}
+use Rattle.extents.specs.Extents.{size_of}
+use Rattle.documents.specs.Documents.{joined, LieIn}
 
 -- the bytes of an extent, by its length
 pub bytes_are : (bytes : List ℕ) (x : Extent) → bytes_of bytes x ≡ take x.len (drop x.place bytes)

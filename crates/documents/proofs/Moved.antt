@@ -13,11 +13,13 @@ use Rattle.event_codec.specs.Spelling.{spelling}
 use Rattle.event_codec.specs.RowSpelling.{row_spelling}
 use Rattle.job_table.specs.Listing.{parts, job_rows}
 use Rattle.gate_journal.specs.Entries.{records}
-use Rattle.spool_areas.specs.declared.extent.Extent.{Extent}
+use Rattle.extents.specs.declared.extent.Extent.{Extent}
 use Rattle.spool_areas.specs.Header.{header_len}
 use Rattle.spool_areas.specs.Payloads.{HasPayloads, gate_after}
-use Rattle.documents.specs.Documents.{joined, size_of, LieIn}
-use Rattle.documents.specs.Placed.{sent_by, piece_of, sent_to, sent_in, sent, listed_pieces, document_in, placed_to, placed, placed_pieces, payloads_of, places_in, SpellsSent}
+use Rattle.extents.specs.Extents.{size_of}
+use Rattle.documents.specs.Documents.{joined, LieIn}
+use Rattle.spool_types.specs.Sent.{sent_by, piece_of, sent_to, sent_in, sent, listed_pieces, document_in, placed_to}
+use Rattle.documents.specs.Placed.{placed, placed_pieces, payloads_of, places_in, SpellsSent}
 use Rattle.documents.proofs.Joined.{size_of-append}
 use Rattle.documents.proofs.Placed.{front_of, sends_behind, spells_sent, joined-append, LieIn-append, wider_lie, held_all, held_last, lie_between, one_more, sized, gate_after-append}
 
@@ -48,30 +50,34 @@ parts_other k j zero bytes apart = refl
 parts_other k j (suc n) bytes apart =
     ap (λ t. (if t then take longest_send bytes else []) ++ sent_in piece_of (map (λ b. Piece k b) (parts longest_send n (drop longest_send bytes))) j) apart ∙ parts_other k j n (drop longest_send bytes) apart
 
-pub whole : (r : Job) → sent_in piece_of (job_rows r) r.id ≡ r.document
-whole r = parts_whole r.id r.id ((length r.document + 65535) / 65536) r.document (same_test r.id r.id refl) (omega arith)
+pub whole : (r : Job) (document : List ℕ) → sent_in piece_of (job_rows r document) r.id ≡ document
+whole r document = parts_whole r.id r.id ((length document + 65535) / 65536) document (same_test r.id r.id refl) (omega arith)
 
-pub others : (r : Job) (j : ℕ) → r.id ≢ j → sent_in piece_of (job_rows r) j ≡ []
-others r j apart = parts_other r.id j ((length r.document + 65535) / 65536) r.document (other_test r.id j apart)
+pub others : (r : Job) (document : List ℕ) (j : ℕ) → r.id ≢ j → sent_in piece_of (job_rows r document) j ≡ []
+others r document j apart = parts_other r.id j ((length document + 65535) / 65536) document (other_test r.id j apart)
 
 sent-append : (xs ys : List Row) (j : ℕ) → sent_in piece_of (xs ++ ys) j ≡ sent_in piece_of xs j ++ sent_in piece_of ys j
 sent-append [] ys j = refl
 sent-append (x ∷ xs) ys j = ap (λ (l : List ℕ). sent_to j (piece_of x) ++ l) (sent-append xs ys j) ∙ sym (append_assoc (sent_to j (piece_of x)) (sent_in piece_of xs j) (sent_in piece_of ys j))
 
-none_of : (jobs : List Job) (j : ℕ) → AllByRecursion (λ (q : Job). q.id ≢ j) jobs → sent_in piece_of (flat_map job_rows jobs) j ≡ []
-none_of [] j apart = refl
-none_of (q ∷ jobs) j apart =
-    sent-append (job_rows q) (flat_map job_rows jobs) j ∙ ap (λ (l : List ℕ). l ++ sent_in piece_of (flat_map job_rows jobs) j) (others q j apart.0) ∙ none_of jobs j apart.1
+-- the rows of jobs, each with its document
+abbrev rows_with : (ℕ → List ℕ) → List Job → List Row
+rows_with documents jobs = flat_map (λ q. job_rows q (documents q.id)) jobs
+
+none_of : (documents : ℕ → List ℕ) (jobs : List Job) (j : ℕ) → AllByRecursion (λ (q : Job). q.id ≢ j) jobs → sent_in piece_of (rows_with documents jobs) j ≡ []
+none_of documents [] j apart = refl
+none_of documents (q ∷ jobs) j apart =
+    sent-append (job_rows q (documents q.id)) (rows_with documents jobs) j ∙ ap (λ (l : List ℕ). l ++ sent_in piece_of (rows_with documents jobs) j) (others q (documents q.id) j apart.0) ∙ none_of documents jobs j apart.1
 
 -- in a list of jobs with numbers of their own each has its document
-pub in_listing : (before after : List Job) (r : Job) → AllByRecursion (λ (q : Job). q.id ≢ r.id) before → AllByRecursion (λ (q : Job). q.id ≢ r.id) after
-    → sent_in piece_of (flat_map job_rows (before ++ r ∷ after)) r.id ≡ r.document
-in_listing [] after r one two =
-    sent-append (job_rows r) (flat_map job_rows after) r.id ∙ ap (λ (l : List ℕ). l ++ sent_in piece_of (flat_map job_rows after) r.id) (whole r)
-    ∙ ap (λ (l : List ℕ). r.document ++ l) (none_of after r.id two) ∙ append-nil r.document
-in_listing (q ∷ before) after r one two =
-    sent-append (job_rows q) (flat_map job_rows (before ++ r ∷ after)) r.id ∙ ap (λ (l : List ℕ). l ++ sent_in piece_of (flat_map job_rows (before ++ r ∷ after)) r.id) (others q r.id one.0)
-    ∙ in_listing before after r one.1 two
+pub in_listing : (documents : ℕ → List ℕ) (before after : List Job) (r : Job) → AllByRecursion (λ (q : Job). q.id ≢ r.id) before → AllByRecursion (λ (q : Job). q.id ≢ r.id) after
+    → sent_in piece_of (rows_with documents (before ++ r ∷ after)) r.id ≡ documents r.id
+in_listing documents [] after r one two =
+    sent-append (job_rows r (documents r.id)) (rows_with documents after) r.id ∙ ap (λ (l : List ℕ). l ++ sent_in piece_of (rows_with documents after) r.id) (whole r (documents r.id))
+    ∙ ap (λ (l : List ℕ). documents r.id ++ l) (none_of documents after r.id two) ∙ append-nil (documents r.id)
+in_listing documents (q ∷ before) after r one two =
+    sent-append (job_rows q (documents q.id)) (rows_with documents (before ++ r ∷ after)) r.id ∙ ap (λ (l : List ℕ). l ++ sent_in piece_of (rows_with documents (before ++ r ∷ after)) r.id) (others q (documents q.id) r.id one.0)
+    ∙ in_listing documents before after r one.1 two
 
 -- ---- a listing, and events behind it
 

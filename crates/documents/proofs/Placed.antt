@@ -9,12 +9,14 @@ use Rattle.gate_journal.proofs.Steps.{length-records-push}
 use Rattle.spool_types.specs.declared.event.Event.{Event}
 use Rattle.spool_types.specs.declared.event.Event.TheVariants.{AddQueue, Info, SetAccept, SetStop, Create, Send, Close, Hold, Release, Cancel, Clock, Start, Stage, Abandon, Reopen}
 use Rattle.event_codec.specs.Spelling.{spelling, send_code}
-use Rattle.spool_areas.specs.declared.extent.Extent.{Extent}
+use Rattle.extents.specs.declared.extent.Extent.{Extent}
 use Rattle.spool_areas.specs.Header.{header_len}
 use Rattle.spool_areas.specs.Extents.{bytes_of}
 use Rattle.spool_areas.specs.Payloads.{HasPayloads, gate_after}
-use Rattle.documents.specs.Documents.{joined, size_of, LieIn}
-use Rattle.documents.specs.Placed.{sent_by, sent_to, sent_in, bytes_behind, placed_to, placed_in, SpellsSent}
+use Rattle.extents.specs.Extents.{size_of}
+use Rattle.documents.specs.Documents.{joined, LieIn}
+use Rattle.spool_types.specs.Sent.{sent_by, sent_to, sent_in, bytes_behind, placed_to}
+use Rattle.documents.specs.Placed.{placed_in, SpellsSent}
 use Rattle.documents.proofs.Joined.{part_of, size_of-append}
 
 pub joined-append : (r : List ℕ) (xs ys : List Extent) → joined r (xs ++ ys) ≡ joined r xs ++ joined r ys

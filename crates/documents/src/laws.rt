@@ -3,7 +3,7 @@ ghost use Rattle.std.specs.Prelude.{◌≡◌, ◌≢◌, ◌≤◌, ◌+◌, �
 ghost use Rattle.std.specs.List.{flat_map, AllByRecursion};
 ghost use Rattle.spool_disk.specs.Disk.{SameOutside};
 ghost use Rattle.gate_journal.specs.Entries.{records};
-ghost use Rattle.spool_areas.specs.declared.extent.Extent.{Extent};
+ghost use Rattle.extents.specs.declared.extent.Extent.{Extent};
 ghost use Rattle.spool_areas.specs.Extents.{bytes_of};
 ghost use Rattle.spool_areas.specs.Header.{header_len};
 ghost use Rattle.spool_areas.specs.Payloads.{HasPayloads, gate_after};
@@ -13,8 +13,10 @@ ghost use Rattle.spool_types.specs.declared.listing.Row.{Row};
 ghost use Rattle.event_codec.specs.Spelling.{spelling};
 ghost use Rattle.event_codec.specs.RowSpelling.{row_spelling};
 ghost use Rattle.job_table.specs.Listing.{job_rows};
-ghost use Rattle.documents.specs.Documents.{joined, size_of, LieIn};
-ghost use Rattle.documents.specs.Placed.{sent_by, piece_of, sent, placed, placed_to, listed_pieces, placed_pieces, document_in, payloads_of, places_in};
+ghost use Rattle.extents.specs.Extents.{size_of};
+ghost use Rattle.documents.specs.Documents.{joined, LieIn};
+ghost use Rattle.spool_types.specs.Sent.{sent_by, piece_of, sent, placed_to, listed_pieces, document_in};
+ghost use Rattle.documents.specs.Placed.{placed, placed_pieces, payloads_of, places_in};
 
 /// What extents hold.
 pub fn extents_law()
@@ -73,10 +75,10 @@ pub fn moves_law()
         places_in base rows (events ++ e ∷ []) j ≡ places_in base rows events j ++ placed_to (gate_after base (payloads_of rows events) + 5) j (sent_by e) }
 
     // The pieces of a document hold it whole, also in a listing of jobs with numbers of their own.
-    ensures pieces { (r : Job) → listed_pieces (job_rows r) r.id ≡ r.document }
-    ensures listed { (before after : List Job) (r : Job) → AllByRecursion (λ q. q.id ≢ r.id) before → AllByRecursion (λ q. q.id ≢ r.id) after →
-        listed_pieces (flat_map job_rows (before ++ r ∷ after)) r.id ≡ r.document }
-    ensures others { (r : Job) (j : ℕ) → r.id ≢ j → listed_pieces (job_rows r) j ≡ [] }
+    ensures pieces { (r : Job) (document : List ℕ) → listed_pieces (job_rows r document) r.id ≡ document }
+    ensures listed { (documents : ℕ → List ℕ) (before after : List Job) (r : Job) → AllByRecursion (λ q. q.id ≢ r.id) before → AllByRecursion (λ q. q.id ≢ r.id) after →
+        listed_pieces (flat_map (λ q. job_rows q (documents q.id)) (before ++ r ∷ after)) r.id ≡ documents r.id }
+    ensures others { (r : Job) (document : List ℕ) (j : ℕ) → r.id ≢ j → listed_pieces (job_rows r document) j ≡ [] }
 {}
 
 /// How many bytes extents hold: a job's places have as many as were sent to it.

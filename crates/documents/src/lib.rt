@@ -15,8 +15,6 @@
 //!    fault of the device, too.
 //! 3. `read_joined` reads bytes of a document by its extents (`data`) and changes nothing (`still`, `keeps`).
 //!
-//! Nothing uses it yet: a spool's documents lie in memory.
-//!
 //! # Faults and what they leave
 //!
 //! - `Dead`, before anything is read, exactly where an earlier call on the areas met `Disk`. Nothing has changed.

@@ -3,7 +3,8 @@ ghost use Rattle.std.specs.Prelude.{◌≡◌, ◌<◌, ◌≤◌, ◌+◌, ◌^
 ghost use Rattle.spool_disk.specs.Disk.{Blames, ChangesNothing};
 ghost use Rattle.spool_areas.specs.Header.{header_len};
 ghost use Rattle.spool_areas.specs.Current.{KeepsPayloads};
-ghost use Rattle.documents.specs.Documents.{joined, size_of, LieIn};
+ghost use Rattle.extents.specs.Extents.{size_of};
+ghost use Rattle.documents.specs.Documents.{joined, LieIn};
 
 use spool_areas::{Areas, Extent, ReadFault};
 use spool_disk::Disk;

@@ -1,20 +1,12 @@
 -- What a window holds of a disk.
-use Rattle.std.proofs.Common.{◌≡◌, refl, sym, subst, ◌∙◌, ap, ℕ, ◌+◌, ◌-◌, ◌≤◌, List, [], length, take, drop, arith, Option, Some, None, length-drop}
+use Rattle.std.proofs.Common.{◌≡◌, sym, ◌∙◌, ap, ℕ, ◌+◌, ◌-◌, ◌≤◌, List, [], length, take, drop, arith, Option, Some, None, length-drop}
 use Rattle.std.proofs.lemmas.List.{drop-take, drop-drop, take-take, length-take-le}
-use Rattle.spool_disk.specs.Disk.{DiskView, Reads, ChangesNothing}
-use Rattle.gate_journal.specs.Window.{Stretch, Holds}
+use Rattle.spool_disk.specs.Disk.{Reads}
 
 -- no bytes are those of any place
 pub no_bytes : (told : Option (List ℕ)) (at : ℕ) (got : List ℕ) → got ≡ [] → Reads told at got
 no_bytes None at got is = tt
 no_bytes (Some bytes) at got is = is ∙ ap (λ (l : List ℕ). take (length l) (drop at bytes)) (sym is)
-
-pub holds_none : {D : Type 0} (v : DiskView D) (disk : D) (stretch : Stretch) → stretch.bytes ≡ [] → Holds v disk stretch
-holds_none v disk stretch is = no_bytes (v.bytes disk) stretch.start stretch.bytes is
-
--- a disk on which nothing has changed
-pub holds_still : {D : Type 0} (v : DiskView D) (old new : D) (stretch : Stretch) → ChangesNothing v old new → Holds v old stretch → Holds v new stretch
-holds_still v old new stretch same holds = subst (λ (told : Option (List ℕ)). Reads told stretch.start stretch.bytes) (sym same.bytes) holds
 
 -- a part of what was read
 part_of : (start k n : ℕ) (got bytes : List ℕ) → got ≡ take (length got) (drop start bytes) → k + n ≤ length got → take n (drop k got) ≡ take n (drop (start + k) bytes)

@@ -1,13 +1,13 @@
 -- Rows whose key is above all others go last.
-use Rattle.std.proofs.Common.{◌≡◌, ℕ, zero, suc, ◌-◌, ◌<◌, ◌≤◌, true, false, IsTrue, List, [], ◌∷◌, ◌++◌, length, get_or, map, refl, sym, ap, ◌∙◌, arith}
+use Rattle.std.proofs.Common.{◌≡◌, ℕ, zero, suc, ◌-◌, ◌<◌, ◌≤◌, Bool, true, false, cond, IsTrue, Option, None, Some, List, [], ◌∷◌, ◌++◌, length, get_or, map, refl, sym, ap, ◌∙◌, arith}
 use Rattle.std.specs.Prelude.{T}
 use Rattle.std.specs.declared.cmp.Ordering.{Ordering}
 use Rattle.std.specs.declared.cmp.Ordering.TheVariants.{Less}
 use Rattle.std.specs.List.{insert}
-use Rattle.std.specs.Ordering.{ordering_reverse, is_lt}
-use Rattle.std.specs.Cmp.{IsTotalOrder}
+use Rattle.std.specs.Ordering.{ordering_reverse, is_lt, is_eq, eq_by_cmp}
+use Rattle.std.specs.Cmp.{IsTotalOrder, tied_itself}
 use Rattle.std.specs.FinMap as finite
-use Rattle.std.specs.FinMap.Entries.{put, is_sorted, by_order}
+use Rattle.std.specs.FinMap.Entries.{find, put, is_sorted, below_all, by_order}
 use Rattle.job_table.specs.Places.{IsGap}
 use Rattle.job_table.specs.Loading.{IsAbove}
 use Rattle.job_table.proofs.Changes.{apart}
@@ -62,3 +62,35 @@ module _ {K Y X : Type 0} (R : K → K → Ordering) (o : IsTotalOrder R) (key :
   pub above_none : (k : K) (ys : List Y) → length ys ≤ 0 → IsAbove R k (map key ys)
   above_none k [] none = tt
   above_none k (y ∷ ys) none = absurd (omega arith)
+
+-- ## Entries in order
+
+either_more : {X : Type 0} (b : Bool) (first rest more found : Option X) → cond b first rest ≡ found → (rest ≡ found → more ≡ found) → cond b first more ≡ found
+either_more true first rest more found is later = is
+either_more false first rest more found is later = later is
+
+module _ {K X : Type 0} (R : K → K → Ordering) (o : IsTotalOrder R) where
+  -- an entry is above those before it
+  below_there : (k : K) (front : List (K × X)) (e : K × X) (back : List (K × X)) → T (below_all R k (front ++ e ∷ back)) → R k e.0 ≡ Less
+  below_there k [] e back below = less_from _ (first_of _ _ below)
+  below_there k (f ∷ front) e back below = below_there k front e back (second_of _ _ below)
+
+  pub above_front : (front : List (K × X)) (e : K × X) (back : List (K × X)) → T (is_sorted R (front ++ e ∷ back)) → IsAbove R e.0 (map (λ e. e.0) front)
+  above_front [] e back sorted = tt
+  above_front (f ∷ front) e back sorted = (below_there f.0 front e back (first_of _ _ sorted), above_front front e back (second_of _ _ sorted))
+
+  pub found_there : (front : List (K × X)) (e : K × X) (back : List (K × X)) → IsAbove R e.0 (map (λ e. e.0) front) → find R e.0 (front ++ e ∷ back) ≡ Some e.1
+  found_there [] e back above = ap (λ r. cond (is_eq r) (Some e.1) (find R e.0 back)) (tied_itself o e.0)
+  found_there (f ∷ front) e back above =
+      ap (λ r. cond (is_eq r) (Some f.1) (find R e.0 (front ++ e ∷ back))) (o.antisymm e.0 f.0 ∙ ap ordering_reverse above.0)
+      ∙ found_there front e back above.1
+
+  pub absent_above : (front : List (K × X)) (k : K) → IsAbove R k (map (λ e. e.0) front) → find R k front ≡ None
+  absent_above [] k above = refl
+  absent_above (f ∷ front) k above =
+      ap (λ r. cond (is_eq r) (Some f.1) (find R k front)) (o.antisymm k f.0 ∙ ap ordering_reverse above.0)
+      ∙ absent_above front k above.1
+
+  pub found_more : (k : K) (x : X) (front back : List (K × X)) → find R k front ≡ Some x → find R k (front ++ back) ≡ Some x
+  found_more k x [] back found = absurd (cc)
+  found_more k x (f ∷ front) back found = either_more (eq_by_cmp R k f.0) (Some f.1) (find R k front) (find R k (front ++ back)) (Some x) found (λ later. found_more k x front back later)

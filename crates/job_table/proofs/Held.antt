@@ -1,6 +1,5 @@
 -- A table over its rows and its lanes.
-use Rattle.std.proofs.Common.{◌≡◌, ℕ, ◌-◌, ◌≤◌, [], None, Result, Ok, refl, sym, ap, ◌∙◌, arith}
-use Rattle.std.specs.Prelude.{vec_len, vec_capacity}
+use Rattle.std.proofs.Common.{◌≡◌, ℕ, [], None, Result, Ok, refl, sym, ap, ◌∙◌, arith}
 use Rattle.std.specs.FinMap as finite
 use Rattle.std.specs.Ordering.{nat_cmp}
 use Rattle.std.specs.Cmp.Lexicographic.{slice_cmp}
@@ -12,13 +11,10 @@ use Rattle.spool_types.specs.declared.event.Event.TheVariants.{AddQueue, Info, S
 use Rattle.spool_types.specs.declared.event.Reply.{Reply}
 use Rattle.spool_types.specs.declared.rows.QueueRow.{QueueRow}
 use Rattle.job_table.specs.Changes.{new_job, with_notes, with_accepting, with_stopped}
-use Rattle.job_table.specs.Contents.{HasRoom, HasNoMore, IsPrepared}
 use Rattle.job_table.specs.Ended.{IsAbout, subject}
-use Rattle.job_table.specs.Held.{table_of}
 use Rattle.job_table.specs.Lanes.{AreLanes}
 use Rattle.job_table.specs.Legal.{IsLegal}
 use Rattle.job_table.specs.Step.{step, answered, refusal_of, after, reply_to}
-use Rattle.job_table.specs.declared.table.Table.TheInside.{Inside}
 use Rattle.job_table.proofs.Accepted.{accepted_create}
 use Rattle.job_table.proofs.Moves.{Stays, stays_queue, put_other, put_own}
 use Rattle.job_table.proofs.Seats.{Gains}
@@ -32,39 +28,6 @@ pub stepped : (s : State) (e : Event) (t : State) (r : Reply) → refusal_of s e
 stepped s e t r none is =
     let both = ok_same (t, r) (after s e, reply_to s e) (step s e) is (ap (answered s e) none) in
     (ap (λ p. p.0) both, ap (λ p. p.1) both)
-
-pub step_of : (s : State) (e : Event) → refusal_of s e ≡ None → step s e ≡ Ok (after s e, reply_to s e)
-step_of s e none = ap (answered s e) none
-
--- what the table has room for, its rows have
-pub room_of_rows : (a : Inside) (e : Event) → HasRoom (table_of a).room e → HasRoom a.store.room e
-room_of_rows a (AddQueue q) room = omega (arith, room)
-room_of_rows a (Create n) room = omega (arith, room)
-room_of_rows a (Send j bytes) room = room
-room_of_rows a (Stage e) room = room
-room_of_rows a (Info notes) room = tt
-room_of_rows a (SetAccept queue accepting) room = tt
-room_of_rows a (SetStop queue stopped) room = tt
-room_of_rows a (Close c) room = tt
-room_of_rows a (Hold j until) room = tt
-room_of_rows a (Release j) room = tt
-room_of_rows a (Cancel j) room = tt
-room_of_rows a (Clock m) room = tt
-room_of_rows a (Start j) room = tt
-room_of_rows a (Abandon j) room = tt
-room_of_rows a Reopen room = tt
-
-pub prepared_rows : (a : Inside) (e : Event) → IsPrepared (table_of a) e → IsPrepared a.store e
-prepared_rows a e prepared = record { accepted = prepared.accepted; room = room_of_rows a e prepared.room }
-
-pub held_no_more : (a b : Inside) → HasNoMore a.store.room b.store.room → vec_capacity b.lanes - vec_len b.lanes ≤ vec_capacity a.lanes - vec_len a.lanes → b.vacant ≤ a.vacant → HasNoMore (table_of a).room (table_of b).room
-held_no_more a b rows lanes vacant = record {
-  queues = omega (arith, rows.queues, lanes);
-  jobs = omega (arith, rows.jobs, vacant);
-  documents = rows.documents;
-  reasons = rows.reasons;
-  attributes = rows.attributes;
-}
 
 -- no lanes beside no queues
 pub no_lanes : (v : ℕ) → AreLanes nothing v []

@@ -64,9 +64,6 @@ removed P j (x ∷ xs) differ all = elim (cases_eq x j) [
 live_waiting : (to : Standing) (e : Entry) → to ≡ Waiting e → is_live to ≡ true
 live_waiting to e is = ap is_live is
 
-live_processing : (to : Standing) → to ≡ Processing → is_live to ≡ true
-live_processing to is = ap is_live is
-
 ended_and_live : (to : Standing) → to ≡ Ended → is_live to ≡ true → ⊥
 ended_and_live to is live = (let no : false ≡ true = sym (ap is_live is) ∙ live in absurd (cc))
 
@@ -300,10 +297,6 @@ module _ (old new : ℕ → Standing) (j : ℕ) (lane : Lane) (is : IsLane old l
       room = is.room;
       reserved = rw room is.reserved;
     }
-
--- a waiting job has one entry
-pub only_entry : (seats : ℕ → Standing) (lane : Lane) (j : ℕ) (e : Entry) → IsLane seats lane → seats j ≡ Waiting e → (f : Entry) → Contains lane.index.items f → f.id ≡ e.id → f ≡ e
-only_entry seats lane j e is at f there same = same_entry f e (sym (is.waiting f there) ∙ ap seats (same ∙ (is.listed j e at).0) ∙ at)
 
 -- the index has no job that stands elsewhere
 pub lacks : (seats : ℕ → Standing) (lane : Lane) (j : ℕ) → IsLane seats lane → seats j ≡ Ended → LacksJob lane.index.items j

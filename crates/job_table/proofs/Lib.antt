@@ -14,6 +14,9 @@ pub mod Next
 pub mod Stages
 pub mod Above
 pub mod Loaded
+pub mod Settled
+pub mod Noted
+pub mod Relocated
 pub mod Pushed
 pub mod Ascending
 pub mod Pieces

@@ -5,11 +5,10 @@ use Rattle.std.proofs.lemmas.List.{take-append-le, map-append}
 use Rattle.spool_types.specs.Limits.{longest_send}
 use Rattle.spool_types.specs.State.{Job}
 use Rattle.spool_types.specs.declared.listing.Row.{Row}
-use Rattle.spool_types.specs.declared.listing.Row.TheVariants.{Piece}
-use Rattle.job_table.specs.Listing.{parts, pieces, job_rows}
-use Rattle.job_table.specs.Loading.{with_piece}
+use Rattle.spool_types.specs.declared.listing.Row.TheVariants.{Job as JobRow, Piece}
+use Rattle.job_table.specs.Listing.{listed, parts, pieces, job_rows}
 
-nothing_of : {X : Type 0} (xs : List X) → length xs ≡ 0 → xs ≡ []
+pub nothing_of : {X : Type 0} (xs : List X) → length xs ≡ 0 → xs ≡ []
 nothing_of [] e = refl
 nothing_of (x ∷ xs) e = absurd (omega arith)
 
@@ -50,7 +49,7 @@ pieces_more xs bytes n len some le =
     ∙ ap (λ m. parts longest_send m xs ++ bytes ∷ []) (sym (whole_count (length xs) n len))
 
 -- one row more behind a job's rows
-pub job_rows_more : (r : Job) (bytes : List ℕ) (n : ℕ) → length r.document ≡ n * longest_send → 1 ≤ length bytes → length bytes ≤ longest_send → job_rows (with_piece bytes r) ≡ job_rows r ++ Piece r.id bytes ∷ []
-job_rows_more r bytes n len some le =
+pub job_rows_more : (r : Job) (document bytes : List ℕ) (n : ℕ) → length document ≡ n * longest_send → 1 ≤ length bytes → length bytes ≤ longest_send → job_rows r (document ++ bytes) ≡ job_rows r document ++ Piece r.id bytes ∷ []
+job_rows_more r document bytes n len some le =
     let piece : List ℕ → Row = λ part. Piece r.id part in
-    ap (λ rows. (job_rows (record r { document = [] }) ++ rows)) (ap (map piece) (pieces_more r.document bytes n len some le) ∙ map-append piece (pieces r.document) (bytes ∷ []))
+    ap (λ rows. JobRow (listed r) ∷ rows) (ap (map piece) (pieces_more document bytes n len some le) ∙ map-append piece (pieces document) (bytes ∷ []))

@@ -8,10 +8,12 @@ use Rattle.job_table.specs.declared.table.Table.TheInside.{Inside}
 abbrev pub table_of : Inside → Contents
 table_of a = record {
   state = a.store.state;
+  places = a.store.places;
   room = record a.store.room {
     queues = min a.store.room.queues (vec_capacity a.lanes - vec_len a.lanes);
     jobs = min a.store.room.jobs a.vacant;
   };
+  moves = a.new_places;
 }
 
 -- each queue has its lane, which has room for all of the queue's jobs that haven't ended and for the new ones

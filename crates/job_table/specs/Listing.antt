@@ -9,7 +9,7 @@ use Rattle.spool_types.specs.declared.listing.ListedJob.{ListedJob}
 use Rattle.spool_types.specs.declared.listing.Row.{Row}
 use Rattle.spool_types.specs.declared.listing.Row.TheVariants.{Head, Queue, Job as JobRow, Piece}
 
--- a job without its document
+-- a job, as a row of a listing
 abbrev pub listed : Job → ListedJob
 listed r = record {
   id = r.id;
@@ -37,15 +37,15 @@ abbrev pub pieces : List ℕ → List (List ℕ)
 pieces bytes = parts longest_send ((length bytes + 65535) / longest_send) bytes
 
 -- a job, and behind it the pieces of its document
-abbrev pub job_rows : Job → List Row
-job_rows r = JobRow (listed r) ∷ map (λ bytes. Piece r.id bytes) (pieces r.document)
+abbrev pub job_rows : Job → List ℕ → List Row
+job_rows r document = JobRow (listed r) ∷ map (λ bytes. Piece r.id bytes) (pieces document)
 
 abbrev pub head_of : State → HeadRow
 head_of s = record { highest = s.highest; moment = s.moment }
 
--- The head; the queues in ascending order of name; the jobs in ascending order of number, each followed by its document's
--- pieces.
-abbrev pub listing : State → List Row
-listing s =
+-- The head; the queues in ascending order of name; the jobs in ascending order of number, each followed by the pieces of
+-- its document.
+abbrev pub listing : State → (ℕ → List ℕ) → List Row
+listing s documents =
     Head (head_of s)
-    ∷ (map (λ q. Queue q) (finite.values s.queues) ++ flat_map job_rows (finite.values s.jobs))
+    ∷ (map (λ q. Queue q) (finite.values s.queues) ++ flat_map (λ r. job_rows r (documents r.id)) (finite.values s.jobs))

@@ -1,14 +1,15 @@
 -- A listing that is read row by row: which row may come next, and what it adds.
-use Rattle.std.specs.Prelude.{◌≡◌, ℕ, ◌-◌, ◌==◌, ◌<◌, ◌≤◌, Bool, true, false, cond, List, [], ◌∷◌, ◌++◌, length, min, Option, None, Some, IsSome}
+use Rattle.std.specs.Prelude.{◌≡◌, ℕ, ◌+◌, ◌-◌, ◌==◌, ◌<◌, ◌≤◌, Bool, true, false, cond, List, [], ◌∷◌, length, min, Option, None, Some, IsSome}
 use Rattle.std.specs.declared.cmp.Ordering.{Ordering}
 use Rattle.std.specs.declared.cmp.Ordering.TheVariants.{Less}
 use Rattle.std.specs.List.{AllByRecursion}
 use Rattle.std.specs.Ordering.{nat_cmp}
 use Rattle.std.specs.Cmp.Lexicographic.{slice_cmp}
 use Rattle.std.specs.FinMap as finite
+use Rattle.extents.specs.declared.extent.Extent.{Extent}
 use Rattle.spool_types.specs.Busy.{is_busy}
 use Rattle.spool_types.specs.Limits.{most_queues, longest_document, longest_send, greatest_number}
-use Rattle.spool_types.specs.Phases.{has_ended, is_processing}
+use Rattle.spool_types.specs.Phases.{is_processing}
 use Rattle.spool_types.specs.State.{State, Job, nothing, queue_at}
 use Rattle.spool_types.specs.declared.rows.QueueRow.{QueueRow}
 use Rattle.spool_types.specs.declared.listing.Head.{Head}
@@ -16,14 +17,25 @@ use Rattle.spool_types.specs.declared.listing.ListedJob.{ListedJob}
 use Rattle.spool_types.specs.declared.listing.Row.{Row}
 use Rattle.spool_types.specs.declared.listing.Row.TheVariants.{Head as HeadRow, Queue, Job as JobRow, Piece}
 use Rattle.row_effects.specs.Fold.{IsInOrder}
+use Rattle.job_table.specs.Documents.{document_len}
 use Rattle.job_table.specs.Legal.{Fits}
+
+-- a job, and how many bytes of its document have come
+pub record Part : Type 0 where
+  pub row : Job
+  pub read : ℕ
 
 -- What the rows so far tell: the table of all that is whole, whether the head was among them, and the last job while its
 -- document is short.
 pub record Progress : Type 0 where
   pub state : State
   pub begun : Bool
-  pub partial : Option Job
+  pub partial : Option Part
+
+-- A loading as its callers see it: what the rows so far tell, and where the pieces among them lie.
+pub record Loaded : Type 0 where
+  pub progress : Progress
+  pub places : List (ℕ × List Extent)
 
 abbrev pub begin_loading : Progress
 begin_loading = record { state = nothing; begun = false; partial = None }
@@ -34,7 +46,7 @@ IsWhole p = p.partial ≡ None
 
 -- ## What a row adds
 
--- the job with a document that is still to come
+-- the job of a row
 abbrev pub unlisted : ListedJob → Job
 unlisted r = record {
   id = r.id;
@@ -50,8 +62,11 @@ unlisted r = record {
   pages = r.pages;
   size = r.size;
   phase = r.phase;
-  document = [];
 }
+
+-- its document is still to come
+abbrev pub begun_part : ListedJob → Part
+begun_part r = record { row = unlisted r; read = 0 }
 
 abbrev pub headed : Head → State
 headed head = record nothing { highest = head.highest; moment = head.moment }
@@ -62,26 +77,22 @@ with_queue s q = record s { queues = finite.insert s.queues q.name q }
 abbrev pub with_job : State → Job → State
 with_job s r = record s { jobs = finite.insert s.jobs r.id r }
 
-abbrev pub with_piece : List ℕ → Job → Job
-with_piece bytes r = record r { document = r.document ++ bytes }
-
--- how many bytes its document has: a job that has ended has none
-abbrev pub document_len : Job → ℕ
-document_len r = cond (has_ended r.phase) 0 r.size
+abbrev pub with_piece : List ℕ → Part → Part
+with_piece bytes x = record x { read = x.read + length bytes }
 
 -- the last job goes into the table once its document is whole
-abbrev pub with_last : Progress → Job → Progress
-with_last p r = cond (length r.document == document_len r) (record p { state = with_job p.state r; partial = None }) (record p { partial = Some r })
+abbrev pub with_last : Progress → Part → Progress
+with_last p x = cond (x.read == document_len x.row) (record p { state = with_job p.state x.row; partial = None }) (record p { partial = Some x })
 
-abbrev pub with_next_piece : Progress → List ℕ → Option Job → Progress
+abbrev pub with_next_piece : Progress → List ℕ → Option Part → Progress
 with_next_piece p bytes None = p
-with_next_piece p bytes (Some r) = with_last p (with_piece bytes r)
+with_next_piece p bytes (Some x) = with_last p (with_piece bytes x)
 
 -- the rows so far and this one, where it may come next
 abbrev pub loaded : Progress → Row → Progress
 loaded p (HeadRow head) = record { state = headed head; begun = true; partial = None }
 loaded p (Queue q) = record p { state = with_queue p.state q }
-loaded p (JobRow r) = with_last p (unlisted r)
+loaded p (JobRow r) = with_last p (begun_part r)
 loaded p (Piece j bytes) = with_next_piece p bytes p.partial
 
 -- ## Which row may come next
@@ -124,13 +135,13 @@ pub record IsNextJob (p : Progress) (r : ListedJob) : Type 0 where
   pub new : IsNewJob p.state (unlisted r)
 
 -- a piece has the greatest length, or is the rest of the document
-pub record IsNextPiece (r : Job) (j : ℕ) (bytes : List ℕ) : Type 0 where
-  pub own : r.id ≡ j
-  pub full : length bytes ≡ min (r.size - length r.document) longest_send
+pub record IsNextPiece (x : Part) (j : ℕ) (bytes : List ℕ) : Type 0 where
+  pub own : x.row.id ≡ j
+  pub full : length bytes ≡ min (x.row.size - x.read) longest_send
 
-abbrev pub IsPieceOf : Option Job → ℕ → List ℕ → Type 0
+abbrev pub IsPieceOf : Option Part → ℕ → List ℕ → Type 0
 IsPieceOf None j bytes = ⊥
-IsPieceOf (Some r) j bytes = IsNextPiece r j bytes
+IsPieceOf (Some x) j bytes = IsNextPiece x j bytes
 
 -- The row may come next: it is neither out of place nor against what is so of each table.
 abbrev pub IsPlaced : Progress → Row → Type 0

@@ -1,8 +1,9 @@
 //! The table of queues and jobs, in memory, changed by one event at a time.
 //!
 //! A [`Table`] is what the spooler knows. Callers see it as a state, the finite maps of its queues by name and of its
-//! jobs by number with the highest number given and the moment now, and beside it the room that is reserved
-//! (`Contents`). An event takes two calls: [`Table::prepare`] refuses it or reserves what it takes, and
+//! jobs by number with the highest number given and the moment now, and beside it where the documents of jobs lie and the
+//! room that is reserved (`Contents`). No document is in memory: a job's row has the extents that hold it, in order, and its
+//! bytes are no part of a state. An event takes two calls: [`Table::prepare`] refuses it or reserves what it takes, and
 //! [`Table::commit`] changes the rows. So whoever keeps a journal writes the event down between the two, when it can
 //! neither be refused nor find no memory.
 //!
@@ -16,7 +17,8 @@
 //!
 //! - `Step`: one row an event, with the causes of its refusals in order, the table after it and its reply; `Changes`:
 //!   what events change in a row; `Fold`: many events in turn.
-//! - `Legal`: what is so of each table that events lead to.
+//! - `Legal`: what is so of each table that events lead to. `Documents`: how long the documents of a table are.
+//! - `Contents`: what an event adds to the places of documents (`AddsPlaces`).
 //! - `Attempts`: how an attempt at a job starts, and what its end, or its loss, makes of the job and its queue. The effects
 //!   of a stage come before the verdict on its exit (`with_effects`); `row_effects` says what they make of the job's pages
 //!   and of the queue. `Losses`: what a reopening makes of a job that was processing.
@@ -25,8 +27,8 @@
 //!
 //! A checkpoint writes a table down as rows, and a [`Loading`] makes the table again, row by row.
 //!
-//! - `Listing`: the rows that a table is listed as: its head, its queues, and each of its jobs with its document's pieces
-//!   behind it.
+//! - `Listing`: the rows that a table is listed as, with these documents: its head, its queues, and each of its jobs with
+//!   its document's pieces behind it.
 //! - `Loading`: which row may come next (`IsPlaced`), and what it adds (`loaded`); rows in turn (`ArePlaced`,
 //!   `loaded_all`). A job goes into the table once its document is whole, so the table is legal after each row.
 //!
@@ -34,7 +36,8 @@
 //!
 //! - *ExactStep*: `prepare` refuses an event exactly where a cause of its refusal holds, with the refusal of the first
 //!   such cause (`refusal_of`), and changes no row. `commit` of the event just prepared gives the state and the reply of
-//!   the step (`step`). Each reader gives exactly what the state has.
+//!   the step (`step`). Each reader gives exactly what the state has. A send adds the extent of its bytes, nine bytes behind
+//!   the place of its payload, and all other documents lie where they lay (`AddsPlaces`).
 //! - *ExactChoice* for a table: [`Table::next`] names the job of a queue that is to be started next (`IsNextJob`), and
 //!   none exactly where no job of the queue is eligible (`next_of`). A Start of any other waiting job is refused as NotNext
 //!   (`is_next`). [`Table::index`] lends the index of a queue, which has exactly its waiting jobs (`IsIndexOf`), each before
@@ -48,8 +51,9 @@
 //!   no more room than it found (`HasNoMore`). A new table has no room.
 //! - A stage of an attempt that is spent stays spent, and one that is left is spent ([`spent_stages_stay_spent`], by
 //!   `Stages`). So no stage of an attempt comes twice.
-//! - *Loading*: [`Loading::load`] takes a row exactly where it may come next, and adds what it adds. What is listed is
-//!   loaded again, and nothing but a listing of a legal table is taken whole ([`listings_are_loaded`]).
+//! - *Loading*: [`Loading::load`] takes a row exactly where it may come next, and adds what it adds; a piece adds its extent
+//!   (`AddsPiece`). What is listed is loaded again, and nothing but a listing of a legal table is taken whole
+//!   ([`listings_are_loaded`]).
 //! - *EndedStaysEnded* ([`ended_jobs_stay`]), and that each state is legal ([`legal_tables_stay_legal`]).
 //!
 //! # Invariants
@@ -58,23 +62,22 @@
 //!    each number once (`IsOrdered`). So a row is found by binary search, and a new row goes where the search ends.
 //! 2. The state that the rows mean is legal (`IsLegal`). There are at most 64 queues, and a row's key is its own name or
 //!    number. No job has a number above the highest given. A job's queue is there, and its phase fits the rest of its row.
-//!    A document is as long as its job's size, or empty once the job has ended. A queue has one processing job at most.
-//!    Its reasons and its attributes are in ascending order, each once, and at most 64 of each.
+//!    A queue has one processing job at most. Its reasons and its attributes are in ascending order, each once, and at most
+//!    64 of each.
 //! 3. No number above 2,147,483,647 was given.
-//! 4. After `prepare` of a queue or a job there is room for one row more, after `prepare` of a send for its bytes in the
-//!    job's document, and after `prepare` of a stage for the reasons and the attributes that its effects may add
-//!    (`HasRoom`). What grows at least doubles, so a document that comes in sixteen sends is moved a few times only. A new
-//!    job comes last, as its number is above all others, so no row moves for it. No call copies a document or a text of an
-//!    event.
-//! 5. A job that has ended holds no memory for its document (`IsFreedWhenEnded`).
+//! 4. After `prepare` of a queue or a job there is room for one row more, after `prepare` of a send for one extent more of
+//!    the job's document, and after `prepare` of a stage for the reasons and the attributes that its effects may add
+//!    (`HasRoom`). What grows at least doubles. A new job comes last, as its number is above all others, so no row moves for
+//!    it. No call copies a text of an event.
+//! 5. A job's extents have as many bytes as its document: its size, or none once the job has ended (`HoldsDocument`). A job
+//!    that has ended holds no memory for extents (`IsFreedWhenEnded`).
 //! 6. Each queue has its lane, in the order of the queues (`AreLanes`). The lane's index has the queue's waiting jobs and the
 //!    table's moment, its processing job is the queue's, and no more of the queue's jobs haven't ended than it counts
 //!    (`IsLane`). It has room for all of these to wait, and for as many new jobs as the table has room for: whichever of
 //!    them comes to wait, by an event or by a reopening, its index takes no memory.
 //! 7. The rows of a loading are legal. Its last job stands beside them while the document is short: whole pieces of it are
-//!    there, and the job may be put in as the last row (`IsReading`). The memory for the row and for the whole document is
-//!    asked for when the job comes, so that no piece has to move the document. No clause says so. The lanes are made once
-//!    all rows are there.
+//!    there, and the job may be put in as the last row (`IsReading`). The memory for the row and for the extents of all its
+//!    pieces is asked for when the job comes. No clause says so. The lanes are made once all rows are there.
 //!
 //! # Cost
 //!
@@ -94,6 +97,8 @@ mod lane;
 mod laws;
 mod listing;
 mod loading;
+mod new_places;
+mod places;
 mod store;
 mod table;
 
@@ -103,5 +108,6 @@ pub use laws::{
 };
 pub use listing::listed;
 pub use loading::{LoadFault, Loading};
+pub use places::document_len;
 pub use store::is_in_stage;
 pub use table::{PrepareFault, Table};

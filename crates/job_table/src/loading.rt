@@ -1,5 +1,5 @@
 //! A table that is loaded from the rows of a listing.
-ghost use Rattle.std.specs.Prelude.{◌≡◌, ◌↔◌, ◌<◌, ◌≤◌, ◌&&◌, ◌==◌, [], false, not, cond, length, IsTrue, IfOk, IsErrOf, OnOk, OnErr, None, Some, vec_len};
+ghost use Rattle.std.specs.Prelude.{◌≡◌, ℕ, ◌+◌, ◌^◌, ◌↔◌, ◌<◌, ◌≤◌, ◌&&◌, ◌==◌, [], false, not, cond, IsTrue, IfOk, IsErrOf, OnOk, OnErr, None, Some};
 ghost use Rattle.std.specs.Option.{option_map};
 ghost use Rattle.std.specs.FinMap as finite;
 ghost use Rattle.spool_types.specs.declared.listing.Row.{Row};
@@ -11,9 +11,15 @@ ghost use Rattle.row_effects.specs.Keys.{is_ascending};
 ghost use Rattle.row_effects.specs.Reasons.{word_of};
 ghost use Rattle.row_effects.specs.Attributes.{name_of};
 ghost use Rattle.job_table.specs.Legal.{IsLegal, Fits, IsUntyped, IsStartable, IsStarted};
-ghost use Rattle.job_table.specs.Loading.{IsWhole, IsPlaced, IsNewQueue, IsNewJob, IsNextQueue, IsNextJob, IsNextPiece, IsPieceOf, begin_loading, loaded, unlisted, document_len, with_job, with_piece};
+ghost use Rattle.job_table.specs.Contents.{HasPlace, places_at, places_of};
+ghost use Rattle.job_table.specs.Documents.{document_len};
+ghost use Rattle.job_table.specs.Loading.{IsWhole, IsPlaced, IsNewQueue, IsNewJob, IsNextQueue, IsNextJob, IsNextPiece, IsPieceOf, begin_loading, loaded, unlisted, with_job};
+ghost use Rattle.job_table.specs.Reading.{AddsPiece, HasSameParts, IsGrown, IsMeasured, MayGrow, part_of, with_last_place};
 ghost use Rattle.job_table.specs.Rows.{IsFreed};
+ghost use Rattle.extents.specs.Extents.{size_of};
+ghost use Rattle.spool_types.specs.Sent.{bytes_behind, piece_of};
 
+use crate::places::{document_len, extent_behind, piece_count};
 use crate::store::Store;
 use crate::table::Table;
 use spool_types::{
@@ -42,6 +48,14 @@ impl From<AllocError> for LoadFault {
     }
 }
 
+/// A job whose document is short.
+#[derive(Debug, Drop)]
+struct Partial {
+    row: JobRow,
+    // How many bytes of its document have come.
+    read: usize,
+}
+
 /// A table while the rows of a listing come.
 #[derive(Debug, Drop)]
 pub struct Loading {
@@ -50,30 +64,31 @@ pub struct Loading {
     // Whether the head has come.
     begun: bool,
     // The last job while its document is short.
-    partial: Option<JobRow>,
+    partial: Option<Partial>,
     alloc: Global,
 }
 
 impl Model for Loading {
-    ghost use Rattle.job_table.specs.Loading.{Progress};
+    ghost use Rattle.job_table.specs.Loading.{Loaded};
     ghost use Rattle.std.specs.Coded.{codes};
     ghost use Rattle.std.specs.FinMap as map;
 
-    ghost Value = { Progress };
+    ghost Value = { Loaded };
 
     ghost coded = { Prim.hlevel (codes, map.code) };
 
-    ghost use Rattle.job_table.specs.Reading.{progress_of, IsReading};
+    ghost use Rattle.job_table.specs.Reading.{loaded_of, IsLoading};
 
-    ghost view = { progress_of };
+    ghost view = { loaded_of };
 
-    ghost invariant = { λ a. IsReading (progress_of a) };
+    ghost invariant = { IsLoading };
 }
 
 impl Loading {
     /// No rows yet, which stand for the empty table. It takes no memory.
     pub fn new(alloc: Global) -> Loading
-        ensures { result ≡ begin_loading }
+        ensures progress { result.progress ≡ begin_loading }
+        ensures places { result.places ≡ [] }
     {
         Loading {
             store: Store::new(alloc),
@@ -84,24 +99,28 @@ impl Loading {
     }
 
     /// Adds the next row of a listing. A row that may not come next is Misplaced, and a fault changes nothing. `at` is
-    /// where the row stands on the device; documents that lie in memory don't need it.
-    pub fn load(&mut self, row: Row, _at: u64) -> Result<(), LoadFault>
-        ensures placed { OnOk result (IsPlaced self.old row) }
-        ensures loaded { OnOk result (self.new ≡ loaded self.old row) }
-        ensures misplaced { IsErrOf result LoadFault.Misplaced ↔ (¬ (IsPlaced self.old row)) }
+    /// where the row's payload lies.
+    pub fn load(&mut self, row: Row, at: u64) -> Result<(), LoadFault>
+        requires { HasPlace at (piece_of row) }
+        ensures placed { OnOk result (IsPlaced self.old.progress row) }
+        ensures loaded { OnOk result (self.new.progress ≡ loaded self.old.progress row) }
+        ensures misplaced { IsErrOf result LoadFault.Misplaced ↔ (¬ (IsPlaced self.old.progress row)) }
         ensures same { OnErr result (self.new ≡ self.old) }
+
+        // A piece lies there, and all others lie where they lay.
+        ensures places { OnOk result (AddsPiece at row self.old.places self.new.places) }
     {
         match row {
             Row::Head(head) => self.load_head(head),
             Row::Queue(queue) => self.load_queue(queue),
             Row::Job(job) => self.load_job(job),
-            Row::Piece { job, bytes } => self.load_piece(job, bytes.as_slice()),
+            Row::Piece { job, bytes } => self.load_piece(job, bytes.as_slice(), at),
         }
     }
 
     /// Whether no document is short, so that the rows are a whole listing.
     pub fn is_whole(&self) -> bool
-        ensures { IsTrue result ↔ IsWhole self.now }
+        ensures { IsTrue result ↔ IsWhole self.now.progress }
     {
         self.partial.is_none()
     }
@@ -109,17 +128,19 @@ impl Loading {
     /// The table that the rows list. Only a whole listing gives one, which `is_whole` tells. The lanes of all queues are
     /// built at once, which takes memory.
     pub fn into_table(self) -> Result<Table, AllocError>
-        requires { IsWhole self }
-        ensures { IfOk result (λ table. table.state ≡ self.state) }
+        requires { IsWhole self.progress }
+        ensures state { IfOk result (λ table. table.state ≡ self.progress.state) }
+        ensures places { IfOk result (λ table. table.places ≡ self.places) }
     {
         Table::of_rows(self.alloc, self.store)
     }
 
     fn load_head(&mut self, head: Head) -> Result<(), LoadFault>
-        ensures placed { OnOk result (IsPlaced self.old (Row.Head head)) }
-        ensures loaded { OnOk result (self.new ≡ loaded self.old (Row.Head head)) }
-        ensures misplaced { IsErrOf result LoadFault.Misplaced ↔ (¬ (IsPlaced self.old (Row.Head head))) }
+        ensures placed { OnOk result (IsPlaced self.old.progress (Row.Head head)) }
+        ensures loaded { OnOk result (self.new.progress ≡ loaded self.old.progress (Row.Head head)) }
+        ensures misplaced { IsErrOf result LoadFault.Misplaced ↔ (¬ (IsPlaced self.old.progress (Row.Head head))) }
         ensures same { OnErr result (self.new ≡ self.old) }
+        ensures places { OnOk result ((j : ℕ) → places_of self.new.places j ≡ places_of self.old.places j) }
     {
         if self.begun || JobId::GREATEST < head.highest {
             return Err(LoadFault::Misplaced);
@@ -130,10 +151,11 @@ impl Loading {
     }
 
     fn load_queue(&mut self, queue: QueueRow) -> Result<(), LoadFault>
-        ensures placed { OnOk result (IsPlaced self.old (Row.Queue queue)) }
-        ensures loaded { OnOk result (self.new ≡ loaded self.old (Row.Queue queue)) }
-        ensures misplaced { IsErrOf result LoadFault.Misplaced ↔ (¬ (IsPlaced self.old (Row.Queue queue))) }
+        ensures placed { OnOk result (IsPlaced self.old.progress (Row.Queue queue)) }
+        ensures loaded { OnOk result (self.new.progress ≡ loaded self.old.progress (Row.Queue queue)) }
+        ensures misplaced { IsErrOf result LoadFault.Misplaced ↔ (¬ (IsPlaced self.old.progress (Row.Queue queue))) }
         ensures same { OnErr result (self.new ≡ self.old) }
+        ensures places { OnOk result ((j : ℕ) → places_of self.new.places j ≡ places_of self.old.places j) }
     {
         if !self.takes_queue(&queue) {
             return Err(LoadFault::Misplaced);
@@ -143,79 +165,86 @@ impl Loading {
     }
 
     fn load_job(&mut self, job: ListedJob) -> Result<(), LoadFault>
-        ensures placed { OnOk result (IsPlaced self.old (Row.Job job)) }
-        ensures loaded { OnOk result (self.new ≡ loaded self.old (Row.Job job)) }
-        ensures misplaced { IsErrOf result LoadFault.Misplaced ↔ (¬ (IsPlaced self.old (Row.Job job))) }
+        ensures placed { OnOk result (IsPlaced self.old.progress (Row.Job job)) }
+        ensures loaded { OnOk result (self.new.progress ≡ loaded self.old.progress (Row.Job job)) }
+        ensures misplaced { IsErrOf result LoadFault.Misplaced ↔ (¬ (IsPlaced self.old.progress (Row.Job job))) }
         ensures same { OnErr result (self.new ≡ self.old) }
+        ensures places { OnOk result ((j : ℕ) → places_of self.new.places j ≡ places_of self.old.places j) }
     {
         if !self.takes_job(&job) {
             return Err(LoadFault::Misplaced);
         }
         self.store.reserve_job()?;
         let row = unlisted_row(self.alloc, job)?;
-        self.partial = settle(&mut self.store, row);
+        self.partial = settle(&mut self.store, Partial { row, read: 0 });
         Ok(())
     }
 
-    fn load_piece(&mut self, job: JobId, bytes: &[u8]) -> Result<(), LoadFault>
-        ensures placed { OnOk result (IsPlaced self.old (Row.Piece job bytes.now)) }
-        ensures loaded { OnOk result (self.new ≡ loaded self.old (Row.Piece job bytes.now)) }
-        ensures misplaced { IsErrOf result LoadFault.Misplaced ↔ (¬ (IsPlaced self.old (Row.Piece job bytes.now))) }
+    fn load_piece(&mut self, job: JobId, bytes: &[u8], at: u64) -> Result<(), LoadFault>
+        requires { at + bytes_behind < 2 ^ 64 }
+        ensures placed { OnOk result (IsPlaced self.old.progress (Row.Piece job bytes.now)) }
+        ensures loaded { OnOk result (self.new.progress ≡ loaded self.old.progress (Row.Piece job bytes.now)) }
+        ensures misplaced { IsErrOf result LoadFault.Misplaced ↔ (¬ (IsPlaced self.old.progress (Row.Piece job bytes.now))) }
         ensures same { OnErr result (self.new ≡ self.old) }
+        ensures places { OnOk result (AddsPiece at (Row.Piece job bytes.now) self.old.places self.new.places) }
     {
         if !self.takes_piece(job, bytes) {
             return Err(LoadFault::Misplaced);
         }
         self.store.reserve_job()?;
-        append_piece(&mut self.partial, bytes)?;
-        if let Some(row) = self.partial.take() {
-            self.partial = settle(&mut self.store, row);
+        append_piece(&mut self.partial, bytes.len(), at)?;
+        if let Some(partial) = self.partial.take() {
+            self.partial = settle(&mut self.store, partial);
         }
         Ok(())
     }
 
     fn takes_queue(&self, queue: &QueueRow) -> bool
-        ensures yes { IsTrue result → IsNextQueue self.now queue.now }
-        ensures no { result ≡ false → ¬ (IsNextQueue self.now queue.now) }
+        ensures yes { IsTrue result → IsNextQueue self.now.progress queue.now }
+        ensures no { result ≡ false → ¬ (IsNextQueue self.now.progress queue.now) }
     {
         self.begun && self.partial.is_none() && is_new_queue(&self.store, queue)
     }
 
     fn takes_job(&self, job: &ListedJob) -> bool
-        ensures yes { IsTrue result → IsNextJob self.now job.now }
-        ensures no { result ≡ false → ¬ (IsNextJob self.now job.now) }
+        ensures yes { IsTrue result → IsNextJob self.now.progress job.now }
+        ensures absent { IsTrue result → places_of self.now.places job.now.id ≡ [] }
+        ensures no { result ≡ false → ¬ (IsNextJob self.now.progress job.now) }
     {
         self.begun && self.partial.is_none() && is_new_job(&self.store, job)
     }
 
     fn takes_piece(&self, job: JobId, bytes: &[u8]) -> bool
-        ensures yes { IsTrue result → IsPieceOf self.now.partial job bytes.now }
-        ensures no { result ≡ false → ¬ (IsPieceOf self.now.partial job bytes.now) }
+        ensures yes { IsTrue result → IsPieceOf self.now.progress.partial job bytes.now }
+        ensures no { result ≡ false → ¬ (IsPieceOf self.now.progress.partial job bytes.now) }
     {
         match &self.partial {
-            Some(row) => is_next_piece(row, job, bytes),
+            Some(partial) => is_next_piece(partial, job, bytes),
             None => false,
         }
     }
 }
 
 // A piece has 65,536 bytes, or is the rest of its job's document.
-fn is_next_piece(row: &JobRow, job: JobId, bytes: &[u8]) -> bool
-    requires { vec_len row.now.document ≤ row.now.size }
-    ensures yes { IsTrue result → IsNextPiece (job_of row.now) job bytes.now }
-    ensures no { result ≡ false → ¬ (IsNextPiece (job_of row.now) job bytes.now) }
+fn is_next_piece(last: &Partial, job: JobId, bytes: &[u8]) -> bool
+    requires { last.now.read ≤ last.now.row.size }
+    ensures yes { IsTrue result → IsNextPiece (part_of last.now) job bytes.now }
+    ensures no { result ≡ false → ¬ (IsNextPiece (part_of last.now) job bytes.now) }
 {
-    let short = row.size as usize - row.document.len();
-    row.id == job && bytes.len() == short.min(LONGEST_SEND)
+    let short = last.row.size as usize - last.read;
+    last.row.id == job && bytes.len() == short.min(LONGEST_SEND)
 }
 
-// Adds the bytes to the last job's document, for which it has the memory.
-fn append_piece(last: &mut Option<JobRow>, bytes: &[u8]) -> Result<(), AllocError>
-    ensures added { OnOk result (option_map job_of last.new ≡ option_map (with_piece bytes.now) (option_map job_of last.old)) }
-    ensures same { OnErr result (option_map job_of last.new ≡ option_map job_of last.old) }
+// Adds a piece of so many bytes, whose payload is at this place, to the last job's document.
+fn append_piece(last: &mut Option<Partial>, count: usize, at: u64) -> Result<(), AllocError>
+    requires at { at + bytes_behind < 2 ^ 64 }
+    requires short { MayGrow count last.old }
+    ensures added { OnOk result (IsGrown at count last.old last.new) }
+    ensures same { OnErr result (HasSameParts last.old last.new) }
 {
-    if let Some(row) = last {
-        row.document.extend_from_slice(bytes)?;
+    if let Some(partial) = last {
+        partial.row.document.push(extent_behind(at, count))?;
+        partial.read += count;
     }
     Ok(())
 }
@@ -241,6 +270,7 @@ fn has_no_jobs(store: &Store) -> bool
 // Whether the job may be added to the table, behind its jobs.
 fn is_new_job(store: &Store, job: &ListedJob) -> bool
     ensures yes { IsTrue result → IsNewJob store.now.state (unlisted job.now) }
+    ensures absent { IsTrue result → places_at store.now job.now.id ≡ [] }
     ensures no { result ≡ false → ¬ (IsNewJob store.now.state (unlisted job.now)) }
 {
     store.is_above_jobs(job.id)
@@ -321,19 +351,13 @@ fn names_ascend(attributes: &[Attribute]) -> bool
     attributes.is_sorted_by(|a, b| a.name < b.name)
 }
 
-// How many bytes its document has: a job that has ended has none.
-fn document_len(phase: Phase, size: u32) -> usize
-    ensures { result ≡ cond (has_ended phase) 0 size }
-{
-    if phase.has_ended() { 0 } else { size as usize }
-}
-
-// The row of a listed job, with memory for its whole document.
+// The row of a listed job, with memory for the extents of all pieces of its document.
 fn unlisted_row(alloc: Global, job: ListedJob) -> Result<JobRow, AllocError>
     ensures row { IfOk result (λ row. job_of row ≡ unlisted job) }
     ensures freed { IfOk result IsFreed }
+    ensures none { IfOk result (λ row. row.document.items ≡ []) }
 {
-    let document = Vec::with_capacity(alloc, document_len(job.phase, job.size))?;
+    let document = Vec::with_capacity(alloc, piece_count(document_len(job.phase, job.size)))?;
     Ok(JobRow {
         id: job.id,
         queue: job.queue,
@@ -353,18 +377,22 @@ fn unlisted_row(alloc: Global, job: ListedJob) -> Result<JobRow, AllocError>
 }
 
 // The job goes into the table where its document is whole, and else is given back.
-fn settle(store: &mut Store, row: JobRow) -> Option<JobRow>
+fn settle(store: &mut Store, last: Partial) -> Option<Partial>
     requires room { 0 < store.old.room.jobs }
     requires legal { IsLegal store.old.state }
-    requires new { IsNewJob store.old.state (job_of row) }
-    requires freed { IsFreed row }
-    ensures state { store.new.state ≡ cond (length row.document.items == document_len (job_of row)) (with_job store.old.state (job_of row)) store.old.state }
-    ensures rest { option_map job_of result ≡ cond (length row.document.items == document_len (job_of row)) None (Some (job_of row)) }
+    requires new { IsNewJob store.old.state (job_of last.row) }
+    requires freed { IsFreed last.row }
+    requires measured { size_of last.row.document.items ≡ last.read }
+    ensures state { store.new.state ≡ cond (last.read == document_len (job_of last.row)) (with_job store.old.state (job_of last.row)) store.old.state }
+    ensures rest { option_map part_of result ≡ cond (last.read == document_len (job_of last.row)) None (Some (part_of last)) }
+    ensures measured { IsMeasured result }
+    ensures places { (j : ℕ) → places_of (with_last_place result store.new.places) j ≡ places_of (with_last_place (Some last) store.old.places) j }
 {
-    if row.document.len() == document_len(row.phase, row.size) {
+    let Partial { row, read } = last;
+    if read == document_len(row.phase, row.size) {
         store.push_job(row);
         None
     } else {
-        Some(row)
+        Some(Partial { row, read })
     }
 }

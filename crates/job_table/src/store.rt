@@ -1,12 +1,16 @@
 //! The rows of a table, and what is read from them.
-ghost use Rattle.std.specs.Prelude.{◌≡◌, ◌≤◌, Some, map};
+ghost use Rattle.std.specs.Prelude.{◌≡◌, ◌≤◌, [], true, Some, IfSome, map};
 ghost use Rattle.std.specs.Option.{option_copied, option_map};
 ghost use Rattle.std.specs.List.{Contains};
 ghost use Rattle.std.specs.FinMap as finite;
 ghost use Rattle.spool_types.specs.Limits.{greatest_number};
 ghost use Rattle.spool_types.specs.State.{Job, nothing, job_of, queue_at, job_at};
-ghost use Rattle.job_table.specs.Contents.{no_room, IsFreedWhenEnded};
+ghost use Rattle.job_table.specs.Contents.{no_room, places_at, AreSized, HasOwnPlaces, IsFreedWhenEnded};
+ghost use Rattle.job_table.specs.Documents.{document_len};
 ghost use Rattle.job_table.specs.Legal.{IsLegal};
+ghost use Rattle.job_table.specs.Rows.{job_entry, place_entry};
+ghost use Rattle.extents.specs.Extents.{size_of};
+ghost use Rattle.spool_types.specs.Phases.{has_ended};
 
 use lookup::{job_place, queue_place};
 use row_effects::Spare;
@@ -18,6 +22,7 @@ mod attempts;
 mod commit;
 mod load;
 mod lookup;
+mod moves;
 mod reserve;
 mod row_changes;
 
@@ -56,6 +61,7 @@ impl Store {
     /// No queues and no jobs, at the moment 0. It takes no memory.
     pub fn new(alloc: Global) -> Store
         ensures state { result.state ≡ nothing }
+        ensures places { result.places ≡ [] }
         ensures room { result.room ≡ no_room }
     {
         Store {
@@ -94,7 +100,10 @@ impl Store {
 
     /// The job of this number, if there is one. It is found by binary search.
     pub fn job(&self, id: JobId) -> Option<&JobRow>
-        ensures { option_map job_of (option_copied result) ≡ job_at self.now.state id }
+        ensures row { option_map job_of (option_copied result) ≡ job_at self.now.state id }
+        ensures places { IfSome result (λ r. r.now.document.items ≡ places_at self.now id) }
+        ensures sized { IfSome result (λ r. size_of r.now.document.items ≡ document_len (job_of r.now)) }
+        ensures ended { IfSome result (λ r. has_ended r.now.phase ≡ true → r.now.document.items ≡ []) }
     {
         match job_place(&self.jobs, id) {
             Ok(at) => Some(&self.jobs[at]),
@@ -114,9 +123,13 @@ impl Store {
     /// All jobs, in ascending order of number.
     pub fn jobs(&self) -> &[JobRow]
         ensures rows { map job_of result.now ≡ finite.values self.now.state.jobs }
+        ensures entries { map job_entry result.now ≡ finite.entries self.now.state.jobs }
         ensures found { (row : Job) → Contains (finite.values self.now.state.jobs) row → job_at self.now.state row.id ≡ Some row }
         ensures legal { IsLegal self.now.state }
         ensures freed { IsFreedWhenEnded self.now }
+        ensures places { map place_entry result.now ≡ self.now.places }
+        ensures own { HasOwnPlaces self.now }
+        ensures sized { AreSized self.now }
     {
         &self.jobs
     }

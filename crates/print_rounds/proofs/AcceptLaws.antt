@@ -58,6 +58,8 @@ one_served : (l : Launch) → launch_fault l ≡ None → IsServed l
 one_served launches.Unlaunched e = tt
 one_served (launches.Launched started) e = tt
 one_served launches.NoMemory e = absurd (cc)
+one_served launches.Disk e = absurd (cc)
+one_served launches.Dead e = absurd (cc)
 
 -- there was memory, where no start of a child has a fault
 pub all_served : (ls : List Launching) → launching_fault ls ≡ None → AllServed ls

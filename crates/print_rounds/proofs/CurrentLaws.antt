@@ -21,7 +21,7 @@ use Rattle.child_pipeline.specs.Slots.{Slots, slot_in, begun, begun_in, with_pro
 use Rattle.child_pipeline.specs.Told.{Told}
 use Rattle.child_pipeline.specs.declared.runner.Slot.{Slot}
 use Rattle.print_rounds.specs.declared.outcome.Launch.{Launch}
-use Rattle.print_rounds.specs.declared.outcome.Launch.TheVariants.{Unlaunched, Launched, NoMemory}
+use Rattle.print_rounds.specs.declared.outcome.Launch.TheVariants.{Unlaunched, Launched, NoMemory, Disk, Dead}
 use Rattle.print_rounds.specs.Choice.{slots_for, slots_in, slots_by, readiness}
 use Rattle.print_rounds.specs.Courses.{Answer, Starting, IsStartingOf, AreStartings, Launching, IsLaunch, AreLaunchings}
 use Rattle.print_rounds.specs.Script.{is_current, current_slots}
@@ -174,22 +174,28 @@ module _ (place : Place) (s : State) (numbers : HasNumbers s) where
           subst (λ i. Suits (job_at s i) (finite.get new i)) (sym at) (subst (λ x. Suits x (finite.get new r.id)) (sym row) own)
       by_job false is = subst (Suits (job_at s k)) (sym (same k is)) (suits k)
 
-  launch_suits : (old : Slots) (told : Option Told) (j : ℕ) (l : Launch) (new : Slots) (told' : Option Told) → IsLaunch place s old told j l new told' → AllSuit s old → AllSuit s new
-  launch_suits old told j Unlaunched new told' (rests, same, tells) suits = subst (AllSuit s) (sym same) suits
-  launch_suits old told j (Launched b) new told' (r, q, own, due, starts) suits =
+  -- the slots with one for a stage that is to be started
+  own_suits : (old own : Slots) (r : Job) (j : ℕ) → job_at s j ≡ Some r → slots_for old r ≡ Some own → AllSuit s old → AllSuit s own
+  own_suits old own r j there due suits = others_suit old own r j there (due_own old r own due).same (due_suits r (finite.get own r.id) (due_of old r own due)) suits
+
+  launch_suits : (old : Slots) (told : Option Told) (j : ℕ) (d : Option (List ℕ)) (l : Launch) (new : Slots) (told' : Option Told) → IsLaunch place s old told j d l new told' → AllSuit s old → AllSuit s new
+  launch_suits old told j d Unlaunched new told' (rests, none, same, tells) suits = subst (AllSuit s) (sym same) suits
+  launch_suits old told j d (Launched b) new told' (r, q, own, due, input, starts) suits =
       let put : Slot ℕ = with_progress (slot_in own r.id) (progress_after b starts.number) in
       let there : finite.get new r.id ≡ Some put = ap (λ m. finite.get m r.id) starts.slots ∙ get_own own r.id put in
       others_suit old new r j due.row
       (λ k other. ap (λ m. finite.get m k) starts.slots ∙ get_other own r.id k put other ∙ (due_own old r own due.due).same k other)
       (subst (Suits (Some r)) (sym there) (slot_suits r (finite.get own r.id) put (due_of old r own due.due) refl refl))
       suits
-  launch_suits old told j NoMemory new told' (r, q, own, due, either, tells) suits = by_case either
+  launch_suits old told j d NoMemory new told' (r, q, own, due, either, tells) suits = by_case either
     where
       by_case : ((new ≡ old) ⊎ (new ≡ own)) → AllSuit s new
       by_case (inl same) = subst (AllSuit s) (sym same) suits
-      by_case (inr same) = subst (AllSuit s) (sym same) (others_suit old own r j due.row (due_own old r own due.due).same (due_suits r (finite.get own r.id) (due_of old r own due.due)) suits)
+      by_case (inr same) = subst (AllSuit s) (sym same) (own_suits old own r j due.row due.due suits)
+  launch_suits old told j d Disk new told' (r, q, own, due, none, same, tells) suits = subst (AllSuit s) (sym same) (own_suits old own r j due.row due.due suits)
+  launch_suits old told j d Dead new told' (none, same, tells) suits = subst (AllSuit s) (sym same) suits
 
   -- the starts of stages leave the slots current
   pub launches_suit : (old : Slots) (told : Option Told) (ts : List Launching) (new : Slots) (told' : Option Told) → AreLaunchings place s old told ts new told' → AllSuit s old → AllSuit s new
   launches_suit old told [] new told' (same, tells) suits = subst (AllSuit s) (sym same) suits
-  launches_suit old told (l ∷ ts) new told' (launch, launches) suits = launches_suit l.slots l.told ts new told' launches (launch_suits old told l.job l.launch l.slots l.told launch suits)
+  launches_suit old told (l ∷ ts) new told' (launch, launches) suits = launches_suit l.slots l.told ts new told' launches (launch_suits old told l.job l.document l.launch l.slots l.told launch suits)

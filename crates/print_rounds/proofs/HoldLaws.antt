@@ -27,11 +27,11 @@ use Rattle.child_pipeline.specs.Slots.{Slots, slot_in, begun, IsStart, with_prog
 use Rattle.child_pipeline.specs.Told.{Told, started_by}
 use Rattle.print_rounds.specs.Choice.{slots_for, slots_in, slots_by, readiness}
 use Rattle.print_rounds.specs.Counts.{report_events}
-use Rattle.print_rounds.specs.Courses.{Answer, Course, Launching, IsLaunch, AreLaunchings, Ending, IsReport, IsEndingOf, AreEndings, is_silent}
+use Rattle.print_rounds.specs.Courses.{Answer, Course, Launching, IsLaunch, AreLaunchings, given, Ending, IsReport, IsEndingOf, AreEndings, is_silent}
 use Rattle.print_rounds.specs.Script.{current_slots, is_current}
 use Rattle.print_rounds.specs.World.{key_in, keys_in, IsAmong, AreOnce, IsEndedSlot, IsHeld}
 use Rattle.print_rounds.specs.declared.outcome.Launch.{Launch}
-use Rattle.print_rounds.specs.declared.outcome.Launch.TheVariants.{Unlaunched, Launched, NoMemory}
+use Rattle.print_rounds.specs.declared.outcome.Launch.TheVariants.{Unlaunched, Launched, NoMemory, Disk, Dead}
 use Rattle.print_rounds.specs.declared.outcome.Report.{Report}
 use Rattle.print_rounds.specs.declared.outcome.Report.TheVariants as reports
 use Rattle.print_rounds.proofs.CurrentLaws.{due_of}
@@ -243,21 +243,32 @@ module _ (s : State) (old own : Slots) (r : Job) (there : job_at s r.id ≡ Some
     by_answers (Err fault ∷ rest) document told tells = one_order (record { order = order_in place own r q document; before = t.finished }) refl _ told tells refl
 
 module _ (place : Place) (s : State) (numbers : HasNumbers s) where
-  launch_begun : (t : Told) (old : Slots) (told : Option Told) (j : ℕ) (l : Launch) (new : Slots) (told' : Option Told) → IsLaunch place s old told j l new told' → told ≡ Some t → AreBegun s t old new told'
-  launch_begun t old told j Unlaunched new told' (rests, same, tells') tells = none_begun s t old new told' (tells' ∙ tells) (λ k inside has. begun_same old new k (ap (λ m. finite.get m k.job) same) has)
-  launch_begun t old told j (Launched b) new told' (r, q, own, due, starts) tells =
+  -- no child was started, and the slots are as they were
+  same_begun : (t : Told) (old new : Slots) (told : Option Told) → told ≡ Some t → new ≡ old → AreBegun s t old new told
+  same_begun t old new told tells same = none_begun s t old new told tells (λ k inside has. begun_same old new k (ap (λ m. finite.get m k.job) same) has)
+
+  -- no child was started, and there is a slot for it
+  own_kept : (old new : Slots) (j : ℕ) (r : Job) (own : Slots) → job_at s j ≡ Some r → slots_for old r ≡ Some own → new ≡ own → (k : Key) → IsIn s k → HasBegun old k → HasBegun new k
+  own_kept old new j r own there due same k inside has =
+      kept_by s old own r (ap (job_at s) (numbers j r there) ∙ there) due new (λ i other. ap (λ m. finite.get m i) same ∙ (due_own old r own due).same i other) k inside has
+
+  launch_begun : (t : Told) (old : Slots) (told : Option Told) (j : ℕ) (d : Option (List ℕ)) (l : Launch) (new : Slots) (told' : Option Told) → IsLaunch place s old told j d l new told' → told ≡ Some t → AreBegun s t old new told'
+  launch_begun t old told j d Unlaunched new told' (rests, none, same, tells') tells = same_begun t old new told' (tells' ∙ tells) same
+  launch_begun t old told j d (Launched b) new told' (r, q, own, due, input, starts) tells =
       let row = ap (job_at s) (numbers j r due.row) ∙ due.row in
-      let start = subst (λ o. IsStart o (order_in place own r q r.document) b starts.number told') tells starts.start in
-      by_answers s old own r row due.due place q t starts.number b new starts.slots t.starts r.document told' start.told
-  launch_begun t old told j NoMemory new told' (r, q, own, due, either, tells') tells = none_begun s t old new told' (tells' ∙ tells) (λ k inside has. elim either [
+      let start = subst (λ o. IsStart o (order_in place own r q (given d)) b starts.number told') tells starts.start in
+      by_answers s old own r row due.due place q t starts.number b new starts.slots t.starts (given d) told' start.told
+  launch_begun t old told j d NoMemory new told' (r, q, own, due, either, tells') tells = none_begun s t old new told' (tells' ∙ tells) (λ k inside has. elim either [
     | inl same ↦ begun_same old new k (ap (λ m. finite.get m k.job) same) has
-    | inr same ↦ kept_by s old own r (ap (job_at s) (numbers j r due.row) ∙ due.row) due.due new (λ i other. ap (λ m. finite.get m i) same ∙ (due_own old r own due.due).same i other) k inside has
+    | inr same ↦ own_kept old new j r own due.row due.due same k inside has
   ])
+  launch_begun t old told j d Disk new told' (r, q, own, due, none, same, tells') tells = none_begun s t old new told' (tells' ∙ tells) (own_kept old new j r own due.row due.due same)
+  launch_begun t old told j d Dead new told' (none, same, tells') tells = same_begun t old new told' (tells' ∙ tells) same
 
   pub launches_begun : (t : Told) (old : Slots) (told : Option Told) (ts : List Launching) (new : Slots) (told' : Option Told) → AreLaunchings place s old told ts new told' → told ≡ Some t → AreBegun s t old new told'
-  launches_begun t old told [] new told' (same, tells') tells = none_begun s t old new told' (tells' ∙ tells) (λ k inside has. begun_same old new k (ap (λ m. finite.get m k.job) same) has)
+  launches_begun t old told [] new told' (same, tells') tells = same_begun t old new told' (tells' ∙ tells) same
   launches_begun t old told (l ∷ ts) new told' (launch, launches) tells =
-      let one = launch_begun t old told l.job l.launch l.slots l.told launch tells in
+      let one = launch_begun t old told l.job l.document l.launch l.slots l.told launch tells in
       both_begun s t old l.slots new l.told told' one (launches_begun one.now l.slots l.told ts new told' launches one.tells)
 
 -- ## The ends of stages

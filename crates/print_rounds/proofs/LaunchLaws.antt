@@ -14,9 +14,9 @@ use Rattle.child_pipeline.specs.declared.runner.Progress.{Progress}
 use Rattle.child_pipeline.specs.declared.runner.Progress.TheVariants.{Ready, Running, Ended}
 use Rattle.child_pipeline.specs.declared.runner.Slot.{Slot}
 use Rattle.print_rounds.specs.Choice.{slots_for, slots_in, slots_by, new_slots, readiness}
-use Rattle.print_rounds.specs.Courses.{Launching, IsLaunch, AreLaunchings}
+use Rattle.print_rounds.specs.Courses.{Launching, IsLaunch, AreLaunchings, given}
 use Rattle.print_rounds.specs.declared.outcome.Launch.{Launch}
-use Rattle.print_rounds.specs.declared.outcome.Launch.TheVariants.{Unlaunched, Launched, NoMemory}
+use Rattle.print_rounds.specs.declared.outcome.Launch.TheVariants.{Unlaunched, Launched, NoMemory, Disk, Dead}
 use Rattle.print_rounds.specs.Finished.{AreDistinct, with_number, with_slot, running_in, AreBefore, AreStarted, AllRest, after_starts}
 use Rattle.print_rounds.proofs.EndLaws.{get_other, get_own, SameBut, not_first, not_second, turned, quiet}
 
@@ -134,26 +134,34 @@ started_one t order b n old own j new told is put start = by_answer t.starts ref
           same = others;
         }
 
+-- there is a slot for the stage, and no child was started
+own_started : (t : Told) (old : Slots) (j : ℕ) (r : Job) (own new : Slots) (told : Option Told) → r.id ≡ j → IsOwn old r.id own → told ≡ Some t → with_slot (finite.get old j) [] ≡ [] → new ≡ own → IsOneStart t old j new told
+own_started t old j r own new told id is tells rests same =
+    subst (λ i. IsOneStart t old i new told) id
+    (none_started t old r.id new told tells (λ k other. ap (λ m. finite.get m k) same ∙ is.same k other)
+    (ap (λ m. with_slot (finite.get m r.id) []) same ∙ is.rests (subst (λ i. with_slot (finite.get old i) [] ≡ []) (sym id) rests)))
+
 -- a job's number is its key
 abbrev pub HasNumbers : State → Type 0
 HasNumbers s = (j : ℕ) (r : Job) → job_at s j ≡ Some r → r.id ≡ j
 
-one_launch : (place : Place) (s : State) → HasNumbers s → (t : Told) (old : Slots) (told : Option Told) (j : ℕ) (l : Launch) (new : Slots) (told' : Option Told) → IsLaunch place s old told j l new told' → told ≡ Some t → with_slot (finite.get old j) [] ≡ [] → IsOneStart t old j new told'
-one_launch place s numbers t old told j Unlaunched new told' (rests_on, same, tells') tells rests =
+one_launch : (place : Place) (s : State) → HasNumbers s → (t : Told) (old : Slots) (told : Option Told) (j : ℕ) (d : Option (List ℕ)) (l : Launch) (new : Slots) (told' : Option Told) → IsLaunch place s old told j d l new told' → told ≡ Some t → with_slot (finite.get old j) [] ≡ [] → IsOneStart t old j new told'
+one_launch place s numbers t old told j d Unlaunched new told' (rests_on, none, same, tells') tells rests =
     none_started t old j new told' (tells' ∙ tells) (λ k other. ap (λ m. finite.get m k) same) (ap (λ m. with_slot (finite.get m j) []) same ∙ rests)
-one_launch place s numbers t old told j (Launched b) new told' (r, q, own, due, starts) tells rests =
+one_launch place s numbers t old told j d (Launched b) new told' (r, q, own, due, input, starts) tells rests =
     let id : r.id ≡ j = numbers j r due.row in
     let is : IsOwn old r.id own = due_own old r own due.due in
-    let start : IsStart (Some t) (order_in place own r q r.document) b starts.number told' = subst (λ o. IsStart o (order_in place own r q r.document) b starts.number told') tells starts.start in
-    subst (λ i. IsOneStart t old i new told') id (started_one t (order_in place own r q r.document) b starts.number old own r.id new told' is starts.slots start)
-one_launch place s numbers t old told j NoMemory new told' (r, q, own, due, either, tells') tells rests =
-    let id : r.id ≡ j = numbers j r due.row in
-    let is : IsOwn old r.id own = due_own old r own due.due in
-    by_case id is either
+    let start : IsStart (Some t) (order_in place own r q (given d)) b starts.number told' = subst (λ o. IsStart o (order_in place own r q (given d)) b starts.number told') tells starts.start in
+    subst (λ i. IsOneStart t old i new told') id (started_one t (order_in place own r q (given d)) b starts.number old own r.id new told' is starts.slots start)
+one_launch place s numbers t old told j d NoMemory new told' (r, q, own, due, either, tells') tells rests = by_case either
   where
-    by_case : r.id ≡ j → IsOwn old r.id own → ((new ≡ old) ⊎ (new ≡ own)) → IsOneStart t old j new told'
-    by_case id is (inl same) = none_started t old j new told' (tells' ∙ tells) (λ k other. ap (λ m. finite.get m k) same) (ap (λ m. with_slot (finite.get m j) []) same ∙ rests)
-    by_case id is (inr same) = subst (λ i. IsOneStart t old i new told') id (none_started t old r.id new told' (tells' ∙ tells) (λ k other. ap (λ m. finite.get m k) same ∙ is.same k other) (ap (λ m. with_slot (finite.get m r.id) []) same ∙ is.rests (subst (λ i. with_slot (finite.get old i) [] ≡ []) (sym id) rests)))
+    by_case : ((new ≡ old) ⊎ (new ≡ own)) → IsOneStart t old j new told'
+    by_case (inl same) = none_started t old j new told' (tells' ∙ tells) (λ k other. ap (λ m. finite.get m k) same) (ap (λ m. with_slot (finite.get m j) []) same ∙ rests)
+    by_case (inr same) = own_started t old j r own new told' (numbers j r due.row) (due_own old r own due.due) (tells' ∙ tells) rests same
+one_launch place s numbers t old told j d Disk new told' (r, q, own, due, none, same, tells') tells rests =
+    own_started t old j r own new told' (numbers j r due.row) (due_own old r own due.due) (tells' ∙ tells) rests same
+one_launch place s numbers t old told j d Dead new told' (none, same, tells') tells rests =
+    none_started t old j new told' (tells' ∙ tells) (λ k other. ap (λ m. finite.get m k) same) (ap (λ m. with_slot (finite.get m j) []) same ∙ rests)
 
 rest_same : (j : ℕ) (m n : Slots) → SameBut j m n → (js : List ℕ) → is_in j js ≡ false → AllRest m js → AllRest n js
 rest_same j m n same [] out rests = tt
@@ -194,7 +202,7 @@ all_started place s numbers t old told [] new told' (same, tells') tells rests d
 }
 all_started place s numbers t old told (l ∷ ts) new told' (launch, launches) tells rests distinct =
     let js : List ℕ = map (λ l. l.job) ts in
-    let one = one_launch place s numbers t old told l.job l.launch l.slots l.told launch tells (quiet (finite.get old l.job) rests.0) in
+    let one = one_launch place s numbers t old told l.job l.document l.launch l.slots l.told launch tells (quiet (finite.get old l.job) rests.0) in
     let more = all_started place s numbers one.now l.slots l.told ts new told' launches one.tells (rest_same l.job old l.slots one.same js distinct.0 rests.1) distinct.1 in
     let here : finite.get new l.job ≡ finite.get l.slots l.job = more.others l.job distinct.0 in
     record {
@@ -220,23 +228,25 @@ one_same : (old own new : Slots) (r : Job) (p : Slot ℕ) → IsOwn old r.id own
 one_same old own new r p is put = λ k other. ap (λ m. finite.get m k) put ∙ get_other own r.id k p other ∙ is.same k other
 
 -- the start of a stage changes the slot of its job alone
-launch_same : (place : Place) (s : State) → HasNumbers s → (old : Slots) (told : Option Told) (j : ℕ) (l : Launch) (new : Slots) (told' : Option Told) → IsLaunch place s old told j l new told' → SameBut j old new
-launch_same place s numbers old told j Unlaunched new told' (rests_on, same, tells) = λ k other. ap (λ m. finite.get m k) same
-launch_same place s numbers old told j (Launched b) new told' (r, q, own, due, starts) = λ k other.
+launch_same : (place : Place) (s : State) → HasNumbers s → (old : Slots) (told : Option Told) (j : ℕ) (d : Option (List ℕ)) (l : Launch) (new : Slots) (told' : Option Told) → IsLaunch place s old told j d l new told' → SameBut j old new
+launch_same place s numbers old told j d Unlaunched new told' (rests_on, none, same, tells) = λ k other. ap (λ m. finite.get m k) same
+launch_same place s numbers old told j d (Launched b) new told' (r, q, own, due, input, starts) = λ k other.
     let id : r.id ≡ j = numbers j r due.row in
     one_same old own new r (with_progress (slot_in own r.id) (progress_after b starts.number)) (due_own old r own due.due) starts.slots k (ap (λ i. k == i) id ∙ other)
-launch_same place s numbers old told j NoMemory new told' (r, q, own, due, either, tells) = by_case either
+launch_same place s numbers old told j d NoMemory new told' (r, q, own, due, either, tells) = by_case either
   where
     by_case : ((new ≡ old) ⊎ (new ≡ own)) → SameBut j old new
     by_case (inl same) = λ k other. ap (λ m. finite.get m k) same
     by_case (inr same) = λ k other. ap (λ m. finite.get m k) same ∙ (due_own old r own due.due).same k (ap (λ i. k == i) (numbers j r due.row) ∙ other)
+launch_same place s numbers old told j d Disk new told' (r, q, own, due, none, same, tells) = λ k other. ap (λ m. finite.get m k) same ∙ (due_own old r own due.due).same k (ap (λ i. k == i) (numbers j r due.row) ∙ other)
+launch_same place s numbers old told j d Dead new told' (none, same, tells) = λ k other. ap (λ m. finite.get m k) same
 
 -- the starts change the slots of their jobs alone
 pub launches_same : (place : Place) (s : State) → HasNumbers s → (old : Slots) (told : Option Told) (ts : List Launching) (new : Slots) (told' : Option Told) → AreLaunchings place s old told ts new told' → (k : ℕ) → is_in k (map (λ l. l.job) ts) ≡ false → finite.get new k ≡ finite.get old k
 launches_same place s numbers old told [] new told' (same, tells) k out = ap (λ m. finite.get m k) same
 launches_same place s numbers old told (l ∷ ts) new told' (launch, launches) k out =
     launches_same place s numbers l.slots l.told ts new told' launches k (not_second (l.job == k) (is_in k (map (λ l. l.job) ts)) out)
-    ∙ launch_same place s numbers old told l.job l.launch l.slots l.told launch k (turned l.job k (not_first (l.job == k) (is_in k (map (λ l. l.job) ts)) out))
+    ∙ launch_same place s numbers old told l.job l.document l.launch l.slots l.told launch k (turned l.job k (not_first (l.job == k) (is_in k (map (λ l. l.job) ts)) out))
 
 -- an item isn't the job that isn't among them
 out_at : (j : ℕ) (js : List ℕ) → is_in j js ≡ false → (i : ℕ) → i < length js → (d : ℕ) → (get_or js i d == j) ≡ false

@@ -10,6 +10,7 @@ pub mod BusyLaws
 pub mod FreeLaws
 pub mod PrefixLaws
 pub mod PartLaws
+pub mod CrashLaws
 pub mod AcceptLaws
 pub mod CurrentLaws
 pub mod ToldLaws
@@ -19,3 +20,4 @@ pub mod WorldLaws
 pub mod JoinLaws
 pub mod RoundLaws
 pub mod PrepareLaws
+pub mod ReadLaws

@@ -1,41 +1,33 @@
--- What a part of a round leaves: the table of the events acknowledged in it, and of a crash at any moment of it the table
--- after the first of those that were tried.
-use Rattle.std.proofs.Common.{◌≡◌, ◌≤◌, ◌⊎◌, ⊎_elim, inl, inr, ℕ, Bool, true, false, List, [], ◌∷◌, ◌++◌, Option, Some, None, Ok, Err, refl, sym, ap, subst, ◌∙◌, arith}
+-- What a part of a round leaves: the table of the events acknowledged in it.
+use Rattle.std.proofs.Common.{◌≡◌, ◌≤◌, ℕ, Bool, true, false, List, [], ◌∷◌, ◌++◌, Option, Some, None, Ok, Err, refl, sym, ap, subst, ◌∙◌, arith}
 use Rattle.std.specs.FinMap as finite
 use Rattle.std.specs.Prelude.{◌↔◌, IsSome}
-use Rattle.spool_disk.specs.Disk.{DiskView, IsLawful, LeavesOnly}
-use Rattle.spool_disk.proofs.Moments.{started, runs_on, weaker_run}
+use Rattle.spool_disk.specs.Disk.{DiskView, IsLawful}
 use Rattle.spool_types.specs.declared.event.Event.{Event}
 use Rattle.spool_types.specs.declared.event.Event.TheVariants.{Start, Stage}
 use Rattle.spool_types.specs.declared.event.Reply.{Reply}
 use Rattle.job_table.specs.Attempts.{next_of}
 use Rattle.job_table.specs.Fold.{after_one, after_all, unless_refused}
 use Rattle.job_table.specs.Step.{refusal_of}
-use Rattle.spool_core.specs.Image.{HasTable, HasBeforeOrAfterEvent}
 use Rattle.spool_core.specs.Standing.{Standing, IsAnswer, IsDone}
 use Rattle.spool_core.specs.declared.spool.apply_fault.ApplyFault.TheVariants as faults
 use Rattle.child_pipeline.specs.Slots.{end_in}
 use Rattle.print_rounds.specs.Counts.{acknowledged_by, tried_by, start_events, start_tried, starting_events, starting_tried, report_events, report_tried, ending_events, ending_tried}
-use Rattle.print_rounds.specs.Courses.{Course, Answer, IsApplied, Starting, IsStartingOf, AreStartings, Ending, IsEnding, IsEndingOf, AreEndings, IsReport, is_silent}
+use Rattle.print_rounds.specs.Courses.{Course, Answer, IsApplied, Starting, IsStartingOf, AreStartings, Launching, AreReads, Ending, IsEnding, IsEndingOf, AreEndings, IsReport, is_silent}
 use Rattle.print_rounds.specs.declared.outcome.Report.{Report}
 use Rattle.print_rounds.specs.declared.outcome.Report.TheVariants as reports
-use Rattle.print_rounds.specs.Rounds.{HasSomeOf}
-use Rattle.print_rounds.proofs.PrefixLaws.{after_both, none_of, one_of, some_first, some_later}
+use Rattle.print_rounds.proofs.PrefixLaws.{after_both}
+use Rattle.print_rounds.proofs.ReadLaws.{reads_counted, reads_over, reads_state, reads_still}
 use Rattle.print_rounds.proofs.ReportLaws.{done_state, fault_state}
 
 -- A part of a round, with the events that were tried in it and those that were acknowledged. After a fault of the device
--- nothing is done. What is written leaves the table after the first of the events that were tried.
+-- nothing is done.
 pub record IsPart {D : Type 0} (device : DiskView D) (old : Standing D) (tried events : List Event) (new : Standing D) : Type 0 where
   pub table : new.state ≡ after_all old.state events
   pub acknowledged : new.dead ≡ false → tried ≡ events
   pub dead : old.dead ≡ true → new ≡ old
   pub counted : device.failures old.disk ≤ device.failures new.disk
   pub told : IsSome (device.bytes new.disk) ↔ IsSome (device.bytes old.disk)
-  pub crash : old.dead ≡ false → IsSome (device.bytes old.disk) → (new ≡ old) ⊎ LeavesOnly device old.disk new.disk (HasSomeOf old.state tried)
-
--- until the device has failed a crash leaves the table
-abbrev pub IsKept : {D : Type 0} → DiskView D → Standing D → Type 0
-IsKept device s = s.dead ≡ false → IsSome (device.bytes s.disk) → (c : List ℕ) → device.image s.disk c → HasTable s.state c
 
 module _ {D : Type 0} (device : DiskView D) where
   -- nothing is done
@@ -46,11 +38,10 @@ module _ {D : Type 0} (device : DiskView D) where
     dead = λ is. same;
     counted = subst (λ (x : Standing D). device.failures old.disk ≤ device.failures x.disk) (sym same) (omega arith);
     told = subst (λ (x : Standing D). IsSome (device.bytes x.disk) ↔ IsSome (device.bytes old.disk)) (sym same) (λ k. k, λ k. k);
-    crash = λ alive tells. inl same;
   }
 
   -- what works after a part worked before it
-  alive_before : (mid new : Standing D) (tried events : List Event) → IsPart device mid tried events new → new.dead ≡ false → mid.dead ≡ false
+  pub alive_before : (mid new : Standing D) (tried events : List Event) → IsPart device mid tried events new → new.dead ≡ false → mid.dead ≡ false
   alive_before mid new tried events part lives = by_dead mid.dead refl
     where
       by_dead : (b : Bool) → mid.dead ≡ b → mid.dead ≡ false
@@ -61,41 +52,6 @@ module _ {D : Type 0} (device : DiskView D) where
 
   -- a part, and another after it
   module _ (old mid new : Standing D) (es fs xs ys : List Event) (first : IsPart device old es xs mid) (more : IsPart device mid fs ys new) where
-    tried_table : mid.dead ≡ false → mid.state ≡ after_all old.state es
-    tried_table lives = first.table ∙ ap (after_all old.state) (sym (first.acknowledged lives))
-
-    -- nothing is done in the second
-    first_run : LeavesOnly device old.disk mid.disk (HasSomeOf old.state es) → new ≡ mid → LeavesOnly device old.disk new.disk (HasSomeOf old.state (es ++ fs))
-    first_run run same =
-        subst (λ (x : Standing D). LeavesOnly device old.disk x.disk (HasSomeOf old.state (es ++ fs))) (sym same)
-        (weaker_run device old.disk mid.disk (HasSomeOf old.state (es ++ fs)) (HasSomeOf old.state es) run (some_first old.state es fs))
-
-    -- nothing is done in the first
-    second_run : mid ≡ old → mid.dead ≡ false → LeavesOnly device mid.disk new.disk (HasSomeOf mid.state fs) → LeavesOnly device old.disk new.disk (HasSomeOf old.state (es ++ fs))
-    second_run same lives run =
-        subst (λ (x : Standing D). LeavesOnly device x.disk new.disk (HasSomeOf old.state (es ++ fs))) same
-        (weaker_run device mid.disk new.disk (HasSomeOf old.state (es ++ fs)) (HasSomeOf mid.state fs) run (λ c. some_later old.state mid.state es fs c (tried_table lives)))
-
-    both_run : LeavesOnly device old.disk mid.disk (HasSomeOf old.state es) → mid.dead ≡ false → LeavesOnly device mid.disk new.disk (HasSomeOf mid.state fs) → LeavesOnly device old.disk new.disk (HasSomeOf old.state (es ++ fs))
-    both_run run lives later =
-        runs_on device old.disk mid.disk new.disk (HasSomeOf old.state (es ++ fs)) (HasSomeOf mid.state fs)
-        (weaker_run device old.disk mid.disk (HasSomeOf old.state (es ++ fs)) (HasSomeOf old.state es) run (some_first old.state es fs))
-        later
-        (λ c. some_later old.state mid.state es fs c (tried_table lives))
-
-    -- by whether the device works after the first
-    crash_by : (b : Bool) → mid.dead ≡ b → IsSome (device.bytes old.disk) → LeavesOnly device old.disk mid.disk (HasSomeOf old.state es) → LeavesOnly device old.disk new.disk (HasSomeOf old.state (es ++ fs))
-    crash_by true is tells run = first_run run (more.dead is)
-    crash_by false is tells run = ⊎_elim (first_run run) (both_run run is) (more.crash is (first.told.1 tells))
-
-    both_crash : old.dead ≡ false → IsSome (device.bytes old.disk) → (new ≡ old) ⊎ LeavesOnly device old.disk new.disk (HasSomeOf old.state (es ++ fs))
-    both_crash alive tells = ⊎_elim
-        (λ same.
-        let lives : mid.dead ≡ false = ap (λ (x : Standing D). x.dead) same ∙ alive in
-        ⊎_elim (λ still. inl (still ∙ same)) (λ run. inr (second_run same lives run)) (more.crash lives (first.told.1 tells)))
-        (λ run. inr (crash_by mid.dead refl tells run))
-        (first.crash alive tells)
-
     pub both_parts : IsPart device old (es ++ fs) (xs ++ ys) new
     both_parts = record {
       table = more.table ∙ ap (λ s. after_all s ys) first.table ∙ sym (after_both old.state xs ys);
@@ -103,18 +59,7 @@ module _ {D : Type 0} (device : DiskView D) where
       dead = λ is. let same : mid ≡ old = first.dead is in more.dead (ap (λ (x : Standing D). x.dead) same ∙ is) ∙ same;
       counted = omega (arith, first.counted, more.counted);
       told = (λ k. first.told.0 (more.told.0 k), λ k. more.told.1 (first.told.1 k));
-      crash = both_crash;
     }
-
-  -- Where a crash before it leaves the table, a crash at any moment of it leaves the one after the first of the events that
-  -- were tried.
-  pub part_crash : IsLawful device → (old new : Standing D) (tried events : List Event) → IsKept device old → IsPart device old tried events new
-      → old.dead ≡ false → IsSome (device.bytes old.disk) → LeavesOnly device old.disk new.disk (HasSomeOf old.state tried)
-  part_crash lawful old new tried events kept part alive tells = ⊎_elim
-      (λ same. subst (λ (x : Standing D). LeavesOnly device old.disk x.disk (HasSomeOf old.state tried)) (sym same)
-      (started device old.disk (HasSomeOf old.state tried) (λ c since. none_of old.state tried c (kept alive tells c (lawful.only_now old.disk c since)))))
-      (λ run. run)
-      (part.crash alive tells)
 
 -- ## One event
 
@@ -136,21 +81,13 @@ module _ {D : Type 0} (device : DiskView D) where
   answer_tried old e (Err faults.Full) new is lives = refl
   answer_tried old e (Err faults.Disk) new is lives = let died = is.dead in absurd (cc)
 
-  answer_dead : (old : Standing D) (e : Event) (a : Answer) (new : Standing D) → IsAnswer device old e a new → old.dead ≡ true → new ≡ old
+  pub answer_dead : (old : Standing D) (e : Event) (a : Answer) (new : Standing D) → IsAnswer device old e a new → old.dead ≡ true → new ≡ old
   answer_dead old e (Ok reply) new is died = let alive = is.fits.alive in absurd (cc)
   answer_dead old e (Err faults.Dead) new is died = is.1
   answer_dead old e (Err (faults.Refused refusal)) new is died = is.2
   answer_dead old e (Err faults.Memory) new is died = is.2
   answer_dead old e (Err faults.Full) new is died = is.1
   answer_dead old e (Err faults.Disk) new is died = let alive = is.fits.alive in absurd (cc)
-
-  answer_crash : (old : Standing D) (e : Event) (a : Answer) (new : Standing D) → IsAnswer device old e a new → LeavesOnly device old.disk new.disk (HasBeforeOrAfterEvent old.state e) → (new ≡ old) ⊎ LeavesOnly device old.disk new.disk (HasSomeOf old.state (tried_by e a))
-  answer_crash old e (Ok reply) new is run = inr (weaker_run device old.disk new.disk (HasSomeOf old.state (e ∷ [])) (HasBeforeOrAfterEvent old.state e) run (one_of old.state e))
-  answer_crash old e (Err faults.Dead) new is run = inl is.1
-  answer_crash old e (Err (faults.Refused refusal)) new is run = inl is.2
-  answer_crash old e (Err faults.Memory) new is run = inl is.2
-  answer_crash old e (Err faults.Full) new is run = inl is.1
-  answer_crash old e (Err faults.Disk) new is run = inr (weaker_run device old.disk new.disk (HasSomeOf old.state (e ∷ [])) (HasBeforeOrAfterEvent old.state e) run (one_of old.state e))
 
   one_part : (old : Standing D) (e : Event) (a : Answer) (new : Standing D) → IsApplied device old e a new → IsPart device old (tried_by e a) (acknowledged_by e a) new
   one_part old e a new is = record {
@@ -159,13 +96,12 @@ module _ {D : Type 0} (device : DiskView D) where
     dead = answer_dead old e a new is.cause;
     counted = is.counted;
     told = is.told;
-    crash = λ alive tells. answer_crash old e a new is.cause (is.crash alive tells);
   }
 
 -- ## The steps
 
 module _ {D : Type 0} (device : DiskView D) where
-  start_part : (old : Standing D) (o : Option ℕ) (answer : Option Answer) (new : Standing D) → IsStartingOf device old o answer new → IsPart device old (start_tried o answer) (start_events o answer) new
+  pub start_part : (old : Standing D) (o : Option ℕ) (answer : Option Answer) (new : Standing D) → IsStartingOf device old o answer new → IsPart device old (start_tried o answer) (start_events o answer) new
   start_part old None answer new (none, same) = still device old new same
   start_part old (Some j) None new is = absurd is
   start_part old (Some j) (Some a) new (accepted, is) = one_part device old (Start j) a new is
@@ -176,6 +112,18 @@ module _ {D : Type 0} (device : DiskView D) where
       let o = next_of old.state t.queue in
       both_parts device old t.next new (start_tried o t.answer) (starting_tried t.next ts) (start_events o t.answer) (starting_events t.next ts)
       (start_part old o t.answer t.next start) (starts_part t.next ts new starts)
+
+  -- the reads of documents are one too
+  pub reads_part : (old : Standing D) (ts : List Launching) (new : Standing D) → IsLawful device → AreReads device old ts new → IsPart device old [] [] new
+  reads_part old ts new lawful reads =
+      let same : device.bytes new.disk ≡ device.bytes old.disk = (reads_still device lawful old ts new reads).bytes in
+      record {
+        table = reads_state device old ts new reads;
+        acknowledged = λ lives. refl;
+        dead = reads_over device old ts new reads;
+        counted = reads_counted device old ts new reads;
+        told = (λ k. subst IsSome same k, λ k. subst IsSome (sym same) k);
+      }
 
   report_part : (old : Course D) (j : ℕ) (r : Report) (new : Course D) → IsReport device old j r new → IsPart device old.spool (report_tried (Stage (end_in old.slots j)) r) (report_events (Stage (end_in old.slots j)) r) new.spool
   report_part old j reports.Silent new none = absurd none

@@ -1,5 +1,5 @@
 -- A whole round, from its parts.
-use Rattle.std.proofs.Common.{◌≡◌, inr, ℕ, true, false, List, [], ◌∷◌, ◌++◌, map, Option, Some, None, Result, Ok, Err, refl, sym, ap, subst, ◌∙◌, append-nil, add-zero}
+use Rattle.std.proofs.Common.{◌≡◌, inl, inr, ℕ, Bool, true, false, List, [], ◌∷◌, ◌++◌, map, Option, Some, None, Result, Ok, Err, refl, sym, ap, subst, ◌∙◌, append-nil, add-zero}
 use Rattle.std.specs.Option.{option_or}
 use Rattle.std.specs.FinMap as finite
 use Rattle.spool_disk.specs.Disk.{DiskView, IsLawful}
@@ -8,25 +8,33 @@ use Rattle.spool_types.specs.State.{State}
 use Rattle.job_table.specs.Attempts.{next_of}
 use Rattle.job_table.specs.Fold.{after_all}
 use Rattle.job_table.specs.Legal.{IsLegal}
-use Rattle.spool_core.specs.Standing.{Standing}
+use Rattle.spool_types.specs.declared.event.Event.TheVariants.{Stage}
+use Rattle.spool_core.specs.Standing.{Standing, IsAnswer}
+use Rattle.spool_core.specs.declared.spool.apply_fault.ApplyFault.TheVariants as faults
+use Rattle.std.proofs.lemmas.Bool.{both_ways}
 use Rattle.filter_args.specs.declared.place.Place.{Place}
-use Rattle.child_pipeline.specs.Slots.{Slots}
+use Rattle.child_pipeline.specs.Slots.{Slots, end_in}
 use Rattle.child_pipeline.specs.Told.{Told}
 use Rattle.print_rounds.specs.Choice.{busy_jobs}
-use Rattle.print_rounds.specs.Counts.{starting_fault, stages_fault, launching_fault, ending_fault, counts_of, result_of, starting_events, ending_events, starting_tried, ending_tried}
-use Rattle.print_rounds.specs.Courses.{Course, course, Answer, Starting, AreStartings, IsStartingOf, Ending, AreEndings, IsRunOfStages}
+use Rattle.print_rounds.specs.Counts.{answer_fault, launch_fault, report_fault, starting_fault, stages_fault, launching_fault, ending_fault, counts_of, result_of, starting_events, ending_events, starting_tried, ending_tried}
+use Rattle.print_rounds.specs.Courses.{Course, course, Answer, Starting, AreStartings, IsStartingOf, Launching, AreReads, Ending, IsReport, IsEndingOf, AreEndings, AreHanded, IsRunOfStages, is_silent}
 use Rattle.print_rounds.specs.Faultless.{IsBegun, AllBegun, AreExact, AreExactStarts}
 use Rattle.print_rounds.specs.Finished.{AreDistinct, EachFinishedOnce, HasNoneRunning}
 use Rattle.print_rounds.specs.Rounds.{IsRoundBy, IsRoundOf, IsScriptRound, jobs_run}
 use Rattle.print_rounds.specs.Script.{Play, play_from, play_stages, current_slots, round_of}
+use Rattle.print_rounds.specs.declared.outcome.Report.{Report}
+use Rattle.print_rounds.specs.declared.outcome.Report.TheVariants as reports
 use Rattle.print_rounds.specs.declared.outcome.Round.{Round}
 use Rattle.print_rounds.specs.declared.outcome.RoundFault.{RoundFault}
+use Rattle.print_rounds.specs.declared.outcome.RoundFault.TheVariants as ends
 use Rattle.print_rounds.proofs.AcceptLaws.{all_begun, all_served, or_first, or_second}
 use Rattle.print_rounds.proofs.CurrentLaws.{AllSuit, current_suit, starts_suit, launches_suit}
+use Rattle.print_rounds.proofs.CrashLaws.{IsKept, round_part, any_moment, any_whole, lasting, handed}
 use Rattle.print_rounds.proofs.HoldLaws.{Laws}
 use Rattle.print_rounds.proofs.LaunchLaws.{HasNumbers}
 use Rattle.print_rounds.proofs.StartLaws.{starts_keys}
-use Rattle.print_rounds.proofs.PartLaws.{IsKept, IsPart, starts_part, ends_part, both_parts, part_crash}
+use Rattle.print_rounds.proofs.PartLaws.{IsPart, starts_part}
+use Rattle.print_rounds.proofs.ReadLaws.{reads_state, some_handed}
 use Rattle.print_rounds.proofs.ToldLaws.{all_told, suit_in}
 use Rattle.print_rounds.proofs.WorldLaws.{failed_turn, live_turn}
 
@@ -64,59 +72,103 @@ module _ {D : Type 0} (device : DiskView D) where
   starts_alive old [] new same begun alive = ap (λ (x : Standing D). x.dead) same ∙ alive
   starts_alive old (t ∷ ts) new (start, starts) (first, others) alive = starts_alive t.next ts new starts others (one_alive old (next_of old.state t.queue) t.answer t.next start first alive)
 
-  -- the starts, and the ends after them
-  round_part : (old mid : Standing D) (ts : List (Starting D)) → AreStartings device old ts mid → (slots : Slots) (told : Option Told) (es : List (Ending D)) (new : Course D) → AreEndings device (course mid slots told) es new → IsPart device old (starting_tried old ts ++ ending_tried es) (starting_events old ts ++ ending_events es) new.spool
-  round_part old mid ts starts slots told es new ends =
-      both_parts device old mid new.spool (starting_tried old ts) (ending_tried es) (starting_events old ts) (ending_events es) (starts_part device old ts mid starts) (ends_part device (course mid slots told) es new ends)
+  answer_alive : (old : Standing D) (e : Event) (a : Answer) (new : Standing D) → IsAnswer device old e a new → answer_fault a ≡ None → old.dead ≡ false → new.dead ≡ false
+  answer_alive old e (Ok reply) new is none alive = is.alive
+  answer_alive old e (Err faults.Dead) new is none alive = absurd (cc)
+  answer_alive old e (Err (faults.Refused refusal)) new is none alive = ap (λ (x : Standing D). x.dead) is.2 ∙ alive
+  answer_alive old e (Err faults.Memory) new is none alive = absurd (cc)
+  answer_alive old e (Err faults.Full) new is none alive = absurd (cc)
+  answer_alive old e (Err faults.Disk) new is none alive = absurd (cc)
+
+  report_alive : (old : Course D) (j : ℕ) (r : Report) (new : Course D) → IsReport device old j r new → report_fault r ≡ None → old.spool.dead ≡ false → new.spool.dead ≡ false
+  report_alive old j reports.Silent new is none alive = absurd is
+  report_alive old j reports.NoMemory new is none alive = absurd (cc)
+  report_alive old j (reports.Answered a) new is none alive = answer_alive old.spool (Stage (end_in old.slots j)) a new.spool is.0.cause none alive
+
+  end_alive : (old : Course D) (e : Ending D) (b : Bool) → IsEndingOf device old b e → report_fault e.report ≡ None → old.spool.dead ≡ false → e.next.spool.dead ≡ false
+  end_alive old e true (silent, kept, same) none alive = ap (λ (c : Course D). c.spool.dead) same ∙ alive
+  end_alive old e false (finishes, same, report) none alive = report_alive e.kept e.job e.report e.next report none (ap (λ (x : Standing D). x.dead) same ∙ alive)
+
+  -- where no end had a fault it works on
+  ends_alive : (old : Course D) (es : List (Ending D)) (new : Course D) → AreEndings device old es new → ending_fault es ≡ None → old.spool.dead ≡ false → new.spool.dead ≡ false
+  ends_alive old [] new same none alive = ap (λ (c : Course D). c.spool.dead) same ∙ alive
+  ends_alive old (e ∷ es) new are none alive =
+      ends_alive e.next es new are.1 (or_second (report_fault e.report) (ending_fault es) none)
+      (end_alive old e (is_silent (finite.get old.slots e.job)) are.0 (or_first (report_fault e.report) (ending_fault es) none) alive)
+
+  -- and where no read had one
+  reads_work : (old : Standing D) (ls : List Launching) (new : Standing D) → AreReads device old ls new → launching_fault ls ≡ None → old.dead ≡ false → new.dead ≡ false
+  reads_work old [] new same none alive = ap (λ (x : Standing D). x.dead) same ∙ alive
+  reads_work old (l ∷ ls) new (next, first, reads) none alive = reads_work next ls new reads (or_second (launch_fault l.launch) (launching_fault ls) none) (by_dead next.dead refl)
+    where
+      by_dead : (b : Bool) → next.dead ≡ b → next.dead ≡ false
+      by_dead false is = is
+      by_dead true is = elim (first.dies.0 is) [
+        | inl died ↦ absurd (both_ways _ alive died)
+        | inr broke ↦ absurd (let here : launch_fault l.launch ≡ None = or_first (launch_fault l.launch) (launching_fault ls) none in let there : launch_fault l.launch ≡ Some ends.Disk = ap launch_fault broke in cc)
+      ]
 
   -- the starts, and a run of stages after them
-  pub run_part : {mid : Standing D} {slots : Slots} {told : Option Told} {js : List ℕ} {new : Course D} (place : Place) (old : Standing D) (ts : List (Starting D)) → AreStartings device old ts mid → (runs : IsRunOfStages device place (course mid slots told) js new) → IsPart device old (starting_tried old ts ++ ending_tried runs.endings) (starting_events old ts ++ ending_events runs.endings) new.spool
-  run_part {mid} {slots} {told} {js} {new} place old ts starts runs = round_part old mid ts starts runs.slots runs.told runs.endings new runs.ends
+  pub run_part : {mid : Standing D} {slots : Slots} {told : Option Told} {js : List ℕ} {new : Course D} (lawful : IsLawful device) (place : Place) (old : Standing D) (ts : List (Starting D)) → AreStartings device old ts mid → (runs : IsRunOfStages device place (course mid slots told) js new) → IsPart device old (starting_tried old ts ++ ending_tried runs.endings) (starting_events old ts ++ ending_events runs.endings) new.spool
+  run_part {mid} {slots} {told} {js} {new} lawful place old ts starts runs = round_part device lawful old mid ts starts runs.launchings runs.read runs.reads runs.slots runs.told runs.endings new runs.ends
 
   module _ (lawful : IsLawful device) (place : Place) (old : Course D) (kept : IsKept device old.spool) (mid : Standing D) (ts : List (Starting D)) (starts : AreStartings device old.spool ts mid) (queues : map (λ t. t.queue) ts ≡ finite.keys old.spool.state.queues) where
     -- the device failed at a start
     pub dead_round : Laws → IsLegal old.spool.state → HasNoneRunning old.slots → old.spool.dead ≡ false → mid.dead ≡ true → (result : Result Round RoundFault) → result ≡ result_of (record { started = 0; finished = 0 }) (starting_fault ts) → IsRoundOf device place old (course mid (current_slots old.spool.state old.slots) old.told) result
     dead_round laws legal rests alive dead result answer = record {
-      steps = record { startings = ts; mid = mid; launchings = []; slots = current_slots old.spool.state old.slots; told = old.told; endings = [] };
+      steps = record { startings = ts; mid = mid; launchings = []; read = mid; slots = current_slots old.spool.state old.slots; told = old.told; endings = [] };
       made = record {
         starts = starts;
         queues = queues;
         launches = (refl, refl);
+        reads = refl;
         launched = sym (ap (jobs_run mid) dead);
         ends = refl;
         ended = sym (ap (jobs_run mid) dead);
       };
       answer = answer ∙ ap (result_of (record { started = 0; finished = 0 })) (sym (or_none (starting_fault ts)));
       table = part.table;
-      any_moment = part_crash device lawful old.spool mid (starting_tried old.spool ts ++ []) (starting_events old.spool ts ++ []) kept part;
+      any_moment = any_moment device lawful old.spool mid ts starts [] mid refl slots old.told [] failed refl kept;
+      any_whole = any_whole device lawful old.spool mid ts starts [] mid refl slots old.told [] failed refl kept;
+      lasting = lasting device lawful old.spool mid ts starts [] mid refl slots old.told [] failed refl;
+      works = λ none lived. starts_alive old.spool ts mid starts (all_begun device old.spool ts mid starts (or_first (starting_fault ts) None none)) lived;
       all_acknowledged = part.acknowledged;
       turn = λ t tells quiet. failed_turn device laws old legal mid ts starts rests t tells alive;
-      exact = λ none t tells quiet.
+      read = (λ j. [], tt);
+      handed = λ bytes documents tells has. tt;
+      exact = λ none t documents tells quiet handed.
           let lives : mid.dead ≡ false = starts_alive old.spool ts mid starts (all_begun device old.spool ts mid starts (or_first (starting_fault ts) None none)) alive in
           absurd (cc);
     }
       where
+        slots : Slots
+        slots = current_slots old.spool.state old.slots
+
+        failed : Course D
+        failed = course mid slots old.told
+
         part : IsPart device old.spool (starting_tried old.spool ts ++ []) (starting_events old.spool ts ++ []) mid
-        part = round_part old.spool mid ts starts (current_slots old.spool.state old.slots) old.told [] (course mid (current_slots old.spool.state old.slots) old.told) refl
+        part = round_part device lawful old.spool mid ts starts [] mid refl slots old.told [] failed refl
 
     -- a stage of each processing job was run
     module _ (js : List ℕ) (new : Course D) (runs : IsRunOfStages device place (course mid (current_slots old.spool.state old.slots) old.told) js new) (jobs : js ≡ busy_jobs mid.state (finite.keys mid.state.queues)) where
       -- where nothing failed it is Script's
-      live_exact : IsLegal old.spool.state → ((s : State) (events : List Event) → IsLegal s → IsLegal (after_all s events)) → AreExactStarts old.spool (finite.keys old.spool.state.queues) mid ts → AreExact device place (course mid (current_slots old.spool.state old.slots) old.told) js new runs → AreDistinct js → starting_fault ts ≡ None → launching_fault runs.launchings ≡ None → ending_fault runs.endings ≡ None → (t : Told) → old.told ≡ Some t → t.running ≡ []
-          → IsScriptRound old (record { startings = ts; mid = mid; launchings = runs.launchings; slots = runs.slots; told = runs.told; endings = runs.endings }) new (round_of place old.spool.state old.slots t)
-      live_exact legal stays exact_starts exact distinct no_start no_launch no_end t tells quiet =
+      live_exact : IsLegal old.spool.state → ((s : State) (events : List Event) → IsLegal s → IsLegal (after_all s events)) → AreExactStarts old.spool (finite.keys old.spool.state.queues) mid ts → AreExact device place (course mid (current_slots old.spool.state old.slots) old.told) js new runs → AreDistinct js → starting_fault ts ≡ None → launching_fault runs.launchings ≡ None → ending_fault runs.endings ≡ None → (t : Told) (documents : ℕ → List ℕ) → old.told ≡ Some t → t.running ≡ [] → AreHanded documents runs.launchings
+          → IsScriptRound old (record { startings = ts; mid = mid; launchings = runs.launchings; read = runs.read; slots = runs.slots; told = runs.told; endings = runs.endings }) new (round_of place documents old.spool.state old.slots t)
+      live_exact legal stays exact_starts exact distinct no_start no_launch no_end t documents tells quiet handed =
           let legal_mid : IsLegal mid.state = subst IsLegal (sym (starts_part device old.spool ts mid starts).table) (stays old.spool.state (starting_events old.spool ts) legal) in
           let numbers : HasNumbers mid.state = λ j r there. (legal_mid.jobs j r there).id in
+          let same : runs.read.state ≡ mid.state = reads_state device mid runs.launchings runs.read runs.reads in
           let suits : AllSuit mid.state runs.slots = launches_suit place mid.state numbers (current_slots old.spool.state old.slots) old.told runs.launchings runs.slots runs.told runs.starts
           (starts_suit device old.spool ts mid (current_slots old.spool.state old.slots) starts (current_suit old.spool.state old.slots)) in
-          let told = all_told device stays (course mid runs.slots runs.told) runs.endings new runs.ends legal_mid (suit_in device mid.state runs.slots suits (map (λ e. e.job) runs.endings)) (subst AreDistinct (sym runs.ended) distinct) no_end in
+          let told = all_told device stays (course runs.read runs.slots runs.told) runs.endings new runs.ends (subst IsLegal (sym same) legal_mid) (suit_in device runs.read.state runs.slots (subst (λ s. AllSuit s runs.slots) (sym same) suits) (map (λ e. e.job) runs.endings)) (subst AreDistinct (sym runs.ended) distinct) no_end in
           let events = starting_events old.spool ts in
-          let p = exact t events tells quiet (all_served runs.launchings no_launch) told in
+          let p = exact t events documents tells quiet (all_served runs.launchings no_launch) told handed in
           let begun = exact_starts (current_slots old.spool.state old.slots) t (all_begun device old.spool ts mid starts no_start) in
           let started : Play = record (play_from mid.state (current_slots old.spool.state old.slots) t) { events = events } in
           let list : js ≡ busy_jobs mid.state (finite.keys old.spool.state.queues) = jobs ∙ ap (busy_jobs mid.state) (starts_keys device old.spool ts mid starts) in
-          let whole : play_stages place started js ≡ round_of place old.spool.state old.slots t =
-          ap (play_stages place started) list ∙ ap (λ (q : Play). play_stages place q (busy_jobs q.state (finite.keys old.spool.state.queues))) (sym begun) in
+          let whole : play_stages place documents started js ≡ round_of place documents old.spool.state old.slots t =
+          ap (play_stages place documents started) list ∙ ap (λ (q : Play). play_stages place documents q (busy_jobs q.state (finite.keys old.spool.state.queues))) (sym begun) in
           record {
             state = p.state ∙ ap (λ (q : Play). q.state) whole;
             slots = p.slots ∙ ap (λ (q : Play). q.slots) whole;
@@ -129,28 +181,38 @@ module _ {D : Type 0} (device : DiskView D) where
       pub live_round : old.spool.dead ≡ false → mid.dead ≡ false → IsLegal old.spool.state → Laws → HasNoneRunning old.slots → HasNoneRunning new.slots → AreExactStarts old.spool (finite.keys old.spool.state.queues) mid ts → AreExact device place (course mid (current_slots old.spool.state old.slots) old.told) js new runs → AreDistinct js
           → (result : Result Round RoundFault) → result ≡ result_of (counts_of runs.launchings runs.endings) (option_or (starting_fault ts) (stages_fault runs.launchings runs.endings)) → IsRoundOf device place old new result
       live_round lived alive legal laws rests rests_then exact_starts exact distinct result answer = record {
-        steps = record { startings = ts; mid = mid; launchings = runs.launchings; slots = runs.slots; told = runs.told; endings = runs.endings };
+        steps = record { startings = ts; mid = mid; launchings = runs.launchings; read = runs.read; slots = runs.slots; told = runs.told; endings = runs.endings };
         made = record {
           starts = starts;
           queues = queues;
           launches = runs.starts;
+          reads = runs.reads;
           launched = runs.started ∙ jobs ∙ sym (ap (jobs_run mid) alive);
           ends = runs.ends;
           ended = runs.ended ∙ jobs ∙ sym (ap (jobs_run mid) alive);
         };
         answer = answer;
         table = part.table;
-        any_moment = part_crash device lawful old.spool new.spool (starting_tried old.spool ts ++ ending_tried runs.endings) (starting_events old.spool ts ++ ending_events runs.endings) kept part;
+        any_moment = any_moment device lawful old.spool mid ts starts runs.launchings runs.read runs.reads runs.slots runs.told runs.endings new runs.ends kept;
+        any_whole = any_whole device lawful old.spool mid ts starts runs.launchings runs.read runs.reads runs.slots runs.told runs.endings new runs.ends kept;
+        lasting = lasting device lawful old.spool mid ts starts runs.launchings runs.read runs.reads runs.slots runs.told runs.endings new runs.ends;
+        works = λ none lived.
+            let later = or_second (starting_fault ts) (stages_fault runs.launchings runs.endings) none in
+            ends_alive (course runs.read runs.slots runs.told) runs.endings new runs.ends (or_second (launching_fault runs.launchings) (ending_fault runs.endings) later)
+            (reads_work mid runs.launchings runs.read runs.reads (or_first (launching_fault runs.launchings) (ending_fault runs.endings) later) alive);
         all_acknowledged = part.acknowledged;
         turn = λ t tells quiet. live_turn device laws old legal mid ts starts place js new runs distinct rests rests_then t tells quiet lived;
-        exact = λ none t tells quiet.
+        read = some_handed runs.launchings (subst AreDistinct (sym runs.started) distinct);
+        handed = λ bytes documents tells has. handed device lawful old.spool mid ts starts runs.launchings runs.read runs.reads runs.slots runs.told runs.endings new runs.ends alive bytes documents tells has
+            place (current_slots old.spool.state old.slots) runs.slots old.told runs.told runs.starts;
+        exact = λ none t documents tells quiet handed.
             let later = or_second (starting_fault ts) (stages_fault runs.launchings runs.endings) none in
             live_exact legal laws.legal exact_starts exact distinct (or_first (starting_fault ts) (stages_fault runs.launchings runs.endings) none)
-            (or_first (launching_fault runs.launchings) (ending_fault runs.endings) later) (or_second (launching_fault runs.launchings) (ending_fault runs.endings) later) t tells quiet;
+            (or_first (launching_fault runs.launchings) (ending_fault runs.endings) later) (or_second (launching_fault runs.launchings) (ending_fault runs.endings) later) t documents tells quiet handed;
       }
         where
           part : IsPart device old.spool (starting_tried old.spool ts ++ ending_tried runs.endings) (starting_events old.spool ts ++ ending_events runs.endings) new.spool
-          part = run_part place old.spool ts starts runs
+          part = run_part lawful place old.spool ts starts runs
 
     -- the same over slots that are the current ones, whatever was answered of the starts
     pub whole_round : old.spool.dead ≡ false → mid.dead ≡ false → IsLegal old.spool.state → Laws → HasNoneRunning old.slots → AreExactStarts old.spool (finite.keys old.spool.state.queues) mid ts

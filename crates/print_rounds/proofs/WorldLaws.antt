@@ -24,6 +24,7 @@ use Rattle.print_rounds.proofs.KeyLaws.{accepted_both, starts_accepted, ends_acc
 use Rattle.print_rounds.proofs.LaunchLaws.{HasNumbers, all_started, some_of}
 use Rattle.print_rounds.proofs.PartLaws.{starts_part, ends_part}
 use Rattle.print_rounds.proofs.PrefixLaws.{after_both}
+use Rattle.print_rounds.proofs.ReadLaws.{reads_state}
 
 -- a stage that goes on is held where no child runs
 going_held : (s : State) (slots : Slots) (k : Key) → HasNoneRunning slots → (IsIn s k × HasBegun slots k) ⊎ IsSpent s k → IsHeld s slots k ⊎ IsSpent s k
@@ -69,6 +70,12 @@ module _ {D : Type 0} (device : DiskView D) (laws : Laws) (old : Course D) (lega
     numbers : HasNumbers mid.state
     numbers j r there = (legal_mid.jobs j r there).id
 
+    -- what goes on before the ends does so behind them, or is spent
+    going_on : (k : Key) → (IsIn mid.state k × HasBegun runs.slots k) ⊎ IsSpent mid.state k → (IsIn new.spool.state k × HasBegun new.slots k) ⊎ IsSpent new.spool.state k
+    going_on k going =
+        let still : runs.read.state ≡ mid.state = reads_state device mid runs.launchings runs.read runs.reads in
+        ends_going device laws k (course runs.read runs.slots runs.told) runs.endings new runs.ends (subst IsLegal (sym still) legal_mid) (subst (λ s. (IsIn s k × HasBegun runs.slots k) ⊎ IsSpent s k) (sym still) going)
+
     -- a stage of each processing job was run
     pub live_turn : old.spool.dead ≡ false → IsCallTurn t old (starting_events old.spool ts ++ ending_events runs.endings) new
     live_turn alive =
@@ -78,10 +85,11 @@ module _ {D : Type 0} (device : DiskView D) (laws : Laws) (old : Course D) (lega
         (all_rest slots (current_rests old.spool.state old.slots rests) (map (λ l. l.job) runs.launchings)) (subst AreDistinct (sym runs.started) distinct) in
         let same : started.now ≡ begun.now = some_of started.now begun.now (sym started.tells ∙ begun.tells) in
         let running = started.are.running ∙ ap (λ ns. ns ++ running_in runs.slots (map (λ l. l.job) runs.launchings)) quiet ∙ ap (running_in runs.slots) (runs.started ∙ sym runs.ended) in
-        let ended = ends_finished device begun.now (course mid runs.slots runs.told) runs.endings new runs.ends begun.tells
+        let ended = ends_finished device begun.now (course runs.read runs.slots runs.told) runs.endings new runs.ends begun.tells
         (ap (λ (u : Told). u.running) (sym same) ∙ running) (subst AreDistinct (sym runs.ended) distinct) in
         let first = (starts_part device old.spool ts mid starts).table in
-        let last = (ends_part device (course mid runs.slots runs.told) runs.endings new runs.ends).table in
+        let still = reads_state device mid runs.launchings runs.read runs.reads in
+        let last : new.spool.state ≡ after_all mid.state (ending_events runs.endings) = (ends_part device (course runs.read runs.slots runs.told) runs.endings new runs.ends).table ∙ ap (λ s. after_all s (ending_events runs.endings)) still in
         record {
           now = ended.0;
           tells = ended.1;
@@ -90,7 +98,7 @@ module _ {D : Type 0} (device : DiskView D) (laws : Laws) (old : Course D) (lega
           turn = record {
             legal = legal;
             accepted = accepted_both old.spool.state (starting_events old.spool ts) (ending_events runs.endings) (starts_accepted device old.spool ts mid starts)
-                (subst (λ s. AreAccepted s (ending_events runs.endings)) first (ends_accepted device (course mid runs.slots runs.told) runs.endings new runs.ends));
+                (subst (λ s. AreAccepted s (ending_events runs.endings)) (still ∙ first) (ends_accepted device (course runs.read runs.slots runs.told) runs.endings new runs.ends));
             table = last ∙ ap (λ s. after_all s (ending_events runs.endings)) first ∙ sym (after_both old.spool.state (starting_events old.spool ts) (ending_events runs.endings));
             distinct = begun.once;
             outside = λ k among held. elim (held_going k held) [
@@ -99,11 +107,11 @@ module _ {D : Type 0} (device : DiskView D) (laws : Laws) (old : Course D) (lega
             ];
             reached = λ k among. record { first = starting_events old.spool ts; rest = ending_events runs.endings; split = refl; reached = subst (λ s. IsIn s k) first (begun.inside k among) };
             settled = λ goes_on k some. elim some [
-              | inl held ↦ going_held new.spool.state new.slots k rests_then (ends_going device laws k (course mid runs.slots runs.told) runs.endings new runs.ends legal_mid (elim (held_going k held) [
+              | inl held ↦ going_held new.spool.state new.slots k rests_then (going_on k (elim (held_going k held) [
                 | inl now ↦ inl (now.0, begun.kept k now.0 now.1)
                 | inr gone ↦ inr gone
               ]))
-              | inr among ↦ going_held new.spool.state new.slots k rests_then (ends_going device laws k (course mid runs.slots runs.told) runs.endings new runs.ends legal_mid (inl (begun.inside k among, begun.begun k among)))
+              | inr among ↦ going_held new.spool.state new.slots k rests_then (going_on k (inl (begun.inside k among, begun.begun k among)))
             ];
           };
           after_over = λ died. absurd (both_ways _ alive died);

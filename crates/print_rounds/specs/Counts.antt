@@ -41,6 +41,8 @@ abbrev pub launch_fault : Launch → Option RoundFault
 launch_fault launches.Unlaunched = None
 launch_fault (launches.Launched started) = None
 launch_fault launches.NoMemory = Some ends.Memory
+launch_fault launches.Disk = Some ends.Disk
+launch_fault launches.Dead = Some ends.Dead
 
 abbrev pub report_fault : Report → Option RoundFault
 report_fault reports.Silent = None
@@ -67,6 +69,8 @@ abbrev pub started_by : Launch → ℕ
 started_by launches.Unlaunched = 0
 started_by (launches.Launched started) = cond started 1 0
 started_by launches.NoMemory = 0
+started_by launches.Disk = 0
+started_by launches.Dead = 0
 
 abbrev pub told_by : Report → ℕ
 told_by reports.Silent = 0

@@ -6,11 +6,11 @@ use Rattle.filter_args.specs.declared.place.Place.{Place}
 use Rattle.child_pipeline.specs.Slots.{Slots}
 use Rattle.child_pipeline.specs.Told.{Told}
 use Rattle.spool_core.specs.Standing.{Standing}
-use Rattle.print_rounds.specs.Courses.{Course, Answer, Starting, Launching, Ending, IsRunOfStages}
+use Rattle.print_rounds.specs.Courses.{Course, Answer, Starting, Launching, Ending, IsRunOfStages, AreHanded}
 use Rattle.print_rounds.specs.Counts.{started_in, told_in, ending_events, starting_events}
 use Rattle.print_rounds.specs.Script.{Play, play_from, play_stages, plays, play_start}
 use Rattle.print_rounds.specs.declared.outcome.Launch.{Launch}
-use Rattle.print_rounds.specs.declared.outcome.Launch.TheVariants.{Unlaunched, Launched, NoMemory}
+use Rattle.print_rounds.specs.declared.outcome.Launch.TheVariants.{Unlaunched, Launched, NoMemory, Disk, Dead}
 use Rattle.print_rounds.specs.declared.outcome.Report.{Report}
 use Rattle.print_rounds.specs.declared.outcome.Report.TheVariants as reports
 
@@ -29,11 +29,13 @@ abbrev pub AreExactStarts : {D : Type 0} → Standing D → List (List ℕ) → 
 AreExactStarts old queues new ts =
     (slots : Slots) (told : Told) → AllBegun ts → plays play_start (play_from old.state slots told) queues ≡ record (play_from new.state slots told) { events = starting_events old ts }
 
--- there was memory
+-- there was memory, and the device worked
 abbrev pub IsServed : Launch → Type 0
 IsServed Unlaunched = Unit {0}
 IsServed (Launched started) = Unit {0}
 IsServed NoMemory = ⊥
+IsServed Disk = ⊥
+IsServed Dead = ⊥
 
 abbrev pub AllServed : List Launching → Type 0
 AllServed [] = Unit {0}
@@ -59,8 +61,8 @@ pub record IsPlayed {D : Type 0} (device : DiskView D) (place : Place) (old : Co
   pub started : started_in runs.launchings ≡ p.started
   pub ended : told_in runs.endings ≡ p.ended
 
--- these steps, where nothing failed in them and the children tell, are Script's
+-- these steps, where nothing failed in them and the children tell, are Script's with the documents that were read
 abbrev pub AreExact : {D : Type 0} (device : DiskView D) (place : Place) (old : Course D) (jobs : List ℕ) (new : Course D) → IsRunOfStages device place old jobs new → Type 0
 AreExact device place old jobs new runs =
-    (t : Told) (before : List Event) → old.told ≡ Some t → t.running ≡ [] → AllServed runs.launchings → AllTold runs.endings
-    → IsPlayed device place old jobs new runs before (play_stages place (record (play_from old.spool.state old.slots t) { events = before }) jobs)
+    (t : Told) (before : List Event) (documents : ℕ → List ℕ) → old.told ≡ Some t → t.running ≡ [] → AllServed runs.launchings → AllTold runs.endings → AreHanded documents runs.launchings
+    → IsPlayed device place old jobs new runs before (play_stages place documents (record (play_from old.spool.state old.slots t) { events = before }) jobs)

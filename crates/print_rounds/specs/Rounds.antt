@@ -1,5 +1,5 @@
 -- A whole round: its steps, its answer, what a crash leaves of it, and what it is where nothing failed.
-use Rattle.std.specs.Prelude.{◌≡◌, ◌⊎◌, ℕ, Bool, true, false, List, [], ◌++◌, length, map, IsSome, Option, None, Some, Result, Err}
+use Rattle.std.specs.Prelude.{◌≡◌, ◌≤◌, ◌⊎◌, ℕ, Bool, true, false, List, [], ◌++◌, length, map, take, IsSome, Option, None, Some, Result, Err}
 use Rattle.std.specs.FinMap as finite
 use Rattle.std.specs.Option.{option_or}
 use Rattle.spool_disk.specs.Disk.{DiskView, LeavesOnly}
@@ -7,12 +7,13 @@ use Rattle.spool_types.specs.declared.event.Event.{Event}
 use Rattle.spool_types.specs.State.{State}
 use Rattle.job_table.specs.Fold.{after_all}
 use Rattle.spool_core.specs.Driving.{HasPrefixTable}
+use Rattle.spool_core.specs.Image.{HasDocuments, HasWhole}
 use Rattle.spool_core.specs.Standing.{Standing}
 use Rattle.filter_args.specs.declared.place.Place.{Place}
 use Rattle.child_pipeline.specs.Slots.{Slots}
 use Rattle.child_pipeline.specs.Told.{Told}
 use Rattle.print_rounds.specs.Choice.{busy_jobs}
-use Rattle.print_rounds.specs.Courses.{Course, course, Starting, AreStartings, Launching, Ending, AreLaunchings, AreEndings}
+use Rattle.print_rounds.specs.Courses.{Course, course, Starting, AreStartings, Launching, Ending, AreLaunchings, AreReads, AreHanded, AreEndings}
 use Rattle.print_rounds.specs.Counts.{starting_fault, stages_fault, counts_of, started_in, told_in, result_of, starting_events, ending_events, starting_tried, ending_tried}
 use Rattle.print_rounds.specs.Script.{Play, current_slots, round_of}
 use Rattle.print_rounds.specs.World.{IsCallTurn}
@@ -24,12 +25,22 @@ use Rattle.print_rounds.specs.declared.outcome.RoundFault.TheVariants as ends
 abbrev pub HasSomeOf : State → List Event → List ℕ → Type 0
 HasSomeOf s events image = HasPrefixTable s events 0 (length events) image
 
+-- so it is, and these are its documents: none of the events sends anything
+abbrev pub HasSomeWhole : State → (ℕ → List ℕ) → List Event → List ℕ → Type 0
+HasSomeWhole s documents events image = (k : ℕ) × (k ≤ length events) × HasWhole (after_all s (take k events)) documents image
+
+-- a crash leaves these documents
+abbrev pub LeavesDocuments : {D : Type 0} → DiskView D → (ℕ → List ℕ) → Standing D → Type 0
+LeavesDocuments device documents s = (c : List ℕ) → device.image s.disk c → HasDocuments s.state documents c
+
 -- the steps of a round: the slots that aren't current are freed, the next jobs started, and unless the device has failed
 -- by then a stage of each processing job is run
 pub record RoundSteps (D : Type 0) : Type 0 where
   pub startings : List (Starting D)
   pub mid : Standing D
   pub launchings : List Launching
+  -- behind the last start of a stage
+  pub read : Standing D
   pub slots : Slots
   pub told : Option Told
   pub endings : List (Ending D)
@@ -43,8 +54,9 @@ pub record IsRound {D : Type 0} (device : DiskView D) (place : Place) (old : Cou
   pub starts : AreStartings device old.spool steps.startings steps.mid
   pub queues : map (λ t. t.queue) steps.startings ≡ finite.keys old.spool.state.queues
   pub launches : AreLaunchings place steps.mid.state (current_slots old.spool.state old.slots) old.told steps.launchings steps.slots steps.told
+  pub reads : AreReads device steps.mid steps.launchings steps.read
   pub launched : map (λ t. t.job) steps.launchings ≡ jobs_run steps.mid steps.mid.dead
-  pub ends : AreEndings device (course steps.mid steps.slots steps.told) steps.endings new
+  pub ends : AreEndings device (course steps.read steps.slots steps.told) steps.endings new
   pub ended : map (λ e. e.job) steps.endings ≡ jobs_run steps.mid steps.mid.dead
 
 -- the first fault in time
@@ -78,12 +90,23 @@ pub record IsRoundOf {D : Type 0} (device : DiskView D) (place : Place) (old new
   -- that were tried, some or all.
   pub any_moment : old.spool.dead ≡ false → IsSome (device.bytes old.spool.disk) →
       LeavesOnly device old.spool.disk new.spool.disk (HasSomeOf old.spool.state (tried_in old steps))
+  -- So it is with the documents: they stay as they are, at any moment and, while the device works, at the end.
+  pub any_whole : old.spool.dead ≡ false → IsSome (device.bytes old.spool.disk) → (documents : ℕ → List ℕ) → LeavesDocuments device documents old.spool →
+      LeavesOnly device old.spool.disk new.spool.disk (HasSomeWhole old.spool.state documents (tried_in old steps))
+  pub lasting : new.spool.dead ≡ false → IsSome (device.bytes old.spool.disk) → (documents : ℕ → List ℕ) → LeavesDocuments device documents old.spool →
+      LeavesDocuments device documents new.spool
+  -- a round without a fault leaves a device that works
+  pub works : fault_in steps ≡ None → old.spool.dead ≡ false → new.spool.dead ≡ false
   -- while the device works every event that was tried was acknowledged
   pub all_acknowledged : new.spool.dead ≡ false → tried_in old steps ≡ events_in old steps
   -- where the children tell it is a turn of World
   pub turn : (t : Told) → old.told ≡ Some t → t.running ≡ [] → IsCallTurn t old (events_in old steps) new
-  -- where nothing failed, and the children tell, it is Script's
-  pub exact : fault_in steps ≡ None → (t : Told) → old.told ≡ Some t → t.running ≡ [] → IsScriptRound old steps new (round_of place old.spool.state old.slots t)
+  -- What was read are documents of jobs, and where the disk tells its bytes they are those that the bytes have.
+  pub read : (documents : ℕ → List ℕ) × AreHanded documents steps.launchings
+  pub handed : (bytes : List ℕ) (documents : ℕ → List ℕ) → device.bytes old.spool.disk ≡ Some bytes → HasDocuments old.spool.state documents bytes → AreHanded documents steps.launchings
+  -- where nothing failed, and the children tell, it is Script's with the documents that were read
+  pub exact : fault_in steps ≡ None → (t : Told) (documents : ℕ → List ℕ) → old.told ≡ Some t → t.running ≡ [] → AreHanded documents steps.launchings →
+      IsScriptRound old steps new (round_of place documents old.spool.state old.slots t)
 
 -- without memory for the list of the jobs nothing is done
 abbrev pub IsUnbegun : {D : Type 0} → Course D → Course D → Result Round RoundFault → Type 0

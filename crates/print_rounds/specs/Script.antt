@@ -38,28 +38,29 @@ start_of p (Some j) = with_event p (Start j)
 abbrev pub play_start : Play → List ℕ → Play
 play_start p queue = start_of p (next_of p.state queue)
 
-abbrev pub launched_on : Place → Play → Job → QueueRow → Slots → Play
-launched_on place p r q own = record p {
+-- A first stage is handed its job's document. No event of a round sends anything, so that the documents stay as they are.
+abbrev pub launched_on : Place → (ℕ → List ℕ) → Play → Job → QueueRow → Slots → Play
+launched_on place documents p r q own = record p {
   slots = put_progress own r.id (progress_after (starts_next p.told) (length p.told.orders));
-  told = after_start p.told (order_in place own r q r.document);
+  told = after_start p.told (order_in place own r q (documents r.id));
   started = p.started + cond (starts_next p.told) 1 0;
 }
 
-abbrev pub launched_by : Place → Play → Job → QueueRow → Option Slots → Play
-launched_by place p r q None = p
-launched_by place p r q (Some own) = launched_on place p r q own
+abbrev pub launched_by : Place → (ℕ → List ℕ) → Play → Job → QueueRow → Option Slots → Play
+launched_by place documents p r q None = p
+launched_by place documents p r q (Some own) = launched_on place documents p r q own
 
-abbrev pub launched_in : Place → Play → Job → Option QueueRow → Play
-launched_in place p r None = p
-launched_in place p r (Some q) = launched_by place p r q (slots_for p.slots r)
+abbrev pub launched_in : Place → (ℕ → List ℕ) → Play → Job → Option QueueRow → Play
+launched_in place documents p r None = p
+launched_in place documents p r (Some q) = launched_by place documents p r q (slots_for p.slots r)
 
-abbrev pub launched_for : Place → Play → Option Job → Play
-launched_for place p None = p
-launched_for place p (Some r) = launched_in place p r (queue_at p.state r.queue)
+abbrev pub launched_for : Place → (ℕ → List ℕ) → Play → Option Job → Play
+launched_for place documents p None = p
+launched_for place documents p (Some r) = launched_in place documents p r (queue_at p.state r.queue)
 
 -- the stage of a job is started
-abbrev pub play_launch : Place → Play → ℕ → Play
-play_launch place p j = launched_for place p (job_at p.state j)
+abbrev pub play_launch : Place → (ℕ → List ℕ) → Play → ℕ → Play
+play_launch place documents p j = launched_for place documents p (job_at p.state j)
 
 abbrev pub waited_by : Play → ℕ → Progress ℕ → Play
 waited_by p j (Ready input) = p
@@ -103,12 +104,12 @@ abbrev pub fresh_play : State → Slots → Told → Play
 fresh_play s slots told = play_from s (current_slots s slots) told
 
 -- one stage of each of these jobs: all are started, then each is finished
-abbrev pub play_stages : Place → Play → List ℕ → Play
-play_stages place p jobs = plays play_end (plays (play_launch place) p jobs) jobs
+abbrev pub play_stages : Place → (ℕ → List ℕ) → Play → List ℕ → Play
+play_stages place documents p jobs = plays play_end (plays (play_launch place documents) p jobs) jobs
 
-abbrev pub play_busy : Place → Play → List (List ℕ) → Play
-play_busy place p queues = play_stages place p (busy_jobs p.state queues)
+abbrev pub play_busy : Place → (ℕ → List ℕ) → Play → List (List ℕ) → Play
+play_busy place documents p queues = play_stages place documents p (busy_jobs p.state queues)
 
--- Script's round, over the queues in ascending order of name
-abbrev pub round_of : Place → State → Slots → Told → Play
-round_of place s slots told = play_busy place (plays play_start (fresh_play s slots told) (finite.keys s.queues)) (finite.keys s.queues)
+-- Script's round of jobs that have these documents, over the queues in ascending order of name
+abbrev pub round_of : Place → (ℕ → List ℕ) → State → Slots → Told → Play
+round_of place documents s slots told = play_busy place documents (plays play_start (fresh_play s slots told) (finite.keys s.queues)) (finite.keys s.queues)

@@ -1,18 +1,18 @@
 //! The second part of a round: one stage of each processing job is started.
-ghost use Rattle.std.specs.Prelude.{◌≡◌, List, ℕ, false, length, map, None, Some, IfOk, IsSome, OnErr};
+ghost use Rattle.std.specs.Prelude.{◌≡◌, List, Option, ℕ, false, map, None, Some, IfOk, IsSome, OnErr};
 ghost use Rattle.std.specs.FinMap as finite;
 ghost use Rattle.spool_types.specs.State.{Job, job_of, job_at, queue_at};
 ghost use Rattle.spool_types.specs.declared.rows.QueueRow.{QueueRow as QueueOf};
 ghost use Rattle.job_table.specs.Legal.{Fits};
-ghost use Rattle.spool_core.specs.Standing.{document_at};
-ghost use Rattle.child_pipeline.specs.Slots.{IsDue, IsTicketless, input_in, slot_in};
+ghost use Rattle.child_pipeline.specs.Slots.{IsDue, IsTicketless, slot_in};
 ghost use Rattle.print_rounds.specs.Choice.{readiness};
 ghost use Rattle.print_rounds.specs.Counts.{launching_fault, started_in};
-ghost use Rattle.print_rounds.specs.Courses.{Launching, IsLaunch, AreLaunchings};
-ghost use Rattle.print_rounds.specs.Launches.{IsMade, IsUnmade, IsPrepared, IsUnprepared, IsStarted, has_output};
+ghost use Rattle.print_rounds.specs.Courses.{Launching, IsLaunch, AreLaunchings, IsReadFor, AreReads};
+ghost use Rattle.print_rounds.specs.Launches.{IsMade, IsUnmade, IsPrepared, IsUnprepared, IsStarted, IsDocumentFor, has_output};
 ghost use Rattle.print_rounds.specs.Finished.{AreDistinct, AllRest};
 
 use crate::outcome::{Launch, RoundFault};
+use crate::reading::{Unread, read_document};
 use child_pipeline::{Children, Content, Progress, Runner};
 use filter_args::Place;
 use job_table::Table;
@@ -96,47 +96,16 @@ fn has_output<C: Children>(runner: &Runner<C>, job: JobId) -> bool
     }
 }
 
-fn document_len(table: &Table, job: JobId) -> usize
-    ensures { result ≡ length (document_at table.now.state job) }
-{
-    match table.job(job) {
-        Some(row) => row.document.len(),
-        None => 0,
-    }
-}
-
-fn read_document<D: Disk>(
-    alloc: Global,
-    spool: &mut Spool<D>,
-    job: JobId,
-) -> Result<Content, AllocError>
-    requires alive { spool.old.dead ≡ false }
-    requires there { IsSome (job_at spool.old.state job) }
-    ensures same { spool.new ≡ spool.old }
-    ensures value { IfOk result (λ document. document ≡ document_at spool.old.state job) }
-{
-    let len = document_len(spool.table(), job);
-    let mut bytes = match Vec::from_elem(alloc, 0, len) {
-        Ok(bytes) => bytes,
-        Err(fault) => return Err(fault),
-    };
-    match spool.read_document(job, 0, &mut bytes) {
-        Ok(()) => Ok(Content::new(bytes)),
-        Err(_) => unreachable!(),
-    }
-}
-
 // The document, where the stage of a job is handed it.
 fn document<D: Disk, C: Children>(
     alloc: Global,
     spool: &mut Spool<D>,
     runner: &Runner<C>,
     job: JobId,
-) -> Result<Content, AllocError>
+) -> Result<Content, Unread>
     requires alive { spool.old.dead ≡ false }
     requires there { IsSome (job_at spool.old.state job) }
-    ensures same { spool.new ≡ spool.old }
-    ensures value { IfOk result (λ document. input_in (slot_in runner.now job).progress document ≡ input_in (slot_in runner.now job).progress (document_at spool.old.state job)) }
+    ensures { IsDocumentFor D.device spool.old job (has_output (slot_in runner.now job).progress) result spool.new }
 {
     if has_output(runner, job) {
         return Ok(Content::empty(alloc));
@@ -179,11 +148,13 @@ fn launch<D: Disk, C: Children>(
     children: &mut C,
     job: JobId,
 ) -> Launch
-    requires alive { spool.old.dead ≡ false }
-    requires rests { IsTicketless (finite.get runner.old job) }
-    ensures same { spool.new ≡ spool.old }
-    ensures launch { IsLaunch place.now spool.old.state runner.old (C.tells children.old) job result runner.new (C.tells children.new) }
+    requires { IsTicketless (finite.get runner.old job) }
+    ensures { (document : Option (List ℕ)) × IsLaunch place.now spool.old.state runner.old (C.tells children.old) job document result runner.new (C.tells children.new)
+        × IsReadFor D.device spool.old job document result spool.new }
 {
+    if spool.is_dead() {
+        return Launch::Dead;
+    }
     match prepare(spool.table(), runner, job) {
         Ok(true) => {}
         Ok(false) => return Launch::Unlaunched,
@@ -191,7 +162,8 @@ fn launch<D: Disk, C: Children>(
     }
     match document(alloc, spool, runner, job) {
         Ok(document) => start(place, spool.table(), runner, children, job, document),
-        Err(_) => Launch::NoMemory,
+        Err(Unread::Memory) => Launch::NoMemory,
+        Err(Unread::Disk) => Launch::Disk,
     }
 }
 
@@ -204,11 +176,9 @@ pub(crate) fn launch_all<D: Disk, C: Children>(
     children: &mut C,
     jobs: &[JobId],
 ) -> Launches
-    requires alive { spool.old.dead ≡ false }
     requires distinct { AreDistinct jobs.now }
     requires rest { AllRest runner.old jobs.now }
-    ensures same { spool.new ≡ spool.old }
-    ensures launches { (ts : List Launching) × AreLaunchings place.now spool.old.state runner.old (C.tells children.old) ts runner.new (C.tells children.new) × (map (λ t. t.job) ts ≡ jobs.now)
+    ensures { (ts : List Launching) × AreLaunchings place.now spool.old.state runner.old (C.tells children.old) ts runner.new (C.tells children.new) × AreReads D.device spool.old ts spool.new × (map (λ t. t.job) ts ≡ jobs.now)
         × (result.started ≡ started_in ts) × (result.fault ≡ launching_fault ts) }
 {
     let _legal = spool.table().jobs();

@@ -34,6 +34,10 @@ pub enum Launch {
     Launched(bool),
     /// There was no memory, and nothing was started.
     NoMemory,
+    /// The device failed while the document was read, and nothing was started.
+    Disk,
+    /// The device had failed before, and nothing was done.
+    Dead,
 }
 
 /// What came of the end of a job's stage.
@@ -53,6 +57,8 @@ impl Launch {
     {
         match self {
             Launch::NoMemory => Some(RoundFault::Memory),
+            Launch::Disk => Some(RoundFault::Disk),
+            Launch::Dead => Some(RoundFault::Dead),
             _ => None,
         }
     }

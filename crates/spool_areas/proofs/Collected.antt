@@ -6,7 +6,7 @@ use Rattle.gate_journal.specs.Entries.{HasFirst}
 use Rattle.gate_journal.specs.Found.{GoesOn, LiesBefore, entry_at}
 use Rattle.gate_journal.specs.declared.entry.Found.{Found}
 use Rattle.gate_journal.specs.declared.entry.Found.TheVariants.{Entry}
-use Rattle.spool_areas.specs.declared.extent.Extent.{Extent}
+use Rattle.extents.specs.declared.extent.Extent.{Extent}
 use Rattle.spool_areas.specs.Header.{half, header_len, current_area}
 use Rattle.spool_areas.specs.Payloads.{gate_after}
 use Rattle.spool_areas.specs.Extents.{bytes_of, payloads_at, Follow, HasRecords, EndsSo}

@@ -3,7 +3,7 @@ use Rattle.std.specs.Prelude.{◌≡◌, ℕ, ◌+◌, List, [], ◌∷◌, map,
 use Rattle.gate_journal.specs.Entries.{HasEntries, HasFirst}
 use Rattle.gate_journal.specs.Found.{entry_at}
 use Rattle.gate_journal.specs.declared.entry.Found.TheVariants as found
-use Rattle.spool_areas.specs.declared.extent.Extent.{Extent}
+use Rattle.extents.specs.declared.extent.Extent.{Extent}
 use Rattle.spool_areas.specs.declared.fault.OpenFault.{OpenFault}
 use Rattle.spool_areas.specs.declared.fault.OpenFault.TheVariants.{NotASpool, Damaged, Memory, Disk}
 use Rattle.spool_areas.specs.Header.{current_area}

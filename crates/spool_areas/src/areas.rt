@@ -161,7 +161,7 @@ impl<D: Disk> Areas<D> {
         ensures any_moment { (payloads : List (List ℕ)) → KeepsPayloads D.device self.old payloads →
             ChangesOver D.device self.old.disk self.new.disk self.old.base payloads (other_base self.old) (payloads_in (frames_of rows.old)) }
     {
-        let first = self.gate_for(rows)?;
+        let first = self.plan_rows(rows)?;
         let other = first - HEADER_LEN;
         self.window.clear();
         match change_over(&mut self.disk, other, self.len, self.epoch + 1, rows) {
@@ -178,8 +178,8 @@ impl<D: Disk> Areas<D> {
         }
     }
 
-    // Where the first gate of the other area lies, if it has room for these rows.
-    fn gate_for(&self, rows: &[Vec<u8>]) -> Result<u64, AreaFault>
+    /// The same for the payloads of these frames.
+    pub fn plan_rows(&self, rows: &[Vec<u8>]) -> Result<u64, AreaFault>
         requires { AreFrames (frames_of rows.now) }
         ensures { result ≡ plan_of self.now (lengths_in (frames_of rows.now)) }
     {

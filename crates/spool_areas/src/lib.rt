@@ -48,7 +48,6 @@
 
 mod areas;
 mod checkpoint;
-mod extent;
 mod fault;
 mod header;
 mod law;
@@ -57,7 +56,7 @@ mod opening;
 mod records;
 
 pub use areas::Areas;
-pub use extent::Extent;
+pub use extents::Extent;
 pub use fault::{AreaFault, MakeFault, OpenError, OpenFault, ReadFault};
 pub use gate_journal::JournalFault;
 pub use law::areas_law;

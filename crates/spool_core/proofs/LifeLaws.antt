@@ -1,11 +1,16 @@
 -- Lives of a spool, one after another.
-use Rattle.std.proofs.Common.{◌≡◌, ℕ, ◌+◌, ◌-◌, List, [], ◌∷◌, ◌++◌, take, drop, refl, sym, ap, ◌∙◌, arith, append_assoc}
+use Rattle.std.proofs.Common.{◌≡◌, ⊎_elim, ℕ, ◌+◌, ◌-◌, List, [], ◌∷◌, ◌++◌, take, drop, refl, sym, subst, ap, ◌∙◌, arith, append_assoc}
 use Rattle.std.proofs.Math.Seq.{take-add}
+use Rattle.std.proofs.lemmas.List.{append-nil}
 use Rattle.spool_types.specs.declared.event.Event.{Event}
 use Rattle.spool_types.specs.declared.event.Event.TheVariants.{Reopen}
-use Rattle.spool_types.specs.State.{State}
+use Rattle.spool_types.specs.State.{State, nothing}
 use Rattle.job_table.specs.Fold.{after_one, after_all}
-use Rattle.spool_core.specs.Lives.{Life, KeepsAcknowledged, next_table, after_lives, history_of}
+use Rattle.job_table.specs.Legal.{IsLegal}
+use Rattle.spool_core.specs.Driving.{documents_after}
+use Rattle.spool_core.specs.Image.{HasTable, documents_after_one}
+use Rattle.spool_core.specs.Lives.{Life, KeepsAcknowledged, next_table, next_documents, after_lives, documents_after_lives, history_of}
+use Rattle.spool_core.proofs.DriveLaws.{documents_after-append}
 
 after_all-append : (s : State) (es ds : List Event) → after_all s (es ++ ds) ≡ after_all (after_all s es) ds
 after_all-append s [] ds = refl
@@ -14,6 +19,24 @@ after_all-append s (e ∷ es) ds = after_all-append (after_one s e) es ds
 pub one_history : (s : State) (lives : List Life) → after_lives s lives ≡ after_all s (history_of lives)
 one_history s [] = refl
 one_history s (l ∷ ls) = one_history (next_table s l) ls ∙ sym (after_all-append s (take l.left l.events) (Reopen ∷ history_of ls))
+
+-- an opening sends nothing
+reopen_sends : (s : State) (documents : ℕ → List ℕ) → documents_after_one s documents Reopen ≡ documents
+reopen_sends s documents = λ i j. append-nil (documents j) i
+
+pub one_history_sends : (s : State) (documents : ℕ → List ℕ) (lives : List Life) → documents_after_lives s documents lives ≡ documents_after s documents (history_of lives)
+one_history_sends s documents [] = refl
+one_history_sends s documents (l ∷ ls) =
+    let left = take l.left l.events in
+    one_history_sends (next_table s l) (next_documents s documents l) ls
+    ∙ ap (λ (ds : ℕ → List ℕ). documents_after (next_table s l) ds (history_of ls)) (sym (reopen_sends (after_all s left) (next_documents s documents l)))
+    ∙ sym (documents_after-append s documents left (Reopen ∷ history_of ls))
+
+-- the table of an image is legal, as the empty one is and those that events lead to
+pub legal_found : IsLegal nothing → ((s : State) (events : List Event) → IsLegal s → IsLegal (after_all s events)) → (s : State) (image : List ℕ) → HasTable s image → IsLegal s
+legal_found begins stays s image has =
+    subst IsLegal (sym has.history.table)
+    (stays has.history.start has.history.events (⊎_elim (λ none. subst IsLegal (sym none.1) begins) (λ listed. listed.legal) has.history.stand))
 
 -- what follows the acknowledged events of a life, in it and in those after it
 pub later_events : Life → List Life → List Event

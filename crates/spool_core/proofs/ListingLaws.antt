@@ -1,5 +1,5 @@
 -- The rows of a table's listing, and their frames.
-use Rattle.std.proofs.Common.{◌≡◌, ⊎_elim, ℕ, zero, suc, ◌+◌, ◌-◌, ◌*◌, ◌/◌, ◌%◌, ◌<◌, ◌≤◌, true, List, [], ◌∷◌, ◌++◌, length, get_or, take, drop, map, min, refl, sym, subst, ap, ◌∙◌, arith, append_assoc, length-drop}
+use Rattle.std.proofs.Common.{◌≡◌, ⊎_elim, ℕ, zero, suc, ◌+◌, ◌-◌, ◌*◌, ◌/◌, ◌%◌, ◌<◌, ◌≤◌, true, List, [], ◌∷◌, ◌++◌, length, get_or, take, drop, map, min, replicate, refl, sym, subst, ap, ◌∙◌, arith, append_assoc, length-drop}
 use Rattle.std.specs.Prelude.{Result, Ok, Err, OnOk}
 use Rattle.std.specs.List.{flat_map, list_all, AllByRecursion}
 use Rattle.std.specs.Ordering.{nat_cmp, is_lt}
@@ -7,7 +7,7 @@ use Rattle.std.specs.Cmp.Lexicographic.{slice_cmp}
 use Rattle.std.specs.declared.alloc.Global.{Global}
 use Rattle.std.specs.declared.vec.Vec.{Vec}
 use Rattle.std.proofs.lemmas.Bool.{and_parts, cases_lt}
-use Rattle.std.proofs.lemmas.List.{map-append, append-nil, take_more, take_all}
+use Rattle.std.proofs.lemmas.List.{map-append, append-nil, take_more, take_all, take-replicate, drop-replicate, length-replicate}
 use Rattle.std.proofs.lemmas.Nat.{div-mul-add, div-add-mod'}
 use Rattle.std.proofs.Math.Nat.{mod-lt}
 use Rattle.spool_types.specs.Limits.{longest_send}
@@ -73,11 +73,15 @@ fits_whole r Completed fits = tt
 fits_whole r Canceled fits = tt
 fits_whole r (Aborted reason) fits = tt
 
-jobs_may : (rs : List Job) (p : Progress) → ArePlaced p (flat_map job_rows rs) → AllByRecursion MayBeListed rs
-jobs_may [] p placed = tt
-jobs_may (r ∷ rs) p placed = (
+-- the rows of jobs, each with its document
+abbrev pub rows_of : (ℕ → List ℕ) → List Job → List Row
+rows_of documents rs = flat_map (λ r. job_rows r (documents r.id)) rs
+
+jobs_may : (documents : ℕ → List ℕ) (rs : List Job) (p : Progress) → ArePlaced p (rows_of documents rs) → AllByRecursion MayBeListed rs
+jobs_may documents [] p placed = tt
+jobs_may documents (r ∷ rs) p placed = (
   record { size = placed.0.new.size; phase = fits_whole r r.phase placed.0.new.phase },
-  jobs_may rs (loaded_all p (job_rows r)) (placed_behind p (job_rows r) (flat_map job_rows rs) placed),
+  jobs_may documents rs (loaded_all p (job_rows r (documents r.id))) (placed_behind p (job_rows r (documents r.id)) (rows_of documents rs) placed),
 )
 
 -- what the rows of a listing that may come in their turn tell
@@ -85,10 +89,10 @@ pub record AreTold (qs : List QueueRow) (rs : List Job) : Type 0 where
   pub queues : AllByRecursion IsOrderedQueue qs
   pub jobs : AllByRecursion MayBeListed rs
 
-pub told : (qs : List QueueRow) (rs : List Job) (p : Progress) → ArePlaced p (map (λ q. Queue q) qs ++ flat_map job_rows rs) → AreTold qs rs
-told qs rs p placed = record {
-  queues = queues_ordered qs p (flat_map job_rows rs) placed;
-  jobs = jobs_may rs (loaded_all p (map (λ q. Queue q) qs)) (placed_behind p (map (λ q. Queue q) qs) (flat_map job_rows rs) placed);
+pub told : (documents : ℕ → List ℕ) (qs : List QueueRow) (rs : List Job) (p : Progress) → ArePlaced p (map (λ q. Queue q) qs ++ rows_of documents rs) → AreTold qs rs
+told documents qs rs p placed = record {
+  queues = queues_ordered qs p (rows_of documents rs) placed;
+  jobs = jobs_may documents rs (loaded_all p (map (λ q. Queue q) qs)) (placed_behind p (map (λ q. Queue q) qs) (rows_of documents rs) placed);
 }
 
 phase_of : (r : Job) (phase : Phase) → Fits r phase → length r.filters ≤ 15 → IsPhaseOf (listed r) phase
@@ -126,9 +130,6 @@ on_ok (Err e) is more = tt
 
 pub no_frames : (frames : List (Vec ℕ Global)) → frames ≡ [] → AreFramesOf [] frames
 no_frames frames is = subst (AreFramesOf []) (sym is) (record { framed = tt; payloads = refl; spellable = tt })
-
-pub added_none : (frames : List (Vec ℕ Global)) → AreAdded [] frames frames
-added_none frames others are = subst (λ (rows : List Row). AreFramesOf rows frames) (sym (append-nil others)) are
 
 pub added_then : (front back : List Row) (old mid new : List (Vec ℕ Global)) → AreAdded front old mid → AreAdded back mid new → AreAdded (front ++ back) old new
 added_then front back old mid new first more others are =
@@ -198,7 +199,7 @@ pub record IsPartAdded (job : ℕ) (document rest : List ℕ) (old new : List (V
   pub parts : pieces document ≡ done ++ pieces rest
   pub added : AreAdded (map (λ bytes. Piece job bytes) done) old new
 
-pub part_more : (job : ℕ) (document rest bytes behind : List ℕ) (n : ℕ) (old mid new : List (Vec ℕ Global)) → 0 < length rest → n ≡ min (length rest) longest_send → bytes ≡ take n rest → behind ≡ drop n rest
+part_more : (job : ℕ) (document rest bytes behind : List ℕ) (n : ℕ) (old mid new : List (Vec ℕ Global)) → 0 < length rest → n ≡ min (length rest) longest_send → bytes ≡ take n rest → behind ≡ drop n rest
     → IsPartAdded job document rest old mid → AreAdded (Piece job bytes ∷ []) mid new → IsPartAdded job document behind old new
 part_more job document rest bytes behind n old mid new some cut is left part more =
     let piece : List ℕ → Row = λ b. Piece job b in
@@ -209,3 +210,13 @@ part_more job document rest bytes behind n old mid new some cut is left part mor
       added = subst (λ (rows : List Row). AreAdded rows old new) (sym (map-append piece part.done (bytes ∷ [])))
           (added_then (map piece part.done) (Piece job bytes ∷ []) old mid new part.added more);
     }
+
+-- so it is with zeros
+pub zeros_more : (job len rest n : ℕ) (zeros : List ℕ) (old mid new : List (Vec ℕ Global)) → zeros ≡ replicate longest_send 0 → 0 < rest → n ≡ min rest longest_send
+    → IsPartAdded job (replicate len 0) (replicate rest 0) old mid → AreAdded (Piece job (take n zeros) ∷ []) mid new → IsPartAdded job (replicate len 0) (replicate (rest - n) 0) old new
+zeros_more job len rest n zeros old mid new are some cut part more =
+    let left : List ℕ = replicate rest 0 in
+    let long : length left ≡ rest = length-replicate rest 0 in
+    part_more job (replicate len 0) left (take n zeros) (replicate (rest - n) 0) n old mid new (omega (arith, long, some)) (omega (arith, long, cut))
+    (ap (take n) are ∙ take-replicate n longest_send 0 (omega (arith, cut)) ∙ sym (take-replicate n rest 0 (omega (arith, cut))))
+    (sym (drop-replicate n rest 0)) part more

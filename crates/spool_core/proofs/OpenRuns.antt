@@ -1,21 +1,18 @@
 -- What a crash leaves while a spool is opened, and after it.
-use Rattle.std.proofs.Common.{◌≡◌, ℕ, List, Option, None, Some, IsSome, refl, sym, subst, ap, ◌∙◌}
+use Rattle.std.proofs.Common.{◌≡◌, ℕ, List, Some, IsSome, sym, subst, ap, ◌∙◌}
 use Rattle.spool_types.specs.State.{State}
 use Rattle.spool_disk.specs.Disk.{DiskView, IsLawful, LeavesOnly}
 use Rattle.spool_disk.proofs.Moments.{runs_on, at_return, weaker_run}
-use Rattle.spool_areas.specs.declared.extent.Extent.{Extent}
+use Rattle.spool_disk.proofs.Ranges.{told}
+use Rattle.job_table.specs.Contents.{Contents}
+use Rattle.extents.specs.declared.extent.Extent.{Extent}
 use Rattle.spool_areas.specs.Header.{header_at, epoch_of}
 use Rattle.spool_areas.specs.Payloads.{HasPayloads, gate_after}
 use Rattle.spool_areas.specs.Current.{Current, KeepsPayloads}
 use Rattle.spool_areas.specs.Extents.{payloads_at}
-use Rattle.spool_core.specs.History.{IsHistory}
 use Rattle.spool_core.specs.Image.{HasTable}
-use Rattle.spool_core.specs.Seen.{KeepsTable}
+use Rattle.spool_core.specs.Seen.{ArePlacesOf, HasHistory, KeepsTable}
 use Rattle.spool_core.specs.Folding.{IsRead}
-
-pub some_of : (o : Option (List ℕ)) → IsSome o → (r : List ℕ) × (o ≡ Some r)
-some_of (Some r) told = (r, refl)
-some_of None told = absurd (cc)
 
 module _ {D : Type 0} (v : DiskView D)
     (lawful : IsLawful v) (disk : D) (old new : Current D)
@@ -25,20 +22,26 @@ module _ {D : Type 0} (v : DiskView D)
   was_image = at_return v lawful old.disk new.disk (v.image old.disk) read.disk.images
 
   keeps_on : (payloads : List (List ℕ)) → IsSome (v.bytes new.disk) → KeepsPayloads v old payloads → KeepsPayloads v new payloads
-  keeps_on payloads told keeps = record {
-    tells = told;
+  keeps_on payloads now keeps = record {
+    tells = now;
     synced = λ r tells c left. keeps.synced r (sym read.disk.bytes ∙ tells) c (was_image c left);
     each = λ c left. subst (λ (b : ℕ). HasPayloads b payloads c) (sym read.base) (keeps.each c (was_image c left));
     epoch = λ c left. ap (λ (b : ℕ). epoch_of (header_at b c)) read.base ∙ keeps.epoch c (was_image c left) ∙ sym read.epoch;
     gate_at = read.gate ∙ keeps.gate_at ∙ ap (λ (b : ℕ). gate_after b payloads) (sym read.base);
   }
 
-  pub table_kept : (extents : List Extent) (s : State) → v.bytes old.disk ≡ v.bytes disk → ((r : List ℕ) → v.bytes disk ≡ Some r → KeepsPayloads v old (payloads_at r extents))
-      → ((r : List ℕ) → v.bytes disk ≡ Some r → IsHistory (payloads_at r extents) s) → IsSome (v.bytes new.disk) → KeepsTable v new s
-  table_kept extents s same keeps history told =
-      let there = some_of (v.bytes new.disk) told in
+  pub table_kept : (extents : List Extent) (t : Contents) → v.bytes old.disk ≡ v.bytes disk → ((r : List ℕ) → v.bytes disk ≡ Some r → KeepsPayloads v old (payloads_at r extents))
+      → ((r : List ℕ) → v.bytes disk ≡ Some r → HasHistory old.base (payloads_at r extents) t) → IsSome (v.bytes new.disk) → KeepsTable v new t
+  table_kept extents t same keeps history now =
+      let there = told (v.bytes new.disk) now in
       let tells : v.bytes disk ≡ Some there.0 = sym same ∙ sym read.disk.bytes ∙ there.1 in
-      record { payloads = payloads_at there.0 extents; kept = keeps_on (payloads_at there.0 extents) told (keeps there.0 tells); history = history there.0 tells }
+      let has = history there.0 tells in
+      record {
+        payloads = payloads_at there.0 extents;
+        kept = keeps_on (payloads_at there.0 extents) now (keeps there.0 tells);
+        history = has.history;
+        places = subst (λ (b : ℕ). ArePlacesOf b has.history.rows has.history.events t) (sym read.base) has.places;
+      }
 
   module _ (s : State) (opened : (r : List ℕ) → v.bytes disk ≡ Some r → HasTable s r) (synced : D)
       (since : LeavesOnly v synced old.disk (λ c. (r : List ℕ) → v.bytes disk ≡ Some r → c ≡ r)) where
@@ -56,6 +59,6 @@ module _ {D : Type 0} (v : DiskView D)
         old_image
 
     pub image_kept : IsSome (v.bytes disk) → (c : List ℕ) → v.image new.disk c → HasTable s c
-    image_kept told c left =
-        let there = some_of (v.bytes disk) told in
+    image_kept now c left =
+        let there = told (v.bytes disk) now in
         (old_image c (was_image c left) there.0 there.1).1

@@ -1,14 +1,14 @@
 -- What an opening leaves where a job was processing.
-use Rattle.std.proofs.Common.{◌≡◌, ℕ, List, Some, inl, inr, refl, sym, subst, ◌∙◌, ◌⊎◌}
-use Rattle.std.specs.Prelude.{IsSome}
+use Rattle.std.proofs.Common.{◌≡◌, ℕ, List, Some, Err, arith, inl, inr, refl, sym, subst, ◌∙◌, ◌⊎◌}
+use Rattle.std.specs.Prelude.{IsSome, IsErrOf}
 use Rattle.job_table.specs.Attempts.{HasNoProcessing}
 use Rattle.spool_types.specs.State.{State}
 use Rattle.spool_types.specs.declared.event.Event.TheVariants.{Reopen}
-use Rattle.spool_disk.specs.Disk.{DiskView, LeavesOnly}
+use Rattle.spool_disk.specs.Disk.{DiskView, Blames, LeavesOnly}
 use Rattle.spool_disk.proofs.Moments.{runs_on, weaker_run}
 use Rattle.spool_areas.specs.declared.fault.OpenFault.{OpenFault}
 use Rattle.spool_areas.specs.declared.fault.OpenFault.TheVariants.{NotASpool, Damaged, Memory, Disk}
-use Rattle.spool_core.specs.Image.{HasTable, HasBeforeOrAfterEvent, IsMidway, IsReopeningFault}
+use Rattle.spool_core.specs.Image.{HasTable, HasDocuments, HasBeforeOrAfterEvent, IsMidway, IsReopeningFault}
 
 -- but for the device, only memory can fail
 pub wants_memory : (f : OpenFault) → IsReopeningFault f → ¬ (f ≡ Disk) → f ≡ Memory
@@ -16,6 +16,14 @@ wants_memory NotASpool is other = absurd is
 wants_memory (Damaged place) is other = absurd is
 wants_memory Memory is other = refl
 wants_memory Disk is other = absurd (other refl)
+
+-- where the count was as before, the device is blamed for what came after
+pub blames_disk : (before loaded reopened last : ℕ) (f : OpenFault) → loaded ≡ before → last ≡ reopened → Blames loaded reopened (IsErrOf {T = Unit {0}} (Err f) Disk) → Blames before last (f ≡ Disk)
+blames_disk before loaded reopened last f first same is = record {
+  later = omega (arith, first, same, is.later);
+  failed = λ at. let less = is.failed (cc at) in omega (arith, first, same, less);
+  counted = λ other. same ∙ is.counted (λ at. other (cc at)) ∙ first;
+}
 
 module _ {D : Type 0} (v : DiskView D) (disk loaded synced : D) (s : State)
     (opened : (r : List ℕ) → v.bytes disk ≡ Some r → HasTable s r) (same : v.bytes loaded ≡ v.bytes disk)
@@ -26,14 +34,26 @@ module _ {D : Type 0} (v : DiskView D) (disk loaded synced : D) (s : State)
   -- until then nothing was written
   pub still : LeavesOnly v synced loaded Midway
   still = weaker_run v synced loaded Midway (λ c. (r : List ℕ) → v.bytes disk ≡ Some r → (c ≡ r) × HasTable s c) since
-      (λ c left r tells. record { table = s; found = opened r tells; left = inl (left r tells).1; unwritten = λ idle. (left r tells).0 })
+      (λ c left r tells. record { table = s; found = opened r tells; left = inl (left r tells).1; documents = λ documents has. subst (HasDocuments s documents) (sym (left r tells).0) has; unwritten = λ idle. (left r tells).0 })
 
-  module _ (busy : ¬ (HasNoProcessing s)) (new : D) (run : LeavesOnly v loaded new (λ c. IsSome (v.bytes loaded) → HasBeforeOrAfterEvent s Reopen c)) where
-    changed : (c : List ℕ) → (IsSome (v.bytes loaded) → HasBeforeOrAfterEvent s Reopen c) → Midway c
-    changed c left r tells = record { table = s; found = opened r tells; left = left (subst IsSome (sym (same ∙ tells)) refl); unwritten = λ idle. absurd (busy idle) }
+  -- what the record of a reopening leaves
+  abbrev Reopening : List ℕ → Type 0
+  Reopening c = (IsSome (v.bytes loaded) → HasBeforeOrAfterEvent s Reopen c) × ((r : List ℕ) (documents : ℕ → List ℕ) → v.bytes loaded ≡ Some r → HasDocuments s documents r → HasDocuments s documents c)
+
+  module _ (busy : ¬ (HasNoProcessing s)) (new : D) (run : LeavesOnly v loaded new Reopening) where
+    changed : (c : List ℕ) → Reopening c → Midway c
+    changed c left r tells =
+        let told = same ∙ tells in
+        record {
+          table = s;
+          found = opened r tells;
+          left = left.0 (subst IsSome (sym told) refl);
+          documents = λ documents has. left.1 r documents told has;
+          unwritten = λ idle. absurd (busy idle);
+        }
 
     pub since_sync : LeavesOnly v synced new Midway
-    since_sync = runs_on v synced loaded new Midway (λ c. IsSome (v.bytes loaded) → HasBeforeOrAfterEvent s Reopen c) still run changed
+    since_sync = runs_on v synced loaded new Midway Reopening still run changed
 
     pub since_start : LeavesOnly v disk synced (v.image disk) → LeavesOnly v disk new (λ c. v.image disk c ⊎ Midway c)
     since_start first = runs_on v disk synced new (λ c. v.image disk c ⊎ Midway c) Midway

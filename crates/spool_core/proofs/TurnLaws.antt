@@ -1,20 +1,21 @@
 -- One event of a run after those before it.
-use Rattle.std.proofs.Common.{◌≡◌, ◌<◌, ℕ, zero, suc, ◌+◌, List, [], ◌∷◌, ◌++◌, length, take, Bool, true, false, IsSome, IsTrue, Result, Err, refl, sym, subst, ap, ◌∙◌, arith, length-append}
+use Rattle.std.proofs.Common.{◌≡◌, ◌<◌, ℕ, zero, suc, ◌+◌, List, [], ◌∷◌, ◌++◌, length, take, Bool, true, false, IsSome, IsTrue, Result, Some, Err, refl, sym, subst, ap, ◌∙◌, arith, length-append}
 use Rattle.spool_types.specs.declared.event.Event.{Event}
 use Rattle.spool_types.specs.declared.event.Reply.{Reply}
 use Rattle.spool_types.specs.declared.refusal.Refusal.{Refusal}
 use Rattle.spool_types.specs.State.{State}
 use Rattle.job_table.specs.Step.{refusal_of}
 use Rattle.job_table.specs.Fold.{after_one, after_all}
-use Rattle.spool_disk.specs.Disk.{DiskView, IsLawful, Blames, LeavesOnly}
-use Rattle.spool_disk.proofs.Moments.{started, weaker_run}
-use Rattle.spool_core.specs.Image.{HasTable, HasBeforeOrAfterEvent}
+use Rattle.spool_disk.specs.Disk.{DiskView, IsLawful, IsSynced, Blames, LeavesOnly}
+use Rattle.spool_disk.proofs.Moments.{started, weaker_run, at_return}
+use Rattle.spool_disk.proofs.Ranges.{told}
+use Rattle.spool_core.specs.Image.{HasTable, HasDocuments, HasBeforeOrAfterEvent, HasWholeBeforeOrAfterEvent, documents_after_one}
 use Rattle.spool_core.specs.Standing.{Standing}
-use Rattle.spool_core.specs.Driving.{answer_to, replies_to, HasPrefixTable, IsAcknowledged, IsChain, KeepsImages, room_after, room_after_one, IsDriven, IsOutcome, IsEnding, reach}
+use Rattle.spool_core.specs.Driving.{answer_to, replies_to, documents_after, HasPrefixTable, HasWholePrefix, IsAcknowledged, IsChain, KeepsImages, LeavesDocuments, room_after, room_after_one, IsDriven, IsOutcome, IsEnding, reach}
 use Rattle.spool_core.specs.Turns.{IsAnswered, IsBroken, DrivesOne}
 use Rattle.spool_core.specs.declared.driving.Ending.{Ending}
 use Rattle.spool_core.specs.declared.driving.Ending.TheVariants.{End, Memory, Full, Disk, Dead}
-use Rattle.spool_core.proofs.DriveLaws.{after_all_last, replies_last, IsNext, turn_prefix, run_none, run_more, chain_more, room_last}
+use Rattle.spool_core.proofs.DriveLaws.{after_all_last, replies_last, documents_after-append, IsNext, HasTableAfter, HasWholeAfter, turn_prefix, turn_whole, run_none, run_more, chain_more, room_last}
 
 not_dead : (b : Bool) → b ≡ false → b ≡ true → ⊥
 not_dead b p q = cc
@@ -25,6 +26,7 @@ pub record Turns {D : Type 0} (v : DiskView D) (old : Standing D) (e : Event) (n
   pub told : IsSome (v.bytes new.disk) → IsSome (v.bytes old.disk)
   pub tells : IsSome (v.bytes old.disk) → IsSome (v.bytes new.disk)
   pub any_moment : old.dead ≡ false → IsSome (v.bytes old.disk) → LeavesOnly v old.disk new.disk (HasBeforeOrAfterEvent old.state e)
+  pub documents : old.dead ≡ false → (r : List ℕ) (documents : ℕ → List ℕ) → v.bytes old.disk ≡ Some r → HasDocuments old.state documents r → LeavesOnly v old.disk new.disk (HasWholeBeforeOrAfterEvent old.state documents e)
 
 module _ {D : Type 0} (v : DiskView D)
     (lawful : IsLawful v) (old : Standing D) (events : List Event) where
@@ -40,8 +42,8 @@ module _ {D : Type 0} (v : DiskView D)
   dead_ends n Disk new is alive dead some = absurd (not_dead old.dead is.3 dead)
   dead_ends n Dead new is alive dead some = (refl, is.3)
 
-  pub driven_none : (replies : List (Result Reply Refusal)) → replies ≡ [] → (old.dead ≡ false → IsSome (v.bytes old.disk) → KeepsImages v old) → IsDriven v old events replies old
-  driven_none replies none kept = subst (λ (rs : List (Result Reply Refusal)). IsDriven v old events rs old) (sym none) (record {
+  pub driven_none : (replies : List (Result Reply Refusal)) → replies ≡ [] → (old.dead ≡ false → IsSome (v.bytes old.disk) → KeepsImages v old) → (old.dead ≡ false → IsSynced v old.disk) → IsDriven v old events replies old
+  driven_none replies none kept synced = subst (λ (rs : List (Result Reply Refusal)). IsDriven v old events rs old) (sym none) (record {
     fits = omega arith;
     replies_are = refl;
     table = refl;
@@ -54,8 +56,12 @@ module _ {D : Type 0} (v : DiskView D)
     told = λ t. t;
     tells = λ t. t;
     kept = kept;
-    any_moment = λ alive told. run_none v lawful old.state events old.disk (kept alive told);
-    chain = λ alive told. refl;
+    any_moment = λ alive tells. run_none v lawful (HasTableAfter old.state events) old.disk (kept alive tells);
+    chain = λ alive tells. refl;
+    documents = λ alive r documents tells has.
+        run_none v lawful (HasWholeAfter old.state documents events) old.disk
+        (λ c left. (kept alive (subst IsSome (sym tells) refl) c left, subst (HasDocuments old.state documents) (sym (synced alive r tells c left)) has));
+    sent = λ alive r documents tells has c left. subst (HasDocuments old.state documents) (sym (synced alive r tells c left)) has;
   })
 
   module _ (replies : List (Result Reply Refusal)) (now : Standing D) (driven : IsDriven v old events replies now) where
@@ -65,12 +71,25 @@ module _ {D : Type 0} (v : DiskView D)
 
     -- a crash leaves the table that the answered events led to
     rests : old.dead ≡ false → IsSome (v.bytes old.disk) → LeavesOnly v now.disk now.disk (HasPrefixTable old.state events (length replies) (length replies))
-    rests alive told =
+    rests alive tells =
         started v now.disk (HasPrefixTable old.state events (length replies) (length replies))
-        (λ c left. (length replies, omega arith, omega arith, subst (λ (s : State). HasTable s c) driven.table (driven.kept alive told c (lawful.only_now now.disk c left))))
+        (λ c left. (length replies, omega arith, omega arith, subst (λ (s : State). HasTable s c) driven.table (driven.kept alive tells c (lawful.only_now now.disk c left))))
 
     acknowledged_here : old.dead ≡ false → IsSome (v.bytes old.disk) → IsAcknowledged v old.state events (length replies) (length replies) old.disk now.disk
-    acknowledged_here alive told = (now.disk, driven.chain alive told, rests alive told)
+    acknowledged_here alive tells = (now.disk, driven.chain alive tells, rests alive tells)
+
+    -- and their documents
+    whole_here : old.dead ≡ false → (r : List ℕ) (documents : ℕ → List ℕ) → v.bytes old.disk ≡ Some r → HasDocuments old.state documents r
+        → (c : List ℕ) → v.image now.disk c → HasWholePrefix old.state documents events (length replies) (length replies) c
+    whole_here alive r documents tells has c left = (
+      length replies,
+      omega arith,
+      omega arith,
+      (
+        subst (λ (s : State). HasTable s c) driven.table (driven.kept alive (subst IsSome (sym tells) refl) c left),
+        subst (λ (s : State). HasDocuments s (documents_after old.state documents (take (length replies) events)) c) driven.table (driven.sent alive r documents tells has c left),
+      ),
+    )
 
     pub end_of_all : length replies ≡ length events → IsOutcome v old events replies End now
     end_of_all all = record {
@@ -83,9 +102,11 @@ module _ {D : Type 0} (v : DiskView D)
       fixed = driven.fixed;
       told = driven.told;
       tells = driven.tells;
-      kept = λ alive told. driven.kept (sym driven.dead ∙ alive) told;
+      kept = λ alive tells. driven.kept (sym driven.dead ∙ alive) tells;
       any_moment = driven.any_moment;
       acknowledged = acknowledged_here;
+      documents = driven.documents;
+      sent = whole_here;
     }
 
     pub end_of_memory : length replies < length events → old.dead ≡ false → IsOutcome v old events replies Memory now
@@ -99,9 +120,11 @@ module _ {D : Type 0} (v : DiskView D)
       fixed = driven.fixed;
       told = driven.told;
       tells = driven.tells;
-      kept = λ alive told. driven.kept (sym driven.dead ∙ alive) told;
+      kept = λ alive tells. driven.kept (sym driven.dead ∙ alive) tells;
       any_moment = driven.any_moment;
       acknowledged = acknowledged_here;
+      documents = driven.documents;
+      sent = whole_here;
     }
 
     module _ (taken : List Event) (e : Event) (next : IsNext events taken e (length replies)) (new : Standing D) (turns : Turns v now e new) where
@@ -116,17 +139,44 @@ module _ {D : Type 0} (v : DiskView D)
 
       -- the event in hand is on the device or not
       turn_run : old.dead ≡ false → IsSome (v.bytes old.disk) → LeavesOnly v now.disk new.disk (HasPrefixTable old.state events (length replies) (length replies + 1))
-      turn_run alive told =
+      turn_run alive tells =
           weaker_run v now.disk new.disk (HasPrefixTable old.state events (length replies) (length replies + 1)) (HasBeforeOrAfterEvent now.state e)
-          (turns.any_moment (now_alive alive) (driven.tells told))
+          (turns.any_moment (now_alive alive) (driven.tells tells))
           (λ c has. turn_prefix old.state events taken e (length replies) now.state c next now_table has)
 
       run_with : old.dead ≡ false → IsSome (v.bytes old.disk) → LeavesOnly v old.disk new.disk (HasPrefixTable old.state events 0 (length replies + 1))
-      run_with alive told =
-          run_more v lawful old.state events 0 (length replies) (length replies + 1) old.disk now.disk new.disk (omega arith) (omega arith) (driven.any_moment alive told) (turn_run alive told)
+      run_with alive tells =
+          run_more v lawful (HasTableAfter old.state events) 0 (length replies) (length replies + 1) old.disk now.disk new.disk (omega arith) (omega arith) (driven.any_moment alive tells) (turn_run alive tells)
 
       acknowledged_with : old.dead ≡ false → IsSome (v.bytes old.disk) → IsAcknowledged v old.state events (length replies) (length replies + 1) old.disk new.disk
-      acknowledged_with alive told = (now.disk, driven.chain alive told, turn_run alive told)
+      acknowledged_with alive tells = (now.disk, driven.chain alive tells, turn_run alive tells)
+
+      module _ (alive : old.dead ≡ false) (r : List ℕ) (documents : ℕ → List ℕ) (tells : v.bytes old.disk ≡ Some r) (has : HasDocuments old.state documents r) where
+        abbrev documents_now : ℕ → List ℕ
+        documents_now = documents_after old.state documents (take (length replies) events)
+
+        told_now : (c : List ℕ) × (v.bytes now.disk ≡ Some c)
+        told_now = told (v.bytes now.disk) (driven.tells (subst IsSome (sym tells) refl))
+
+        has_now : HasDocuments now.state documents_now told_now.0
+        has_now = driven.sent alive r documents tells has told_now.0 (lawful.reads_image now.disk told_now.0 told_now.1)
+
+        now_documents : documents_now ≡ documents_after old.state documents taken
+        now_documents = ap (documents_after old.state documents) next.before
+
+        -- what the event in hand sends is on the device or not
+        turn_documents : LeavesOnly v now.disk new.disk (HasWholePrefix old.state documents events (length replies) (length replies + 1))
+        turn_documents =
+            weaker_run v now.disk new.disk (HasWholePrefix old.state documents events (length replies) (length replies + 1)) (HasWholeBeforeOrAfterEvent now.state documents_now e)
+            (turns.documents (now_alive alive) told_now.0 documents_now told_now.1 has_now)
+            (λ c left. turn_whole old.state documents events taken e (length replies) now.state documents_now c next now_table now_documents left)
+
+        documents_with : LeavesOnly v old.disk new.disk (HasWholePrefix old.state documents events 0 (length replies + 1))
+        documents_with =
+            run_more v lawful (HasWholeAfter old.state documents events) 0 (length replies) (length replies + 1) old.disk now.disk new.disk (omega arith) (omega arith) (driven.documents alive r documents tells has) turn_documents
+
+        sent_with : (c : List ℕ) → v.image new.disk c → HasWholePrefix old.state documents events (length replies) (length replies + 1) c
+        sent_with = at_return v lawful now.disk new.disk (HasWholePrefix old.state documents events (length replies) (length replies + 1)) turn_documents
 
       -- the device failed
       end_of_disk : IsBroken v now e new → IsOutcome v old events replies Disk new
@@ -140,9 +190,11 @@ module _ {D : Type 0} (v : DiskView D)
         fixed = turns.fixed ∙ driven.fixed;
         told = λ t. driven.told (turns.told t);
         tells = λ t. turns.tells (driven.tells t);
-        kept = λ alive told. absurd (not_dead new.dead alive broken.dead);
+        kept = λ alive tells. absurd (not_dead new.dead alive broken.dead);
         any_moment = run_with;
         acknowledged = acknowledged_with;
+        documents = documents_with;
+        sent = sent_with;
       }
 
       -- nothing has changed
@@ -158,9 +210,11 @@ module _ {D : Type 0} (v : DiskView D)
         fixed = driven.fixed;
         told = driven.told;
         tells = driven.tells;
-        kept = λ alive told. driven.kept (sym driven.dead ∙ alive) told;
-        any_moment = λ alive told. subst (λ (k : ℕ). LeavesOnly v old.disk now.disk (HasPrefixTable old.state events 0 k)) (sym reaches) (driven.any_moment alive told);
-        acknowledged = λ alive told. subst (λ (k : ℕ). IsAcknowledged v old.state events (length replies) k old.disk now.disk) (sym reaches) (acknowledged_here alive told);
+        kept = λ alive tells. driven.kept (sym driven.dead ∙ alive) tells;
+        any_moment = λ alive tells. subst (λ (k : ℕ). LeavesOnly v old.disk now.disk (HasPrefixTable old.state events 0 k)) (sym reaches) (driven.any_moment alive tells);
+        acknowledged = λ alive tells. subst (λ (k : ℕ). IsAcknowledged v old.state events (length replies) k old.disk now.disk) (sym reaches) (acknowledged_here alive tells);
+        documents = λ alive r documents tells has. subst (λ (k : ℕ). LeavesOnly v old.disk now.disk (HasWholePrefix old.state documents events 0 k)) (sym reaches) (driven.documents alive r documents tells has);
+        sent = λ alive r documents tells has c left. subst (λ (k : ℕ). HasWholePrefix old.state documents events (length replies) k c) (sym reaches) (whole_here alive r documents tells has c left);
       })
 
       none_answered : (n : ℕ) → (0 < n → old.dead ≡ false) → IsTrue old.dead → n ≡ 0
@@ -179,13 +233,14 @@ module _ {D : Type 0} (v : DiskView D)
 
       -- one more answer
       pub driven_more : (answer : Result Reply Refusal) (more : List (Result Reply Refusal)) → more ≡ replies ++ answer ∷ [] → IsAnswered now e answer new → (IsSome (v.bytes now.disk) → KeepsImages v now → KeepsImages v new)
+          → ((r : List ℕ) (documents : ℕ → List ℕ) → v.bytes now.disk ≡ Some r → HasDocuments now.state documents r → LeavesDocuments v new.state (documents_after_one now.state documents e) new.disk)
           → v.failures new.disk ≡ v.failures now.disk → IsDriven v old events more new
-      driven_more answer more is answered kept counted =
+      driven_more answer more is answered kept sent counted =
           let long : length more ≡ length replies + 1 = omega (arith, ap length is, length-append replies (answer ∷ [])) in
           let whole : take (length more) events ≡ taken ++ e ∷ [] = ap (λ (n : ℕ). take n events) long ∙ next.after in
           let old_alive : old.dead ≡ false = sym driven.dead ∙ answered.alive in
           let table : new.state ≡ after_all old.state (take (length more) events) = answered.table ∙ ap (λ (s : State). after_one s e) now_table ∙ sym (after_all_last old.state taken e) ∙ ap (after_all old.state) (sym whole) in
-          let keeps : IsSome (v.bytes old.disk) → KeepsImages v new = λ told. kept (driven.tells told) (driven.kept old_alive told) in
+          let keeps : IsSome (v.bytes old.disk) → KeepsImages v new = λ tells. kept (driven.tells tells) (driven.kept old_alive tells) in
           record {
             fits = omega (arith, long, next.fits);
             replies_are =
@@ -203,11 +258,18 @@ module _ {D : Type 0} (v : DiskView D)
             fixed = turns.fixed ∙ driven.fixed;
             told = λ t. driven.told (turns.told t);
             tells = λ t. turns.tells (driven.tells t);
-            kept = λ alive told. keeps told;
-            any_moment = λ alive told. subst (λ (k : ℕ). LeavesOnly v old.disk new.disk (HasPrefixTable old.state events 0 k)) (sym long) (run_with alive told);
-            chain = λ alive told. subst (λ (es : List Event). IsChain v old.state es old.disk new.disk) (sym whole)
+            kept = λ alive tells. keeps tells;
+            any_moment = λ alive tells. subst (λ (k : ℕ). LeavesOnly v old.disk new.disk (HasPrefixTable old.state events 0 k)) (sym long) (run_with alive tells);
+            chain = λ alive tells. subst (λ (es : List Event). IsChain v old.state es old.disk new.disk) (sym whole)
                 (chain_more v lawful old.state taken e old.disk now.disk new.disk
-                (subst (λ (es : List Event). IsChain v old.state es old.disk now.disk) next.before (driven.chain alive told))
-                (subst (λ (s : State). LeavesOnly v now.disk new.disk (HasBeforeOrAfterEvent s e)) now_table (turns.any_moment (now_alive alive) (driven.tells told)))
-                (λ c left. subst (λ (s : State). HasTable s c) (answered.table ∙ ap (λ (s : State). after_one s e) now_table) (keeps told c left)));
+                (subst (λ (es : List Event). IsChain v old.state es old.disk now.disk) next.before (driven.chain alive tells))
+                (subst (λ (s : State). LeavesOnly v now.disk new.disk (HasBeforeOrAfterEvent s e)) now_table (turns.any_moment (now_alive alive) (driven.tells tells)))
+                (λ c left. subst (λ (s : State). HasTable s c) (answered.table ∙ ap (λ (s : State). after_one s e) now_table) (keeps tells c left)));
+            documents = λ alive r documents tells has. subst (λ (k : ℕ). LeavesOnly v old.disk new.disk (HasWholePrefix old.state documents events 0 k)) (sym long) (documents_with alive r documents tells has);
+            sent = λ alive r documents tells has c left.
+                let here = told_now alive r documents tells has in
+                let were = documents_now alive r documents tells has in
+                subst (λ (ds : ℕ → List ℕ). HasDocuments new.state ds c)
+                ((λ i. documents_after_one (now_table i) (now_documents alive r documents tells has i) e) ∙ sym (documents_after-append old.state documents taken (e ∷ [])) ∙ ap (documents_after old.state documents) (sym whole))
+                (sent here.0 were here.1 (has_now alive r documents tells has) c left);
           }

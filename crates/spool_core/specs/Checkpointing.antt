@@ -1,5 +1,5 @@
 -- What a checkpoint makes of a spool: its table, listed in the other area.
-use Rattle.std.specs.Prelude.{◌≡◌, ◌+◌, ◌-◌, ◌<◌, ◌≤◌, ◌++◌, ℕ, Bool, true, false, List, length, map, IsTrue, Result, Ok, Err}
+use Rattle.std.specs.Prelude.{◌≡◌, ◌+◌, ◌-◌, ◌<◌, ◌≤◌, ◌++◌, ℕ, Bool, true, false, List, length, map, replicate, IsTrue, Result, Ok, Err}
 use Rattle.std.specs.declared.alloc.Global.{Global}
 use Rattle.std.specs.declared.vec.Vec.{Vec}
 use Rattle.std.specs.List.{AllByRecursion}
@@ -8,22 +8,31 @@ use Rattle.spool_types.specs.Limits.{longest_document}
 use Rattle.spool_types.specs.State.{State, Job}
 use Rattle.job_table.specs.Legal.{Fits}
 use Rattle.spool_disk.specs.Disk.{DiskView}
-use Rattle.job_table.specs.Listing.{listing}
+use Rattle.job_table.specs.Listing.{listing, job_rows}
 use Rattle.event_codec.specs.RowSpelling.{row_spelling, IsRowSpellable}
 use Rattle.spool_areas.specs.Checkpoint.{has_room, last_epoch, frames_of, payloads_in, AreFrames}
 use Rattle.spool_areas.specs.Header.{half, header_len, header_at, epoch_of, current_area}
 use Rattle.spool_areas.specs.Payloads.{HasPayloads, gate_after}
 use Rattle.spool_areas.specs.declared.fault.AreaFault.{AreaFault}
 use Rattle.spool_areas.specs.declared.fault.AreaFault.TheVariants as areas
-use Rattle.spool_core.specs.Standing.{Standing}
+use Rattle.job_table.specs.Documents.{AreDocuments, document_len}
+use Rattle.spool_core.specs.Standing.{Standing, len_at}
 use Rattle.spool_core.specs.declared.spool.checkpoint_fault.CheckpointFault.{CheckpointFault}
 use Rattle.spool_core.specs.declared.spool.checkpoint_fault.CheckpointFault.TheVariants.{Dead, EpochEnd, Memory, Full, Disk}
 
 -- ## What an area holds after it
 
--- the payloads of the rows that a table is listed as
-abbrev pub listed_payloads : State → List (List ℕ)
-listed_payloads s = map row_spelling (listing s)
+-- the payloads of the rows that a table is listed as, with these documents
+abbrev pub listed_payloads : State → (ℕ → List ℕ) → List (List ℕ)
+listed_payloads s documents = map row_spelling (listing s documents)
+
+-- Documents of zeros. How long the rows of a listing are depends on how long the documents are, and on nothing else of them.
+abbrev pub blank : State → ℕ → List ℕ
+blank s j = replicate (len_at s j) 0
+
+-- the rows of a job, with zeros for its document
+abbrev pub blank_rows : Job → List Row
+blank_rows r = job_rows r (replicate (document_len r) 0)
 
 -- the current area of the image has this epoch
 pub record HasEpoch (epoch : ℕ) (image : List ℕ) : Type 0 where
@@ -31,10 +40,13 @@ pub record HasEpoch (epoch : ℕ) (image : List ℕ) : Type 0 where
   pub current : current_area image ≡ Ok base
   pub epoch_is : epoch_of (header_at base image) ≡ epoch
 
--- The current area of the image has this epoch, and holds the listing of the table and no event.
+-- The current area of the image has this epoch, and holds the listing of the table, with documents of the jobs' lengths, and
+-- no event.
 pub record IsCheckpointed (s : State) (epoch : ℕ) (image : List ℕ) : Type 0 where
   pub base : ℕ
-  pub listing : HasPayloads base (listed_payloads s) image
+  pub documents : ℕ → List ℕ
+  pub fit : AreDocuments s documents
+  pub listing : HasPayloads base (listed_payloads s documents) image
   pub epoch_is : epoch_of (header_at base image) ≡ epoch
 
 -- ## Its answers
@@ -42,11 +54,11 @@ pub record IsCheckpointed (s : State) (epoch : ℕ) (image : List ℕ) : Type 0 
 -- The rows of the table's listing, appended in order to an area of this length, meet no Full: behind each record and its
 -- next gate six bytes more are left.
 abbrev pub holds_listing : ℕ → State → Bool
-holds_listing len s = has_room len header_len (map length (listed_payloads s))
+holds_listing len s = has_room len header_len (map length (listed_payloads s (blank s)))
 
 -- how many bytes are left in an area of this length behind the table's listing
 abbrev pub room_beside : ℕ → State → ℕ
-room_beside len s = len - gate_after 0 (listed_payloads s)
+room_beside len s = len - gate_after 0 (listed_payloads s (blank s))
 
 -- the spool isn't dead, and there is a next epoch
 pub record MayList {D : Type 0} (spool : Standing D) : Type 0 where

@@ -7,7 +7,7 @@ use Rattle.spool_types.specs.State.{State}
 use Rattle.job_table.specs.Step.{refusal_of, reply_to}
 use Rattle.job_table.specs.Fold.{after_one, after_all}
 use Rattle.spool_disk.specs.Disk.{DiskView, Blames, LeavesOnly}
-use Rattle.spool_core.specs.Image.{HasTable, HasBeforeOrAfterEvent}
+use Rattle.spool_core.specs.Image.{HasTable, HasDocuments, HasWhole, HasBeforeOrAfterEvent, documents_after_one}
 use Rattle.spool_core.specs.Standing.{Standing, IsFull, record_len}
 use Rattle.spool_core.specs.declared.driving.Ending.{Ending}
 use Rattle.spool_core.specs.declared.driving.Ending.TheVariants.{End, Memory, Full, Disk, Dead}
@@ -38,9 +38,19 @@ abbrev pub room_after : State → ℕ → List Event → ℕ
 room_after s room [] = room
 room_after s room (e ∷ es) = room_after (after_one s e) (room_after_one s room e) es
 
+-- the documents after the events: with what each of them that isn't refused sends
+abbrev pub documents_after : State → (ℕ → List ℕ) → List Event → ℕ → List ℕ
+documents_after s documents [] = documents
+documents_after s documents (e ∷ es) = documents_after (after_one s e) (documents_after_one s documents e) es
+
 -- the image has the table after so many of the events: at least so many, and at most so many
 abbrev pub HasPrefixTable : State → List Event → ℕ → ℕ → List ℕ → Type 0
 HasPrefixTable s events least most image = (k : ℕ) × (least ≤ k) × (k ≤ most) × HasTable (after_all s (take k events)) image
+
+-- so it is, with the documents after these events
+abbrev pub HasWholePrefix : State → (ℕ → List ℕ) → List Event → ℕ → ℕ → List ℕ → Type 0
+HasWholePrefix s documents events least most image =
+    (k : ℕ) × (least ≤ k) × (k ≤ most) × HasWhole (after_all s (take k events)) (documents_after s documents (take k events)) image
 
 -- how many of the events may be on the device where n were answered: the one in hand too, if the device failed
 abbrev pub reach : Ending → ℕ → ℕ
@@ -66,6 +76,10 @@ IsEnding v old events n Dead new = IsTrue old.dead × (n ≡ 0) × (0 < length e
 -- A crash leaves this table alone.
 abbrev pub LeavesTable : {D : Type 0} → DiskView D → State → D → Type 0
 LeavesTable v s d = (c : List ℕ) → v.image d c → HasTable s c
+
+-- A crash leaves these documents of the table's jobs.
+abbrev pub LeavesDocuments : {D : Type 0} → DiskView D → State → (ℕ → List ℕ) → D → Type 0
+LeavesDocuments v s documents d = (c : List ℕ) → v.image d c → HasDocuments s documents c
 
 -- A chain of disks from one to another, with one more for each event: between two neighbours a crash leaves the table
 -- before the event or the one after it, and from the later of them on the event isn't lost.
@@ -99,6 +113,10 @@ pub record IsDriven {D : Type 0} (v : DiskView D) (old : Standing D) (events : L
   pub kept : old.dead ≡ false → IsSome (v.bytes old.disk) → KeepsImages v new
   pub any_moment : old.dead ≡ false → IsSome (v.bytes old.disk) → LeavesOnly v old.disk new.disk (HasPrefixTable old.state events 0 (length replies))
   pub chain : old.dead ≡ false → IsSome (v.bytes old.disk) → IsChain v old.state (take (length replies) events) old.disk new.disk
+  pub documents : old.dead ≡ false → (r : List ℕ) (documents : ℕ → List ℕ) → v.bytes old.disk ≡ Some r → HasDocuments old.state documents r →
+      LeavesOnly v old.disk new.disk (HasWholePrefix old.state documents events 0 (length replies))
+  pub sent : old.dead ≡ false → (r : List ℕ) (documents : ℕ → List ℕ) → v.bytes old.disk ≡ Some r → HasDocuments old.state documents r →
+      LeavesDocuments v new.state (documents_after old.state documents (take (length replies) events)) new.disk
 
 -- The run ended so, with these replies.
 pub record IsOutcome {D : Type 0} (v : DiskView D) (old : Standing D) (events : List Event) (replies : List (Result Reply Refusal)) (ending : Ending) (new : Standing D) : Type 0 where
@@ -116,3 +134,7 @@ pub record IsOutcome {D : Type 0} (v : DiskView D) (old : Standing D) (events : 
       LeavesOnly v old.disk new.disk (HasPrefixTable old.state events 0 (reach ending (length replies)))
   pub acknowledged : old.dead ≡ false → IsSome (v.bytes old.disk) →
       IsAcknowledged v old.state events (length replies) (reach ending (length replies)) old.disk new.disk
+  pub documents : old.dead ≡ false → (r : List ℕ) (documents : ℕ → List ℕ) → v.bytes old.disk ≡ Some r → HasDocuments old.state documents r →
+      LeavesOnly v old.disk new.disk (HasWholePrefix old.state documents events 0 (reach ending (length replies)))
+  pub sent : old.dead ≡ false → (r : List ℕ) (documents : ℕ → List ℕ) → v.bytes old.disk ≡ Some r → HasDocuments old.state documents r →
+      (c : List ℕ) → v.image new.disk c → HasWholePrefix old.state documents events (length replies) (reach ending (length replies)) c

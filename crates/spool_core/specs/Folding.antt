@@ -1,17 +1,23 @@
 -- The payloads of an area, read one after another: rows first, and then events.
 use Rattle.spool_disk.specs.Disk.{DiskView, ChangesNothing}
-use Rattle.std.specs.Prelude.{◌≡◌, ◌⊎◌, ℕ, ◌-◌, List, [], ◌∷◌, ◌++◌, length, take, drop, ⊤, Option, Some, None}
+use Rattle.std.specs.Prelude.{◌≡◌, ◌⊎◌, ℕ, ◌+◌, ◌-◌, List, [], ◌∷◌, ◌++◌, length, take, drop, ⊤, Option, Some, None, false}
 use Rattle.spool_types.specs.declared.event.Event.{Event}
 use Rattle.spool_types.specs.declared.listing.Row.{Row}
-use Rattle.spool_types.specs.State.{State}
+use Rattle.spool_types.specs.State.{State, job_at}
+use Rattle.spool_types.specs.Sent.{sent_by}
+use Rattle.job_table.specs.Contents.{Contents, is_over, places_of, AddsPlaces}
 use Rattle.job_table.specs.Step.{refusal_of, after}
+use Rattle.documents.specs.Documents.{LieIn}
+use Rattle.documents.specs.Placed.{placed_pieces}
+use Rattle.spool_areas.specs.Header.{header_len}
+use Rattle.spool_core.specs.Seen.{ArePlacesOf, DocumentsLieIn}
 use Rattle.job_table.specs.Fold.{after_all}
-use Rattle.job_table.specs.Loading.{Progress, IsWhole}
+use Rattle.job_table.specs.Loading.{Progress, Loaded, IsWhole}
 use Rattle.event_codec.specs.Spelling.{spelling, IsSpellable}
 use Rattle.event_codec.specs.RowSpelling.{row_spelling, IsRowSpellable}
 use Rattle.event_codec.specs.declared.fault.CodecFault.{CodecFault}
 use Rattle.event_codec.specs.declared.fault.CodecFault.TheVariants as codec
-use Rattle.spool_areas.specs.declared.extent.Extent.{Extent}
+use Rattle.extents.specs.declared.extent.Extent.{Extent}
 use Rattle.spool_areas.specs.declared.fault.OpenFault.{OpenFault}
 use Rattle.spool_areas.specs.declared.fault.OpenFault.TheVariants.{NotASpool, Damaged, Memory, Disk}
 use Rattle.spool_areas.specs.Payloads.{gate_after}
@@ -27,18 +33,29 @@ pub record IsPayloadAt (bytes : List ℕ) (x : Extent) (payload : List ℕ) : Ty
   pub long : length payload ≡ x.len
 
 -- The payloads are the rows of a whole listing and at least one event, and lead to this table.
-pub record IsBeyondRows (payloads : List (List ℕ)) (s : State) : Type 0 where
+pub record IsBeyondRows (base : ℕ) (payloads : List (List ℕ)) (c : Contents) : Type 0 where
   pub progress : Progress
   pub events : List Event
   pub begins : Begins payloads progress events
   pub whole : IsWhole progress
   pub some : ¬ (events ≡ [])
-  pub table : s ≡ after_all progress.state events
+  pub table : c.state ≡ after_all progress.state events
+  pub places : ArePlacesOf base begins.rows events c
 
--- what was read so far are these payloads
-abbrev pub HasRead : Reading → List (List ℕ) → Type 0
-HasRead (Rows p) payloads = Begins payloads p []
-HasRead (Events t) payloads = IsBeyondRows payloads t.state
+-- The payloads are rows that lead to this, and the pieces among them lie where it has them.
+pub record AreRows (base : ℕ) (payloads : List (List ℕ)) (l : Loaded) : Type 0 where
+  pub begins : Begins payloads l.progress []
+  pub places : (j : ℕ) → places_of l.places j ≡ placed_pieces (base + header_len) begins.rows j
+
+-- what was read so far are these payloads of the area at base
+abbrev pub HasRead : ℕ → Reading → List (List ℕ) → Type 0
+HasRead base (Rows l) payloads = AreRows base payloads l
+HasRead base (Events t) payloads = IsBeyondRows base payloads t
+
+-- the documents that were read so far lie between these places
+abbrev pub ReadLiesIn : ℕ → ℕ → Reading → Type 0
+ReadLiesIn low high (Rows l) = (j : ℕ) → LieIn low high (places_of l.places j)
+ReadLiesIn low high (Events t) = DocumentsLieIn low high t
 
 -- the payload is the spelling of this row and of no other
 pub record IsRowIn (payload : List ℕ) (row : Row) : Type 0 where
@@ -51,17 +68,23 @@ abbrev pub IsRowOrNone : List ℕ → Option Row → Type 0
 IsRowOrNone payload (Some row) = IsRowIn payload row
 IsRowOrNone payload None = (row : Row) → IsRowSpellable row → payload ≡ row_spelling row → ⊥
 
+-- jobs that have ended stay so
+abbrev pub StayOver : State → State → Type 0
+StayOver s t = (j : ℕ) → is_over (job_at t j) ≡ false → is_over (job_at s j) ≡ false
+
 -- The payload is the spelling of an event that this table accepts, and that leads to this reading.
-pub record IsAfterEvent (s : State) (payload : List ℕ) (t : State) : Type 0 where
+pub record IsAfterEvent (c : Contents) (payload : List ℕ) (place : ℕ) (t : Contents) : Type 0 where
   pub event : Event
   pub spellable : IsSpellable event
   pub spelt : payload ≡ spelling event
-  pub accepted : refusal_of s event ≡ None
-  pub table : t ≡ after s event
+  pub accepted : refusal_of c.state event ≡ None
+  pub table : t.state ≡ after c.state event
+  pub places : AddsPlaces place (sent_by event) c t
+  pub lasting : StayOver c.state t.state
 
-abbrev pub IsNextEvent : State → List ℕ → Reading → Type 0
-IsNextEvent s payload (Rows p) = ⊥
-IsNextEvent s payload (Events t) = IsAfterEvent s payload t.state
+abbrev pub IsNextEvent : Contents → List ℕ → ℕ → Reading → Type 0
+IsNextEvent c payload place (Rows l) = ⊥
+IsNextEvent c payload place (Events t) = IsAfterEvent c payload place t
 
 -- the payload isn't the spelling of an event that this table accepts
 abbrev pub IsNoEvent : State → List ℕ → Type 0
@@ -146,7 +169,7 @@ IsFoldFault base extents bytes Disk = ⊤
 
 -- The first n extents were read, and the others follow behind them.
 pub record IsFolded (base end : ℕ) (extents : List Extent) (n : ℕ) (bytes : List ℕ) (reading : Reading) : Type 0 where
-  pub read : HasRead reading (payloads_at bytes (take n extents))
+  pub read : HasRead base reading (payloads_at bytes (take n extents))
   pub follow : Follow (gate_after base (payloads_at bytes (take n extents))) (drop n extents) end
 
 -- The areas were read, and are as they were.

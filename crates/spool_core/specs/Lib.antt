@@ -3,6 +3,7 @@ pub mod Image
 pub mod Standing
 pub mod Seen
 pub mod Checkpointing
+pub mod Filling
 pub mod Folding
 pub mod Driving
 pub mod Turns

@@ -5,6 +5,7 @@ use Rattle.spool_types.specs.declared.event.Event.TheVariants.{Reopen}
 use Rattle.spool_types.specs.State.{State}
 use Rattle.job_table.specs.Attempts.{reopened}
 use Rattle.job_table.specs.Fold.{after_all}
+use Rattle.spool_core.specs.Driving.{documents_after}
 
 -- a life: its events, how many of the first of them were acknowledged, and how many of the first of them a crash left
 pub record Life : Type 0 where
@@ -24,6 +25,14 @@ next_table s l = reopened (after_all s (take l.left l.events))
 abbrev pub after_lives : State → List Life → State
 after_lives s [] = s
 after_lives s (l ∷ ls) = after_lives (next_table s l) ls
+
+-- the documents with which the next life begins: those after the events that are left
+abbrev pub next_documents : State → (ℕ → List ℕ) → Life → ℕ → List ℕ
+next_documents s documents l = documents_after s documents (take l.left l.events)
+
+abbrev pub documents_after_lives : State → (ℕ → List ℕ) → List Life → ℕ → List ℕ
+documents_after_lives s documents [] = documents
+documents_after_lives s documents (l ∷ ls) = documents_after_lives (next_table s l) (next_documents s documents l) ls
 
 -- all lives as one list of events: of each those that a crash left, and then the opening
 abbrev pub history_of : List Life → List Event

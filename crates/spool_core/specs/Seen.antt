@@ -1,8 +1,14 @@
 -- What the fields of a spool mean.
 use Rattle.spool_disk.specs.Disk.{DiskView}
 use Rattle.std.specs.Prelude.{◌≡◌, ◌≤◌, ℕ, ◌+◌, ◌-◌, List, false, IsSome}
-use Rattle.spool_types.specs.State.{State}
-use Rattle.spool_areas.specs.Header.{half}
+use Rattle.spool_types.specs.State.{State, job_at}
+use Rattle.spool_types.specs.declared.event.Event.{Event}
+use Rattle.spool_types.specs.declared.listing.Row.{Row}
+use Rattle.spool_areas.specs.Header.{header_len}
+use Rattle.spool_areas.specs.Seen.{IsArea}
+use Rattle.job_table.specs.Contents.{Contents, is_over, places_at}
+use Rattle.documents.specs.Documents.{LieIn}
+use Rattle.documents.specs.Placed.{places_in}
 use Rattle.spool_areas.specs.Current.{Current, KeepsPayloads}
 use Rattle.spool_core.specs.History.{IsHistory}
 use Rattle.job_table.specs.Attempts.{HasNoProcessing}
@@ -17,20 +23,36 @@ standing_at areas s = record { disk = areas.disk; state = s; room = areas.end - 
 abbrev pub standing_of : {D : Type 0} → Inside D → Standing D
 standing_of a = standing_at a.areas a.table.state
 
--- each image of the disk has the history of the table in its current area
-pub record KeepsTable {D : Type 0} (v : DiskView D) (areas : Current D) (s : State) : Type 0 where
+-- The documents lie where these rows and events of the area at base have them, but for those of jobs that have ended.
+abbrev pub ArePlacesOf : ℕ → List Row → List Event → Contents → Type 0
+ArePlacesOf base rows events c = (j : ℕ) → is_over (job_at c.state j) ≡ false → places_at c j ≡ places_in base rows events j
+
+-- These payloads of the area at base lead to the table, and the documents lie where they have them.
+pub record HasHistory (base : ℕ) (payloads : List (List ℕ)) (c : Contents) : Type 0 where
+  pub history : IsHistory payloads c.state
+  pub places : ArePlacesOf base history.rows history.events c
+
+-- Each image of the disk has the history of the table in its current area, and the documents lie where that has them.
+pub record KeepsTable {D : Type 0} (v : DiskView D) (areas : Current D) (c : Contents) : Type 0 where
   pub payloads : List (List ℕ)
   pub kept : KeepsPayloads v areas payloads
-  pub history : IsHistory payloads s
+  pub history : IsHistory payloads c.state
+  pub places : ArePlacesOf areas.base history.rows history.events c
 
--- The area ends at half of the disk's bytes from its base on, and the gate lies in it; where a job is processing, the room
--- for the record of a reopening lies behind the gate. As long as the device hasn't failed, its images have the table,
--- where it tells them.
-pub record IsStandingAt {D : Type 0} (v : DiskView D) (areas : Current D) (s : State) : Type 0 where
-  pub ends : areas.end ≡ areas.base + half (v.size areas.disk)
+-- the documents lie between these places, but for those of jobs that have ended
+abbrev pub DocumentsLieIn : ℕ → ℕ → Contents → Type 0
+DocumentsLieIn low high c = (j : ℕ) → is_over (job_at c.state j) ≡ false → LieIn low high (places_at c j)
+
+-- The area is one of the disk's two, and the gate lies in it, behind the header; where a job is processing, the room for the
+-- record of a reopening lies behind the gate. The documents lie between its header and the gate. As long as the device hasn't
+-- failed, its images have the table, where it tells them.
+pub record IsStandingAt {D : Type 0} (v : DiskView D) (areas : Current D) (c : Contents) : Type 0 where
+  pub area : IsArea areas.base areas.end (v.size areas.disk)
+  pub behind : areas.base + header_len ≤ areas.gate
   pub inside : areas.gate ≤ areas.end
-  pub roomy : ¬ (HasNoProcessing s) → areas.gate + kept_room ≤ areas.end
-  pub table : areas.dead ≡ false → IsSome (v.bytes areas.disk) → KeepsTable v areas s
+  pub roomy : ¬ (HasNoProcessing c.state) → areas.gate + kept_room ≤ areas.end
+  pub lie : DocumentsLieIn (areas.base + header_len) areas.gate c
+  pub table : areas.dead ≡ false → IsSome (v.bytes areas.disk) → KeepsTable v areas c
 
 abbrev pub IsStanding : {D : Type 0} → DiskView D → Inside D → Type 0
-IsStanding v a = IsStandingAt v a.areas a.table.state
+IsStanding v a = IsStandingAt v a.areas a.table

@@ -1,11 +1,12 @@
 -- An opened spool as its callers see it.
 use Rattle.spool_disk.specs.Disk.{DiskView}
-use Rattle.std.specs.Prelude.{◌≡◌, ◌<◌, ◌≤◌, ◌^◌, ℕ, ◌+◌, ◌-◌, List, [], length, Bool, true, false, IsTrue, Option, None, Some, Result, Ok, Err}
+use Rattle.std.specs.Prelude.{◌≡◌, ◌<◌, ◌≤◌, ◌^◌, ℕ, ◌+◌, ◌-◌, length, List, Bool, true, false, IsTrue, Option, None, Some, Result, Ok, Err}
 use Rattle.spool_types.specs.declared.event.Event.{Event}
 use Rattle.spool_types.specs.declared.event.Reply.{Reply}
 use Rattle.spool_types.specs.State.{State, Job, job_at}
 use Rattle.spool_types.specs.declared.event.Event.TheVariants.{Reopen}
 use Rattle.job_table.specs.Attempts.{HasNoProcessing}
+use Rattle.job_table.specs.Documents.{document_len}
 use Rattle.job_table.specs.Step.{refusal_of, step}
 use Rattle.event_codec.specs.Spelling.{spelling, IsSpellable}
 use Rattle.gate_journal.specs.Appends.{kept_room}
@@ -84,10 +85,10 @@ pub record IsFrameOf (e : Event) (frame : List ℕ) : Type 0 where
   pub len : length frame ≡ record_len e
   pub short : length frame < 2 ^ 32
 
--- the document of a job that is found, and no bytes where none is
-abbrev pub document_found : Option Job → List ℕ
-document_found None = []
-document_found (Some r) = r.document
+-- how long the document of a job that is found is
+abbrev pub len_found : Option Job → ℕ
+len_found None = 0
+len_found (Some r) = document_len r
 
-abbrev pub document_at : State → ℕ → List ℕ
-document_at s j = document_found (job_at s j)
+abbrev pub len_at : State → ℕ → ℕ
+len_at s j = len_found (job_at s j)

@@ -1,6 +1,6 @@
 //! A list of events, applied in turn.
 ghost use Rattle.std.specs.Prelude.{◌≡◌, ◌<◌, ◌≤◌, ◌+◌, ◌⊎◌, ◌↔◌, List, ℕ, Some, None, Ok, IsSome, IsTrue, false, length, take, OnOk, IfOk, IfErr, IsErrOf, slice_get};
-ghost use Rattle.spool_disk.specs.Disk.{Blames, LeavesOnly};
+ghost use Rattle.spool_disk.specs.Disk.{Blames, IsSynced, LeavesOnly};
 ghost use Rattle.spool_types.specs.declared.event.Event.{Event};
 ghost use Rattle.spool_types.specs.declared.event.NewJob.{NewJob};
 ghost use Rattle.spool_types.specs.declared.event.Event.TheVariants.{Create};
@@ -9,9 +9,9 @@ ghost use Rattle.spool_types.specs.State.{Job, job_at};
 ghost use Rattle.job_table.specs.Step.{refusal_of};
 ghost use Rattle.job_table.specs.Fold.{after_all};
 ghost use Rattle.job_table.specs.Ended.{HasEndedJob, subject};
-ghost use Rattle.spool_core.specs.Image.{HasTable, HasBeforeOrAfterEvent};
+ghost use Rattle.spool_core.specs.Image.{HasTable, HasDocuments, HasBeforeOrAfterEvent, HasWholeBeforeOrAfterEvent, documents_after_one};
 ghost use Rattle.spool_core.specs.Standing.{IsFull};
-ghost use Rattle.spool_core.specs.Driving.{replies_to, reach, room_after, HasPrefixTable, IsEnding, IsAcknowledged, KeepsImages, IsOutcome};
+ghost use Rattle.spool_core.specs.Driving.{replies_to, reach, room_after, HasPrefixTable, HasWholePrefix, IsEnding, IsAcknowledged, KeepsImages, LeavesDocuments, IsOutcome};
 ghost use Rattle.spool_core.specs.Turns.{DrivesOne};
 
 use crate::spool::{ApplyFault, Spool};
@@ -51,7 +51,11 @@ fn drive_one<D: Disk>(spool: &mut Spool<D>, event: Event) -> Result<Result<Reply
     ensures told { IsSome (D.device.bytes spool.new.disk) ↔ IsSome (D.device.bytes spool.old.disk) }
     ensures any_moment { spool.old.dead ≡ false → IsSome (D.device.bytes spool.old.disk) →
         LeavesOnly D.device spool.old.disk spool.new.disk (HasBeforeOrAfterEvent spool.old.state event) }
+    ensures documents { spool.old.dead ≡ false → (r : List ℕ) (documents : ℕ → List ℕ) → D.device.bytes spool.old.disk ≡ Some r → HasDocuments spool.old.state documents r →
+        LeavesOnly D.device spool.old.disk spool.new.disk (HasWholeBeforeOrAfterEvent spool.old.state documents event) }
     ensures kept { OnOk result (IsSome (D.device.bytes spool.old.disk) → KeepsImages D.device spool.old → KeepsImages D.device spool.new) }
+    ensures sent { OnOk result ((r : List ℕ) (documents : ℕ → List ℕ) → D.device.bytes spool.old.disk ≡ Some r → HasDocuments spool.old.state documents r →
+        LeavesDocuments D.device spool.new.state (documents_after_one spool.old.state documents event) spool.new.disk) }
 {
     match spool.apply(event) {
         Ok(reply) => Ok(Ok(reply)),
@@ -65,7 +69,8 @@ fn drive_one<D: Disk>(spool: &mut Spool<D>, event: Event) -> Result<Result<Reply
 
 // What a crash leaves of a spool before anything is applied.
 fn look<D: Disk>(spool: &Spool<D>)
-    ensures { spool.now.dead ≡ false → IsSome (D.device.bytes spool.now.disk) → KeepsImages D.device spool.now }
+    ensures kept { spool.now.dead ≡ false → IsSome (D.device.bytes spool.now.disk) → KeepsImages D.device spool.now }
+    ensures synced { spool.now.dead ≡ false → IsSynced D.device spool.now.disk }
 {
     spool.table();
 }
@@ -126,6 +131,13 @@ pub fn drive<D: Disk>(alloc: Global, spool: &mut Spool<D>, events: Vec<Event>) -
     ensures kept { spool.new.dead ≡ false → IsSome (D.device.bytes spool.old.disk) → (c : List ℕ) → D.device.image spool.new.disk c → HasTable spool.new.state c }
     ensures after_fault { spool.old.dead ≡ false → IsSome (D.device.bytes spool.old.disk) → (c : List ℕ) → D.device.image spool.new.disk c →
         HasPrefixTable spool.old.state events.items (length result.replies.items) (reach result.ending (length result.replies.items)) c }
+
+    // So it is with the documents: at any moment a crash leaves those after some of the events, and at the end what every
+    // acknowledged event sent is there.
+    ensures documents { spool.old.dead ≡ false → (r : List ℕ) (documents : ℕ → List ℕ) → D.device.bytes spool.old.disk ≡ Some r → HasDocuments spool.old.state documents r →
+        LeavesOnly D.device spool.old.disk spool.new.disk (HasWholePrefix spool.old.state documents events.items 0 (reach result.ending (length result.replies.items))) }
+    ensures sent { spool.old.dead ≡ false → (r : List ℕ) (documents : ℕ → List ℕ) → D.device.bytes spool.old.disk ≡ Some r → HasDocuments spool.old.state documents r →
+        (c : List ℕ) → D.device.image spool.new.disk c → HasWholePrefix spool.old.state documents events.items (length result.replies.items) (reach result.ending (length result.replies.items)) c }
 
     // A job that has ended stays as it is, and what would change it is refused.
     ensures ended { (j : ℕ) (job : Job) → HasEndedJob spool.old.state j job → job_at spool.new.state j ≡ Some job }

@@ -1,17 +1,20 @@
 //! The table that the payloads of an area lead to.
-ghost use Rattle.std.specs.Prelude.{◌≡◌, ◌≤◌, ◌+◌, List, ℕ, Some, false, ◌∷◌, [], ◌++◌, None, OnOk, IfOk, IfErr, IsErrOf};
+ghost use Rattle.std.specs.Prelude.{◌≡◌, ◌<◌, ◌≤◌, ◌+◌, ◌^◌, length, List, ℕ, Some, false, ◌∷◌, [], ◌++◌, None, OnOk, IfOk, IfErr, IsErrOf};
 ghost use Rattle.spool_disk.specs.Disk.{Blames};
 ghost use Rattle.spool_areas.specs.Header.{header_len};
 ghost use Rattle.spool_areas.specs.Payloads.{gate_after};
 ghost use Rattle.spool_areas.specs.Extents.{payloads_at, Follow};
 ghost use Rattle.job_table.specs.Step.{refusal_of, after};
-ghost use Rattle.spool_core.specs.History.{IsHistory};
+ghost use Rattle.spool_types.specs.Sent.{sent_by};
+ghost use Rattle.job_table.specs.Contents.{HasPlace, AddsPlaces, places_of};
+ghost use Rattle.documents.specs.Documents.{LieIn};
+ghost use Rattle.spool_core.specs.Seen.{DocumentsLieIn, HasHistory};
 ghost use Rattle.spool_core.specs.Image.{Begins};
-ghost use Rattle.spool_core.specs.Folding.{IsPayloadAt, IsRowOrNone, IsReadFault, IsTakeFault, IsNextEvent, IsEventFault, IsCommitFault, IsFinishFault, IsFoldFault, IsRead, HasRead, decode_fault};
+ghost use Rattle.spool_core.specs.Folding.{IsPayloadAt, IsRowOrNone, IsReadFault, IsTakeFault, IsNextEvent, IsEventFault, IsCommitFault, IsFinishFault, IsFoldFault, IsRead, AreRows, HasRead, ReadLiesIn, StayOver, decode_fault};
 
 use event_codec::{CodecFault, decode, decode_row};
 use gate_journal::HEAD_LEN;
-use job_table::{LoadFault, Loading, PrepareFault, Table};
+use job_table::{LoadFault, Loading, PrepareFault, Table, ended_jobs_stay};
 use spool_areas::{Areas, Extent, OpenFault};
 use spool_disk::Disk;
 use spool_types::{Event, Row};
@@ -37,7 +40,11 @@ pub(crate) fn fold<D: Disk>(
     requires lie { Follow (areas.old.base + header_len) payloads.now areas.old.gate }
     requires inside { areas.old.gate ≤ areas.old.end }
     requires ends { gate ≡ areas.old.gate }
-    ensures table { IfOk result (λ t. (r : List ℕ) → D.device.bytes areas.old.disk ≡ Some r → IsHistory (payloads_at r payloads.now) t.state) }
+    requires sized { areas.old.end < 2 ^ 64 }
+    ensures table { IfOk result (λ t. (r : List ℕ) → D.device.bytes areas.old.disk ≡ Some r → HasHistory areas.old.base (payloads_at r payloads.now) t) }
+
+    // Also on a disk that tells nothing of its bytes the documents lie behind the header and before the gate.
+    ensures lie { IfOk result (λ t. DocumentsLieIn (areas.old.base + header_len) areas.old.gate t) }
     ensures gate { OnOk result ((r : List ℕ) → D.device.bytes areas.old.disk ≡ Some r → areas.old.gate ≡ gate_after areas.old.base (payloads_at r payloads.now)) }
     ensures fault { IfErr result (λ e. (r : List ℕ) → D.device.bytes areas.old.disk ≡ Some r → IsFoldFault areas.old.base payloads.now r e) }
     ensures blames { Blames (D.device.failures areas.old.disk) (D.device.failures areas.new.disk) (IsErrOf result OpenFault.Disk) }
@@ -69,6 +76,7 @@ fn read_payload<D: Disk>(
     requires behind { areas.old.base + header_len + 5 ≤ extent.place }
     requires inside { extent.place + extent.len ≤ areas.old.end }
     ensures payload { OnOk result ((r : List ℕ) → D.device.bytes areas.old.disk ≡ Some r → IsPayloadAt r extent buffer.new.items) }
+    ensures long { OnOk result (length buffer.new.items ≡ extent.len) }
     ensures fault { IfErr result IsReadFault }
     ensures blames { Blames (D.device.failures areas.old.disk) (D.device.failures areas.new.disk) (IsErrOf result OpenFault.Disk) }
     ensures alive { OnOk result (areas.new.dead ≡ false) }
@@ -93,8 +101,11 @@ fn take_payload(
     extent: Extent,
 ) -> Result<Reading, OpenFault>
     requires head { 5 ≤ extent.place }
-    ensures next { IfOk result (λ next. (payloads : List (List ℕ)) → HasRead reading payloads → HasRead next (payloads ++ payload.now ∷ [])) }
-    ensures fault { IfErr result (λ e. (payloads : List (List ℕ)) → HasRead reading payloads → IsTakeFault payloads payload.now extent e) }
+    requires long { length payload.now ≡ extent.len }
+    requires inside { extent.place + extent.len < 2 ^ 64 }
+    ensures next { IfOk result (λ next. (base : ℕ) (payloads : List (List ℕ)) → HasRead base reading payloads → extent.place ≡ gate_after base payloads + 5 → HasRead base next (payloads ++ payload.now ∷ [])) }
+    ensures lie { IfOk result (λ next. (low : ℕ) → low ≤ extent.place → ReadLiesIn low extent.place reading → ReadLiesIn low (extent.place + extent.len) next) }
+    ensures fault { IfErr result (λ e. (base : ℕ) (payloads : List (List ℕ)) → HasRead base reading payloads → IsTakeFault payloads payload.now extent e) }
     ensures never { ¬ (IsErrOf result OpenFault.Disk) }
 {
     match reading {
@@ -111,8 +122,11 @@ fn take_row(
     extent: Extent,
 ) -> Result<Reading, OpenFault>
     requires head { 5 ≤ extent.place }
-    ensures next { IfOk result (λ next. (payloads : List (List ℕ)) → Begins payloads loading [] → HasRead next (payloads ++ payload.now ∷ [])) }
-    ensures fault { IfErr result (λ e. (payloads : List (List ℕ)) → Begins payloads loading [] → IsTakeFault payloads payload.now extent e) }
+    requires long { length payload.now ≡ extent.len }
+    requires inside { extent.place + extent.len < 2 ^ 64 }
+    ensures next { IfOk result (λ next. (base : ℕ) (payloads : List (List ℕ)) → AreRows base payloads loading → extent.place ≡ gate_after base payloads + 5 → HasRead base next (payloads ++ payload.now ∷ [])) }
+    ensures lie { IfOk result (λ next. (low : ℕ) → low ≤ extent.place → ((j : ℕ) → LieIn low extent.place (places_of loading.places j)) → ReadLiesIn low (extent.place + extent.len) next) }
+    ensures fault { IfErr result (λ e. (payloads : List (List ℕ)) → Begins payloads loading.progress [] → IsTakeFault payloads payload.now extent e) }
     ensures never { ¬ (IsErrOf result OpenFault.Disk) }
 {
     match read_row(alloc, payload) {
@@ -157,7 +171,9 @@ fn add_event(
     extent: Extent,
 ) -> Result<Reading, OpenFault>
     requires head { 5 ≤ extent.place }
-    ensures next { IfOk result (IsNextEvent table.state payload.now) }
+    requires long { length payload.now ≡ extent.len }
+    requires inside { extent.place + extent.len < 2 ^ 64 }
+    ensures next { IfOk result (IsNextEvent table payload.now extent.place) }
     ensures fault { IfErr result (IsEventFault table.state payload.now extent) }
 {
     match decode(alloc, payload) {
@@ -183,10 +199,16 @@ fn fault_of(extent: Extent, fault: CodecFault) -> OpenFault
 // Applies an event of the journal to the table. One that is refused isn't what a spool writes.
 fn commit_event(table: &mut Table, event: Event, extent: Extent) -> Result<(), OpenFault>
     requires head { 5 ≤ extent.place }
+    requires at { HasPlace extent.place (sent_by event) }
     ensures accepted { OnOk result (refusal_of table.old.state event ≡ None) }
     ensures table { OnOk result (table.new.state ≡ after table.old.state event) }
+    ensures places { OnOk result (AddsPlaces extent.place (sent_by event) table.old table.new) }
+    ensures lasting { OnOk result (StayOver table.old.state table.new.state) }
     ensures fault { IfErr result (IsCommitFault table.old.state event extent) }
 {
+    ended_jobs_stay();
+    // The table is legal.
+    let _jobs = table.jobs();
     match table.prepare(&event) {
         Ok(()) => {
             table.commit(event, extent.place);
@@ -199,8 +221,9 @@ fn commit_event(table: &mut Table, event: Event, extent: Extent) -> Result<(), O
 
 // The table, where no document is short.
 fn finish(reading: Reading, gate: u64) -> Result<Table, OpenFault>
-    ensures table { IfOk result (λ t. (payloads : List (List ℕ)) → HasRead reading payloads → IsHistory payloads t.state) }
-    ensures fault { IfErr result (λ e. (payloads : List (List ℕ)) → HasRead reading payloads → IsFinishFault payloads gate e) }
+    ensures table { IfOk result (λ t. (base : ℕ) (payloads : List (List ℕ)) → HasRead base reading payloads → HasHistory base payloads t) }
+    ensures lie { IfOk result (λ t. (low high : ℕ) → ReadLiesIn low high reading → DocumentsLieIn low high t) }
+    ensures fault { IfErr result (λ e. (base : ℕ) (payloads : List (List ℕ)) → HasRead base reading payloads → IsFinishFault payloads gate e) }
     ensures never { ¬ (IsErrOf result OpenFault.Disk) }
 {
     match reading {

@@ -11,20 +11,22 @@ ghost use Rattle.job_table.specs.Ended.{HasEndedJob, subject};
 ghost use Rattle.job_table.specs.Fold.{after_all};
 ghost use Rattle.job_table.specs.Legal.{IsLegal};
 ghost use Rattle.job_table.specs.Step.{refusal_of};
-ghost use Rattle.spool_core.specs.Driving.{HasPrefixTable};
-ghost use Rattle.spool_core.specs.Image.{HasTable, HasRoom, HasFault, IsReopenedFrom};
-ghost use Rattle.spool_core.specs.Lives.{Life, KeepsAcknowledged, after_lives, history_of, next_table};
+ghost use Rattle.spool_core.specs.Driving.{HasPrefixTable, HasWholePrefix, documents_after};
+ghost use Rattle.spool_core.specs.Image.{HasTable, HasDocument, HasDocuments, HasRoom, HasFault, IsReopenedFrom};
+ghost use Rattle.spool_core.specs.Lives.{Life, KeepsAcknowledged, after_lives, documents_after_lives, history_of, next_documents, next_table};
 ghost use Rattle.spool_areas.specs.declared.fault.OpenFault.{OpenFault};
 
 use job_table::{ended_jobs_stay, legal_tables_stay_legal, reopening};
 
 /// An image has at most one table or one fault, and never both, and at most one room, so what an opening finds is
-/// determined by the bytes.
+/// determined by the bytes. So are the documents: where there is a table each number has one document.
 pub fn one_reading()
     ensures table { (s t : State) (c : List ℕ) → HasTable s c → HasTable t c → s ≡ t }
     ensures either { (s : State) (f : OpenFault) (c : List ℕ) → HasTable s c → ¬ (HasFault f c) }
     ensures fault { (f g : OpenFault) (c : List ℕ) → HasFault f c → HasFault g c → f ≡ g }
     ensures room { (m n : ℕ) (c : List ℕ) → HasRoom m c → HasRoom n c → m ≡ n }
+    ensures document { (j : ℕ) (d e c : List ℕ) → HasDocument j d c → HasDocument j e c → d ≡ e }
+    ensures documents { (s : State) (c : List ℕ) → HasTable s c → (documents : ℕ → List ℕ) × HasDocuments s documents c }
 {}
 
 /// *Many lives*: a spool is driven, a crash leaves an image of its disk, and the next life opens that image, any number of
@@ -35,8 +37,14 @@ pub fn lives_go_on()
     ensures opened { (s t : State) (events : List Event) (acknowledged most : ℕ) (image : List ℕ) → HasPrefixTable s events acknowledged most image → IsReopenedFrom t image →
         (left : ℕ) × (acknowledged ≤ left) × (left ≤ most) × (t ≡ next_table s (record { events = events; acknowledged = acknowledged; left = left })) }
 
+    // It has the documents that the events sent which the crash left, every acknowledged one among them.
+    ensures documents { (s t : State) (documents : ℕ → List ℕ) (events : List Event) (acknowledged most : ℕ) (image : List ℕ) → HasWholePrefix s documents events acknowledged most image → IsReopenedFrom t image →
+        (left : ℕ) × (acknowledged ≤ left) × (left ≤ most) × (t ≡ next_table s (record { events = events; acknowledged = acknowledged; left = left }))
+        × HasDocuments t (next_documents s documents (record { events = events; acknowledged = acknowledged; left = left })) image }
+
     // The lives are as one life of the events that were left, with a Reopen at each opening. Their tables are legal.
     ensures history { (s : State) (lives : List Life) → after_lives s lives ≡ after_all s (history_of lives) }
+    ensures sent { (s : State) (documents : ℕ → List ℕ) (lives : List Life) → documents_after_lives s documents lives ≡ documents_after s documents (history_of lives) }
     ensures legal { (lives : List Life) → IsLegal (after_lives nothing lives) }
     ensures idle { (s : State) (l : Life) → IsLegal s → HasNoProcessing (next_table s l) }
 

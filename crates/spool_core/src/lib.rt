@@ -2,7 +2,7 @@
 //!
 //! A disk is made a spool once ([`make`]) and opened at each start ([`Spool::open`]). A [`Spool`] holds the disk and has
 //! the table in memory. [`Spool::apply`] writes an event down on the disk before it changes the table, and acknowledges
-//! it only once a crash can't take it away.
+//! it only once a crash can't take it away. Documents lie on the disk alone, and [`Spool::read_document`] reads them there.
 //!
 //! # What table a disk has
 //!
@@ -16,7 +16,9 @@
 //! 3. Any other image has a *fault* (`HasFault`). No area is current, or there is damage at a gate: that of the first record
 //!    that leaves the area or may not come next, or the closed one, where the document of a listed job isn't whole or those
 //!    7 bytes aren't left.
-//! 4. No image has two tables, two faults, one of each, or two rooms ([`one_reading`]).
+//! 4. A job has a *document* in it: what those rows and events have for it (`HasDocument`). What is said of documents speaks
+//!    of jobs that haven't ended.
+//! 5. No image has two tables, two faults, one of each, two rooms, or two documents of a job ([`one_reading`]).
 //!
 //! # Promises, on every disk that meets `Disk`
 //!
@@ -24,26 +26,31 @@
 //!   until the gates of both headers are closed, and then no spool or the empty table (`any_moment`).
 //! - *CrashSafeApply*: while the spool isn't dead, a crash at any moment of an [`Spool::apply`] leaves the table before the
 //!   event or the one after it, whatever the call answers (`any_moment`). After Ok every image has the table after it
-//!   (`kept`), nothing is unsynced (`durable`), the table shown is that one and the reply is the event's (`answer`).
+//!   (`kept`), nothing is unsynced (`durable`), the table shown is that one and the reply is the event's (`answer`). So it is
+//!   with the documents, of which the event may send a part (`documents`, `sent`).
+//! - *RightDocument*: [`Spool::read_document`] gives the bytes of the document that the disk's bytes have for the job (`data`),
+//!   and changes neither the table nor what a crash leaves (`same`, `still`).
 //! - *CrashSafeCheckpoint*: while the spool isn't dead, a crash at any moment of a [`Spool::checkpoint`] leaves its table,
-//!   whatever the call answers (`any_moment`), and the table shown stays (`answer`). After Ok the area's epoch is one higher,
-//!   and it holds the rows that the table is listed as and no event (`counts`, `listed`).
+//!   and its documents, whatever the call answers (`any_moment`, `documents`), and the table shown stays (`answer`). After Ok
+//!   the area's epoch is one higher, and it holds the rows that the table is listed as and no event (`counts`, `listed`).
 //! - *CrashSafeOpen*: where [`Spool::open`] answers Ok it gives the table of the bytes after the policy on every job that was
 //!   processing in it (`opened`), so none is left (`idle`), and the room that its disk then has (`room`). Where none was
 //!   processing it writes nothing (`unwritten`), and else the record of one Reopen, whose bytes the room loses (`left`).
 //! - *CrashSafeOpen*, meanwhile: until its first sync has answered a crash leaves what it was handed. From then on it leaves
-//!   an image with the table of the bytes or the one after the policy (`synced`). Once it has returned every image has the
-//!   table that is shown (`kept`).
+//!   an image with the table of the bytes or the one after the policy, and with their documents (`synced`). Once it has returned
+//!   every image has the table that is shown (`kept`), and the documents of the bytes (`documents`).
 //! - *CrashSafeOpen*, after an error: the disk is handed back, and tells its bytes if it did before (`told_back`). But for a
 //!   failed device it reads as before and has no new image (`back`). After a failed one each image is one that was handed
 //!   over, or has one of these two tables (`failed`).
 //! - *CrashSafeDrive*: [`drive`] answers each event up to its end as the step does (`replies`), its table is the fold of these
 //!   events (`table`), and it says why it ended (`ending`). On a spool that isn't dead a crash at any moment leaves the table
-//!   after a prefix of the events, the one in hand among them only where the device failed (`any_moment`).
+//!   and the documents after a prefix of the events, the one in hand among them only where the device failed (`any_moment`,
+//!   `documents`).
 //! - *CrashSafeDrive*, acknowledged: no acknowledged event is lost. A chain of disks leads from one reply to the next
-//!   (`acknowledged`): between two neighbours a crash leaves the table before the event or the one after it.
-//! - *ManyLives*: a spool that is driven, crashes and is opened again, any number of times, has the tables of one list of
-//!   events, and a job whose end was acknowledged has ended in all later lives ([`lives_go_on`]).
+//!   (`acknowledged`): between two neighbours a crash leaves the table before the event or the one after it. At the end every
+//!   image has what the acknowledged events sent (`sent`).
+//! - *ManyLives*: a spool that is driven, crashes and is opened again, any number of times, has the tables and the documents of
+//!   one list of events, and a job whose end was acknowledged has ended in all later lives ([`lives_go_on`]).
 //! - *CrashSafeDrive*, at its end: every image has the table that is shown (`kept`), or after a fault that one or the one with
 //!   the event in hand (`after_fault`). [`replay`] is the same fold from the empty table on, with no disk.
 //! - *EndedStaysEnded*: a table changes by accepted events only (`answer`), and none changes a job that has ended
@@ -69,9 +76,11 @@
 //! whether the event is on it: the table stays as it was, and the spool is dead, since what it would append next might
 //! follow an event that it doesn't know.
 //!
-//! `checkpoint` spells the rows of the table into frames, and hands them all to the areas, which put them into the other one
-//! and then change over. Until the header there is opened a crash leaves the events that led to the table, and from then on
-//! its rows, with room for a reopening behind them.
+//! `checkpoint` first takes all its memory: for new places of the documents, and for the frames of the table's rows, with
+//! zeros in the stead of the documents' bytes. Then it reads these into the frames, notes where each will lie, and hands all
+//! frames to the areas, which put them into the other one and then change over. So all rows are in memory meanwhile, with
+//! every document. Until the header there is opened a crash leaves the events that led to the table, and from then on its
+//! rows, with room for a reopening behind them. Once it is open the table has its documents in the new places.
 //!
 //! `open` first makes the table and writes nothing: it syncs, so that a crash leaves what it reads. It takes each row as the
 //! next one of a listing (`Loading` of `job_table`), and from the first event on commits each to the table that was listed,
@@ -83,7 +92,9 @@
 //!
 //! 1. The closed gate lies in the area or at its end. Where a job is processing, 7 bytes or more lie from it to the end:
 //!    room for the record of a reopening.
-//! 2. As long as no device call has failed, each image has the table that is in memory (`IsStanding`).
+//! 2. The documents that the table has places for lie between the header of the area and that gate.
+//! 3. As long as no device call has failed, each image has the table that is in memory, and the documents lie where its rows and
+//!    events have them (`IsStanding`).
 //!
 //! # Faults and what they leave
 //!
@@ -94,7 +105,8 @@
 //! - [`OpenError`] hands the disk back with an [`OpenFault`]. But for `Disk` it reads as before. `NotASpool` and `Damaged`
 //!   are faults of the bytes, which have no table. `Memory` and `Disk` say nothing of the bytes, and the disk may be
 //!   opened again.
-//! - [`ReadFault`]: the spool is as before.
+//! - [`ReadFault`]: the table and what a crash leaves are as before. After `Disk`, which comes only where the device's count of
+//!   failures rose, the spool is dead.
 //! - [`MakeFault`]: after `Full` nothing has changed. After `Disk` the device may hold no spool, and is made anew.
 #![tactic(auto)]
 

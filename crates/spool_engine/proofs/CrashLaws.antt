@@ -15,7 +15,7 @@ use Rattle.spool_core.specs.declared.spool.checkpoint_fault.CheckpointFault.TheV
 use Rattle.print_rounds.specs.Courses.{Course}
 use Rattle.spool_engine.specs.Script.{Meaning, says, asks, lists, runs, meaning}
 use Rattle.print_rounds.specs.Rounds.{HasSomeOf}
-use Rattle.spool_engine.specs.EventTurns.{Setting, Outcome, EventTurn, served, no_memory, full, disk, dead, unread, unlisted, IsTaken, IsServedBy, IsOutcome, IsKept}
+use Rattle.spool_engine.specs.EventTurns.{Setting, Outcome, EventTurn, served, no_memory, full, disk, dead, unread, unreadable, unlisted, IsTaken, IsServedBy, IsOutcome, IsKept}
 use Rattle.spool_engine.specs.Rounds.{Ran, AreRunBy}
 use Rattle.spool_engine.specs.Runs.{Turn, How, answered, ran, event_turn, tried_in, IsHow, IsTurn, IsAlong, AreTurns, last_course}
 use Rattle.spool_engine.proofs.EventLaws.{OnlyNow, unmoved}
@@ -41,12 +41,13 @@ dead_unlisted v s listing.Full s' is h = h.2
 dead_unlisted v s listing.Disk s' is h = let alive = h.may.alive in cc
 
 dead_outcome : {D : Type 0} (v : Setting D) (s : Standing D) (t : EventTurn D) (o : Outcome) → s.dead ≡ true → IsOutcome v s t o → t.next ≡ s
-dead_outcome v s t served is h = dead_served v.device s (meaning v.mime s.state t.command) t.text t.next is h
-dead_outcome v s t no_memory is h = h.cause.2
-dead_outcome v s t full is h = h.cause.1
+dead_outcome v s t served is h = dead_served v.device s (meaning v.mime s.state t.document t.command) t.text t.next is h
+dead_outcome v s t no_memory is h = let alive = h.cause.0 in cc
+dead_outcome v s t full is h = let alive = h.cause.0.alive in cc
 dead_outcome v s t disk is h = let alive = h.cause.fits.alive in cc
 dead_outcome v s t dead is h = h.cause.1
 dead_outcome v s t unread is h = h.same
+dead_outcome v s t unreadable is h = let alive = h.fails.cause.1.alive in cc
 dead_outcome v s t (unlisted fault) is h = dead_unlisted v.device s fault t.next is h.cause
 
 dead_rounds : {D : Type 0} (v : Setting D) (w : Meaning) (s : Course D) (rs : List (Ran D)) (new : Course D) (reply : List ℕ) → s.spool.dead ≡ true → AreRunBy v w s rs new reply → new.spool ≡ s.spool
@@ -56,11 +57,11 @@ dead_rounds v lists s rs new reply is h = absurd h
 dead_rounds v (runs most line) s rs new reply is h = ap (λ x. x.spool) (dead_rans v s rs new is h.each)
 
 -- a dead spool stays as it is
-dead_still : {D : Type 0} (v : Setting D) (s : Course D) (t : Turn D) (how : How D) → s.spool.dead ≡ true → IsHow v s t how → t.next.spool ≡ s.spool
+pub dead_still : {D : Type 0} (v : Setting D) (s : Course D) (t : Turn D) (how : How D) → s.spool.dead ≡ true → IsHow v s t how → t.next.spool ≡ s.spool
 dead_still v s t (answered outcome) is h = dead_outcome v s.spool (event_turn t outcome) outcome is h.0
-dead_still v s t (ran rs) is h = dead_rounds v (meaning v.mime s.spool.state t.command) s rs t.next t.text is h
+dead_still v s t (ran rs) is h = dead_rounds v (meaning v.mime s.spool.state t.document t.command) s rs t.next t.text is h
 
-dead_last : {D : Type 0} (v : Setting D) (s : Course D) (ts : List (Turn D)) → s.spool.dead ≡ true → AreTurns v s ts → (last_course s ts).spool ≡ s.spool
+pub dead_last : {D : Type 0} (v : Setting D) (s : Course D) (ts : List (Turn D)) → s.spool.dead ≡ true → AreTurns v s ts → (last_course s ts).spool ≡ s.spool
 dead_last v s [] is h = refl
 dead_last v s (t ∷ ts) is h =
     let same : t.next.spool ≡ s.spool = dead_still v s t t.how is h.0.how in

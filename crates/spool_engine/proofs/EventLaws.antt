@@ -7,16 +7,17 @@ use Rattle.spool_types.specs.declared.event.NewQueue.{NewQueue}
 use Rattle.spool_types.specs.declared.event.Reply.{Reply}
 use Rattle.spool_types.specs.declared.refusal.Refusal.{Refusal}
 use Rattle.spool_types.specs.State.{State}
-use Rattle.job_table.specs.Step.{answered}
+use Rattle.job_table.specs.Step.{answered, refusal_of}
 use Rattle.job_table.specs.Fold.{unless_refused}
 use Rattle.device_uri.specs.Devices.{is_device_uri}
-use Rattle.spool_disk.specs.Disk.{DiskView, LeavesOnly}
-use Rattle.spool_disk.proofs.Moments.{started, weaker_run}
+use Rattle.spool_disk.specs.Disk.{DiskView, IsLawful, LeavesOnly}
+use Rattle.spool_disk.proofs.Moments.{at_return, started, weaker_run}
 use Rattle.command_lines.specs.Replies.{refusal_line}
 use Rattle.command_lines.specs.declared.command.Command.{Command}
 use Rattle.command_lines.specs.declared.command.Creation.{Creation}
 use Rattle.command_lines.specs.declared.command.Command.TheVariants.{Queue, Create}
-use Rattle.spool_core.specs.Image.{HasTable, HasBeforeOrAfterEvent}
+use Rattle.spool_core.specs.Driving.{documents_after}
+use Rattle.spool_core.specs.Image.{HasTable, HasDocuments, HasBeforeOrAfterEvent, unless_refused_sent, documents_after_one}
 use Rattle.spool_core.specs.Standing.{Standing, IsAnswer}
 use Rattle.spool_core.specs.Checkpointing.{IsCheckpoint}
 use Rattle.spool_core.specs.declared.spool.checkpoint_fault.CheckpointFault.{CheckpointFault}
@@ -26,8 +27,8 @@ use Rattle.spool_core.specs.declared.spool.apply_fault.ApplyFault.TheVariants.{D
 use Rattle.print_rounds.proofs.PrefixLaws.{none_of, one_of}
 use Rattle.spool_engine.specs.Mime.{Mime}
 use Rattle.spool_engine.specs.Script.{says, asks, lists, meaning, creating, job_options, job_of_creation, event_in, event_of, step_line, step_state, reply_line}
-use Rattle.print_rounds.specs.Rounds.{HasSomeOf}
-use Rattle.spool_engine.specs.EventTurns.{Setting, Outcome, EventTurn, served, no_memory, full, disk, dead, unread, unlisted, IsServedBy, IsTaken, IsOutcome, MayBeRead, IsKept, tried_as, checkpoint_fault_line}
+use Rattle.print_rounds.specs.Rounds.{HasSomeOf, LeavesDocuments}
+use Rattle.spool_engine.specs.EventTurns.{Setting, Outcome, EventTurn, served, no_memory, full, disk, dead, unread, unlisted, IsServedBy, IsTaken, IsOutcome, IsReadFor, MayBeRead, IsKept, tried_as, checkpoint_fault_line}
 use Rattle.spool_engine.specs.Answers.{answer_line, checkpoint_line, IsApplied, IsRelisted, Takes}
 
 -- since this moment there is no other
@@ -43,17 +44,41 @@ pub step_folds : (s : State) (e : Event) (o : Option Refusal) → step_state s (
 step_folds s e None = refl
 step_folds s e (Some r) = refl
 
+-- ## Documents
+
+-- what tells its bytes has bytes
+pub has_bytes : (o : Option (List ℕ)) → IsSome o → (bytes : List ℕ) × (o ≡ Some bytes)
+has_bytes None h = absurd cc
+has_bytes (Some bytes) h = (bytes, refl)
+
+-- an event that is refused sends nothing
+refused_sent : (s : State) (documents : ℕ → List ℕ) (e : Event) (r : Refusal) (o : Option Refusal) → answered s e o ≡ Err r → unless_refused_sent documents e o ≡ documents
+refused_sent s documents e r None is = absurd cc
+refused_sent s documents e r (Some q) is = refl
+
+-- What an answer sends is left behind it: by that of a table that is as it was nothing.
+same_documents : {D : Type 0} (v : DiskView D) (s s' : Standing D) (documents : ℕ → List ℕ) → s' ≡ s → LeavesDocuments v documents s → LeavesDocuments v documents s'
+same_documents v s s' documents same has = subst (LeavesDocuments v documents) (sym same) has
+
+-- ## A command that is no event
+
+-- a command that closes no job reads no document
+abbrev pub ReadsNothing : {D : Type 0} → Setting D → Standing D → Command → Type 0
+ReadsNothing v s c = (o : Outcome) → IsReadFor v s [] o c
+
 -- a command that is no event changes nothing
-said_turn : {D : Type 0} (v : Setting D) (s : Standing D) (c : Command) (text : List ℕ) → OnlyNow v.device → IsKept v.device s → meaning v.mime s.state c ≡ says text → (t : EventTurn D) × Takes v s c t s × (t.text ≡ text)
-said_turn v s c text now kept is = (
-  record { command = c; outcome = served; text = text; next = s },
+said_turn : {D : Type 0} (v : Setting D) (s : Standing D) (c : Command) (text : List ℕ) → OnlyNow v.device → IsKept v.device s → ReadsNothing v s c → meaning v.mime s.state [] c ≡ says text → (t : EventTurn D) × Takes v s c t s × (t.text ≡ text)
+said_turn v s c text now kept none is = (
+  record { command = c; document = []; outcome = served; text = text; next = s },
   record {
     legal = record {
       outcome = subst (λ w. IsServedBy v.device s w text s) (sym is) (refl, refl);
+      read = none served;
       counted = omega arith;
       told = (λ h. h, λ h. h);
-      crash = unmoved v.device s (HasSomeOf s.state (tried_as (event_of v.mime s.state c) served)) now kept (none_of s.state (tried_as (event_of v.mime s.state c) served));
+      crash = unmoved v.device s (HasSomeOf s.state (tried_as (event_of v.mime s.state [] c) served)) now kept (none_of s.state (tried_as (event_of v.mime s.state [] c) served));
       kept = kept;
+      lasting = λ lives tells documents has. subst (λ w. LeavesDocuments v.device (documents_after s.state documents (tried_as (event_in w) served)) s) (sym is) has;
     };
     command = refl;
     next = refl;
@@ -70,17 +95,21 @@ untried v s s' e a now h same alive tells = subst (λ x. LeavesOnly v s.disk x.d
     (unmoved v s (HasSomeOf s.state []) now (subst (IsKept v) same h.kept) (none_of s.state []) alive tells)
 
 -- a turn whose event went so
-applied_turn : {D : Type 0} (v : Setting D) (s s' : Standing D) (c : Command) (e : Event) (line : Reply → List ℕ) (a : Result Reply ApplyFault) (o : Outcome) (text : List ℕ) → meaning v.mime s.state c ≡ asks e line → IsApplied v.device s e a s'
-    → IsOutcome v s (record { command = c; outcome = o; text = text; next = s' }) o → (s.dead ≡ false → IsSome (v.device.bytes s.disk) → LeavesOnly v.device s.disk s'.disk (HasSomeOf s.state (tried_as (Some e) o))) → (t : EventTurn D) × Takes v s c t s' × (t.text ≡ text)
-applied_turn v s s' c e line a o text is h out crash = (
-  record { command = c; outcome = o; text = text; next = s' },
+pub applied_turn : {D : Type 0} (v : Setting D) (s s' : Standing D) (c : Command) (document : List ℕ) (e : Event) (line : Reply → List ℕ) (a : Result Reply ApplyFault) (o : Outcome) (text : List ℕ) → meaning v.mime s.state document c ≡ asks e line → IsApplied v.device s e a s'
+    → IsOutcome v s (record { command = c; document = document; outcome = o; text = text; next = s' }) o → IsReadFor v s document o c → (s.dead ≡ false → IsSome (v.device.bytes s.disk) → LeavesOnly v.device s.disk s'.disk (HasSomeOf s.state (tried_as (Some e) o)))
+    → (s'.dead ≡ false → IsSome (v.device.bytes s.disk) → (documents : ℕ → List ℕ) → LeavesDocuments v.device documents s → LeavesDocuments v.device (documents_after s.state documents (tried_as (Some e) o)) s')
+    → (t : EventTurn D) × Takes v s c t s' × (t.text ≡ text)
+applied_turn v s s' c document e line a o text is h out read crash lasting = (
+  record { command = c; document = document; outcome = o; text = text; next = s' },
   record {
     legal = record {
       outcome = out;
+      read = read;
       counted = h.counted;
       told = h.told;
       crash = λ alive tells. subst (λ w. LeavesOnly v.device s.disk s'.disk (HasSomeOf s.state (tried_as (event_in w) o))) (sym is) (crash alive tells);
       kept = h.kept;
+      lasting = λ lives tells documents has. subst (λ w. LeavesDocuments v.device (documents_after s.state documents (tried_as (event_in w) o)) s') (sym is) (lasting lives tells documents has);
     };
     command = refl;
     next = refl;
@@ -88,52 +117,72 @@ applied_turn v s s' c e line a o text is h out crash = (
   refl,
 )
 
-pub answered_turn : {D : Type 0} (v : Setting D) (s s' : Standing D) (c : Command) (e : Event) (line : Reply → List ℕ) (a : Result Reply ApplyFault) → OnlyNow v.device → meaning v.mime s.state c ≡ asks e line → IsApplied v.device s e a s' → (t : EventTurn D) × Takes v s c t s' × (t.text ≡ answer_line line a)
-answered_turn v s s' c e line (Ok reply) now is h = applied_turn v s s' c e line (Ok reply) served (line reply) is h
-    (subst (λ w. IsServedBy v.device s w (line reply) s') (sym is) (sym (ap (step_line line) h.cause.step), subst (λ r. IsTaken s e r s') (sym h.cause.step) h.cause))
-    (tried v.device s s' e (Ok reply) h)
-answered_turn v s s' c e line (Err (Refused refusal)) now is h = applied_turn v s s' c e line (Err (Refused refusal)) served (refusal_line refusal) is h
+-- an event that the table refused, of a command that read nothing before
+pub refused_turn : {D : Type 0} (v : Setting D) (s s' : Standing D) (c : Command) (e : Event) (line : Reply → List ℕ) (refusal : Refusal) → meaning v.mime s.state [] c ≡ asks e line → IsApplied v.device s e (Err (Refused refusal)) s' → IsReadFor v s [] served c
+    → (t : EventTurn D) × Takes v s c t s' × (t.text ≡ refusal_line refusal)
+refused_turn v s s' c e line refusal is h read = applied_turn v s s' c [] e line (Err (Refused refusal)) served (refusal_line refusal) is h
     (subst (λ w. IsServedBy v.device s w (refusal_line refusal) s') (sym is) (sym (ap (step_line line) h.cause.1), subst (λ r. IsTaken s e r s') (sym h.cause.1) (h.cause.0, h.cause.2)))
+    read
     (tried v.device s s' e (Err (Refused refusal)) h)
-answered_turn v s s' c e line (Err Dead) now is h = applied_turn v s s' c e line (Err Dead) dead (codes "error dead\n") is h (record { event = e; is = ap event_in is; cause = h.cause; text = refl })
+    (λ lives tells documents has. subst (λ d. LeavesDocuments v.device d s') (sym (refused_sent s.state documents e refusal (refusal_of s.state e) h.cause.1)) (same_documents v.device s s' documents h.cause.2 has))
+
+-- an event of a dead spool
+pub dead_turn : {D : Type 0} (v : Setting D) (s s' : Standing D) (c : Command) (e : Event) (line : Reply → List ℕ) → OnlyNow v.device → meaning v.mime s.state [] c ≡ asks e line → IsApplied v.device s e (Err Dead) s' → IsReadFor v s [] dead c
+    → (t : EventTurn D) × Takes v s c t s' × (t.text ≡ codes "error dead\n")
+dead_turn v s s' c e line now is h read = applied_turn v s s' c [] e line (Err Dead) dead (codes "error dead\n") is h (record { event = e; is = ap event_in is; cause = h.cause; text = refl }) read
     (untried v.device s s' e (Err Dead) now h h.cause.1)
-answered_turn v s s' c e line (Err Memory) now is h = applied_turn v s s' c e line (Err Memory) no_memory (codes "error memory\n") is h (record { event = e; is = ap event_in is; cause = h.cause; text = refl })
+    (λ lives tells documents has. same_documents v.device s s' documents h.cause.1 has)
+
+pub answered_turn : {D : Type 0} (v : Setting D) (s s' : Standing D) (c : Command) (e : Event) (line : Reply → List ℕ) (a : Result Reply ApplyFault) → OnlyNow v.device → ReadsNothing v s c → meaning v.mime s.state [] c ≡ asks e line → IsApplied v.device s e a s' → (t : EventTurn D) × Takes v s c t s' × (t.text ≡ answer_line line a)
+answered_turn v s s' c e line (Ok reply) now none is h = applied_turn v s s' c [] e line (Ok reply) served (line reply) is h
+    (subst (λ w. IsServedBy v.device s w (line reply) s') (sym is) (sym (ap (step_line line) h.cause.step), subst (λ r. IsTaken s e r s') (sym h.cause.step) h.cause))
+    (none served)
+    (tried v.device s s' e (Ok reply) h)
+    (λ lives. h.sent)
+answered_turn v s s' c e line (Err (Refused refusal)) now none is h = refused_turn v s s' c e line refusal is h (none served)
+answered_turn v s s' c e line (Err Dead) now none is h = dead_turn v s s' c e line now is h (none dead)
+answered_turn v s s' c e line (Err Memory) now none is h = applied_turn v s s' c [] e line (Err Memory) no_memory (codes "error memory\n") is h (record { event = e; is = ap event_in is; cause = (h.cause.0, h.cause.1, inl h.cause.2); text = refl }) (none no_memory)
     (untried v.device s s' e (Err Memory) now h h.cause.2)
-answered_turn v s s' c e line (Err Full) now is h = applied_turn v s s' c e line (Err Full) full (codes "error full\n") is h (record { event = e; is = ap event_in is; cause = h.cause; text = refl })
+    (λ lives tells documents has. same_documents v.device s s' documents h.cause.2 has)
+answered_turn v s s' c e line (Err Full) now none is h = applied_turn v s s' c [] e line (Err Full) full (codes "error full\n") is h (record { event = e; is = ap event_in is; cause = (h.cause.0, inl h.cause.1); text = refl }) (none full)
     (untried v.device s s' e (Err Full) now h h.cause.1)
-answered_turn v s s' c e line (Err Disk) now is h = applied_turn v s s' c e line (Err Disk) disk (codes "error disk\n") is h (record { event = e; is = ap event_in is; cause = h.cause; text = refl })
+    (λ lives tells documents has. same_documents v.device s s' documents h.cause.1 has)
+answered_turn v s s' c e line (Err Disk) now none is h = applied_turn v s s' c [] e line (Err Disk) disk (codes "error disk\n") is h (record { event = e; is = ap event_in is; cause = h.cause; text = refl }) (none disk)
     (tried v.device s s' e (Err Disk) h)
+    (λ lives tells documents has. absurd (let died = h.cause.dead in cc))
 
 -- a text that is Ok has other bytes, where these are the same
-same_bytes : {X E : Type 0} (bytes : X → List ℕ) (r : Result X E) (a b : List ℕ) → b ≡ a → IfOk r (λ text. bytes text ≡ a) → IfOk r (λ text. bytes text ≡ b)
+pub same_bytes : {X E : Type 0} (bytes : X → List ℕ) (r : Result X E) (a b : List ℕ) → b ≡ a → IfOk r (λ text. bytes text ≡ a) → IfOk r (λ text. bytes text ≡ b)
 same_bytes bytes (Ok x) a b e h = h ∙ sym e
 same_bytes bytes (Err fault) a b e h = h
 
 -- a command that is an event, and the text that tells how it went
-pub event_told : {X E D : Type 0} (bytes : X → List ℕ) (r : Result X E) (v : Setting D) (s s' : Standing D) (c : Command) (e : Event) (line : Reply → List ℕ) → OnlyNow v.device → meaning v.mime s.state c ≡ asks e line
+pub event_told : {X E D : Type 0} (bytes : X → List ℕ) (r : Result X E) (v : Setting D) (s s' : Standing D) (c : Command) (e : Event) (line : Reply → List ℕ) → OnlyNow v.device → ReadsNothing v s c → meaning v.mime s.state [] c ≡ asks e line
     → (a : Result Reply ApplyFault) × IsApplied v.device s e a s' × IfOk r (λ text. bytes text ≡ answer_line line a)
     → (t : EventTurn D) × Takes v s c t s' × IfOk r (λ text. bytes text ≡ t.text)
-event_told bytes r v s s' c e line now is (a, went, text) =
-    let (t, takes, told) = answered_turn v s s' c e line a now is went in
+event_told bytes r v s s' c e line now none is (a, went, text) =
+    let (t, takes, told) = answered_turn v s s' c e line a now none is went in
     (t, takes, same_bytes bytes r (answer_line line a) t.text told text)
 
 -- a command that is no event
-pub said_told : {X E D : Type 0} (bytes : X → List ℕ) (r : Result X E) (v : Setting D) (s : Standing D) (c : Command) (text : List ℕ) → OnlyNow v.device → IsKept v.device s → meaning v.mime s.state c ≡ says text → IfOk r (λ x. bytes x ≡ text) → (t : EventTurn D) × Takes v s c t s × IfOk r (λ x. bytes x ≡ t.text)
-said_told bytes r v s c text now kept is h =
-    let (t, takes, told) = said_turn v s c text now kept is in
+pub said_told : {X E D : Type 0} (bytes : X → List ℕ) (r : Result X E) (v : Setting D) (s : Standing D) (c : Command) (text : List ℕ) → OnlyNow v.device → IsKept v.device s → ReadsNothing v s c → meaning v.mime s.state [] c ≡ says text → IfOk r (λ x. bytes x ≡ text) → (t : EventTurn D) × Takes v s c t s × IfOk r (λ x. bytes x ≡ t.text)
+said_told bytes r v s c text now kept none is h =
+    let (t, takes, told) = said_turn v s c text now kept none is in
     (t, takes, same_bytes bytes r text t.text told h)
 
 -- a command whose text wasn't read since there was no memory
-pub unread_told : {X E D : Type 0} (bytes : X → List ℕ) (r : Result X E) (v : Setting D) (s : Standing D) (c : Command) → OnlyNow v.device → IsKept v.device s → MayBeRead c → IfOk r (λ x. bytes x ≡ codes "error memory\n") → (t : EventTurn D) × Takes v s c t s × IfOk r (λ x. bytes x ≡ t.text)
-unread_told bytes r v s c now kept may h = (
-  record { command = c; outcome = unread; text = codes "error memory\n"; next = s },
+pub unread_told : {X E D : Type 0} (bytes : X → List ℕ) (r : Result X E) (v : Setting D) (s : Standing D) (c : Command) → OnlyNow v.device → IsKept v.device s → ReadsNothing v s c → MayBeRead c → IfOk r (λ x. bytes x ≡ codes "error memory\n") → (t : EventTurn D) × Takes v s c t s × IfOk r (λ x. bytes x ≡ t.text)
+unread_told bytes r v s c now kept none may h = (
+  record { command = c; document = []; outcome = unread; text = codes "error memory\n"; next = s },
   record {
     legal = record {
       outcome = record { may = may; text = refl; same = refl };
+      read = none unread;
       counted = omega arith;
       told = (λ h. h, λ h. h);
-      crash = unmoved v.device s (HasSomeOf s.state (tried_as (event_of v.mime s.state c) unread)) now kept (none_of s.state (tried_as (event_of v.mime s.state c) unread));
+      crash = unmoved v.device s (HasSomeOf s.state (tried_as (event_of v.mime s.state [] c) unread)) now kept (none_of s.state (tried_as (event_of v.mime s.state [] c) unread));
       kept = kept;
+      lasting = λ lives tells documents has. has;
     };
     command = refl;
     next = refl;
@@ -142,17 +191,17 @@ unread_told bytes r v s c now kept may h = (
 )
 
 -- a queue with the URI of a device is an event, and with another none
-pub queue_event : (m : Mime) (s : State) (q : NewQueue) → is_device_uri q.uri ≡ true → meaning m s (Queue q) ≡ asks (AddQueue q) reply_line
+pub queue_event : (m : Mime) (s : State) (q : NewQueue) → is_device_uri q.uri ≡ true → meaning m s [] (Queue q) ≡ asks (AddQueue q) reply_line
 queue_event m s q is = ap (λ b. cond b (asks (AddQueue q) reply_line) (says (codes "error uri\n"))) is
 
-pub no_queue_event : (m : Mime) (s : State) (q : NewQueue) → is_device_uri q.uri ≡ false → meaning m s (Queue q) ≡ says (codes "error uri\n")
+pub no_queue_event : (m : Mime) (s : State) (q : NewQueue) → is_device_uri q.uri ≡ false → meaning m s [] (Queue q) ≡ says (codes "error uri\n")
 no_queue_event m s q is = ap (λ b. cond b (asks (AddQueue q) reply_line) (says (codes "error uri\n"))) is
 
 -- a job whose options can be kept is an event, and another none
-pub create_event : (m : Mime) (s : State) (n : Creation) (options : List ℕ) → job_options n.options ≡ Some options → meaning m s (Create n) ≡ asks (NewJob (job_of_creation s n options)) reply_line
+pub create_event : (m : Mime) (s : State) (n : Creation) (options : List ℕ) → job_options n.options ≡ Some options → meaning m s [] (Create n) ≡ asks (NewJob (job_of_creation s n options)) reply_line
 create_event m s n options is = ap (creating s n) is
 
-pub no_create_event : (m : Mime) (s : State) (n : Creation) → job_options n.options ≡ None → meaning m s (Create n) ≡ says (codes "error options\n")
+pub no_create_event : (m : Mime) (s : State) (n : Creation) → job_options n.options ≡ None → meaning m s [] (Create n) ≡ says (codes "error options\n")
 no_create_event m s n is = ap (creating s n) is
 
 -- the turn of a command by another name
@@ -160,13 +209,14 @@ pub same_command : {X E D : Type 0} (bytes : X → List ℕ) (r : Result X E) (v
 same_command bytes r v s s' c c' e (t, takes, told) = (t, record { legal = takes.legal; command = takes.command ∙ sym e; next = takes.next }, told)
 
 -- an event for which there was nothing to be done, so that the spool is as it was
-pub unasked : {D : Type 0} (v : DiskView D) (s : Standing D) (e : Event) (a : Result Reply ApplyFault) → OnlyNow v → IsKept v s → IsAnswer v s e a s → IsApplied v s e a s
-unasked v s e a now kept h = record {
+pub unasked : {D : Type 0} (v : DiskView D) (s : Standing D) (e : Event) (fault : ApplyFault) → OnlyNow v → IsKept v s → IsAnswer v s e (Err fault) s → IsApplied v s e (Err fault) s
+unasked v s e fault now kept h = record {
   cause = h;
   counted = omega arith;
   told = (λ h. h, λ h. h);
   crash = unmoved v s (HasBeforeOrAfterEvent s.state e) now kept (λ image h. inl h);
   kept = kept;
+  sent = tt;
 }
 
 -- the same spool by another name
@@ -183,27 +233,45 @@ still_kept v s s' e (Err Memory) h told ok kept = kept_as v s s' (sym h.2) kept
 still_kept v s s' e (Err Full) h told ok kept = kept_as v s s' (sym h.1) kept
 still_kept v s s' e (Err Disk) h told ok kept = λ alive tells c now. absurd (let died = h.dead in cc)
 
+-- where each image has these documents the bytes that are told have them
+pub told_documents : {D : Type 0} (v : DiskView D) (s : Standing D) (documents : ℕ → List ℕ) (bytes : List ℕ) → IsLawful v → LeavesDocuments v documents s → v.bytes s.disk ≡ Some bytes → HasDocuments s.state documents bytes
+told_documents v s documents bytes lawful has is = has bytes (lawful.reads_image s.disk bytes is)
+
+-- so a clause of the bytes is one of each image
+sent_of : {D X E : Type 0} (v : DiskView D) (s : Standing D) (r : Result X E) (P : (ℕ → List ℕ) → Type 0) → IsLawful v → OnOk r ((bytes : List ℕ) (documents : ℕ → List ℕ) → v.bytes s.disk ≡ Some bytes → HasDocuments s.state documents bytes → P documents)
+    → OnOk r (IsSome (v.bytes s.disk) → (documents : ℕ → List ℕ) → LeavesDocuments v documents s → P documents)
+sent_of v s (Ok x) P lawful h = λ tells documents has.
+    let (bytes, is) = has_bytes (v.bytes s.disk) tells in
+    h bytes documents is (told_documents v s documents bytes lawful has is)
+sent_of v s (Err f) P lawful h = tt
+
 -- what the spool says of an event
-pub spool_applied : {D : Type 0} (v : DiskView D) (s s' : Standing D) (e : Event) (a : Result Reply ApplyFault) → IsAnswer v s e a s' → v.failures s.disk ≤ v.failures s'.disk → (IsSome (v.bytes s'.disk) ↔ IsSome (v.bytes s.disk))
+pub spool_applied : {D : Type 0} (v : DiskView D) (s s' : Standing D) (e : Event) (a : Result Reply ApplyFault) → IsLawful v → IsAnswer v s e a s' → v.failures s.disk ≤ v.failures s'.disk → (IsSome (v.bytes s'.disk) ↔ IsSome (v.bytes s.disk))
     → (s.dead ≡ false → IsSome (v.bytes s.disk) → LeavesOnly v s.disk s'.disk (HasBeforeOrAfterEvent s.state e))
-    → OnOk a (IsSome (v.bytes s.disk) → (c : List ℕ) → v.image s'.disk c → HasTable s'.state c) → IsKept v s → IsApplied v s e a s'
-spool_applied v s s' e a h counted told crash ok kept = record {
+    → OnOk a (IsSome (v.bytes s.disk) → (c : List ℕ) → v.image s'.disk c → HasTable s'.state c)
+    → OnOk a ((bytes : List ℕ) (documents : ℕ → List ℕ) → v.bytes s.disk ≡ Some bytes → HasDocuments s.state documents bytes → LeavesDocuments v (documents_after_one s.state documents e) s')
+    → IsKept v s → IsApplied v s e a s'
+spool_applied v s s' e a lawful h counted told crash ok sent kept = record {
   cause = h;
   counted = counted;
   told = told;
   crash = crash;
   kept = still_kept v s s' e a h told ok kept;
+  sent = sent_of v s a (λ documents. LeavesDocuments v (documents_after_one s.state documents e) s') lawful sent;
 }
 
 -- ## A checkpoint
 
-listed_turn : {D : Type 0} (v : Setting D) (s s' : Standing D) (c : Command) (a : Result (Unit {0}) CheckpointFault) (o : Outcome) (text : List ℕ) → meaning v.mime s.state c ≡ lists → IsRelisted v.device s a s'
-    → IsOutcome v s (record { command = c; outcome = o; text = text; next = s' }) o → tried_as None o ≡ [] → (t : EventTurn D) × Takes v s c t s' × (t.text ≡ text)
-listed_turn v s s' c a o text is h out none = (
-  record { command = c; outcome = o; text = text; next = s' },
+listed_turn : {D : Type 0} (v : Setting D) (s s' : Standing D) (c : Command) (a : Result (Unit {0}) CheckpointFault) (o : Outcome) (text : List ℕ) → ReadsNothing v s c → meaning v.mime s.state [] c ≡ lists → IsRelisted v.device s a s'
+    → IsOutcome v s (record { command = c; document = []; outcome = o; text = text; next = s' }) o → tried_as None o ≡ []
+    → (s'.dead ≡ false → IsSome (v.device.bytes s.disk) → (documents : ℕ → List ℕ) → LeavesDocuments v.device documents s → LeavesDocuments v.device documents s')
+    → (t : EventTurn D) × Takes v s c t s' × (t.text ≡ text)
+listed_turn v s s' c a o text quiet is h out none lasting = (
+  record { command = c; document = []; outcome = o; text = text; next = s' },
   record {
     legal = record {
       outcome = out;
+      read = quiet o;
       counted = h.counted;
       told = h.told;
       crash = λ alive tells.
@@ -211,6 +279,9 @@ listed_turn v s s' c a o text is h out none = (
           (subst (λ es. LeavesOnly v.device s.disk s'.disk (HasSomeOf s.state es)) (sym none)
           (weaker_run v.device s.disk s'.disk (HasSomeOf s.state []) (HasTable s.state) (h.crash alive tells) (none_of s.state [])));
       kept = h.kept;
+      lasting = λ lives tells documents has.
+          subst (λ w. LeavesDocuments v.device (documents_after s.state documents (tried_as (event_in w) o)) s') (sym is)
+          (subst (λ es. LeavesDocuments v.device (documents_after s.state documents es) s') (sym none) (lasting lives tells documents has));
     };
     command = refl;
     next = refl;
@@ -218,16 +289,25 @@ listed_turn v s s' c a o text is h out none = (
   refl,
 )
 
-relisted_turn : {D : Type 0} (v : Setting D) (s s' : Standing D) (c : Command) (a : Result (Unit {0}) CheckpointFault) → meaning v.mime s.state c ≡ lists → IsRelisted v.device s a s' → (t : EventTurn D) × Takes v s c t s' × (t.text ≡ checkpoint_line a)
-relisted_turn v s s' c (Ok done) is h = listed_turn v s s' c (Ok done) served (codes "ok\n") is h (subst (λ w. IsServedBy v.device s w (codes "ok\n") s') (sym is) (refl, h.cause)) refl
-relisted_turn v s s' c (Err fault) is h = listed_turn v s s' c (Err fault) (unlisted fault) (checkpoint_fault_line fault) is h (record { is = is; cause = h.cause; text = refl }) refl
+-- what a fault leaves of the documents
+unlisted_documents : {D : Type 0} (v : DiskView D) (s s' : Standing D) (fault : CheckpointFault) (documents : ℕ → List ℕ) → IsCheckpoint v s (Err fault) s' → s'.dead ≡ false → LeavesDocuments v documents s → LeavesDocuments v documents s'
+unlisted_documents v s s' listing.Dead documents h lives has = same_documents v s s' documents h.1 has
+unlisted_documents v s s' listing.EpochEnd documents h lives has = same_documents v s s' documents h.2 has
+unlisted_documents v s s' listing.Memory documents h lives has = same_documents v s s' documents h.1 has
+unlisted_documents v s s' listing.Full documents h lives has = same_documents v s s' documents h.2 has
+unlisted_documents v s s' listing.Disk documents h lives has = absurd (let died = h.dead in cc)
+
+relisted_turn : {D : Type 0} (v : Setting D) (s s' : Standing D) (c : Command) (a : Result (Unit {0}) CheckpointFault) → ReadsNothing v s c → meaning v.mime s.state [] c ≡ lists → IsRelisted v.device s a s' → (t : EventTurn D) × Takes v s c t s' × (t.text ≡ checkpoint_line a)
+relisted_turn v s s' c (Ok done) quiet is h = listed_turn v s s' c (Ok done) served (codes "ok\n") quiet is h (subst (λ w. IsServedBy v.device s w (codes "ok\n") s') (sym is) (refl, h.cause)) refl (λ lives. h.lasting)
+relisted_turn v s s' c (Err fault) quiet is h = listed_turn v s s' c (Err fault) (unlisted fault) (checkpoint_fault_line fault) quiet is h (record { is = is; cause = h.cause; text = refl }) refl
+    (λ lives tells documents has. unlisted_documents v.device s s' fault documents h.cause lives has)
 
 -- a checkpoint, and the text that tells how it went
-pub listing_told : {X E D : Type 0} (bytes : X → List ℕ) (r : Result X E) (v : Setting D) (s s' : Standing D) (c : Command) → meaning v.mime s.state c ≡ lists
+pub listing_told : {X E D : Type 0} (bytes : X → List ℕ) (r : Result X E) (v : Setting D) (s s' : Standing D) (c : Command) → ReadsNothing v s c → meaning v.mime s.state [] c ≡ lists
     → (a : Result (Unit {0}) CheckpointFault) × IsRelisted v.device s a s' × IfOk r (λ text. bytes text ≡ checkpoint_line a)
     → (t : EventTurn D) × Takes v s c t s' × IfOk r (λ text. bytes text ≡ t.text)
-listing_told bytes r v s s' c is (a, went, text) =
-    let (t, takes, told) = relisted_turn v s s' c a is went in
+listing_told bytes r v s s' c quiet is (a, went, text) =
+    let (t, takes, told) = relisted_turn v s s' c a quiet is went in
     (t, takes, same_bytes bytes r (checkpoint_line a) t.text told text)
 
 -- after every answer to a checkpoint a crash leaves the table that is shown
@@ -240,14 +320,26 @@ listing_kept v s s' (Err listing.Memory) h told ok kept = kept_as v s s' (sym h.
 listing_kept v s s' (Err listing.Full) h told ok kept = kept_as v s s' (sym h.2) kept
 listing_kept v s s' (Err listing.Disk) h told ok kept = λ alive tells c now. absurd (let died = h.dead in cc)
 
+-- the documents are left behind one that was Ok
+listing_lasts : {D : Type 0} (v : DiskView D) (s s' : Standing D) (a : Result (Unit {0}) CheckpointFault) → IsLawful v → IsCheckpoint v s a s'
+    → (s.dead ≡ false → (bytes : List ℕ) (documents : ℕ → List ℕ) → v.bytes s.disk ≡ Some bytes → HasDocuments s.state documents bytes → LeavesOnly v s.disk s'.disk (HasDocuments s.state documents))
+    → OnOk a (IsSome (v.bytes s.disk) → (documents : ℕ → List ℕ) → LeavesDocuments v documents s → LeavesDocuments v documents s')
+listing_lasts v s s' (Ok done) lawful h left = λ tells documents has.
+    let (bytes, is) = has_bytes (v.bytes s.disk) tells in
+    let run = left h.may.alive bytes documents is (told_documents v s documents bytes lawful has is) in
+    λ c now. subst (λ t. HasDocuments t documents c) (sym h.state) (at_return v lawful s.disk s'.disk (HasDocuments s.state documents) run c now)
+listing_lasts v s s' (Err fault) lawful h left = tt
+
 -- what the spool says of a checkpoint
-pub spool_relisted : {D : Type 0} (v : DiskView D) (s s' : Standing D) (a : Result (Unit {0}) CheckpointFault) → IsCheckpoint v s a s' → v.failures s.disk ≤ v.failures s'.disk → (IsSome (v.bytes s'.disk) ↔ IsSome (v.bytes s.disk))
+pub spool_relisted : {D : Type 0} (v : DiskView D) (s s' : Standing D) (a : Result (Unit {0}) CheckpointFault) → IsLawful v → IsCheckpoint v s a s' → v.failures s.disk ≤ v.failures s'.disk → (IsSome (v.bytes s'.disk) ↔ IsSome (v.bytes s.disk))
     → (s.dead ≡ false → IsSome (v.bytes s.disk) → LeavesOnly v s.disk s'.disk (HasTable s.state))
+    → (s.dead ≡ false → (bytes : List ℕ) (documents : ℕ → List ℕ) → v.bytes s.disk ≡ Some bytes → HasDocuments s.state documents bytes → LeavesOnly v s.disk s'.disk (HasDocuments s.state documents))
     → OnOk a (IsSome (v.bytes s.disk) → (c : List ℕ) → v.image s'.disk c → HasTable s'.state c) → IsKept v s → IsRelisted v s a s'
-spool_relisted v s s' a h counted told crash ok kept = record {
+spool_relisted v s s' a lawful h counted told crash documents ok kept = record {
   cause = h;
   counted = counted;
   told = told;
   crash = crash;
   kept = listing_kept v s s' a h told ok kept;
+  lasting = listing_lasts v s s' a lawful h documents;
 }

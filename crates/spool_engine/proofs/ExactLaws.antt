@@ -19,17 +19,18 @@ use Rattle.filter_args.specs.declared.place.Place.{Place}
 use Rattle.spool_disk.specs.Disk.{DiskView}
 use Rattle.spool_core.specs.Standing.{Standing}
 use Rattle.child_pipeline.specs.Told.{Told}
-use Rattle.print_rounds.specs.Courses.{Course}
+use Rattle.print_rounds.specs.Courses.{Course, AreHanded}
 use Rattle.print_rounds.specs.Finished.{EachFinishedOnce}
 use Rattle.print_rounds.specs.Counts.{counts_of as counts_told, result_of}
 use Rattle.print_rounds.specs.Rounds.{IsRoundOf, fault_in}
 use Rattle.print_rounds.specs.Script.{Play, round_of}
 use Rattle.print_rounds.specs.declared.outcome.Round.{Round}
 use Rattle.print_rounds.specs.declared.outcome.RoundFault.{RoundFault}
-use Rattle.spool_engine.specs.Script.{Meaning, says, asks, lists, runs, meaning, creating, job_options, reply_line, Scene, scene_after, counts_of, is_idle, unless, rounds_of, last_scene, step_line, step_state, reply_by, after_by, events_by, reply_of, after_command, events_of_command, script_text, script_events, script_scene}
+use Rattle.spool_engine.specs.Mime.{Mime}
+use Rattle.spool_engine.specs.Script.{Meaning, says, asks, lists, runs, meaning, meaning_with, document_for, creating, job_options, reply_line, Documents, Asked, Scene, scene_after, counts_of, is_idle, unless, rounds_of, last_scene, step_line, step_state, reply_by, after_by, events_by, reply_of, after_command, events_of_command, script_text, script_events, script_scene}
 use Rattle.spool_engine.specs.EventTurns.{Setting, Outcome, served, IsTaken, IsServedBy, IsOutcome}
 use Rattle.spool_engine.specs.Rounds.{Ran, IsRoundWith, IsRan, AreRan, AreAll, IsRest, is_last, results_of, counts_in, with_counts, line_told, AreRunBy}
-use Rattle.spool_engine.specs.Runs.{Turn, How, answered, ran, event_turn, IsHow, IsHeld, IsWell, AllServed, AreTurns, last_course, texts_of, commands_in, Lead, IsScript, IsScene, IsExact, HasNoRounds, is_round, scene_with}
+use Rattle.spool_engine.specs.Runs.{Turn, How, answered, ran, event_turn, read_in, read_by, asked_of, IsHow, IsHeld, IsWell, AllServed, AreTurns, last_course, texts_of, commands_in, Lead, IsScript, IsScene, IsExact, HasNoRounds, is_round, scene_with}
 use Rattle.spool_engine.proofs.EventLaws.{step_folds}
 use Rattle.print_rounds.proofs.PrefixLaws.{after_both}
 
@@ -46,23 +47,23 @@ taken_state : {D : Type 0} (s : Standing D) (e : Event) (r : Result (State × Re
 taken_state s e (Ok r) s' is h = ap (step_state s.state) (sym h.step ∙ is)
 taken_state s e (Err refusal) s' is h = ap (λ x. x.state) h.1
 
--- what a scene is to a command, where the table found is its own
-record IsSaid (place : Place) (x : Scene) (w : Meaning) (reply : List ℕ) (new : State) : Type 0 where
-  text : reply ≡ reply_by place x w
-  state : new ≡ (after_by place x w).state
-  table : new ≡ after_all x.state (events_by place x w)
+-- what a scene is to a command for which these documents were read, where the table found is its own
+pub record IsSaid (place : Place) (documents : ℕ → Documents) (x : Scene) (w : Meaning) (reply : List ℕ) (new : State) : Type 0 where
+  pub text : reply ≡ reply_by place documents x w
+  pub state : new ≡ (after_by place documents x w).state
+  pub table : new ≡ after_all x.state (events_by place documents x w)
 
-served_exact : {D : Type 0} (v : DiskView D) (place : Place) (s s' : Standing D) (x : Scene) (w : Meaning) (text : List ℕ) → s.state ≡ x.state → IsServedBy v s w text s' → IsSaid place x w text s'.state
-served_exact v place s s' x (says text) reply e h = record { text = h.0; state = ap (λ y. y.state) h.1 ∙ e; table = ap (λ y. y.state) h.1 ∙ e }
-served_exact v place s s' x (asks event line) reply e h =
+served_exact : {D : Type 0} (v : DiskView D) (place : Place) (documents : ℕ → Documents) (s s' : Standing D) (x : Scene) (w : Meaning) (text : List ℕ) → s.state ≡ x.state → IsServedBy v s w text s' → IsSaid place documents x w text s'.state
+served_exact v place documents s s' x (says text) reply e h = record { text = h.0; state = ap (λ y. y.state) h.1 ∙ e; table = ap (λ y. y.state) h.1 ∙ e }
+served_exact v place documents s s' x (asks event line) reply e h =
     let state : s'.state ≡ step_state x.state (step x.state event) = taken_state s event (step s.state event) s' refl h.1 ∙ ap (λ y. step_state y (step y event)) e in
     record {
       text = h.0 ∙ ap (λ y. step_line line (step y event)) e;
       state = state;
       table = state ∙ step_folds x.state event (refusal_of x.state event);
     }
-served_exact v place s s' x lists reply e h = record { text = h.0; state = h.1.state ∙ e; table = h.1.state ∙ e }
-served_exact v place s s' x (runs most line) reply e h = absurd h
+served_exact v place documents s s' x lists reply e h = record { text = h.0; state = h.1.state ∙ e; table = h.1.state ∙ e }
+served_exact v place documents s s' x (runs most line) reply e h = absurd h
 
 -- ## A round
 
@@ -92,12 +93,12 @@ record IsPlayed {D : Type 0} (p : Play) (s new : Course D) (round : Round) : Typ
   telling : IsTelling new (scene_after p)
   table : new.spool.state ≡ after_all s.spool.state p.events
 
-made_played : {D : Type 0} (v : Setting D) (s : Course D) (r : Ran D) (round : Round) (t : Told) (made : IsRoundOf v.device v.place s r.next r.result) → r.result ≡ Ok round → s.told ≡ Some t → t.running ≡ []
-    → (js : List ℕ) × EachFinishedOnce t r.next.told js → IsPlayed (round_of v.place s.spool.state s.slots t) s r.next round
-made_played v s r round t made ok told rest (js, once) =
+made_played : {D : Type 0} (v : Setting D) (s : Course D) (r : Ran D) (round : Round) (t : Told) (documents : Documents) (made : IsRoundOf v.device v.place s r.next r.result) → r.result ≡ Ok round → s.told ≡ Some t → t.running ≡ [] → AreHanded documents made.steps.launchings
+    → (js : List ℕ) × EachFinishedOnce t r.next.told js → IsPlayed (round_of v.place documents s.spool.state s.slots t) s r.next round
+made_played v s r round t documents made ok told rest handed (js, once) =
     let (none, is) = faultless (counts_told made.steps.launchings made.steps.endings) (fault_in made.steps) round (sym ok ∙ made.answer) in
-    let exact = made.exact none t told rest in
-    let p = round_of v.place s.spool.state s.slots t in
+    let exact = made.exact none t documents told rest handed in
+    let p = round_of v.place documents s.spool.state s.slots t in
     let last : p.told ≡ once.now = ap (some_or p.told) (sym exact.told ∙ once.tells) in
     record {
       counts = is ∙ same_counts _ _ p.started p.ended exact.started exact.ended;
@@ -106,15 +107,24 @@ made_played v s r round t made ok told rest (js, once) =
       table = made.table ∙ ap (after_all s.spool.state) exact.events;
     }
 
-round_played : {D : Type 0} (v : Setting D) (s : Course D) (r : Ran D) (round : Round) (t : Told) (b : Bool) → s.spool.dead ≡ b → IsRan v s r → r.result ≡ Ok round → s.told ≡ Some t → t.running ≡ []
-    → IsPlayed (round_of v.place s.spool.state s.slots t) s r.next round
-round_played v s r round t true is h ok told rest = absurd (let e = (subst (λ b. IsRoundWith v.device v.place s b r) is h.round).0.0 in cc)
-round_played v s r round t false is h ok told rest = ⊎_elim
+-- what was read in a round are these documents
+abbrev pub GoesFor : {D : Type 0} → Setting D → Course D → Ran D → Documents → Type 0
+GoesFor v s r documents = (made : IsRoundOf v.device v.place s r.next r.result) → AreHanded r.documents made.steps.launchings → AreHanded documents made.steps.launchings
+
+round_played : {D : Type 0} (v : Setting D) (s : Course D) (r : Ran D) (round : Round) (t : Told) (documents : Documents) (b : Bool) → s.spool.dead ≡ b → IsRan v s r → GoesFor v s r documents → r.result ≡ Ok round → s.told ≡ Some t → t.running ≡ []
+    → IsPlayed (round_of v.place documents s.spool.state s.slots t) s r.next round
+round_played v s r round t documents true is h goes ok told rest = absurd (let e = (subst (λ b. IsRoundWith v.device v.place s b r) is h.round).0.0 in cc)
+round_played v s r round t documents false is h goes ok told rest = ⊎_elim
     (λ unbegun. absurd (let e = unbegun.0.0 in cc))
-    (λ made. made_played v s r round t made.0 ok told rest (h.finished t told rest))
+    (λ made. made_played v s r round t documents made.0 ok told rest (goes made.0 made.2) (h.finished t told rest))
     (subst (λ b. IsRoundWith v.device v.place s b r) is h.round)
 
 -- ## Several rounds
+
+-- what was read in each of these rounds
+abbrev pub AreFor : {D : Type 0} → Setting D → (ℕ → Documents) → Course D → List (Ran D) → Type 0
+AreFor v documents s [] = Unit {0}
+AreFor v documents s (r ∷ rs) = GoesFor v s r (documents 0) × AreFor v (λ k. documents (suc k)) r.next rs
 
 record ArePlayed {D : Type 0} (ps : List Play) (x : Scene) (s new : Course D) (results : List (Result Round RoundFault)) : Type 0 where
   counts : counts_in results ≡ Ok (map counts_of ps)
@@ -127,8 +137,8 @@ ok_rest round (Ok rounds) h = h
 ok_rest round (Err fault) h = h
 
 -- what the rounds behind the first are to a scene
-abbrev PlayRest : {D : Type 0} (v : Setting D) (n : ℕ) (s new : Course D) (rs : List (Ran D)) → Type 0
-PlayRest v n s new rs = (y : Scene) → s.spool.state ≡ y.state → IsTelling s y → AreRan v s rs new → AreAll n (results_of rs) → IsOk (counts_in (results_of rs)) → ArePlayed (rounds_of v.place n y) y s new (results_of rs)
+abbrev PlayRest : {D : Type 0} (v : Setting D) (documents : ℕ → Documents) (n : ℕ) (s new : Course D) (rs : List (Ran D)) → Type 0
+PlayRest v documents n s new rs = (y : Scene) → s.spool.state ≡ y.state → IsTelling s y → AreRan v s rs new → AreAll n (results_of rs) → IsOk (counts_in (results_of rs)) → ArePlayed (rounds_of v.place documents n y) y s new (results_of rs)
 
 -- the first, and those behind it
 both_played : {D : Type 0} (p : Play) (ps : List Play) (x : Scene) (s mid new : Course D) (round : Round) (results : List (Result Round RoundFault)) → IsPlayed p s mid round → ArePlayed ps (scene_after p) mid new results → ArePlayed (p ∷ ps) x s new (Ok round ∷ results)
@@ -143,57 +153,57 @@ none_more : {D : Type 0} (p : Play) (new : Course D) → new.spool.state ≡ p.s
 none_more p new state telling = record { counts = refl; state = state; telling = telling; table = refl }
 
 -- by whether the first was idle
-rest_played : {D : Type 0} (v : Setting D) (n : ℕ) (x : Scene) (s : Course D) (r : Ran D) (rs : List (Ran D)) (new : Course D) (round : Round) (p : Play) (b : Bool) → is_idle (counts_of p) ≡ b → IsPlayed p s r.next round → AreRan v r.next rs new → IsRest b (results_of rs) (AreAll n (results_of rs)) → IsOk (counts_in (results_of rs)) → PlayRest v n r.next new rs
-    → ArePlayed (p ∷ unless (is_idle (counts_of p)) (rounds_of v.place n (scene_after p))) x s new (Ok round ∷ results_of rs)
-rest_played v n x s r [] new round p true idle one more all ok rest =
-    subst (λ b. ArePlayed (p ∷ unless b (rounds_of v.place n (scene_after p))) x s new (Ok round ∷ [])) (sym idle)
+rest_played : {D : Type 0} (v : Setting D) (documents : ℕ → Documents) (n : ℕ) (x : Scene) (s : Course D) (r : Ran D) (rs : List (Ran D)) (new : Course D) (round : Round) (p : Play) (b : Bool) → is_idle (counts_of p) ≡ b → IsPlayed p s r.next round → AreRan v r.next rs new → IsRest b (results_of rs) (AreAll n (results_of rs)) → IsOk (counts_in (results_of rs)) → PlayRest v documents n r.next new rs
+    → ArePlayed (p ∷ unless (is_idle (counts_of p)) (rounds_of v.place documents n (scene_after p))) x s new (Ok round ∷ results_of rs)
+rest_played v documents n x s r [] new round p true idle one more all ok rest =
+    subst (λ b. ArePlayed (p ∷ unless b (rounds_of v.place documents n (scene_after p))) x s new (Ok round ∷ [])) (sym idle)
     (subst (λ y. ArePlayed (p ∷ []) x s y (Ok round ∷ [])) (sym more) (both_played p [] x s r.next r.next round [] one (none_more p r.next one.state one.telling)))
-rest_played v n x s r (q ∷ rs) new round p true idle one more all ok rest = absurd (omega (arith, ap length all))
-rest_played v n x s r rs new round p false idle one more all ok rest =
-    subst (λ b. ArePlayed (p ∷ unless b (rounds_of v.place n (scene_after p))) x s new (Ok round ∷ results_of rs)) (sym idle)
-    (both_played p (rounds_of v.place n (scene_after p)) x s r.next new round (results_of rs) one (rest (scene_after p) one.state one.telling more all ok))
+rest_played v documents n x s r (q ∷ rs) new round p true idle one more all ok rest = absurd (omega (arith, ap length all))
+rest_played v documents n x s r rs new round p false idle one more all ok rest =
+    subst (λ b. ArePlayed (p ∷ unless b (rounds_of v.place documents n (scene_after p))) x s new (Ok round ∷ results_of rs)) (sym idle)
+    (both_played p (rounds_of v.place documents n (scene_after p)) x s r.next new round (results_of rs) one (rest (scene_after p) one.state one.telling more all ok))
 
 -- by how the first went
-first_played : {D : Type 0} (v : Setting D) (n : ℕ) (x : Scene) (s : Course D) (r : Ran D) (rs : List (Ran D)) (new : Course D) (q : Result Round RoundFault) → r.result ≡ q → s.spool.state ≡ x.state → IsTelling s x → IsRan v s r → AreRan v r.next rs new → IsRest (is_last q) (results_of rs) (AreAll n (results_of rs)) → IsOk (with_counts q (counts_in (results_of rs))) → PlayRest v n r.next new rs
-    → ArePlayed (rounds_of v.place (suc n) x) x s new (q ∷ results_of rs)
-first_played v n x s r rs new (Err f) is e tell h more all ok rest = absurd (let bad : false ≡ true = ok in cc)
-first_played v n x s r rs new (Ok round) is e tell h more all ok rest =
-    let here = round_played v s r round x.told s.spool.dead refl h is tell.told tell.rest in
-    let one = subst (λ y. IsPlayed (round_of v.place x.state y x.told) s r.next round) tell.slots (subst (λ y. IsPlayed (round_of v.place y s.slots x.told) s r.next round) e here) in
-    let p = round_of v.place x.state x.slots x.told in
-    rest_played v n x s r rs new round p (is_idle (counts_of p)) refl one more
+first_played : {D : Type 0} (v : Setting D) (documents : ℕ → Documents) (n : ℕ) (x : Scene) (s : Course D) (r : Ran D) (rs : List (Ran D)) (new : Course D) (q : Result Round RoundFault) → r.result ≡ q → s.spool.state ≡ x.state → IsTelling s x → IsRan v s r → GoesFor v s r (documents 0) → AreRan v r.next rs new → IsRest (is_last q) (results_of rs) (AreAll n (results_of rs)) → IsOk (with_counts q (counts_in (results_of rs))) → PlayRest v (λ k. documents (suc k)) n r.next new rs
+    → ArePlayed (rounds_of v.place documents (suc n) x) x s new (q ∷ results_of rs)
+first_played v documents n x s r rs new (Err f) is e tell h goes more all ok rest = absurd (let bad : false ≡ true = ok in cc)
+first_played v documents n x s r rs new (Ok round) is e tell h goes more all ok rest =
+    let here = round_played v s r round x.told (documents 0) s.spool.dead refl h goes is tell.told tell.rest in
+    let one = subst (λ y. IsPlayed (round_of v.place (documents 0) x.state y x.told) s r.next round) tell.slots (subst (λ y. IsPlayed (round_of v.place (documents 0) y s.slots x.told) s r.next round) e here) in
+    let p = round_of v.place (documents 0) x.state x.slots x.told in
+    rest_played v (λ k. documents (suc k)) n x s r rs new round p (is_idle (counts_of p)) refl one more
     (subst (λ c. IsRest (is_idle c) (results_of rs) (AreAll n (results_of rs))) one.counts all)
     (ok_rest round (counts_in (results_of rs)) ok)
     rest
 
-rounds_played : {D : Type 0} (v : Setting D) (n : ℕ) (x : Scene) (s new : Course D) (rs : List (Ran D)) → s.spool.state ≡ x.state → IsTelling s x → AreRan v s rs new → AreAll n (results_of rs) → IsOk (counts_in (results_of rs)) → ArePlayed (rounds_of v.place n x) x s new (results_of rs)
-rounds_played v zero x s new [] e tell h all ok = record {
+rounds_played : {D : Type 0} (v : Setting D) (documents : ℕ → Documents) (n : ℕ) (x : Scene) (s new : Course D) (rs : List (Ran D)) → s.spool.state ≡ x.state → IsTelling s x → AreRan v s rs new → AreFor v documents s rs → AreAll n (results_of rs) → IsOk (counts_in (results_of rs)) → ArePlayed (rounds_of v.place documents n x) x s new (results_of rs)
+rounds_played v documents zero x s new [] e tell h goes all ok = record {
   counts = refl;
   state = ap (λ y. y.spool.state) h ∙ e;
   telling = subst (λ y. IsTelling y x) (sym h) tell;
   table = ap (λ y. y.spool.state) h;
 }
-rounds_played v zero x s new (r ∷ rs) e tell h all ok = absurd (omega (arith, ap length all))
-rounds_played v (suc n) x s new [] e tell h all ok = absurd all
-rounds_played v (suc n) x s new (r ∷ rs) e tell h all ok =
-    first_played v n x s r rs new r.result refl e tell h.0 h.1 all ok (λ y f k more rest fine. rounds_played v n y r.next new rs f k more rest fine)
+rounds_played v documents zero x s new (r ∷ rs) e tell h goes all ok = absurd (omega (arith, ap length all))
+rounds_played v documents (suc n) x s new [] e tell h goes all ok = absurd all
+rounds_played v documents (suc n) x s new (r ∷ rs) e tell h goes all ok =
+    first_played v documents n x s r rs new r.result refl e tell h.0 goes.0 h.1 all ok (λ y f k more rest fine. rounds_played v (λ k. documents (suc k)) n y r.next new rs f k more goes.1 rest fine)
 
 -- ## Turns
 
-ran_exact : {D : Type 0} (v : Setting D) (w : Meaning) (s new : Course D) (x : Scene) (rs : List (Ran D)) (text : List ℕ) → s.spool.state ≡ x.state → IsTelling s x → AreRunBy v w s rs new text → IsOk (counts_in (results_of rs)) → IsSaid v.place x w text new.spool.state × IsTelling new (after_by v.place x w)
-ran_exact v (says said) s new x rs text e tell h ok = absurd h
-ran_exact v (asks event line) s new x rs text e tell h ok = absurd h
-ran_exact v lists s new x rs text e tell h ok = absurd h
-ran_exact v (runs most line) s new x rs text e tell h ok =
-    let all = rounds_played v most x s new rs e tell h.each h.all ok in
-    let played = flat_map (λ (p : Play). p.events) (rounds_of v.place most x) in
+ran_exact : {D : Type 0} (v : Setting D) (documents : ℕ → Documents) (w : Meaning) (s new : Course D) (x : Scene) (rs : List (Ran D)) (text : List ℕ) → s.spool.state ≡ x.state → IsTelling s x → AreFor v documents s rs → AreRunBy v w s rs new text → IsOk (counts_in (results_of rs)) → IsSaid v.place documents x w text new.spool.state × IsTelling new (after_by v.place documents x w)
+ran_exact v documents (says said) s new x rs text e tell goes h ok = absurd h
+ran_exact v documents (asks event line) s new x rs text e tell goes h ok = absurd h
+ran_exact v documents lists s new x rs text e tell goes h ok = absurd h
+ran_exact v documents (runs most line) s new x rs text e tell goes h ok =
+    let all = rounds_played v documents most x s new rs e tell h.each goes h.all ok in
+    let played = flat_map (λ (p : Play). p.events) (rounds_of v.place documents most x) in
     (record { text = h.text ∙ ap (line_told line) all.counts; state = all.state; table = all.table ∙ ap (λ y. after_all y played) e }, all.telling)
 
-held_telling : {D : Type 0} (v : DiskView D) (place : Place) (w : Meaning) (s new : Course D) (x : Scene) (reply : List ℕ) → IsHeld s new → IsServedBy v s.spool w reply new.spool → IsTelling s x → IsTelling new (after_by place x w)
-held_telling v place (says text) s new x reply held h tell = record { slots = held.slots ∙ tell.slots; told = held.told ∙ tell.told; rest = tell.rest }
-held_telling v place (asks e line) s new x reply held h tell = record { slots = held.slots ∙ tell.slots; told = held.told ∙ tell.told; rest = tell.rest }
-held_telling v place lists s new x reply held h tell = record { slots = held.slots ∙ tell.slots; told = held.told ∙ tell.told; rest = tell.rest }
-held_telling v place (runs most line) s new x reply held h tell = absurd h
+held_telling : {D : Type 0} (v : DiskView D) (place : Place) (documents : ℕ → Documents) (w : Meaning) (s new : Course D) (x : Scene) (reply : List ℕ) → IsHeld s new → IsServedBy v s.spool w reply new.spool → IsTelling s x → IsTelling new (after_by place documents x w)
+held_telling v place documents (says text) s new x reply held h tell = record { slots = held.slots ∙ tell.slots; told = held.told ∙ tell.told; rest = tell.rest }
+held_telling v place documents (asks e line) s new x reply held h tell = record { slots = held.slots ∙ tell.slots; told = held.told ∙ tell.told; rest = tell.rest }
+held_telling v place documents lists s new x reply held h tell = record { slots = held.slots ∙ tell.slots; told = held.told ∙ tell.told; rest = tell.rest }
+held_telling v place documents (runs most line) s new x reply held h tell = absurd h
 
 -- only `round` and `drain` are told by rounds
 runs_none_if : {D : Type 0} (v : Setting D) (s : Course D) (rs : List (Ran D)) (new : Course D) (text : List ℕ) (e : Event) (line : Reply → List ℕ) (said : List ℕ) (b : Bool) → AreRunBy v (cond b (asks e line) (says said)) s rs new text → ⊥
@@ -204,86 +214,148 @@ runs_none_of : {D : Type 0} (v : Setting D) (s : Course D) (rs : List (Ran D)) (
 runs_none_of v s rs new text state c None h = h
 runs_none_of v s rs new text state c (Some options) h = h
 
-runs_none : {D : Type 0} (v : Setting D) (s : Course D) (rs : List (Ran D)) (new : Course D) (text : List ℕ) (state : State) (c : Command) → is_round c ≡ false → AreRunBy v (meaning v.mime state c) s rs new text → ⊥
-runs_none v s rs new text state (commands.Apply e) is h = h
-runs_none v s rs new text state (commands.Queue q) is h = runs_none_if v s rs new text (events.AddQueue q) reply_line (codes "error uri\n") (is_device_uri q.uri) h
-runs_none v s rs new text state (commands.Create c) is h = runs_none_of v s rs new text state c (job_options c.options) h
-runs_none v s rs new text state (commands.Close job name) is h = h
-runs_none v s rs new text state commands.OversizedSend is h = h
-runs_none v s rs new text state commands.Jobs is h = h
-runs_none v s rs new text state commands.Queues is h = h
-runs_none v s rs new text state commands.Round is h = cc
-runs_none v s rs new text state (commands.Drain most) is h = cc
-runs_none v s rs new text state commands.Checkpoint is h = h
-runs_none v s rs new text state commands.Malformed is h = h
+runs_none : {D : Type 0} (v : Setting D) (s : Course D) (rs : List (Ran D)) (new : Course D) (text : List ℕ) (state : State) (document : List ℕ) (c : Command) → is_round c ≡ false → AreRunBy v (meaning v.mime state document c) s rs new text → ⊥
+runs_none v s rs new text state document (commands.Apply e) is h = h
+runs_none v s rs new text state document (commands.Queue q) is h = runs_none_if v s rs new text (events.AddQueue q) reply_line (codes "error uri\n") (is_device_uri q.uri) h
+runs_none v s rs new text state document (commands.Create c) is h = runs_none_of v s rs new text state c (job_options c.options) h
+runs_none v s rs new text state document (commands.Close job name) is h = h
+runs_none v s rs new text state document commands.OversizedSend is h = h
+runs_none v s rs new text state document commands.Jobs is h = h
+runs_none v s rs new text state document commands.Queues is h = h
+runs_none v s rs new text state document commands.Round is h = cc
+runs_none v s rs new text state document (commands.Drain most) is h = cc
+runs_none v s rs new text state document commands.Checkpoint is h = h
+runs_none v s rs new text state document commands.Malformed is h = h
+
+-- A command closes a job, or it is the same whatever document is read.
+pub closes_or_same : (c : Command) → ((job : ℕ) × (name : List ℕ) × (c ≡ commands.Close job name)) ⊎ ((m : Mime) (s : State) (document other : List ℕ) → meaning m s document c ≡ meaning m s other c)
+closes_or_same (commands.Apply e) = inr (λ m s document other. refl)
+closes_or_same (commands.Queue q) = inr (λ m s document other. refl)
+closes_or_same (commands.Create c) = inr (λ m s document other. refl)
+closes_or_same (commands.Close job name) = inl (job, name, refl)
+closes_or_same commands.OversizedSend = inr (λ m s document other. refl)
+closes_or_same commands.Jobs = inr (λ m s document other. refl)
+closes_or_same commands.Queues = inr (λ m s document other. refl)
+closes_or_same commands.Round = inr (λ m s document other. refl)
+closes_or_same (commands.Drain most) = inr (λ m s document other. refl)
+closes_or_same commands.Checkpoint = inr (λ m s document other. refl)
+closes_or_same commands.Malformed = inr (λ m s document other. refl)
+
+-- what was read for a turn are these documents
+abbrev pub IsFor : {D : Type 0} → Setting D → Course D → Turn D → (ℕ → Documents) → How D → Type 0
+IsFor v s t documents (answered o) =
+    IsServedBy v.device s.spool (meaning v.mime s.spool.state t.document t.command) t.text t.next.spool
+    → IsServedBy v.device s.spool (meaning_with v.mime s.spool.state (documents 0) t.command) t.text t.next.spool
+IsFor v s t documents (ran rs) = AreFor v documents s rs
+
+-- a command and the documents that were read for it
+abbrev pub asked_as : Command → (ℕ → Documents) → Asked
+asked_as c documents = record { command = c; documents = documents }
 
 -- what a turn is to a scene
-record IsTurnSaid {D : Type 0} (v : Setting D) (s : Course D) (x : Scene) (t : Turn D) : Type 0 where
-  said : IsSaid v.place x (meaning v.mime x.state t.command) t.text t.next.spool.state
-  telling : IsTelling s x → IsTelling t.next (after_command v.mime v.place x t.command)
+pub record IsTurnSaid {D : Type 0} (v : Setting D) (s : Course D) (x : Scene) (t : Turn D) (documents : ℕ → Documents) : Type 0 where
+  pub said : IsSaid v.place documents x (meaning_with v.mime x.state (documents 0) t.command) t.text t.next.spool.state
+  pub telling : IsTelling s x → IsTelling t.next (after_command v.mime v.place x (asked_as t.command documents))
 
-answered_exact : {D : Type 0} (v : Setting D) (s : Course D) (x : Scene) (t : Turn D) (o : Outcome) → o ≡ served → s.spool.state ≡ x.state → IsHow v s t (answered o) → IsTurnSaid v s x t
-answered_exact v s x t o well e how =
-    let h : IsServedBy v.device s.spool (meaning v.mime s.spool.state t.command) t.text t.next.spool = subst (λ p. IsOutcome v s.spool (event_turn t p) p) well how.0 in
-    let k : IsServedBy v.device s.spool (meaning v.mime x.state t.command) t.text t.next.spool = subst (λ y. IsServedBy v.device s.spool (meaning v.mime y t.command) t.text t.next.spool) e h in
+answered_exact : {D : Type 0} (v : Setting D) (s : Course D) (x : Scene) (t : Turn D) (documents : ℕ → Documents) (o : Outcome) → o ≡ served → s.spool.state ≡ x.state → IsFor v s t documents (answered o) → IsHow v s t (answered o) → IsTurnSaid v s x t documents
+answered_exact v s x t documents o well e goes how =
+    let h : IsServedBy v.device s.spool (meaning v.mime s.spool.state t.document t.command) t.text t.next.spool = subst (λ p. IsOutcome v s.spool (event_turn t p) p) well how.0 in
+    let w = meaning_with v.mime x.state (documents 0) t.command in
+    let k : IsServedBy v.device s.spool w t.text t.next.spool = subst (λ y. IsServedBy v.device s.spool (meaning_with v.mime y (documents 0) t.command) t.text t.next.spool) e (goes h) in
     record {
-      said = served_exact v.device v.place s.spool t.next.spool x (meaning v.mime x.state t.command) t.text e k;
-      telling = held_telling v.device v.place (meaning v.mime x.state t.command) s t.next x t.text how.1 k;
+      said = served_exact v.device v.place documents s.spool t.next.spool x w t.text e k;
+      telling = held_telling v.device v.place documents w s t.next x t.text how.1 k;
     }
 
-ran_turn : {D : Type 0} (v : Setting D) (s : Course D) (x : Scene) (t : Turn D) (rs : List (Ran D)) → IsOk (counts_in (results_of rs)) → s.spool.state ≡ x.state → AreRunBy v (meaning v.mime s.spool.state t.command) s rs t.next t.text → IsTelling s x → IsTurnSaid v s x t
-ran_turn v s x t rs well e how tell =
-    let (said, telling) = ran_exact v (meaning v.mime x.state t.command) s t.next x rs t.text e tell (subst (λ y. AreRunBy v (meaning v.mime y t.command) s rs t.next t.text) e how) well in
+-- rounds are told whatever document is read
+runs_same : {D : Type 0} (v : Setting D) (s : Course D) (rs : List (Ran D)) (new : Course D) (text : List ℕ) (state : State) (document other : List ℕ) (c : Command) → AreRunBy v (meaning v.mime state document c) s rs new text → AreRunBy v (meaning v.mime state other c) s rs new text
+runs_same v s rs new text state document other c h = ⊎_elim
+    (λ closes. absurd (subst (λ d. AreRunBy v (meaning v.mime state document d) s rs new text) closes.2 h))
+    (λ same. subst (λ w. AreRunBy v w s rs new text) (same v.mime state document other) h)
+    (closes_or_same c)
+
+ran_turn : {D : Type 0} (v : Setting D) (s : Course D) (x : Scene) (t : Turn D) (documents : ℕ → Documents) (rs : List (Ran D)) → IsOk (counts_in (results_of rs)) → s.spool.state ≡ x.state → AreFor v documents s rs → AreRunBy v (meaning v.mime s.spool.state t.document t.command) s rs t.next t.text → IsTelling s x → IsTurnSaid v s x t documents
+ran_turn v s x t documents rs well e goes how tell =
+    let w = meaning_with v.mime x.state (documents 0) t.command in
+    let how' = runs_same v s rs t.next t.text s.spool.state t.document (document_for (documents 0) t.command) t.command how in
+    let (said, telling) = ran_exact v documents w s t.next x rs t.text e tell goes (subst (λ y. AreRunBy v (meaning_with v.mime y (documents 0) t.command) s rs t.next t.text) e how') well in
     record { said = said; telling = λ _. telling }
 
-turn_exact : {D : Type 0} (v : Setting D) (s : Course D) (x : Scene) (t : Turn D) (how : How D) → IsWell how → s.spool.state ≡ x.state → IsTelling s x ⊎ (is_round t.command ≡ false) → IsHow v s t how → IsTurnSaid v s x t
-turn_exact v s x t (answered o) well e may how = answered_exact v s x t o well e how
-turn_exact v s x t (ran rs) well e may how = ⊎_elim
-    (λ tell. ran_turn v s x t rs well e how tell)
-    (λ plain. absurd (runs_none v s rs t.next t.text s.spool.state t.command plain how))
+pub turn_exact : {D : Type 0} (v : Setting D) (s : Course D) (x : Scene) (t : Turn D) (documents : ℕ → Documents) (how : How D) → IsWell how → s.spool.state ≡ x.state → IsTelling s x ⊎ (is_round t.command ≡ false) → IsFor v s t documents how → IsHow v s t how → IsTurnSaid v s x t documents
+turn_exact v s x t documents (answered o) well e may goes how = answered_exact v s x t documents o well e goes how
+turn_exact v s x t documents (ran rs) well e may goes how = ⊎_elim
+    (λ tell. ran_turn v s x t documents rs well e goes how tell)
+    (λ plain. absurd (runs_none v s rs t.next t.text s.spool.state t.document t.command plain how))
     may
 
 -- what turns are to a scene
-record AreSaid {D : Type 0} (v : Setting D) (s : Course D) (x : Scene) (ts : List (Turn D)) : Type 0 where
-  text : texts_of ts ≡ script_text v.mime v.place x (commands_in ts)
-  state : (last_course s ts).spool.state ≡ (script_scene v.mime v.place x (commands_in ts)).state
-  table : (last_course s ts).spool.state ≡ after_all x.state (script_events v.mime v.place x (commands_in ts))
-  telling : IsTelling s x → IsTelling (last_course s ts) (script_scene v.mime v.place x (commands_in ts))
+pub record AreSaid {D : Type 0} (v : Setting D) (s : Course D) (x : Scene) (ts : List (Turn D)) (asked : List Asked) : Type 0 where
+  pub text : texts_of ts ≡ script_text v.mime v.place x asked
+  pub state : (last_course s ts).spool.state ≡ (script_scene v.mime v.place x asked).state
+  pub table : (last_course s ts).spool.state ≡ after_all x.state (script_events v.mime v.place x asked)
+  pub telling : IsTelling s x → IsTelling (last_course s ts) (script_scene v.mime v.place x asked)
 
-turns_exact : {D : Type 0} (v : Setting D) (s : Course D) (x : Scene) (ts : List (Turn D)) → AreTurns v s ts → AllServed ts → s.spool.state ≡ x.state → IsTelling s x ⊎ HasNoRounds (commands_in ts) → AreSaid v s x ts
-turns_exact v s x [] h k e may = record { text = refl; state = e; table = e; telling = λ tell. tell }
-turns_exact v s x (t ∷ ts) h k e may =
-    let one = turn_exact v s x t t.how k.0 e (⊎_elim (λ tell. inl tell) (λ plain. inr plain.0) may) h.0.how in
-    let y = after_command v.mime v.place x t.command in
-    let asked = events_of_command v.mime v.place x t.command in
-    let later = script_events v.mime v.place y (commands_in ts) in
-    let more = turns_exact v t.next y ts h.1 k.1 one.said.state (⊎_elim (λ tell. inl (one.telling tell)) (λ plain. inr plain.1) may) in
+pub none_said : {D : Type 0} (v : Setting D) (s : Course D) (x : Scene) → s.spool.state ≡ x.state → AreSaid v s x [] []
+none_said v s x e = record { text = refl; state = e; table = e; telling = λ tell. tell }
+
+-- a turn, and those behind it
+pub then_said : {D : Type 0} (v : Setting D) (s : Course D) (x : Scene) (t : Turn D) (ts : List (Turn D)) (documents : ℕ → Documents) (asked : List Asked) → IsTurnSaid v s x t documents → AreSaid v t.next (after_command v.mime v.place x (asked_as t.command documents)) ts asked → AreSaid v s x (t ∷ ts) (asked_as t.command documents ∷ asked)
+then_said v s x t ts documents asked one more =
+    let a = asked_as t.command documents in
+    let events = events_of_command v.mime v.place x a in
+    let later = script_events v.mime v.place (after_command v.mime v.place x a) asked in
     record {
-      text = ap (λ l. l ++ texts_of ts) one.said.text ∙ ap (λ l. reply_of v.mime v.place x t.command ++ l) more.text;
+      text = ap (λ l. l ++ texts_of ts) one.said.text ∙ ap (λ l. reply_of v.mime v.place x a ++ l) more.text;
       state = more.state;
-      table = more.table ∙ ap (λ z. after_all z later) (sym one.said.state ∙ one.said.table) ∙ sym (after_both x.state asked later);
+      table = more.table ∙ ap (λ z. after_all z later) (sym one.said.state ∙ one.said.table) ∙ sym (after_both x.state events later);
       telling = λ tell. more.telling (one.telling tell);
     }
 
+-- ## With what was read
+
+rounds_read : {D : Type 0} (v : Setting D) (s : Course D) (rs : List (Ran D)) → AreFor v (read_in rs) s rs
+rounds_read v s [] = tt
+rounds_read v s (r ∷ rs) = (λ made h. h, rounds_read v r.next rs)
+
+turn_read : {D : Type 0} (v : Setting D) (s : Course D) (t : Turn D) (how : How D) → IsFor v s t (read_by t.document how) how
+turn_read v s t (answered o) = λ h. ⊎_elim
+    (λ closes. subst (λ c. IsServedBy v.device s.spool (meaning_with v.mime s.spool.state (λ j. t.document) c) t.text t.next.spool) (sym closes.2) (subst (λ c. IsServedBy v.device s.spool (meaning v.mime s.spool.state t.document c) t.text t.next.spool) closes.2 h))
+    (λ same. subst (λ w. IsServedBy v.device s.spool w t.text t.next.spool) (same v.mime s.spool.state t.document (document_for (λ j. t.document) t.command)) h)
+    (closes_or_same t.command)
+turn_read v s t (ran rs) = rounds_read v s rs
+
+turns_exact : {D : Type 0} (v : Setting D) (s : Course D) (x : Scene) (ts : List (Turn D)) → AreTurns v s ts → AllServed ts → s.spool.state ≡ x.state → IsTelling s x ⊎ HasNoRounds (commands_in ts) → AreSaid v s x ts (asked_of ts)
+turns_exact v s x [] h k e may = none_said v s x e
+turns_exact v s x (t ∷ ts) h k e may =
+    let documents = read_by t.document t.how in
+    let one = turn_exact v s x t documents t.how k.0 e (⊎_elim (λ tell. inl tell) (λ plain. inr plain.0) may) (turn_read v s t t.how) h.0.how in
+    let more = turns_exact v t.next (after_command v.mime v.place x (asked_as t.command documents)) ts h.1 k.1 one.said.state (⊎_elim (λ tell. inl (one.telling tell)) (λ plain. inr plain.1) may) in
+    then_said v s x t ts documents (asked_of ts) one more
+
 -- ## A run
 
-script_of : {D : Type 0} (v : Setting D) (s s' : Course D) (x : Scene) (text : List ℕ) (ts : List (Turn D)) (a d : Option (List ℕ)) → last_course s ts ≡ s' → commands_in ts ≡ commands_of text → Appends a d (texts_of ts) → AreSaid v s x ts → IsScript v x text s' a d
-script_of v s s' x text ts a d last all wrote said = record {
-  wrote = subst (Appends a d) (said.text ∙ ap (script_text v.mime v.place x) all) wrote;
-  table = ap (λ y. y.spool.state) (sym last) ∙ said.table ∙ ap (λ cs. after_all x.state (script_events v.mime v.place x cs)) all;
+pub script_of : {D : Type 0} (v : Setting D) (s s' : Course D) (x : Scene) (ts : List (Turn D)) (asked : List Asked) (a d : Option (List ℕ)) → last_course s ts ≡ s' → Appends a d (texts_of ts) → AreSaid v s x ts asked → IsScript v x asked s' a d
+script_of v s s' x ts asked a d last wrote said = record {
+  wrote = subst (Appends a d) said.text wrote;
+  table = ap (λ y. y.spool.state) (sym last) ∙ said.table;
 }
 
 scene_told : {D : Type 0} (s : Course D) (x : Scene) → s.spool.state ≡ x.state → IsTelling s x → IsScene s x
 scene_told s x e tell = record { state = e; slots = tell.slots; told = tell.told }
 
-pub run_exact : {D : Type 0} (v : Setting D) (s s' : Course D) (text : List ℕ) (ts : List (Turn D)) (a d : Option (List ℕ)) → Lead v s ts s' → commands_in ts ≡ commands_of text → Appends a d (texts_of ts) → AllServed ts → IsExact v s text s' a d
-run_exact v s s' text ts a d lead all wrote every = record {
-  plain = λ none t. script_of v s s' (scene_with s t) text ts a d lead.last all wrote
-      (turns_exact v s (scene_with s t) ts lead.legal every refl (inr (subst HasNoRounds (sym all) none)));
+-- by what its turns are to the scenes that it may begin with
+pub exact_of : {D : Type 0} (v : Setting D) (s s' : Course D) (text : List ℕ) (ts : List (Turn D)) (asked : Scene → List Asked) (a d : Option (List ℕ)) → last_course s ts ≡ s' → commands_in ts ≡ commands_of text → Appends a d (texts_of ts)
+    → ((x : Scene) → s.spool.state ≡ x.state → IsTelling s x ⊎ HasNoRounds (commands_in ts) → AreSaid v s x ts (asked x)) → IsExact v s text asked s' a d
+exact_of v s s' text ts asked a d last all wrote said = record {
+  plain = λ none t. script_of v s s' (scene_with s t) ts (asked (scene_with s t)) a d last wrote (said (scene_with s t) refl (inr (subst HasNoRounds (sym all) none)));
   telling = λ t told rest.
-      let tell : IsTelling s (scene_with s t) = record { slots = refl; told = told; rest = rest } in
-      let said = turns_exact v s (scene_with s t) ts lead.legal every refl (inl tell) in (
-        script_of v s s' (scene_with s t) text ts a d lead.last all wrote said,
-        subst (λ cs. IsScene s' (script_scene v.mime v.place (scene_with s t) cs)) all (subst (λ y. IsScene y (script_scene v.mime v.place (scene_with s t) (commands_in ts))) lead.last (scene_told (last_course s ts) (script_scene v.mime v.place (scene_with s t) (commands_in ts)) said.state (said.telling tell))),
+      let x = scene_with s t in
+      let tell : IsTelling s x = record { slots = refl; told = told; rest = rest } in
+      let are = said x refl (inl tell) in (
+        script_of v s s' x ts (asked x) a d last wrote are,
+        subst (λ y. IsScene y (script_scene v.mime v.place x (asked x))) last (scene_told (last_course s ts) (script_scene v.mime v.place x (asked x)) are.state (are.telling tell)),
       );
 }
+
+pub run_exact : {D : Type 0} (v : Setting D) (s s' : Course D) (text : List ℕ) (ts : List (Turn D)) (a d : Option (List ℕ)) → Lead v s ts s' → commands_in ts ≡ commands_of text → Appends a d (texts_of ts) → AllServed ts → IsExact v s text (λ x. asked_of ts) s' a d
+run_exact v s s' text ts a d lead all wrote every = exact_of v s s' text ts (λ x. asked_of ts) a d lead.last all wrote (λ x e may. turns_exact v s x ts lead.legal every e may)

@@ -13,7 +13,7 @@ use Rattle.child_pipeline.specs.Told.{Told}
 use Rattle.print_rounds.specs.Courses.{Course, course}
 use Rattle.print_rounds.proofs.PrefixLaws.{none_of, some_first, some_later}
 use Rattle.print_rounds.specs.Finished.{EachFinishedOnce}
-use Rattle.print_rounds.specs.Rounds.{HasSomeOf, IsRoundBy, tried_in}
+use Rattle.print_rounds.specs.Rounds.{HasSomeOf, LeavesDocuments, IsRoundBy, tried_in}
 use Rattle.print_rounds.specs.declared.outcome.Round.{Round}
 use Rattle.print_rounds.specs.declared.outcome.RoundFault.{RoundFault}
 use Rattle.spool_engine.specs.Script.{meaning, runs}
@@ -46,39 +46,45 @@ tried_table v s r lives h = ⊎_elim
 pub ran_of : {D : Type 0} (v : Setting D) (old new : Course D) (result : Result Round RoundFault) (b : Bool) → old.spool.dead ≡ b → OnlyNow v.device → IsKept v.device old.spool → IsKept v.device new.spool
     → v.device.failures old.spool.disk ≤ v.device.failures new.spool.disk → (IsSome (v.device.bytes new.spool.disk) ↔ IsSome (v.device.bytes old.spool.disk))
     → ((t : Told) → old.told ≡ Some t → t.running ≡ [] → (js : List ℕ) × EachFinishedOnce t new.told js)
-    → IsRoundBy v.device v.place old b new result → (tried : List Event) × IsRan v old (record { next = new; result = result; tried = tried })
+    → IsRoundBy v.device v.place old b new result → (tried : List Event) × (documents : ℕ → List ℕ) × IsRan v old (record { next = new; result = result; tried = tried; documents = documents })
 ran_of v old new result true is now kept later counted told finished h = (
   [],
+  λ j. [],
   record {
-    round = subst (λ b. IsRoundWith v.device v.place old b (record { next = new; result = result; tried = [] })) (sym is) (h, refl);
+    round = subst (λ b. IsRoundWith v.device v.place old b (record { next = new; result = result; tried = []; documents = λ j. [] })) (sym is) (h, refl);
     finished = finished;
     counted = counted;
     told = told;
     crash = λ alive tells. absurd cc;
     kept = later;
+    lasting = λ lives tells documents has. subst (λ x. LeavesDocuments v.device documents x.spool) (sym h.1) has;
   },
 )
 ran_of v old new result false is now kept later counted told finished h = ⊎_elim
     (λ unbegun. (
       [],
+      λ j. [],
       record {
-        round = subst (λ b. IsRoundWith v.device v.place old b (record { next = new; result = result; tried = [] })) (sym is) (inl (unbegun, refl));
+        round = subst (λ b. IsRoundWith v.device v.place old b (record { next = new; result = result; tried = []; documents = λ j. [] })) (sym is) (inl (unbegun, refl));
         finished = finished;
         counted = counted;
         told = told;
         crash = λ alive tells. subst (λ x. LeavesOnly v.device old.spool.disk x.spool.disk (HasSomeOf old.spool.state [])) (sym unbegun.1) (unmoved v.device old.spool (HasSomeOf old.spool.state []) now kept (none_of old.spool.state []) alive tells);
         kept = later;
+        lasting = λ lives tells documents has. subst (λ x. LeavesDocuments v.device documents x.spool) (sym unbegun.1) has;
       },
     ))
     (λ made. (
       tried_in old made.steps,
+      made.read.0,
       record {
-        round = subst (λ b. IsRoundWith v.device v.place old b (record { next = new; result = result; tried = tried_in old made.steps })) (sym is) (inr (made, refl));
+        round = subst (λ b. IsRoundWith v.device v.place old b (record { next = new; result = result; tried = tried_in old made.steps; documents = made.read.0 })) (sym is) (inr (made, refl, made.read.1));
         finished = finished;
         counted = counted;
         told = told;
         crash = made.any_moment;
         kept = later;
+        lasting = made.lasting;
       },
     ))
     h
@@ -102,6 +108,17 @@ rounds_kept : {D : Type 0} (v : Setting D) (s : Course D) (rs : List (Ran D)) (n
 rounds_kept v s [] new kept h = subst (λ x. IsKept v.device x.spool) (sym h) kept
 rounds_kept v s (r ∷ rs) new kept h = rounds_kept v r.next rs new h.0.kept h.1
 
+-- by whether the device works after the first
+lasting_by : {D : Type 0} (v : Setting D) (s : Course D) (r : Ran D) (rs : List (Ran D)) (new : Course D) (documents : ℕ → List ℕ) (b : Bool) → r.next.spool.dead ≡ b → IsRan v s r → AreRan v r.next rs new → new.spool.dead ≡ false → IsSome (v.device.bytes s.spool.disk)
+    → LeavesDocuments v.device documents s.spool → (LeavesDocuments v.device documents r.next.spool → LeavesDocuments v.device documents new.spool) → LeavesDocuments v.device documents new.spool
+lasting_by v s r rs new documents true is h more lives tells has rest = absurd (let died = ap (λ x. x.spool.dead) (dead_rans v r.next rs new is more) ∙ is in cc)
+lasting_by v s r rs new documents false is h more lives tells has rest = rest (h.lasting is tells documents has)
+
+pub rounds_lasting : {D : Type 0} (v : Setting D) (s : Course D) (rs : List (Ran D)) (new : Course D) (documents : ℕ → List ℕ) → AreRan v s rs new → new.spool.dead ≡ false → IsSome (v.device.bytes s.spool.disk) → LeavesDocuments v.device documents s.spool → LeavesDocuments v.device documents new.spool
+rounds_lasting v s [] new documents h lives tells has = subst (λ x. LeavesDocuments v.device documents x.spool) (sym h) has
+rounds_lasting v s (r ∷ rs) new documents h lives tells has =
+    lasting_by v s r rs new documents r.next.spool.dead refl h.0 h.1 lives tells has (λ left. rounds_lasting v r.next rs new documents h.1 lives (h.0.told.1 tells) left)
+
 module _ {D : Type 0} (v : Setting D) (now : OnlyNow v.device) where
   -- by whether the device works after the first
   crash_by : (s : Course D) (r : Ran D) (rs : List (Ran D)) (new : Course D) (b : Bool) → r.next.spool.dead ≡ b → IsRan v s r → AreRan v r.next rs new → s.spool.dead ≡ false → IsSome (v.device.bytes s.spool.disk)
@@ -123,17 +140,19 @@ module _ {D : Type 0} (v : Setting D) (now : OnlyNow v.device) where
   rounds_crash s (r ∷ rs) new kept h alive tells = crash_by s r rs new r.next.spool.dead refl h.0 h.1 alive tells (λ lives. rounds_crash r.next rs new h.0.kept h.1 lives (h.0.told.1 tells))
 
   -- the turn of a command that is told by rounds
-  pub rounds_turn : {X E : Type 0} (bytes : X → List ℕ) (result : Result X E) (s new : Course D) (c : Command) (most : ℕ) (line : List Round → List ℕ) → IsKept v.device s.spool → meaning v.mime s.spool.state c ≡ runs most line
+  pub rounds_turn : {X E : Type 0} (bytes : X → List ℕ) (result : Result X E) (s new : Course D) (c : Command) (most : ℕ) (line : List Round → List ℕ) → IsKept v.device s.spool → meaning v.mime s.spool.state [] c ≡ runs most line
       → (rs : List (Ran D)) × (reply : List ℕ) × AreRun v most line s rs new reply × IfOk result (λ x. bytes x ≡ reply) → (t : Turn D) × TakesTurn v s c t new × IfOk result (λ x. bytes x ≡ t.text)
   rounds_turn bytes result s new c most line kept is (rs, reply, run, told) = (
-    record { command = c; how = ran rs; text = reply; next = new },
+    record { command = c; document = []; how = ran rs; text = reply; next = new },
     record {
       legal = record {
         how = subst (λ w. AreRunBy v w s rs new reply) (sym is) run;
+        read = tt;
         counted = rounds_counted v s rs new run.each;
         told = rounds_told v s rs new run.each;
         crash = rounds_crash s rs new kept run.each;
         kept = rounds_kept v s rs new kept run.each;
+        lasting = λ lives tells documents has. rounds_lasting v s rs new documents run.each lives tells has;
       };
       command = refl;
       next = refl;
@@ -143,18 +162,18 @@ module _ {D : Type 0} (v : Setting D) (now : OnlyNow v.device) where
 
 -- ## A command that is no round, beside slots and children that stay as they are
 
-same_turn : {D : Type 0} (t : EventTurn D) (c : Command) (s' : Standing D) → t.command ≡ c → t.next ≡ s' → t ≡ record { command = c; outcome = t.outcome; text = t.text; next = s' }
+same_turn : {D : Type 0} (t : EventTurn D) (c : Command) (s' : Standing D) → t.command ≡ c → t.next ≡ s' → t ≡ record { command = c; document = t.document; outcome = t.outcome; text = t.text; next = s' }
 same_turn t c s' e f =
-    ap (λ x. record { command = x; outcome = t.outcome; text = t.text; next = t.next }) e
-    ∙ ap (λ x. record { command = c; outcome = t.outcome; text = t.text; next = x }) f
+    ap (λ x. record { command = x; document = t.document; outcome = t.outcome; text = t.text; next = t.next }) e
+    ∙ ap (λ x. record { command = c; document = t.document; outcome = t.outcome; text = t.text; next = x }) f
 
 pub held_turn : {X E D : Type 0} (bytes : X → List ℕ) (result : Result X E) (v : Setting D) (s new : Course D) (c : Command) → IsHeld s new
     → (t : EventTurn D) × Takes v s.spool c t new.spool × IfOk result (λ x. bytes x ≡ t.text) → (t : Turn D) × TakesTurn v s c t new × IfOk result (λ x. bytes x ≡ t.text)
 held_turn bytes result v s new c held (t, takes, told) =
     let one = subst (IsEventTurn v s.spool) (same_turn t c new.spool takes.command takes.next) takes.legal in (
-      record { command = c; how = answered t.outcome; text = t.text; next = new },
+      record { command = c; document = t.document; how = answered t.outcome; text = t.text; next = new },
       record {
-        legal = record { how = (one.outcome, held); counted = one.counted; told = one.told; crash = one.crash; kept = one.kept };
+        legal = record { how = (one.outcome, held); read = one.read; counted = one.counted; told = one.told; crash = one.crash; kept = one.kept; lasting = one.lasting };
         command = refl;
         next = refl;
       },

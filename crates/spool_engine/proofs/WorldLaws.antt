@@ -15,10 +15,11 @@ use Rattle.spool_core.specs.Checkpointing.{IsCheckpoint}
 use Rattle.spool_core.specs.declared.spool.checkpoint_fault.CheckpointFault.{CheckpointFault}
 use Rattle.spool_core.specs.declared.spool.checkpoint_fault.CheckpointFault.TheVariants as listing
 use Rattle.spool_disk.specs.Disk.{DiskView}
+use Rattle.command_lines.specs.declared.command.Command.{Command}
 use Rattle.child_pipeline.specs.Told.{Told}
 use Rattle.print_rounds.specs.Courses.{Course}
 use Rattle.print_rounds.specs.World.{IsEndedSlot, IsCallTurn}
-use Rattle.spool_engine.specs.EventTurns.{Setting, Outcome, served, no_memory, full, disk, dead, unread, unlisted, IsTaken, IsServedBy, IsOutcome}
+use Rattle.spool_engine.specs.EventTurns.{Setting, Outcome, served, no_memory, full, disk, dead, unread, unreadable, unlisted, IsTaken, IsLeft, IsServedBy, IsOutcome}
 use Rattle.spool_engine.specs.Rounds.{Ran, IsRoundWith, IsRan, AreRan, AreRunBy}
 use Rattle.spool_engine.specs.Runs.{Turn, How, answered as replied, ran, event_turn, IsHow, IsHeld as HasSlotsOf, AreTurns, last_course}
 use Rattle.spool_engine.specs.Script.{Meaning, says, asks, lists, runs, meaning}
@@ -98,6 +99,12 @@ module _ {D : Type 0} (laws : Laws D) (t : Told) (quiet : t.running ≡ []) wher
 
   -- ## By its outcome
 
+  left_turn : (device : DiskView D) (old new : Course D) (c : Command) → IsLegal old.spool.state → old.told ≡ Some t → HasSlotsOf old new → IsLeft device old.spool c new.spool → IsQuietTurn t old new
+  left_turn device old new c legal tells held left = elim left [
+    | inl same ↦ still_turn old new legal tells same held
+    | inr read ↦ plain_turn old new [] legal tells tt read.1.state held (λ died. read.1.dead ∙ died)
+  ]
+
   served_turn : (device : DiskView D) (old new : Course D) (w : Meaning) (reply : List ℕ) → IsLegal old.spool.state → old.told ≡ Some t → HasSlotsOf old new → IsServedBy device old.spool w reply new.spool → IsQuietTurn t old new
   served_turn device old new (says text) reply legal tells held is = still_turn old new legal tells is.1 held
   served_turn device old new (asks e line) reply legal tells held is = taken_turn old new e (step old.spool.state e) legal tells held is.1
@@ -105,12 +112,13 @@ module _ {D : Type 0} (laws : Laws D) (t : Told) (quiet : t.running ≡ []) wher
   served_turn device old new (runs most line) reply legal tells held is = absurd is
 
   outcome_turn : (v : Setting D) (old : Course D) (turn : Turn D) (o : Outcome) → IsLegal old.spool.state → old.told ≡ Some t → HasSlotsOf old turn.next → IsOutcome v old.spool (event_turn turn o) o → IsQuietTurn t old turn.next
-  outcome_turn v old turn served legal tells held is = served_turn v.device old turn.next (meaning v.mime old.spool.state turn.command) turn.text legal tells held is
-  outcome_turn v old turn no_memory legal tells held is = still_turn old turn.next legal tells is.cause.2 held
-  outcome_turn v old turn full legal tells held is = still_turn old turn.next legal tells is.cause.1 held
+  outcome_turn v old turn served legal tells held is = served_turn v.device old turn.next (meaning v.mime old.spool.state turn.document turn.command) turn.text legal tells held is
+  outcome_turn v old turn no_memory legal tells held is = left_turn v.device old turn.next turn.command legal tells held is.cause.2
+  outcome_turn v old turn full legal tells held is = left_turn v.device old turn.next turn.command legal tells held is.cause.1
   outcome_turn v old turn disk legal tells held is = plain_turn old turn.next [] legal tells tt is.cause.state held (λ died. is.cause.dead)
   outcome_turn v old turn dead legal tells held is = still_turn old turn.next legal tells is.cause.1 held
   outcome_turn v old turn unread legal tells held is = still_turn old turn.next legal tells is.same held
+  outcome_turn v old turn unreadable legal tells held is = plain_turn old turn.next [] legal tells tt is.fails.cause.1.state held (λ died. is.fails.cause.1.dead)
   outcome_turn v old turn (unlisted fault) legal tells held is = unlisted_turn v.device old turn.next fault legal tells held is.cause
 
   -- ## A round
@@ -163,7 +171,7 @@ module _ {D : Type 0} (laws : Laws D) where
 
   how_turn : (v : Setting D) (t : Told) → t.running ≡ [] → (old : Course D) (turn : Turn D) (how : How D) → IsLegal old.spool.state → old.told ≡ Some t → IsHow v old turn how → IsQuietTurn t old turn.next
   how_turn v t quiet old turn (replied outcome) legal tells is = outcome_turn laws t quiet v old turn outcome legal tells is.1 is.0
-  how_turn v t quiet old turn (ran rs) legal tells is = run_turn v (meaning v.mime old.spool.state turn.command) t quiet old turn.next rs turn.text legal tells is
+  how_turn v t quiet old turn (ran rs) legal tells is = run_turn v (meaning v.mime old.spool.state turn.document turn.command) t quiet old turn.next rs turn.text legal tells is
 
   pub turns_turn : (v : Setting D) (turns : List (Turn D)) (t : Told) → t.running ≡ [] → (old : Course D) → IsLegal old.spool.state → old.told ≡ Some t → AreTurns v old turns → IsQuietTurn t old (last_course old turns)
   turns_turn v [] t quiet old legal tells are = same_turn laws t quiet old old legal tells refl

@@ -1,17 +1,20 @@
 -- How an event, or a checkpoint, went.
-use Rattle.std.specs.Prelude.{◌≡◌, ◌≤◌, ◌↔◌, ℕ, List, codes, false, IsSome, Result, Ok, Err}
+use Rattle.std.specs.Prelude.{◌≡◌, ◌≤◌, ◌↔◌, ℕ, List, codes, false, IsSome, Result, Ok, Err, OnOk}
 use Rattle.spool_types.specs.declared.event.Event.{Event}
 use Rattle.spool_types.specs.declared.event.Reply.{Reply}
 use Rattle.spool_disk.specs.Disk.{DiskView, LeavesOnly}
 use Rattle.command_lines.specs.declared.command.Command.{Command}
 use Rattle.command_lines.specs.Replies.{refusal_line}
-use Rattle.spool_core.specs.Image.{HasTable, HasBeforeOrAfterEvent}
+use Rattle.spool_core.specs.Image.{HasTable, HasBeforeOrAfterEvent, documents_after_one}
 use Rattle.spool_core.specs.Checkpointing.{IsCheckpoint}
 use Rattle.spool_core.specs.declared.spool.checkpoint_fault.CheckpointFault.{CheckpointFault}
 use Rattle.spool_core.specs.Standing.{Standing, IsAnswer}
 use Rattle.spool_core.specs.declared.spool.apply_fault.ApplyFault.{ApplyFault}
 use Rattle.spool_core.specs.declared.spool.apply_fault.ApplyFault.TheVariants.{Dead, Refused, Memory, Full, Disk}
-use Rattle.spool_engine.specs.EventTurns.{Setting, EventTurn, IsEventTurn, IsKept, checkpoint_fault_line}
+use Rattle.print_rounds.specs.Rounds.{LeavesDocuments}
+use Rattle.spool_engine.specs.EventTurns.{Setting, EventTurn, IsEventTurn, IsKept, IsStill, IsCut, IsDocumentOf, checkpoint_fault_line}
+use Rattle.print_rounds.specs.declared.reading.Unread.{Unread}
+use Rattle.print_rounds.specs.declared.reading.Unread.TheVariants as unread
 
 -- the line for a fault
 abbrev pub fault_line : ApplyFault → List ℕ
@@ -34,6 +37,14 @@ pub record IsApplied {D : Type 0} (device : DiskView D) (old : Standing D) (e : 
   pub crash : old.dead ≡ false → IsSome (device.bytes old.disk) →
       LeavesOnly device old.disk new.disk (HasBeforeOrAfterEvent old.state e)
   pub kept : IsKept device new
+  pub sent : OnOk answer (IsSome (device.bytes old.disk) → (documents : ℕ → List ℕ) → LeavesDocuments device documents old →
+      LeavesDocuments device (documents_after_one old.state documents e) new)
+
+-- the document of a job was read, or there was no memory for it, or the device failed
+abbrev pub IsDocumentRead : {D : Type 0} → DiskView D → Standing D → ℕ → Result (List ℕ) Unread → Standing D → Type 0
+IsDocumentRead device old j (Ok document) new = IsStill device old new × IsDocumentOf device old j document
+IsDocumentRead device old j (Err unread.Memory) new = new ≡ old
+IsDocumentRead device old j (Err unread.Disk) new = IsCut device old new
 
 -- the line that tells how a checkpoint went
 abbrev pub checkpoint_line : Result (Unit {0}) CheckpointFault → List ℕ
@@ -48,6 +59,7 @@ pub record IsRelisted {D : Type 0} (device : DiskView D) (old : Standing D) (ans
   pub crash : old.dead ≡ false → IsSome (device.bytes old.disk) →
       LeavesOnly device old.disk new.disk (HasTable old.state)
   pub kept : IsKept device new
+  pub lasting : OnOk answer (IsSome (device.bytes old.disk) → (documents : ℕ → List ℕ) → LeavesDocuments device documents old → LeavesDocuments device documents new)
 
 -- a turn of this command on the spool, before its text is written
 pub record Takes {D : Type 0} (v : Setting D) (s : Standing D) (c : Command) (t : EventTurn D) (s' : Standing D) : Type 0 where

@@ -1,7 +1,8 @@
 -- A turn of one command, where it is no round: what it says, its one event, or its checkpoint, also where something failed.
-use Rattle.std.specs.Prelude.{◌≡◌, ℕ, ◌≤◌, ◌↔◌, List, [], ◌∷◌, codes, true, false, IsTrue, IsSome, Option, None, Some, Result, Ok, Err}
+use Rattle.std.specs.Prelude.{◌≡◌, ℕ, ◌<◌, ◌≤◌, ◌↔◌, ◌⊎◌, List, [], ◌∷◌, length, codes, true, false, Bool, IsTrue, IsSome, Option, None, Some, Result, Ok, Err}
 use Rattle.std.specs.Result.{IsOk}
 use Rattle.spool_types.specs.declared.event.Event.{Event}
+use Rattle.spool_types.specs.declared.event.Event.TheVariants as events
 use Rattle.spool_types.specs.declared.event.Reply.{Reply}
 use Rattle.spool_types.specs.declared.refusal.Refusal.{Refusal}
 use Rattle.spool_types.specs.State.{State}
@@ -9,17 +10,18 @@ use Rattle.spool_types.specs.Values.{is_uri}
 use Rattle.filter_args.specs.Reading.{reading}
 use Rattle.filter_args.specs.declared.place.Place.{Place}
 use Rattle.job_table.specs.Step.{refusal_of, step}
-use Rattle.spool_disk.specs.Disk.{DiskView, LeavesOnly}
+use Rattle.spool_disk.specs.Disk.{DiskView, ChangesNothing, LeavesOnly}
 use Rattle.command_lines.specs.declared.command.Command.{Command}
-use Rattle.command_lines.specs.declared.command.Command.TheVariants.{Queue, Create}
-use Rattle.spool_core.specs.Image.{HasTable}
-use Rattle.spool_core.specs.Standing.{Standing, IsDone, IsFull, IsFailed}
+use Rattle.command_lines.specs.declared.command.Command.TheVariants.{Queue, Create, Close}
+use Rattle.spool_core.specs.Driving.{documents_after}
+use Rattle.spool_core.specs.Image.{HasTable, HasDocument}
+use Rattle.spool_core.specs.Standing.{Standing, IsDone, IsFull, IsFailed, len_at}
 use Rattle.spool_core.specs.Checkpointing.{IsCheckpoint, IsListed}
 use Rattle.spool_core.specs.declared.spool.checkpoint_fault.CheckpointFault.{CheckpointFault}
 use Rattle.spool_core.specs.declared.spool.checkpoint_fault.CheckpointFault.TheVariants as faults
-use Rattle.print_rounds.specs.Rounds.{HasSomeOf}
+use Rattle.print_rounds.specs.Rounds.{HasSomeOf, LeavesDocuments}
 use Rattle.spool_engine.specs.Mime.{Mime}
-use Rattle.spool_engine.specs.Script.{Meaning, says, asks, lists, runs, meaning, event_of, step_line}
+use Rattle.spool_engine.specs.Script.{Meaning, says, asks, lists, runs, meaning, event_of, closing_of, step_line}
 
 -- what a run stands on: a disk, what documents are read by, and where children run
 pub record Setting (D : Type 0) : Type 1 where
@@ -39,12 +41,15 @@ pub data Outcome : Type 0 where
   dead : Outcome
   -- no memory was found to read the URI of a queue, or the options of a job
   unread : Outcome
+  -- the device failed while the document of a job was read
+  unreadable : Outcome
   -- the checkpoint met this fault
   unlisted : CheckpointFault → Outcome
 
--- a command, how it went, its reply and the spool after it
+-- a command, the document that was read for it, how it went, its reply and the spool after it
 pub record EventTurn (D : Type 0) : Type 0 where
   pub command : Command
+  pub document : List ℕ
   pub outcome : Outcome
   pub text : List ℕ
   pub next : Standing D
@@ -63,12 +68,66 @@ IsServedBy device s lists reply new = (reply ≡ codes "ok\n") × IsListed devic
 IsServedBy device s (runs most line) reply new = ⊥
 
 abbrev pub IsServed : {D : Type 0} → Setting D → Standing D → EventTurn D → Type 0
-IsServed v s t = IsServedBy v.device s (meaning v.mime s.state t.command) t.text t.next
+IsServed v s t = IsServedBy v.device s (meaning v.mime s.state t.document t.command) t.text t.next
+
+-- ## What is read to close a job
+
+-- A document is read of the device, which changes no table, and nothing of what a crash leaves.
+pub record IsStill {D : Type 0} (device : DiskView D) (old new : Standing D) : Type 0 where
+  pub state : new.state ≡ old.state
+  pub room : new.room ≡ old.room
+  pub epoch : new.epoch ≡ old.epoch
+  pub dead : new.dead ≡ old.dead
+  pub disk : ChangesNothing device old.disk new.disk
+  pub counted : device.failures new.disk ≡ device.failures old.disk
+
+-- only a job that is closed has its document read
+abbrev pub Closes : Command → Type 0
+Closes (Close job name) = Unit {0}
+Closes c = ⊥
+
+-- A command changed nothing, but for what a read leaves.
+abbrev pub IsLeft : {D : Type 0} → DiskView D → Standing D → Command → Standing D → Type 0
+IsLeft device s c next = (next ≡ s) ⊎ (Closes c × IsStill device s next)
+
+-- the device failed while it was read, and the spool is dead
+pub record IsCut {D : Type 0} (device : DiskView D) (old new : Standing D) : Type 0 where
+  pub alive : old.dead ≡ false
+  pub state : new.state ≡ old.state
+  pub room : new.room ≡ old.room
+  pub epoch : new.epoch ≡ old.epoch
+  pub dead : new.dead ≡ true
+  pub disk : ChangesNothing device old.disk new.disk
+  pub cause : device.failures old.disk < device.failures new.disk
+
+-- The document is as long as the table says, and where the disk tells its bytes it is the one that they have for the job.
+pub record IsDocumentOf {D : Type 0} (device : DiskView D) (s : Standing D) (j : ℕ) (document : List ℕ) : Type 0 where
+  pub long : length document ≡ len_at s.state j
+  pub own : (bytes kept : List ℕ) → device.bytes s.disk ≡ Some bytes → HasDocument j kept bytes → document ≡ kept
+
+-- the document was read before this
+abbrev pub is_behind_read : Outcome → Bool
+is_behind_read served = true
+is_behind_read no_memory = false
+is_behind_read full = true
+is_behind_read disk = true
+is_behind_read dead = false
+is_behind_read unread = false
+is_behind_read unreadable = false
+is_behind_read (unlisted fault) = false
+
+-- What a job is closed by, unless that is refused, is its document.
+abbrev pub IsReadFor : {D : Type 0} → Setting D → Standing D → List ℕ → Outcome → Command → Type 0
+IsReadFor v s document outcome (Close job name) =
+    IsTrue (is_behind_read outcome) → refusal_of s.state (events.Close (closing_of v.mime s.state document job name)) ≡ None → IsDocumentOf v.device s job document
+IsReadFor v s document outcome c = Unit {0}
+
+-- ## What failed
 
 -- the command is an event that was answered by this line, and the cause of the line stands
 pub record Fails {D : Type 0} (m : Mime) (s : Standing D) (t : EventTurn D) (line : List ℕ) (Cause : Event → Type 0) : Type 0 where
   pub event : Event
-  pub is : event_of m s.state t.command ≡ Some event
+  pub is : event_of m s.state t.document t.command ≡ Some event
   pub cause : Cause event
   pub text : t.text ≡ line
 
@@ -84,6 +143,11 @@ pub record IsUnread {D : Type 0} (s : Standing D) (t : EventTurn D) : Type 0 whe
   pub text : t.text ≡ codes "error memory\n"
   pub same : t.next ≡ s
 
+-- the event would have been accepted, but the device failed at the document, and the event wasn't tried
+pub record IsUnreadable {D : Type 0} (v : Setting D) (s : Standing D) (t : EventTurn D) : Type 0 where
+  pub closes : Closes t.command
+  pub fails : Fails v.mime s t (codes "error disk\n") (λ e. (refusal_of s.state e ≡ None) × IsCut v.device s t.next)
+
 -- the line for a fault of a checkpoint
 abbrev pub checkpoint_fault_line : CheckpointFault → List ℕ
 checkpoint_fault_line faults.Dead = codes "error dead\n"
@@ -94,17 +158,18 @@ checkpoint_fault_line faults.Disk = codes "error disk\n"
 
 -- the command is a checkpoint that met this fault, with its cause and what it leaves
 pub record FailsToList {D : Type 0} (v : Setting D) (s : Standing D) (t : EventTurn D) (fault : CheckpointFault) : Type 0 where
-  pub is : meaning v.mime s.state t.command ≡ lists
+  pub is : meaning v.mime s.state t.document t.command ≡ lists
   pub cause : IsCheckpoint v.device s (Err fault) t.next
   pub text : t.text ≡ checkpoint_fault_line fault
 
 -- Served, or an error's line and no row has changed. Each line but `error memory` comes only for its cause.
 abbrev pub IsOutcome : {D : Type 0} → Setting D → Standing D → EventTurn D → Outcome → Type 0
 IsOutcome v s t served = IsServed v s t
-IsOutcome v s t no_memory = Fails v.mime s t (codes "error memory\n") (λ e. (s.dead ≡ false) × (refusal_of s.state e ≡ None) × (t.next ≡ s))
-IsOutcome v s t full = Fails v.mime s t (codes "error full\n") (λ e. IsFull s e × (t.next ≡ s))
+IsOutcome v s t no_memory = Fails v.mime s t (codes "error memory\n") (λ e. (s.dead ≡ false) × (refusal_of s.state e ≡ None) × IsLeft v.device s t.command t.next)
+IsOutcome v s t full = Fails v.mime s t (codes "error full\n") (λ e. IsFull s e × IsLeft v.device s t.command t.next)
 IsOutcome v s t disk = Fails v.mime s t (codes "error disk\n") (λ e. IsFailed v.device s e t.next)
 IsOutcome v s t unread = IsUnread s t
+IsOutcome v s t unreadable = IsUnreadable v s t
 IsOutcome v s t (unlisted fault) = FailsToList v s t fault
 IsOutcome v s t dead = Fails v.mime s t (codes "error dead\n") (λ e. IsTrue s.dead × (t.next ≡ s))
 
@@ -124,15 +189,19 @@ tried_as asked full = []
 tried_as asked disk = listed asked
 tried_as asked dead = []
 tried_as asked unread = []
+tried_as asked unreadable = []
 tried_as asked (unlisted fault) = []
 
 -- A turn on the spool that it found. Unless the device had failed before, a crash at any moment of it leaves the table
 -- before the command or, where its event was tried, the one after it. Unless it has failed by then, a crash after it leaves
--- the table that is shown.
+-- the table that is shown, and the documents with what the event sent.
 pub record IsEventTurn {D : Type 0} (v : Setting D) (s : Standing D) (t : EventTurn D) : Type 0 where
   pub outcome : IsOutcome v s t t.outcome
+  pub read : IsReadFor v s t.document t.outcome t.command
   pub counted : v.device.failures s.disk ≤ v.device.failures t.next.disk
   pub told : IsSome (v.device.bytes t.next.disk) ↔ IsSome (v.device.bytes s.disk)
   pub crash : s.dead ≡ false → IsSome (v.device.bytes s.disk) →
-      LeavesOnly v.device s.disk t.next.disk (HasSomeOf s.state (tried_as (event_of v.mime s.state t.command) t.outcome))
+      LeavesOnly v.device s.disk t.next.disk (HasSomeOf s.state (tried_as (event_of v.mime s.state t.document t.command) t.outcome))
   pub kept : IsKept v.device t.next
+  pub lasting : t.next.dead ≡ false → IsSome (v.device.bytes s.disk) → (documents : ℕ → List ℕ) → LeavesDocuments v.device documents s →
+      LeavesDocuments v.device (documents_after s.state documents (tried_as (event_of v.mime s.state t.document t.command) t.outcome)) t.next

@@ -5,28 +5,29 @@ use Rattle.filter_args.specs.declared.place.Place.{Place}
 use Rattle.spool_disk.specs.Disk.{DiskView, LeavesOnly}
 use Rattle.child_pipeline.specs.Told.{Told}
 use Rattle.command_lines.specs.Replies.{rounded_line, drained_line}
-use Rattle.print_rounds.specs.Courses.{Course}
+use Rattle.print_rounds.specs.Courses.{Course, AreHanded}
 use Rattle.print_rounds.specs.Finished.{EachFinishedOnce}
-use Rattle.print_rounds.specs.Rounds.{HasSomeOf, IsUnbegun, IsRoundOf, IsRoundBy, tried_in}
+use Rattle.print_rounds.specs.Rounds.{HasSomeOf, LeavesDocuments, IsUnbegun, IsRoundOf, IsRoundBy, tried_in}
 use Rattle.print_rounds.specs.declared.outcome.Round.{Round}
 use Rattle.print_rounds.specs.declared.outcome.RoundFault.{RoundFault}
 use Rattle.print_rounds.specs.declared.outcome.RoundFault.TheVariants as faults
 use Rattle.spool_engine.specs.EventTurns.{Setting, IsKept}
 use Rattle.spool_engine.specs.Script.{Meaning, says, asks, lists, runs, is_idle}
 
--- a round: what it leaves, its answer, and the events that were tried in it
+-- a round: what it leaves, its answer, the events that were tried in it, and what was read in it as the document of each job
 pub record Ran (D : Type 0) : Type 0 where
   pub next : Course D
   pub result : Result Round RoundFault
   pub tried : List Event
+  pub documents : ℕ → List ℕ
 
 -- A round, and the events that were tried in it: those that were acknowledged, and behind them the one at which the device
--- failed. Where nothing was done none was tried.
+-- failed. Where nothing was done none was tried. Each first stage was handed what was read.
 abbrev pub IsRoundWith : {D : Type 0} → DiskView D → Place → Course D → Bool → Ran D → Type 0
 IsRoundWith device place old true r = IsRoundBy device place old true r.next r.result × (r.tried ≡ [])
 IsRoundWith device place old false r =
     (IsUnbegun old r.next r.result × (r.tried ≡ []))
-    ⊎ ((made : IsRoundOf device place old r.next r.result) × (r.tried ≡ tried_in old made.steps))
+    ⊎ ((made : IsRoundOf device place old r.next r.result) × (r.tried ≡ tried_in old made.steps) × AreHanded r.documents made.steps.launchings)
 
 -- A round, and its children: whatever failed, each that was started is finished, once. Unless the device had failed
 -- before, a crash at any moment of it leaves the table after some of the events that were tried, the first of them.
@@ -38,6 +39,9 @@ pub record IsRan {D : Type 0} (v : Setting D) (old : Course D) (r : Ran D) : Typ
   pub crash : old.spool.dead ≡ false → IsSome (v.device.bytes old.spool.disk) →
       LeavesOnly v.device old.spool.disk r.next.spool.disk (HasSomeOf old.spool.state r.tried)
   pub kept : IsKept v.device r.next.spool
+  -- and so it is with the documents, which a round leaves as they are
+  pub lasting : r.next.spool.dead ≡ false → IsSome (v.device.bytes old.spool.disk) → (documents : ℕ → List ℕ) → LeavesDocuments v.device documents old.spool →
+      LeavesDocuments v.device documents r.next.spool
 
 -- rounds in turn
 abbrev pub AreRan : {D : Type 0} → Setting D → Course D → List (Ran D) → Course D → Type 0

@@ -1,5 +1,5 @@
 -- What a run did, turn by turn, also where something failed.
-use Rattle.std.specs.Prelude.{◌≡◌, ℕ, ◌<◌, ◌≤◌, ◌↔◌, ◌⊎◌, Bool, true, false, List, [], ◌∷◌, ◌++◌, take, length, map, ⊤, IsSome, Option, None, Some, Result, Ok, Err, OnOk}
+use Rattle.std.specs.Prelude.{◌≡◌, ℕ, zero, suc, ◌<◌, ◌≤◌, ◌↔◌, ◌⊎◌, Bool, true, false, List, [], ◌∷◌, ◌++◌, take, length, map, ⊤, IsSome, Option, None, Some, Result, Ok, Err, OnOk}
 use Rattle.std.specs.List.{flat_map}
 use Rattle.std.specs.Result.{IsOk}
 use Rattle.std.specs.Io.KnownBytes.{Appends}
@@ -11,14 +11,15 @@ use Rattle.command_lines.specs.Text.{commands_of}
 use Rattle.command_lines.specs.Pending.{Pending, Leads, to_come}
 use Rattle.command_lines.specs.declared.command.Command.{Command}
 use Rattle.command_lines.specs.declared.command.Command.TheVariants as commands
+use Rattle.spool_core.specs.Driving.{documents_after}
 use Rattle.spool_core.specs.Image.{HasTable}
 use Rattle.child_pipeline.specs.Told.{Told}
 use Rattle.print_rounds.specs.Courses.{Course}
 use Rattle.spool_engine.specs.Mime.{Mime}
-use Rattle.print_rounds.specs.Rounds.{HasSomeOf}
-use Rattle.spool_engine.specs.EventTurns.{Setting, Outcome, served, EventTurn, IsOutcome, IsKept, tried_as}
+use Rattle.print_rounds.specs.Rounds.{HasSomeOf, LeavesDocuments}
+use Rattle.spool_engine.specs.EventTurns.{Setting, Outcome, served, EventTurn, IsOutcome, IsReadFor, IsKept, tried_as}
 use Rattle.spool_engine.specs.Rounds.{Ran, AreRunBy, counts_in, results_of}
-use Rattle.spool_engine.specs.Script.{Scene, meaning, event_of, replies_of, events_of, scene_of}
+use Rattle.spool_engine.specs.Script.{Documents, Asked, Scene, meaning, event_of, script_text, script_events, script_scene, asked_on, documents_on}
 use Rattle.spool_engine.specs.declared.fault.RunFault.{RunFault}
 use Rattle.spool_engine.specs.declared.fault.RunFault.TheVariants.{Read, Write, Memory}
 
@@ -33,16 +34,17 @@ pub data How (D : Type 0) : Type 0 where
   answered : Outcome → How D
   ran : List (Ran D) → How D
 
--- a command, how it went, its reply, and what it leaves
+-- a command, the document that was read to close a job, how it went, its reply, and what it leaves
 pub record Turn (D : Type 0) : Type 0 where
   pub command : Command
+  pub document : List ℕ
   pub how : How D
   pub text : List ℕ
   pub next : Course D
 
 -- as the spool sees it
 abbrev pub event_turn : {D : Type 0} → Turn D → Outcome → EventTurn D
-event_turn t outcome = record { command = t.command; outcome = outcome; text = t.text; next = t.next.spool }
+event_turn t outcome = record { command = t.command; document = t.document; outcome = outcome; text = t.text; next = t.next.spool }
 
 -- the slots are as they were, and so is what the children tell
 pub record IsHeld {D : Type 0} (old new : Course D) : Type 0 where
@@ -52,7 +54,12 @@ pub record IsHeld {D : Type 0} (old new : Course D) : Type 0 where
 -- a command that is no round runs no child
 abbrev pub IsHow : {D : Type 0} → Setting D → Course D → Turn D → How D → Type 0
 IsHow v s t (answered outcome) = IsOutcome v s.spool (event_turn t outcome) outcome × IsHeld s t.next
-IsHow v s t (ran rs) = AreRunBy v (meaning v.mime s.spool.state t.command) s rs t.next t.text
+IsHow v s t (ran rs) = AreRunBy v (meaning v.mime s.spool.state t.document t.command) s rs t.next t.text
+
+-- the document that a job was closed by is its own
+abbrev pub IsReadIn : {D : Type 0} → Setting D → Course D → Turn D → How D → Type 0
+IsReadIn v s t (answered outcome) = IsReadFor v s.spool t.document outcome t.command
+IsReadIn v s t (ran rs) = Unit {0}
 
 abbrev pub tried_by : {D : Type 0} → Option Event → How D → List Event
 tried_by asked (answered outcome) = tried_as asked outcome
@@ -60,18 +67,30 @@ tried_by asked (ran rs) = flat_map (λ r. r.tried) rs
 
 -- the events that were tried in a turn
 abbrev pub tried_in : {D : Type 0} → Mime → Course D → Turn D → List Event
-tried_in m s t = tried_by (event_of m s.spool.state t.command) t.how
+tried_in m s t = tried_by (event_of m s.spool.state t.document t.command) t.how
+
+-- the documents after a turn: with what its event sends, if it was tried
+abbrev pub documents_by_how : {D : Type 0} → Course D → Documents → Option Event → How D → Documents
+documents_by_how s documents asked (answered outcome) = documents_after s.spool.state documents (tried_as asked outcome)
+documents_by_how s documents asked (ran rs) = documents
+
+abbrev pub documents_left : {D : Type 0} → Mime → Course D → Documents → Turn D → Documents
+documents_left m s documents t = documents_by_how s documents (event_of m s.spool.state t.document t.command) t.how
 
 -- A turn on the spool that it found. Unless the device had failed before, a crash at any moment of it leaves the table
 -- after some of the events that were tried in it, the first of them: for a command of one event the table before it or
--- the one after it. Unless the device has failed by then, a crash after the turn leaves the table that is shown.
+-- the one after it. Unless the device has failed by then, a crash after the turn leaves the table that is shown, and the
+-- documents with what was sent.
 pub record IsTurn {D : Type 0} (v : Setting D) (s : Course D) (t : Turn D) : Type 0 where
   pub how : IsHow v s t t.how
+  pub read : IsReadIn v s t t.how
   pub counted : v.device.failures s.spool.disk ≤ v.device.failures t.next.spool.disk
   pub told : IsSome (v.device.bytes t.next.spool.disk) ↔ IsSome (v.device.bytes s.spool.disk)
   pub crash : s.spool.dead ≡ false → IsSome (v.device.bytes s.spool.disk) →
       LeavesOnly v.device s.spool.disk t.next.spool.disk (HasSomeOf s.spool.state (tried_in v.mime s t))
   pub kept : IsKept v.device t.next.spool
+  pub lasting : t.next.spool.dead ≡ false → IsSome (v.device.bytes s.spool.disk) → (documents : Documents) → LeavesDocuments v.device documents s.spool →
+      LeavesDocuments v.device (documents_left v.mime s documents t) t.next.spool
 
 -- each turn is one on what it found
 abbrev pub AreTurns : {D : Type 0} → Setting D → Course D → List (Turn D) → Type 0
@@ -173,10 +192,29 @@ abbrev pub Tells : Option (List ℕ) → List ℕ → Type 0
 Tells None text = ⊤
 Tells (Some known) text = known ≡ text
 
+-- ## Runs in which nothing failed
+
+-- what was read in each of these rounds
+abbrev pub read_in : {D : Type 0} → List (Ran D) → ℕ → Documents
+read_in [] k = λ j. []
+read_in (r ∷ rs) zero = r.documents
+read_in (r ∷ rs) (suc k) = read_in rs k
+
+abbrev pub read_by : {D : Type 0} → List ℕ → How D → ℕ → Documents
+read_by document (answered outcome) = λ k j. document
+read_by document (ran rs) = read_in rs
+
+-- the commands, each with what was read in its turn
+abbrev pub asked_by : {D : Type 0} → Turn D → Asked
+asked_by t = record { command = t.command; documents = read_by t.document t.how }
+
+abbrev pub asked_of : {D : Type 0} → List (Turn D) → List Asked
+asked_of ts = map asked_by ts
+
 -- exactly the replies of Script were written, and the table is the fold of Script's events
-pub record IsScript {D : Type 0} (v : Setting D) (x : Scene) (text : List ℕ) (s' : Course D) (old new : Option (List ℕ)) : Type 0 where
-  pub wrote : Appends old new (replies_of v.mime v.place x text)
-  pub table : s'.spool.state ≡ after_all x.state (events_of v.mime v.place x text)
+pub record IsScript {D : Type 0} (v : Setting D) (x : Scene) (asked : List Asked) (s' : Course D) (old new : Option (List ℕ)) : Type 0 where
+  pub wrote : Appends old new (script_text v.mime v.place x asked)
+  pub table : s'.spool.state ≡ after_all x.state (script_events v.mime v.place x asked)
 
 abbrev pub is_round : Command → Bool
 is_round commands.Round = true
@@ -197,12 +235,19 @@ pub record IsScene {D : Type 0} (s : Course D) (x : Scene) : Type 0 where
   pub slots : s.slots ≡ x.slots
   pub told : s.told ≡ Some x.told
 
--- Where nothing failed a run is Script, of a text without rounds whatever the children are, and of any text where they
--- tell and none is running. Their new orders are Script's then, and so is what is held.
-pub record IsExact {D : Type 0} (v : Setting D) (s : Course D) (text : List ℕ) (s' : Course D) (old new : Option (List ℕ)) : Type 0 where
-  pub plain : HasNoRounds (commands_of text) → (t : Told) → IsScript v (scene_with s t) text s' old new
+-- A run is Script of these commands, without rounds whatever the children are, and with rounds where they tell and none is
+-- running. Their new orders are Script's then, and so is what is held.
+pub record IsExact {D : Type 0} (v : Setting D) (s : Course D) (text : List ℕ) (asked : Scene → List Asked) (s' : Course D) (old new : Option (List ℕ)) : Type 0 where
+  pub plain : HasNoRounds (commands_of text) → (t : Told) → IsScript v (scene_with s t) (asked (scene_with s t)) s' old new
   pub telling : (t : Told) → s.told ≡ Some t → t.running ≡ [] →
-      IsScript v (scene_with s t) text s' old new × IsScene s' (scene_of v.mime v.place (scene_with s t) text)
+      IsScript v (scene_with s t) (asked (scene_with s t)) s' old new × IsScene s' (script_scene v.mime v.place (scene_with s t) (asked (scene_with s t)))
+
+-- Where the disk tells its bytes, a crash leaves these documents, and the device doesn't fail, the run is Script of a text
+-- with these documents, and with what is sent meanwhile. Behind it a crash leaves the documents that Script leaves.
+pub record IsExactWith {D : Type 0} (v : Setting D) (s : Course D) (text : List ℕ) (documents : Documents) (s' : Course D) (old new : Option (List ℕ)) : Type 0 where
+  pub script : IsExact v s text (λ x. asked_on v.mime v.place x documents (commands_of text)) s' old new
+  pub lasting : (t : Told) → HasNoRounds (commands_of text) ⊎ ((s.told ≡ Some t) × (t.running ≡ [])) →
+      LeavesDocuments v.device (documents_on v.mime v.place (scene_with s t) documents (commands_of text)) s'.spool
 
 -- A run over a text: the commands of the text, or after a fault the first of them, each with its turn; and what was
 -- written.
@@ -212,5 +257,9 @@ pub record IsRun {D : Type 0} (v : Setting D) (known : Option (List ℕ)) (s : C
   pub lead : Lead v s turns s'
   pub first : AreFirst (commands_in turns) (commands_of text)
   pub all : OnOk result (commands_in turns ≡ commands_of text)
-  pub exact : OnOk result (AllServed turns → IsExact v s text s' old new)
+  -- where nothing failed it is Script, with what was read in each turn
+  pub exact : OnOk result (AllServed turns → IsExact v s text (λ x. asked_of turns) s' old new)
+  -- and with the documents that the disk had, where it tells its bytes
+  pub exact_with : OnOk result (AllServed turns → s'.spool.dead ≡ false → IsSome (v.device.bytes s.spool.disk) → (documents : Documents) → LeavesDocuments v.device documents s.spool →
+      IsExactWith v s text documents s' old new)
   pub wrote : Wrote result old new turns

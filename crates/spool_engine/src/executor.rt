@@ -1,9 +1,12 @@
 //! The executor of commands of one event, of checkpoints, and of listings: it serves each on the spool that it finds.
-ghost use Rattle.std.specs.Prelude.{◌≡◌, List, Some, Result, [], IfOk};
+ghost use Rattle.std.specs.Prelude.{◌≡◌, ℕ, List, Some, None, Result, false, [], IfOk, IsSome};
 ghost use Rattle.std.specs.Option.{option_and_then, option_copied};
 ghost use Rattle.std.specs.FinMap as finite;
 ghost use Rattle.spool_types.specs.State.{job_at};
+ghost use Rattle.spool_types.specs.declared.event.Closing.{Closing as ClosingOf};
 ghost use Rattle.spool_types.specs.declared.event.Reply.{Reply};
+ghost use Rattle.job_table.specs.Contents.{is_over};
+ghost use Rattle.job_table.specs.Step.{refusal_of};
 ghost use Rattle.command_lines.specs.Replies.{jobs_text, queues_text};
 ghost use Rattle.command_lines.specs.declared.command.Command.{Command};
 ghost use Rattle.filter_args.specs.declared.place.Place.{Place as PlaceOf};
@@ -12,22 +15,22 @@ ghost use Rattle.print_rounds.specs.Finished.{HasNoneRunning};
 ghost use Rattle.spool_core.specs.declared.spool.apply_fault.ApplyFault.{ApplyFault};
 ghost use Rattle.spool_core.specs.declared.spool.checkpoint_fault.CheckpointFault.{CheckpointFault};
 ghost use Rattle.spool_engine.specs.Mime.{Mime as MimeDatabase};
-ghost use Rattle.spool_engine.specs.Script.{closing_line, closing_of, document_in, filters_to, queue_of_job, reply_line, stages_of};
+ghost use Rattle.spool_engine.specs.Script.{closing_line, closing_of, filters_to, queue_of_job, reply_line, stages_of};
 ghost use Rattle.spool_engine.specs.Script.{next_number};
 ghost use Rattle.spool_engine.specs.EventTurns.{setting, EventTurn, IsKept};
-ghost use Rattle.spool_engine.specs.Answers.{IsApplied, IsRelisted, Takes, answer_line, checkpoint_line};
+ghost use Rattle.spool_engine.specs.Answers.{IsApplied, IsDocumentRead, IsRelisted, Takes, answer_line, checkpoint_line};
 ghost use Rattle.spool_engine.specs.Rounds.{IsRan};
 ghost use Rattle.spool_types.specs.declared.event.Event.{Event as EventOf};
 
 use crate::answers::{answer_text, checkpoint_text, fault_text};
 use crate::mime::Mime;
 use crate::options::job_options;
-use child_pipeline::{Children, Runner};
+use child_pipeline::{Children, Content, Runner};
 use command_lines::{Answer, Creation, print_reply};
 use device_uri::{DeviceUri, UriFault};
 use filter_args::Place;
 use job_table::Table;
-use print_rounds::{Round, RoundFault};
+use print_rounds::{Round, RoundFault, Unread, read_document};
 use spool_core::{ApplyFault, CheckpointFault, Spool};
 use spool_disk::Disk;
 use spool_types::{
@@ -141,10 +144,9 @@ impl<D: Disk> Executor<D> {
 
     /// Closes a job, and makes the text of its reply. A document is read only where the job can be closed.
     pub fn close(&mut self, mime: &Mime, job: JobId, name: &str) -> Result<Vec<u8>, AllocError>
-        ensures { (answer : Result Reply ApplyFault) ×
-            IsApplied D.device
-            self.old (Event.Close (closing_of mime.now self.old.state job name.now)) answer self.new ×
-            IfOk result (λ text. text.items ≡ answer_line (closing_line (closing_of mime.now self.old.state job name.now)) answer) }
+        ensures { (p : PlaceOf) → (t : EventTurn D) ×
+            Takes (setting D.device mime.now p) self.old (Command.Close job name.now) t self.new ×
+            IfOk result (λ text. text.items ≡ t.text) }
     {
         if self.met_fault() {
             return fault_text(self.alloc, ApplyFault::Dead);
@@ -152,7 +154,39 @@ impl<D: Disk> Executor<D> {
         if let Some(refusal) = self.table().close_refusal(job) {
             return fault_text(self.alloc, ApplyFault::Refused(refusal));
         }
-        let (closing, media) = match self.closing(mime, job, name) {
+        match self.document(job) {
+            Ok(document) => self.close_typed(mime, job, name, document.as_slice()),
+            Err(Unread::Memory) => fault_text(self.alloc, ApplyFault::Memory),
+            Err(Unread::Disk) => fault_text(self.alloc, ApplyFault::Disk),
+        }
+    }
+
+    // The document of a job so far.
+    fn document(&mut self, job: JobId) -> Result<Content, Unread>
+        requires alive { self.old.dead ≡ false }
+        requires there { IsSome (job_at self.old.state job) }
+        requires lasts { is_over (job_at self.old.state job) ≡ false }
+        ensures { IsDocumentRead D.device self.old job result self.new }
+    {
+        read_document(self.alloc, &mut self.spool, job)
+    }
+
+    // Closes a job that has this document, and makes the text of its reply.
+    fn close_typed(
+        &mut self,
+        mime: &Mime,
+        job: JobId,
+        name: &str,
+        document: &[u8],
+    ) -> Result<Vec<u8>, AllocError>
+        requires alive { self.old.dead ≡ false }
+        requires accepted { (c : ClosingOf) → c.job ≡ job → refusal_of self.old.state (Event.Close c) ≡ None }
+        ensures { (answer : Result Reply ApplyFault) ×
+            IsApplied D.device
+            self.old (Event.Close (closing_of mime.now self.old.state document.now job name.now)) answer self.new ×
+            IfOk result (λ text. text.items ≡ answer_line (closing_line (closing_of mime.now self.old.state document.now job name.now)) answer) }
+    {
+        let (closing, media) = match self.closing(mime, job, name, document) {
             Ok(both) => both,
             Err(_) => return fault_text(self.alloc, ApplyFault::Memory),
         };
@@ -163,17 +197,18 @@ impl<D: Disk> Executor<D> {
         }
     }
 
-    // The event that closes a job, and its media type once more for the reply.
+    // The event that closes a job with this document, and its media type once more for the reply.
     fn closing(
         &self,
         mime: &Mime,
         job: JobId,
         name: &str,
+        document: &[u8],
     ) -> Result<(Closing, MediaType), AllocError>
-        ensures closing { IfOk result (λ both. both.0 ≡ closing_of mime.now self.now.state job name.now) }
+        ensures closing { IfOk result (λ both. both.0 ≡ closing_of mime.now self.now.state document.now job name.now) }
         ensures media { IfOk result (λ both. both.1 ≡ both.0.media) }
     {
-        let media = mime.type_of(self.alloc, name, self.document(job))?;
+        let media = mime.type_of(self.alloc, name, document)?;
         let filters = self.filters(mime, job, &media)?;
         let told = media.clone()?;
         let closing = Closing {
@@ -182,16 +217,6 @@ impl<D: Disk> Executor<D> {
             filters,
         };
         Ok((closing, told))
-    }
-
-    // The document of a job so far.
-    fn document(&self, job: JobId) -> &[u8]
-        ensures { result.now ≡ document_in (job_at self.now.state job) }
-    {
-        match self.table().job(job) {
-            Some(row) => &row.document,
-            None => &[],
-        }
     }
 
     // The filters that lead a job's document of this type to what its queue takes.
@@ -242,9 +267,9 @@ impl<D: Disk> Executor<D> {
         children: &mut C,
     ) -> Result<Round, RoundFault>
         requires { HasNoneRunning runner.old }
-        ensures round { (m : MimeDatabase) → (tried : List EventOf) × IsRan (setting D.device m place.now)
+        ensures round { (m : MimeDatabase) → (tried : List EventOf) × (documents : ℕ → List ℕ) × IsRan (setting D.device m place.now)
             (course self.old runner.old (C.tells children.old))
-            (record { next = course self.new runner.new (C.tells children.new); result = result; tried = tried }) }
+            (record { next = course self.new runner.new (C.tells children.new); result = result; tried = tried; documents = documents }) }
         ensures rest { HasNoneRunning runner.new }
     {
         let ran = print_rounds::round(self.alloc, place, &mut self.spool, runner, children);

@@ -5,10 +5,11 @@
 //! (`Executor::turn`). The buffering of the text does not show: the commands are those of the whole text, whatever the
 //! pieces in which the reader gives it.
 //!
-//! A document is typed when its job is closed: by the job's file name and its bytes, in the locale `C`, with the rules
-//! of types that the engine was made with, and `application/octet-stream` where no rule is true. Its filters are those
-//! of the least chain of conversions from this type to what the job's queue takes; where no chain leads there the
-//! document can't be printed. Both are looked at only where the job can be closed.
+//! A document is typed when its job is closed: by the job's file name and its bytes, which are read from the device, in the
+//! locale `C`, with the rules of types that the engine was made with, and `application/octet-stream` where no rule is true.
+//! Its filters are those of the least chain of conversions from this type to what the job's queue takes; where no chain leads
+//! there the document can't be printed. Both are looked at, and the document is read, only where the job can be closed. Where
+//! the device fails at the document the reply is `error disk`, and no event is tried.
 //!
 //! A job keeps the printed form of its options. They are read before the spool is asked, as a queue's URI is: those with
 //! a fault, or too long when printed, are `error options`, also on a dead spool.
@@ -27,7 +28,9 @@
 //!   replies of Script over these rules and conversions, and the table is the fold of Script's events. Of children that
 //!   tell their answers, and of which none is running, the new orders are Script's too, and so is what is held for each
 //!   job. A text without rounds is served so whatever the children tell. This speaks of readers and writers that tell
-//!   their bytes.
+//!   their bytes. Each close is typed, and each first stage handed, what was read of its job's document. Where the disk tells
+//!   its bytes these are Script's own documents (`exact_with`): those that every image had at the start, with what the sends
+//!   of the text add to them.
 //! - *HonestReplies* (`lead`, by `IsHow`): each command in turn has Script's reply on the table that it found, or
 //!   an error's line, and has changed no row. `error full` comes only where the event's record, or the listing of a
 //!   checkpoint, doesn't fit, `error disk` only where the device failed, and `error dead` only to events and checkpoints

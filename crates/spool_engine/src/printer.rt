@@ -91,8 +91,8 @@ impl<D: Disk, C: Children> Printer<D, C> {
 
     /// Runs a round.
     pub fn round(&mut self, place: &Place) -> Result<Round, RoundFault>
-        ensures { (m : MimeDatabase) → (tried : List EventOf) × IsRan (setting D.device m place.now) self.old
-            (record { next = self.new; result = result; tried = tried }) }
+        ensures { (m : MimeDatabase) → (tried : List EventOf) × (documents : ℕ → List ℕ) × IsRan (setting D.device m place.now) self.old
+            (record { next = self.new; result = result; tried = tried; documents = documents }) }
     {
         self.executor
             .round(place, &mut self.runner, &mut self.children)

@@ -24,7 +24,8 @@
 //! | `open`, CALLS | does so with a device that fails after so many calls behind the opening |
 //! | `leave` | takes the disk of the spool |
 //! | `checkpoint` | lists the spool: `ok`, `dead`, `epoch`, `full` or `disk` |
-//! | `read`, JOB, PLACE, COUNT | reads so many bytes of a document: its text, or `dead`, which leaves the reader's bytes |
+//! | `read`, JOB, PLACE, COUNT | reads so many bytes of a document: its text, `disk`, or `dead`, which leaves the reader's bytes |
+//! | `counted`, JOB | reads a whole document: how many bytes it has, where they are those that count |
 //! | `plan`, EVENT | puts an event behind those of the plan |
 //! | `replay` | takes the table after the plan |
 //! | `drive` | drives the plan on the spool: how many events were answered, and why it ended |

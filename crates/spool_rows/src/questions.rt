@@ -2,7 +2,7 @@
 
 use crate::fault::RowFault;
 use crate::replies::{add_word, flag_text, number_text, phase_text, text};
-use crate::words::{counting, job_id, queue_name};
+use crate::words::{job_id, queue_name};
 use job_table::Table;
 use spool_types::{JobId, JobRow, QueueRow};
 use std::alloc::{AllocError, Global};
@@ -12,8 +12,7 @@ use std::alloc::{AllocError, Global};
 /// - `highest`, `now`, `idle`, `queues`, `jobs`, `queue-count` and `job-count`;
 /// - of a queue: `next`, `busy`, `index`, `accepting`, `stopped`, `info`, `location`, `uri`, `target`, `policy`, `limit`,
 ///   `message`, `reasons` and `attributes`;
-/// - of a job: `phase`, `attempts`, `pages`, `size`, `user`, `title`, `document`, and `counted`: how many bytes its document
-///   has, where they are those that count.
+/// - of a job: `phase`, `attempts`, `pages`, `size`, `user`, `title`, and `document`: the place and the length of each part.
 ///
 /// Where there is no such queue or job, it is `none`.
 pub fn answer_of(
@@ -30,7 +29,7 @@ pub fn answer_of(
         "jobs" => Ok(job_numbers(alloc, table.jobs())?),
         "queue-count" => Ok(number_text(alloc, table.queues().len() as u64)?),
         "job-count" => Ok(number_text(alloc, table.jobs().len() as u64)?),
-        "phase" | "attempts" | "pages" | "size" | "user" | "title" | "document" | "counted" => {
+        "phase" | "attempts" | "pages" | "size" | "user" | "title" | "document" => {
             of_job(alloc, table, question, words)
         }
         _ => of_queue(alloc, table, question, words),
@@ -144,17 +143,17 @@ fn of_job(
         "size" => Ok(number_text(alloc, u64::from(row.size))?),
         "user" => Ok(text(alloc, row.user.as_str())?),
         "title" => Ok(text(alloc, row.title.as_str())?),
-        "document" => Ok(text(alloc, str::from_utf8(&row.document)?)?),
-        _ => Ok(counted_text(alloc, &row.document)?),
+        _ => Ok(extents_text(alloc, row)?),
     }
 }
 
-// How many bytes a document has, where they are those that count.
-fn counted_text(alloc: Global, document: &[u8]) -> Result<String, AllocError> {
-    let counted = counting(alloc, 0, document.len())?;
-    if document == counted.as_slice() {
-        number_text(alloc, document.len() as u64)
-    } else {
-        text(alloc, "other bytes")
+// Where the document lies.
+fn extents_text(alloc: Global, row: &JobRow) -> Result<String, AllocError> {
+    let mut text = String::new(alloc);
+    for extent in &row.document {
+        let place = extent.place;
+        let len = extent.len;
+        add_word(&mut text, format!(in alloc; "{place}+{len}")?.as_str())?;
     }
+    Ok(text)
 }

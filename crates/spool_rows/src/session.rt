@@ -7,7 +7,7 @@ use crate::outcomes::{checkpoint_text, ending_text, make_text, open_fault_text};
 use crate::questions::answer_of;
 use crate::replies::{add_word, answer_text, flag_text, number_text, text};
 use crate::spools::{
-    Device, bytes_text, calls_of_opening, cut, driven, is_kept, planned, read, write,
+    Device, bytes_text, calls_of_opening, counted, cut, driven, is_kept, planned, read, write,
 };
 use crate::tables::{is_same, load, loaded, loaded_again};
 use crate::words::{hex_bytes, job_id, size, word};
@@ -72,7 +72,7 @@ impl Session {
             }
             "row" | "loaded" | "again" => self.list(kind, words),
             "make" | "write" | "open" | "leave" => self.handle_disk(kind, words),
-            "checkpoint" | "read" => self.handle_spool(kind, words),
+            "checkpoint" | "read" | "counted" => self.handle_spool(kind, words),
             "plan" | "drive" | "replay" | "cut" => self.follow(kind, words),
             _ => self.apply(event_of(self.alloc, kind, words)?),
         }
@@ -111,7 +111,7 @@ impl Session {
             "replies" => self.replies_text(),
             "same" => {
                 let table = planned(self.alloc, &self.plan, size(words, 0)?)?;
-                Ok(flag_text(self.alloc, is_same(self.table()?, &table))?)
+                Ok(flag_text(self.alloc, is_same(self.table()?, &table)?)?)
             }
             "whole" | "dead" | "bytes" => self.told_of_hand(question, words),
             _ => answer_of(self.alloc, self.table()?, question, words),
@@ -153,7 +153,7 @@ impl Session {
             }
             _ => {
                 let table = loaded_again(self.alloc, self.table()?)?;
-                let same = is_same(&table, self.table()?);
+                let same = is_same(&table, self.table()?)?;
                 self.hand = Hand::Table(table);
                 Ok(flag_text(self.alloc, same)?)
             }
@@ -234,13 +234,14 @@ impl Session {
         }
     }
 
-    // `checkpoint` lists the spool in hand, and `read` reads bytes of a job's document.
+    // `checkpoint` lists the spool in hand, `read` reads bytes of a job's document, and `counted` all of them.
     fn handle_spool(&mut self, kind: &str, words: &[&str]) -> Result<String, RowFault> {
         let Hand::Spool(spool) = &mut self.hand else {
             return Err(RowFault::NotInHand);
         };
         match kind {
             "checkpoint" => Ok(text(self.alloc, checkpoint_text(spool.checkpoint()))?),
+            "counted" => counted(self.alloc, spool, job_id(words)?),
             _ => {
                 let (at, count) = (size(words, 1)?, size(words, 2)?);
                 read(self.alloc, spool, job_id(words)?, at, count)

@@ -1,11 +1,15 @@
 //! Spools on disks in memory, whose device fails once its calls are spent.
+ghost use Rattle.std.specs.Prelude.{◌≡◌, IfOk, IsSome};
+ghost use Rattle.spool_types.specs.State.{job_at};
+ghost use Rattle.spool_core.specs.Standing.{len_at};
 
 use crate::fault::RowFault;
 use crate::outcomes::{apply_fault_text, read_fault_text};
-use crate::replies::{reply_text, text};
+use crate::replies::{number_text, reply_text, text};
 use crate::tables::is_same;
-use job_table::Table;
-use spool_core::{Driven, Spool, drive, replay};
+use crate::words::counting;
+use job_table::{Table, document_len};
+use spool_core::{Driven, ReadFault, Spool, drive, replay};
 use spool_disk::{Disk, FuseDisk, MemDisk};
 use spool_types::{Event, JobId};
 use std::alloc::Global;
@@ -59,17 +63,40 @@ pub fn read(
     count: usize,
 ) -> Result<String, RowFault> {
     let mut into = vec![in alloc; BLANK; count]?;
-    let Some(row) = spool.table().job(job) else {
-        return Err(RowFault::NotInHand);
-    };
-    let len = row.document.len();
+    let len = len_of(spool.table(), job)?;
     if len < count || len - count < at {
         return Err(RowFault::PastEnd);
     }
     match spool.read_document(job, at, &mut into) {
         Ok(()) => Ok(text(alloc, str::from_utf8(&into)?)?),
+        // What lies there after a failed read is anything.
+        Err(ReadFault::Disk) => Ok(text(alloc, read_fault_text(ReadFault::Disk))?),
         Err(fault) if is_blank(&into) => Ok(text(alloc, read_fault_text(fault))?),
         Err(_) => Ok(text(alloc, "changed")?),
+    }
+}
+
+/// How many bytes a job's document has, where they are those that count.
+pub fn counted(alloc: Global, spool: &mut Spool<Device>, job: JobId) -> Result<String, RowFault> {
+    let len = len_of(spool.table(), job)?;
+    let mut document = vec![in alloc; BLANK; len]?;
+    match spool.read_document(job, 0, &mut document) {
+        Ok(()) => {}
+        Err(fault) => return Ok(text(alloc, read_fault_text(fault))?),
+    }
+    if document == counting(alloc, 0, len)? {
+        Ok(number_text(alloc, len as u64)?)
+    } else {
+        Ok(text(alloc, "other bytes")?)
+    }
+}
+
+fn len_of(table: &Table, job: JobId) -> Result<usize, RowFault>
+    ensures { IfOk result (λ len. (len ≡ len_at table.now.state job) × IsSome (job_at table.now.state job)) }
+{
+    match table.job(job) {
+        Some(row) => Ok(document_len(row.phase, row.size)),
+        None => Err(RowFault::NotInHand),
     }
 }
 
@@ -144,5 +171,5 @@ pub fn is_kept(
 ) -> Result<bool, RowFault> {
     let acknowledged = planned(alloc, plan, answered)?;
     let with_the_next = planned(alloc, plan, answered.saturating_add(1))?;
-    Ok(is_same(table, &acknowledged) || is_same(table, &with_the_next))
+    Ok(is_same(table, &acknowledged)? || is_same(table, &with_the_next)?)
 }

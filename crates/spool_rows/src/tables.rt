@@ -3,30 +3,48 @@
 use crate::fault::RowFault;
 use crate::replies::{reply_text, text};
 use job_table::{LoadFault, Loading, PrepareFault, Table, listed};
-use spool_types::{Event, JobRow, LONGEST_SEND, Piece, Row};
+use spool_types::{Event, JobRow, Piece, Row};
 use std::alloc::Global;
+
+// Where the payload of each event, and of each row of a listing, lies.
+const PAYLOAD: u64 = 1_000;
 
 /// Applies an event. The text of its reply, or the name of the refusal.
 pub fn apply(alloc: Global, table: &mut Table, event: Event) -> Result<String, RowFault> {
     match table.prepare(&event) {
-        Ok(()) => Ok(reply_text(alloc, table.commit(event, 0))?),
+        Ok(()) => Ok(reply_text(alloc, table.commit(event, PAYLOAD))?),
         Err(PrepareFault::Refused(refusal)) => Ok(text(alloc, refusal.name())?),
         Err(PrepareFault::Memory) => Err(RowFault::Memory),
     }
 }
 
-/// Whether two tables have the same queues and jobs, the same highest number and the same moment.
-pub fn is_same(table: &Table, other: &Table) -> bool {
-    table.queues() == other.queues()
-        && table.jobs() == other.jobs()
-        && table.highest() == other.highest()
-        && table.now() == other.now()
+/// Whether two tables have the same queues and jobs, the same highest number and the same moment, wherever their documents
+/// lie.
+pub fn is_same(table: &Table, other: &Table) -> Result<bool, RowFault> {
+    Ok(
+        table.queues() == other.queues()
+            && has_same_jobs(table.jobs(), other.jobs())?
+            && table.highest() == other.highest()
+            && table.now() == other.now(),
+    )
+}
+
+fn has_same_jobs(jobs: &[JobRow], others: &[JobRow]) -> Result<bool, RowFault> {
+    if jobs.len() != others.len() {
+        return Ok(false);
+    }
+    for (job, other) in jobs.iter().zip(others) {
+        if listed(job)? != listed(other)? {
+            return Ok(false);
+        }
+    }
+    Ok(true)
 }
 
 /// Loads a row. A row that is misplaced has to leave the loading as it was.
 pub fn load(alloc: Global, loading: &mut Loading, row: Row) -> Result<&'static str, RowFault> {
     let before = format!(in alloc; "{loading:?}")?;
-    match loading.load(row, 0) {
+    match loading.load(row, PAYLOAD) {
         Ok(()) => Ok("ok"),
         Err(LoadFault::Memory) => Err(RowFault::Memory),
         Err(LoadFault::Misplaced) => {
@@ -67,10 +85,10 @@ pub fn loaded_again(alloc: Global, table: &Table) -> Result<Table, RowFault> {
 
 fn take_job(alloc: Global, loading: &mut Loading, job: &JobRow) -> Result<(), RowFault> {
     take(loading, Row::Job(listed(job)?))?;
-    for part in job.document.chunks(LONGEST_SEND) {
-        let bytes = Piece::new(Vec::from_slice(alloc, part)?)
-            .ok()
-            .ok_or(RowFault::TooMany)?;
+    // A table has no bytes. No send is longer than a piece.
+    for extent in &job.document {
+        let bytes = vec![in alloc; 0; extent.len as usize]?;
+        let bytes = Piece::new(bytes).ok().ok_or(RowFault::TooMany)?;
         take(loading, Row::Piece { job: job.id, bytes })?;
     }
     Ok(())
@@ -78,7 +96,7 @@ fn take_job(alloc: Global, loading: &mut Loading, job: &JobRow) -> Result<(), Ro
 
 // Loads a row that a listing has in its place.
 fn take(loading: &mut Loading, row: Row) -> Result<(), RowFault> {
-    match loading.load(row, 0) {
+    match loading.load(row, PAYLOAD) {
         Ok(()) => Ok(()),
         Err(LoadFault::Misplaced) => Err(RowFault::OutOfRange),
         Err(LoadFault::Memory) => Err(RowFault::Memory),

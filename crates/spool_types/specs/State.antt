@@ -1,4 +1,5 @@
--- What the spooler knows: its queues, its jobs, the highest number given, and the moment now.
+-- What the spooler knows: its queues, its jobs, the highest number given, and the moment now. The documents of jobs are
+-- no part of it: no event is accepted, refused or answered by their bytes.
 use Rattle.std.specs.Prelude.{ℕ, List, Option}
 use Rattle.std.specs.Ordering.{nat_cmp}
 use Rattle.std.specs.Cmp.Lexicographic.{slice_cmp}
@@ -7,7 +8,7 @@ use Rattle.spool_types.specs.declared.phase.Phase.{Phase}
 use Rattle.spool_types.specs.declared.rows.QueueRow.{QueueRow}
 use Rattle.spool_types.specs.declared.rows.JobRow.{JobRow}
 
--- a job's row, its document the list of its bytes
+-- a job's row without its document
 pub record Job : Type 0 where
   pub id : ℕ
   pub queue : List ℕ
@@ -22,9 +23,8 @@ pub record Job : Type 0 where
   pub pages : ℕ
   pub size : ℕ
   pub phase : Phase
-  pub document : List ℕ
 
--- a row without where its document lies in memory
+-- a row without where its document lies
 abbrev pub job_of : JobRow → Job
 job_of r = record {
   id = r.id;
@@ -40,7 +40,6 @@ job_of r = record {
   pages = r.pages;
   size = r.size;
   phase = r.phase;
-  document = r.document.items;
 }
 
 abbrev pub Queues : Type 0

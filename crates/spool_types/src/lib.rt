@@ -11,6 +11,7 @@
 //! - `Effects`: which effects one stage may have, and how long their codes are.
 //! - `Phases`: which phases have ended, which hold is in force, and how a job is shown.
 //! - `State`: a table of queues and jobs. `Busy`: whether a job of a queue is processing.
+//! - `Sent`: the bytes of documents, which are no part of a table: they are what events sent, and what rows have as pieces.
 //! - `Refusals`, `Warnings`: how a refusal and the kind of a warning are told.
 //!
 //! What an event does to a table is said in `job_table`, what becomes of a job whose child ended in `backend_codes`, and
@@ -42,6 +43,7 @@ mod warning;
 pub use effect::{Attribute, Effect, Exit, Level};
 pub use effects::Effects;
 pub use event::{Closing, Event, NewJob, NewQueue, QueueNotes, Reply, StageEnd};
+pub use extents::Extent;
 pub use items::{Attributes, Filters, Items, Piece, Reasons, Words};
 pub use kinds::{
     AttributeName, AttributeNameKind, FileName, FileNameKind, FilterName, FilterNameKind, Message,

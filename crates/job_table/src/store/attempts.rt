@@ -1,8 +1,8 @@
 //! Attempts at jobs: the start of an attempt, the end of a stage, and attempts that are lost.
-ghost use Rattle.std.specs.Prelude.{◌≡◌, false, None, Some, IsSome};
+ghost use Rattle.std.specs.Prelude.{◌≡◌, true, false, None, Some, IsSome};
 ghost use Rattle.job_table.specs.Attempts.{is_in_stage, is_last_stage, is_processing_at, lost_by, with_pages, rule_at, stage_verdict, with_effects};
 ghost use Rattle.job_table.specs.Changes.{change_job, change_queue_of};
-ghost use Rattle.job_table.specs.Contents.{HasNoMore};
+ghost use Rattle.job_table.specs.Contents.{HasNoMore, HasSamePlaces, KeepsPlaces};
 ghost use Rattle.job_table.specs.Legal.{IsLegal};
 ghost use Rattle.row_effects.specs.Fold.{queue_after};
 ghost use Rattle.row_effects.specs.Room.{HasRoom};
@@ -27,6 +27,7 @@ impl Store {
         ensures state { self.new.state ≡ after self.old.state (Event.Start job) }
         ensures reply { Reply.Phase result ≡ reply_to self.old.state (Event.Start job) }
         ensures room { HasNoMore self.old.room self.new.room }
+        ensures places { KeepsPlaces self.old self.new }
     {
         match job_place(&self.jobs, job) {
             Ok(at) => start_row(&mut self.jobs[at]),
@@ -41,6 +42,7 @@ impl Store {
         ensures state { self.new.state ≡ after self.old.state (Event.Stage end) }
         ensures reply { Reply.Phase result ≡ reply_to self.old.state (Event.Stage end) }
         ensures room { HasNoMore self.old.room self.new.room }
+        ensures places { KeepsPlaces self.old self.new }
     {
         let job = end.job;
         let exit = end.exit;
@@ -56,6 +58,7 @@ impl Store {
         ensures state { self.new.state ≡ with_effects self.old.state job effects.items }
         ensures there { IsSome (job_at self.new.state job) }
         ensures room { HasNoMore self.old.room self.new.room }
+        ensures places { HasSamePlaces self.old self.new }
     {
         self.fold_into_job(job, &effects);
         self.fold_into_queue(job, effects);
@@ -67,6 +70,7 @@ impl Store {
         ensures state { self.new.state ≡ change_job self.old.state job (with_pages effects.now) }
         ensures there { IsSome (job_at self.new.state job) }
         ensures room { HasNoMore self.old.room self.new.room }
+        ensures places { HasSamePlaces self.old self.new }
         ensures spare { self.new.room.spare ≡ self.old.room.spare }
     {
         match job_place(&self.jobs, job) {
@@ -81,6 +85,7 @@ impl Store {
         requires room { HasRoom self.old.room.spare effects.items }
         ensures state { self.new.state ≡ change_queue_of self.old.state job (queue_after effects.items) }
         ensures room { HasNoMore self.old.room self.new.room }
+        ensures places { HasSamePlaces self.old self.new }
     {
         queues_stay_in_order();
         let Ok(at) = job_place(&self.jobs, job) else {
@@ -98,6 +103,7 @@ impl Store {
         ensures state { self.new.state ≡ after self.old.state (Event.Abandon job) }
         ensures reply { Reply.Phase result ≡ reply_to self.old.state (Event.Abandon job) }
         ensures room { HasNoMore self.old.room self.new.room }
+        ensures places { KeepsPlaces self.old self.new }
     {
         let verdict = self.verdict_on_lost(job);
         self.rule(job, verdict)
@@ -151,10 +157,12 @@ impl Store {
     // then.
     fn rule(&mut self, job: JobId, verdict: Verdict) -> Phase
         requires there { IsSome (job_at self.old.state job) }
+        requires busy { is_processing_at (job_at self.old.state job) ≡ true }
         requires legal { IsLegal self.old.state → IsLegal (rule_at self.old.state job (λ r q. verdict)) }
         ensures state { self.new.state ≡ rule_at self.old.state job (λ r q. verdict) }
         ensures phase { result ≡ phase_found (job_at self.new.state job) }
         ensures room { HasNoMore self.old.room self.new.room }
+        ensures places { KeepsPlaces self.old self.new }
     {
         let now = self.moment;
         let Ok(at) = job_place(&self.jobs, job) else {

@@ -1,7 +1,8 @@
 //! What an accepted event changes.
-ghost use Rattle.std.specs.Prelude.{◌≡◌, ◌<◌, ◌≤◌, length, None, Ok};
+ghost use Rattle.std.specs.Prelude.{◌≡◌, ◌+◌, ◌<◌, ◌^◌, None, Some, Ok};
 ghost use Rattle.job_table.specs.Step.{refusal_of, step, after, reply_to};
-ghost use Rattle.job_table.specs.Contents.{IsPrepared, HasNoMore, document_room};
+ghost use Rattle.job_table.specs.Contents.{IsPrepared, HasNoMore, HasPlace, KeepsPlaces, AddsPlaces, document_room};
+ghost use Rattle.spool_types.specs.Sent.{bytes_behind, sent_by};
 
 use super::Store;
 use super::lookup::{job_place, queue_place};
@@ -15,12 +16,14 @@ use spool_types::{
 };
 
 impl Store {
-    /// Changes the rows by the event just prepared. It takes no memory and always succeeds. `at` is where the event
-    /// stands in the journal; documents that lie in memory don't need it.
-    pub(crate) fn commit(&mut self, event: Event, _at: u64) -> Reply
+    /// Changes the rows by the event just prepared. It takes no memory and always succeeds. `at` is where the event's
+    /// payload lies.
+    pub(crate) fn commit(&mut self, event: Event, at: u64) -> Reply
         requires prepared { IsPrepared self.old event }
         requires one { ¬ (event ≡ Event.Reopen) }
+        requires at { HasPlace at (sent_by event) }
         ensures step { step self.old.state event ≡ Ok (self.new.state, result) }
+        ensures places { AddsPlaces at (sent_by event) self.old self.new }
 
         // What was reserved is used, and no more is taken.
         ensures room { HasNoMore self.old.room self.new.room }
@@ -31,7 +34,7 @@ impl Store {
             Event::SetAccept { queue, accepting } => self.set_accept(queue, accepting),
             Event::SetStop { queue, stopped } => self.set_stop(queue, stopped),
             Event::Create(job) => self.create(job),
-            Event::Send { job, bytes } => Reply::Size(self.send(job, bytes)),
+            Event::Send { job, bytes } => Reply::Size(self.send(job, bytes, at)),
             Event::Close(closing) => self.close(closing),
             Event::Hold { job, until } => self.hold(job, until),
             Event::Release(job) => self.release(job),
@@ -51,6 +54,7 @@ impl Store {
         ensures state { self.new.state ≡ after self.old.state (Event.AddQueue queue) }
         ensures reply { result ≡ reply_to self.old.state (Event.AddQueue queue) }
         ensures room { HasNoMore self.old.room self.new.room }
+        ensures places { KeepsPlaces self.old self.new }
     {
         let alloc = *self.queues.allocator();
         match queue_place(&self.queues, &queue.name) {
@@ -68,6 +72,7 @@ impl Store {
         ensures state { self.new.state ≡ after self.old.state (Event.Info notes) }
         ensures reply { result ≡ reply_to self.old.state (Event.Info notes) }
         ensures room { HasNoMore self.old.room self.new.room }
+        ensures places { KeepsPlaces self.old self.new }
     {
         let Ok(at) = queue_place(&self.queues, &notes.queue) else {
             unreachable!()
@@ -81,6 +86,7 @@ impl Store {
         ensures state { self.new.state ≡ after self.old.state (Event.SetAccept queue accepting) }
         ensures reply { result ≡ reply_to self.old.state (Event.SetAccept queue accepting) }
         ensures room { HasNoMore self.old.room self.new.room }
+        ensures places { KeepsPlaces self.old self.new }
     {
         let Ok(at) = queue_place(&self.queues, &queue) else {
             unreachable!()
@@ -94,6 +100,7 @@ impl Store {
         ensures state { self.new.state ≡ after self.old.state (Event.SetStop queue stopped) }
         ensures reply { result ≡ reply_to self.old.state (Event.SetStop queue stopped) }
         ensures room { HasNoMore self.old.room self.new.room }
+        ensures places { KeepsPlaces self.old self.new }
     {
         let Ok(at) = queue_place(&self.queues, &queue) else {
             unreachable!()
@@ -108,6 +115,7 @@ impl Store {
         ensures state { self.new.state ≡ after self.old.state (Event.Create job) }
         ensures reply { result ≡ reply_to self.old.state (Event.Create job) }
         ensures room { HasNoMore self.old.room self.new.room }
+        ensures places { KeepsPlaces self.old self.new }
     {
         let alloc = *self.jobs.allocator();
         let number = job.job;
@@ -123,15 +131,17 @@ impl Store {
     }
 
     // Answers the new size of the document.
-    fn send(&mut self, job: JobId, bytes: Piece) -> u32
+    fn send(&mut self, job: JobId, bytes: Piece, at: u64) -> u32
         requires accepted { refusal_of self.old.state (Event.Send job bytes) ≡ None }
-        requires room { length bytes ≤ document_room self.old.room job }
+        requires room { 0 < document_room self.old.room job }
+        requires at { at + bytes_behind < 2 ^ 64 }
+        ensures places { AddsPlaces at (Some (job, bytes)) self.old self.new }
         ensures state { self.new.state ≡ after self.old.state (Event.Send job bytes) }
         ensures reply { Reply.Size result ≡ reply_to self.old.state (Event.Send job bytes) }
         ensures room { HasNoMore self.old.room self.new.room }
     {
         match job_place(&self.jobs, job) {
-            Ok(at) => add_bytes(&mut self.jobs[at], bytes),
+            Ok(place) => add_bytes(&mut self.jobs[place], bytes, at),
             Err(_) => unreachable!(),
         }
     }
@@ -141,6 +151,7 @@ impl Store {
         ensures state { self.new.state ≡ after self.old.state (Event.Close closing) }
         ensures reply { result ≡ reply_to self.old.state (Event.Close closing) }
         ensures room { HasNoMore self.old.room self.new.room }
+        ensures places { KeepsPlaces self.old self.new }
     {
         let Ok(at) = job_place(&self.jobs, closing.job) else {
             unreachable!()
@@ -154,6 +165,7 @@ impl Store {
         ensures state { self.new.state ≡ after self.old.state (Event.Hold job until) }
         ensures reply { result ≡ reply_to self.old.state (Event.Hold job until) }
         ensures room { HasNoMore self.old.room self.new.room }
+        ensures places { KeepsPlaces self.old self.new }
     {
         let Ok(at) = job_place(&self.jobs, job) else {
             unreachable!()
@@ -167,6 +179,7 @@ impl Store {
         ensures state { self.new.state ≡ after self.old.state (Event.Release job) }
         ensures reply { result ≡ reply_to self.old.state (Event.Release job) }
         ensures room { HasNoMore self.old.room self.new.room }
+        ensures places { KeepsPlaces self.old self.new }
     {
         let Ok(at) = job_place(&self.jobs, job) else {
             unreachable!()
@@ -180,6 +193,7 @@ impl Store {
         ensures state { self.new.state ≡ after self.old.state (Event.Cancel job) }
         ensures reply { result ≡ reply_to self.old.state (Event.Cancel job) }
         ensures room { HasNoMore self.old.room self.new.room }
+        ensures places { KeepsPlaces self.old self.new }
     {
         let Ok(at) = job_place(&self.jobs, job) else {
             unreachable!()
@@ -192,6 +206,7 @@ impl Store {
         ensures state { self.new.state ≡ after self.old.state (Event.Clock moment) }
         ensures reply { result ≡ reply_to self.old.state (Event.Clock moment) }
         ensures room { HasNoMore self.old.room self.new.room }
+        ensures places { KeepsPlaces self.old self.new }
     {
         self.moment = self.moment.max(moment);
         Reply::Done

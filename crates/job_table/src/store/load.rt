@@ -1,13 +1,14 @@
 //! What a listing adds: each of its rows goes last.
-ghost use Rattle.std.specs.Prelude.{◌≡◌, ◌<◌, ◌≤◌, false, IsTrue, OnOk, OnErr};
+ghost use Rattle.std.specs.Prelude.{◌≡◌, ℕ, ◌<◌, ◌≤◌, ◌∷◌, [], false, IsTrue, OnOk, OnErr};
 ghost use Rattle.std.specs.Ordering.{nat_cmp};
 ghost use Rattle.std.specs.Cmp.Lexicographic.{slice_cmp};
 ghost use Rattle.std.specs.FinMap as finite;
 ghost use Rattle.spool_types.specs.Limits.{greatest_number};
 ghost use Rattle.spool_types.specs.State.{nothing, job_of};
+ghost use Rattle.job_table.specs.Contents.{places_at, places_of};
 ghost use Rattle.job_table.specs.Legal.{IsLegal};
 ghost use Rattle.job_table.specs.Loading.{IsAbove, headed, with_queue, with_job};
-ghost use Rattle.job_table.specs.Rows.{IsFreed};
+ghost use Rattle.job_table.specs.Rows.{HoldsDocument, place_entry};
 
 use super::Store;
 use spool_types::{Head, JobId, JobRow, QueueName, QueueRow};
@@ -18,7 +19,8 @@ impl Store {
     pub(crate) fn set_head(&mut self, head: Head)
         requires empty { self.old.state ≡ nothing }
         requires highest { head.highest ≤ greatest_number }
-        ensures { self.new.state ≡ headed head }
+        ensures state { self.new.state ≡ headed head }
+        ensures places { self.new.places ≡ self.old.places }
     {
         self.highest = head.highest;
         self.moment = head.moment;
@@ -39,6 +41,7 @@ impl Store {
     pub(crate) fn is_above_jobs(&self, id: JobId) -> bool
         ensures yes { IsTrue result → IsAbove nat_cmp id (finite.keys self.now.state.jobs) }
         ensures no { result ≡ false → ¬ (IsAbove nat_cmp id (finite.keys self.now.state.jobs)) }
+        ensures absent { IsTrue result → places_at self.now id ≡ [] }
     {
         match self.jobs.last() {
             Some(last) => last.id < id,
@@ -51,6 +54,7 @@ impl Store {
         requires legal { IsLegal (with_queue self.old.state queue) }
         ensures added { OnOk result (self.new.state ≡ with_queue self.old.state queue) }
         ensures same { OnErr result (self.new.state ≡ self.old.state) }
+        ensures places { self.new.places ≡ self.old.places }
     {
         self.queues.push(queue)?;
         Ok(())
@@ -60,8 +64,9 @@ impl Store {
         requires room { 0 < self.old.room.jobs }
         requires above { IsAbove nat_cmp row.id (finite.keys self.old.state.jobs) }
         requires legal { IsLegal (with_job self.old.state (job_of row)) }
-        requires freed { IsFreed row }
-        ensures { self.new.state ≡ with_job self.old.state (job_of row) }
+        requires holds { HoldsDocument row }
+        ensures state { self.new.state ≡ with_job self.old.state (job_of row) }
+        ensures places { (j : ℕ) → places_of self.new.places j ≡ places_of (place_entry row ∷ self.old.places) j }
     {
         self.jobs.push(row).unwrap();
     }

@@ -1,5 +1,5 @@
 //! The memory that an event takes.
-ghost use Rattle.std.specs.Prelude.{◌≡◌, ◌<◌, ◌≤◌, false, None, Some, IsSome, IsOk, OnOk};
+ghost use Rattle.std.specs.Prelude.{◌≡◌, ◌<◌, false, None, Some, IsSome, IsOk, OnOk};
 ghost use Rattle.spool_types.specs.Phases.{has_ended};
 ghost use Rattle.spool_types.specs.State.{Job, job_at};
 ghost use Rattle.job_table.specs.Step.{refusal_of};
@@ -16,12 +16,13 @@ impl Store {
         requires { refusal_of self.old.state event.now ≡ None }
         ensures room { OnOk result (HasRoom self.new.room event.now) }
         ensures same { self.new.state ≡ self.old.state }
+        ensures places { self.new.places ≡ self.old.places }
         ensures ready { HasRoom self.old.room event.now → IsOk result }
     {
         match event {
             Event::AddQueue(_) => self.reserve_queue(),
             Event::Create(_) => self.reserve_job(),
-            Event::Send { job, bytes } => self.reserve_bytes(*job, bytes.as_slice().len()),
+            Event::Send { job, .. } => self.reserve_extent(*job),
             Event::Stage(end) => self.spare.reserve(end.effects.as_slice()),
             // The others take none.
             _ => Ok(()),
@@ -31,6 +32,7 @@ impl Store {
     pub(crate) fn reserve_queue(&mut self) -> Result<(), AllocError>
         ensures room { OnOk result (0 < self.new.room.queues) }
         ensures same { self.new.state ≡ self.old.state }
+        ensures places { self.new.places ≡ self.old.places }
         ensures ready { 0 < self.old.room.queues → IsOk result }
     {
         self.queues.reserve(1)
@@ -39,21 +41,23 @@ impl Store {
     pub(crate) fn reserve_job(&mut self) -> Result<(), AllocError>
         ensures room { OnOk result (0 < self.new.room.jobs) }
         ensures same { self.new.state ≡ self.old.state }
+        ensures places { self.new.places ≡ self.old.places }
         ensures ready { 0 < self.old.room.jobs → IsOk result }
     {
         self.jobs.reserve(1)
     }
 
-    // `Vec::reserve` at least doubles what it grows, so sixteen full sends move the document a few times only.
-    fn reserve_bytes(&mut self, job: JobId, count: usize) -> Result<(), AllocError>
+    // `Vec::reserve` at least doubles what it grows, so the extents of many sends are moved a few times only.
+    fn reserve_extent(&mut self, job: JobId) -> Result<(), AllocError>
         requires there { IsSome (job_at self.old.state job) }
         requires live { (r : Job) → job_at self.old.state job ≡ Some r → has_ended r.phase ≡ false }
-        ensures room { OnOk result (count ≤ document_room self.new.room job) }
+        ensures room { OnOk result (0 < document_room self.new.room job) }
         ensures same { self.new.state ≡ self.old.state }
-        ensures ready { count ≤ document_room self.old.room job → IsOk result }
+        ensures places { self.new.places ≡ self.old.places }
+        ensures ready { 0 < document_room self.old.room job → IsOk result }
     {
         match job_place(&self.jobs, job) {
-            Ok(at) => self.jobs[at].document.reserve(count),
+            Ok(at) => self.jobs[at].document.reserve(1),
             Err(_) => unreachable!(),
         }
     }

@@ -1,12 +1,15 @@
 //! New rows, and what events change in a row.
-ghost use Rattle.std.specs.Prelude.{◌≡◌, ◌+◌, ◌<◌, ◌≤◌, true, cond, ◌++◌, length, vec_len, vec_capacity};
+ghost use Rattle.std.specs.Prelude.{◌≡◌, ◌+◌, ◌<◌, ◌≤◌, ◌^◌, true, false, cond, [], ◌∷◌, ◌++◌, length, vec_len, vec_capacity};
 ghost use Rattle.job_table.specs.Attempts.{started, with_pages, ruled, stops_queue, next_stage};
 ghost use Rattle.spool_types.specs.Limits.{longest_document, greatest_attempts};
+ghost use Rattle.spool_types.specs.Phases.{has_ended, is_processing};
+ghost use Rattle.spool_types.specs.Sent.{bytes_behind, extent_behind};
 ghost use Rattle.spool_types.specs.State.{job_of};
 ghost use Rattle.job_table.specs.Losses.{HasNextStage};
 ghost use Rattle.job_table.specs.Changes.{new_queue, with_notes, with_accepting, with_stopped, new_job, with_bytes, ended, closed, held};
-ghost use Rattle.job_table.specs.Rows.{TakesNone};
+ghost use Rattle.job_table.specs.Rows.{TakesNone, KeepsDocument};
 
+use crate::places::extent_behind;
 use backend_codes::Verdict;
 use row_effects::pages_after;
 use spool_types::{
@@ -59,6 +62,7 @@ pub(super) fn set_stopped(row: &mut QueueRow, stopped: bool)
 pub(super) fn new_job_row(alloc: Global, job: NewJob) -> JobRow
     ensures row { job_of result ≡ new_job job }
     ensures room { vec_capacity result.document ≡ 0 }
+    ensures places { result.document.items ≡ [] }
 {
     JobRow {
         id: job.job,
@@ -78,35 +82,29 @@ pub(super) fn new_job_row(alloc: Global, job: NewJob) -> JobRow
     }
 }
 
-// Adds the bytes to the document, and answers its size.
-pub(super) fn add_bytes(row: &mut JobRow, bytes: Piece) -> u32
-    requires room { vec_len row.old.document + length bytes ≤ vec_capacity row.old.document }
+// Adds the bytes of a send, whose payload is at this place, to the document, and answers its size.
+pub(super) fn add_bytes(row: &mut JobRow, bytes: Piece, at: u64) -> u32
+    requires room { vec_len row.old.document < vec_capacity row.old.document }
     requires short { row.old.size + length bytes ≤ longest_document }
+    requires live { has_ended row.old.phase ≡ false }
+    requires at { at + bytes_behind < 2 ^ 64 }
     ensures row { job_of row.new ≡ with_bytes bytes (job_of row.old) }
     ensures size { result ≡ row.old.size + length bytes }
     ensures memory { TakesNone row.old row.new }
+    ensures document { row.new.document.items ≡ row.old.document.items ++ extent_behind at (length bytes) ∷ [] }
 {
-    let bytes = bytes.as_slice();
-    append_in_place(&mut row.document, bytes);
-    row.size += bytes.len() as u32;
+    let count = bytes.as_slice().len();
+    row.document.push_reserved(extent_behind(at, count));
+    row.size += count as u32;
     row.size
-}
-
-// Appends byte by byte, since of all that append only `push_reserved` tells that a vector with room keeps its block.
-fn append_in_place(document: &mut Vec<u8>, bytes: &[u8])
-    requires { vec_len document.old + length bytes.now ≤ vec_capacity document.old }
-    ensures items { document.new.items ≡ document.old.items ++ bytes.now }
-    ensures capacity { vec_capacity document.new ≡ vec_capacity document.old }
-{
-    for byte in bytes {
-        document.push_reserved(*byte);
-    }
 }
 
 // A job that ends loses its document.
 pub(super) fn end_row(row: &mut JobRow, phase: Phase)
+    requires { has_ended phase ≡ true }
     ensures row { job_of row.new ≡ ended phase (job_of row.old) }
     ensures memory { TakesNone row.old row.new }
+    ensures ended { has_ended row.new.phase ≡ true }
 {
     let alloc = *row.document.allocator();
     row.phase = phase;
@@ -115,8 +113,10 @@ pub(super) fn end_row(row: &mut JobRow, phase: Phase)
 
 // A closed job waits with the hold that it had, or ends where no filters lead to its queue.
 pub(super) fn close_row(row: &mut JobRow, closing: Closing)
+    requires { has_ended row.old.phase ≡ false }
     ensures row { job_of row.new ≡ closed closing (job_of row.old) }
     ensures memory { TakesNone row.old row.new }
+    ensures document { KeepsDocument row.old row.new }
 {
     row.media = Some(closing.media);
     match closing.filters {
@@ -136,16 +136,19 @@ pub(super) fn close_row(row: &mut JobRow, closing: Closing)
 pub(super) fn hold_row(row: &mut JobRow, hold: Hold)
     ensures row { job_of row.new ≡ held hold (job_of row.old) }
     ensures memory { TakesNone row.old row.new }
+    ensures document { row.new.document ≡ row.old.document }
 {
     row.phase = row.phase.with_hold(hold);
 }
 
 // Begins a further attempt: the first of the job's stages, its filters in order and then the backend.
 pub(super) fn start_row(row: &mut JobRow) -> Phase
-    requires { row.old.attempts < greatest_attempts }
+    requires more { row.old.attempts < greatest_attempts }
+    requires live { has_ended row.old.phase ≡ false }
     ensures row { job_of row.new ≡ started (job_of row.old) }
     ensures phase { result ≡ row.new.phase }
     ensures memory { TakesNone row.old row.new }
+    ensures document { row.new.document ≡ row.old.document }
 {
     row.attempts += 1;
     row.pages = 0;
@@ -161,6 +164,7 @@ pub(super) fn start_row(row: &mut JobRow) -> Phase
 pub(super) fn add_pages(row: &mut JobRow, effects: &[Effect])
     ensures row { job_of row.new ≡ with_pages effects.now (job_of row.old) }
     ensures memory { TakesNone row.old row.new }
+    ensures document { row.new.document ≡ row.old.document }
 {
     row.pages = pages_after(row.pages, effects);
 }
@@ -176,10 +180,12 @@ pub(super) fn rule_queue_row(row: &mut QueueRow, verdict: Verdict)
 
 // What a verdict makes of a job, at the moment now, where its queue tries a job again after the interval.
 pub(super) fn rule_row(row: &mut JobRow, verdict: Verdict, now: Moment, interval: Interval) -> Phase
-    requires { verdict ≡ Verdict.NextStage → HasNextStage row.old.phase }
+    requires next { verdict ≡ Verdict.NextStage → HasNextStage row.old.phase }
+    requires live { is_processing row.old.phase ≡ true }
     ensures row { job_of row.new ≡ ruled now interval verdict (job_of row.old) }
     ensures phase { result ≡ row.new.phase }
     ensures memory { TakesNone row.old row.new }
+    ensures document { KeepsDocument row.old row.new }
 {
     match verdict {
         Verdict::NextStage => row.phase = next_stage(row.phase),

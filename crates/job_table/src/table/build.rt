@@ -9,6 +9,7 @@ ghost use Rattle.job_table.specs.Legal.{IsLegal};
 
 use super::Table;
 use crate::lane::{Draft, Lane, standing_of_row};
+use crate::new_places::NewPlaces;
 use crate::store::Store;
 use spool_types::Moment;
 use std::alloc::{AllocError, Global};
@@ -16,7 +17,8 @@ use std::alloc::{AllocError, Global};
 impl Table {
     /// The table that has these rows.
     pub(crate) fn of_rows(alloc: Global, store: Store) -> Result<Table, AllocError>
-        ensures { IfOk result (λ table. table.state ≡ store.state) }
+        ensures state { IfOk result (λ table. table.state ≡ store.state) }
+        ensures places { IfOk result (λ table. table.places ≡ store.places) }
     {
         let drafts = drafts_of(alloc, &store)?;
         let lanes = lanes_of(alloc, drafts, store.now())?;
@@ -24,6 +26,7 @@ impl Table {
             store,
             lanes,
             vacant: 0,
+            new_places: NewPlaces::none(alloc),
         })
     }
 }

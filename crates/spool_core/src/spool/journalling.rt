@@ -1,19 +1,20 @@
 //! The record of an event in the journal.
-ghost use Rattle.std.specs.Prelude.{◌≡◌, ◌≤◌, ◌-◌, ◌↔◌, OnOk, OnErr, IfErr, IsErrOf, IsSome, false};
+ghost use Rattle.std.specs.Prelude.{◌≡◌, ◌≤◌, ◌-◌, ◌↔◌, ℕ, List, Some, OnOk, OnErr, IfOk, IfErr, IsErrOf, IsSome, false};
 ghost use Rattle.job_table.specs.Attempts.{HasNoProcessing, reopened};
 ghost use Rattle.job_table.specs.Legal.{IsLegal};
 ghost use Rattle.spool_types.specs.declared.event.Event.TheVariants as Event;
 ghost use Rattle.job_table.specs.Step.{after};
 ghost use Rattle.spool_disk.specs.Disk.{Blames, IsSynced, LeavesOnly};
-ghost use Rattle.job_table.specs.Contents.{IsPrepared};
-ghost use Rattle.spool_core.specs.Image.{HasBeforeOrAfterEvent, IsReopeningFault};
+ghost use Rattle.job_table.specs.Contents.{Contents, IsPrepared, HasPlace, AddsPlaces, KeepsPlaces};
+ghost use Rattle.spool_types.specs.Sent.{sent_by};
+ghost use Rattle.spool_core.specs.Image.{HasDocuments, HasBeforeOrAfterEvent, HasWholeBeforeOrAfterEvent, IsReopeningFault, documents_after_one};
 ghost use Rattle.spool_core.specs.Seen.{standing_at, IsStandingAt};
 ghost use Rattle.spool_core.specs.Standing.{IsJournalled, IsFrameOf, record_len};
 
 use super::ApplyFault;
 use event_codec::encode_onto;
 use gate_journal::JournalFault;
-use job_table::{PrepareFault, Table, reopening};
+use job_table::{PrepareFault, Table, ended_jobs_stay, reopening};
 use spool_areas::{Areas, OpenFault};
 use spool_disk::Disk;
 use spool_types::Event;
@@ -27,11 +28,13 @@ pub(super) fn journal<D: Disk>(
     frame: &mut Vec<u8>,
     event: &Event,
 ) -> Result<u64, ApplyFault>
-    requires { IsStandingAt D.device areas.old table.old.state }
+    requires { IsStandingAt D.device areas.old table.old }
 
     ensures answer { IsJournalled D.device (standing_at areas.old table.old.state) event.now result (standing_at areas.new table.old.state) }
     ensures same { table.new.state ≡ table.old.state }
+    ensures places { table.new.places ≡ table.old.places }
     ensures prepared { OnOk result (IsPrepared table.new event.now) }
+    ensures at { IfOk result (λ place. HasPlace place (sent_by event.now)) }
     ensures later { D.device.failures areas.old.disk ≤ D.device.failures areas.new.disk }
     ensures counted { OnOk result (D.device.failures areas.new.disk ≡ D.device.failures areas.old.disk) }
     ensures epoch { areas.new.epoch ≡ areas.old.epoch }
@@ -42,11 +45,20 @@ pub(super) fn journal<D: Disk>(
     ensures any_moment { areas.old.dead ≡ false → IsSome (D.device.bytes areas.old.disk) →
         LeavesOnly D.device areas.old.disk areas.new.disk (HasBeforeOrAfterEvent table.old.state event.now) }
 
+    // So it is with the documents.
+    ensures documents { areas.old.dead ≡ false → (r : List ℕ) (documents : ℕ → List ℕ) → D.device.bytes areas.old.disk ≡ Some r → HasDocuments table.old.state documents r →
+        LeavesOnly D.device areas.old.disk areas.new.disk (HasWholeBeforeOrAfterEvent table.old.state documents event.now) }
+    ensures sent { OnOk result ((r : List ℕ) (documents : ℕ → List ℕ) → D.device.bytes areas.old.disk ≡ Some r → HasDocuments table.old.state documents r →
+        (c : List ℕ) → D.device.image areas.new.disk c → HasDocuments (after table.old.state event.now) (documents_after_one table.old.state documents event.now) c) }
+
     // After Ok a crash leaves the one after it, and nothing is unsynced; after an error, but of the device, the one before.
-    ensures added { OnOk result (IsStandingAt D.device areas.new (after table.old.state event.now)) }
-    ensures kept { OnErr result (IsStandingAt D.device areas.new table.old.state) }
+    ensures added { IfOk result (λ place. (c : Contents) → c.state ≡ after table.old.state event.now → AddsPlaces place (sent_by event.now) table.new c → IsStandingAt D.device areas.new c) }
+    ensures kept { OnErr result (IsStandingAt D.device areas.new table.new) }
     ensures durable { OnOk result (IsSynced D.device areas.new.disk) }
 {
+    ended_jobs_stay();
+    // The table is legal.
+    let _jobs = table.jobs();
     if areas.is_dead() {
         return Err(ApplyFault::Dead);
     }
@@ -73,12 +85,13 @@ pub(super) fn journal_reopening<D: Disk>(
     table: &mut Table,
     frame: &mut Vec<u8>,
 ) -> Result<u64, OpenFault>
-    requires standing { IsStandingAt D.device areas.old table.old.state }
+    requires standing { IsStandingAt D.device areas.old table.old }
     requires alive { areas.old.dead ≡ false }
     requires legal { IsLegal table.old.state }
     requires busy { ¬ (HasNoProcessing table.old.state) }
 
     ensures same { table.new.state ≡ table.old.state }
+    ensures places { table.new.places ≡ table.old.places }
     ensures prepared { OnOk result (IsPrepared table.new Event.Reopen) }
     ensures alive { OnOk result (areas.new.dead ≡ false) }
     ensures fault { IfErr result IsReopeningFault }
@@ -92,10 +105,14 @@ pub(super) fn journal_reopening<D: Disk>(
 
     // Whatever it answers, a crash at any moment of it leaves the table before the reopening or the one after it.
     ensures any_moment { LeavesOnly D.device areas.old.disk areas.new.disk (λ c. IsSome (D.device.bytes areas.old.disk) → HasBeforeOrAfterEvent table.old.state Event.Reopen c) }
-    ensures added { OnOk result (IsStandingAt D.device areas.new (reopened table.old.state)) }
+
+    // It leaves the documents.
+    ensures documents { LeavesOnly D.device areas.old.disk areas.new.disk (λ c. (r : List ℕ) (documents : ℕ → List ℕ) → D.device.bytes areas.old.disk ≡ Some r → HasDocuments table.old.state documents r → HasDocuments table.old.state documents c) }
+    ensures added { OnOk result ((c : Contents) → c.state ≡ reopened table.old.state → KeepsPlaces table.new c → IsStandingAt D.device areas.new c) }
     ensures idle { HasNoProcessing (reopened table.old.state) }
-    ensures kept { OnErr result (IsStandingAt D.device areas.new table.old.state) }
+    ensures kept { OnErr result (IsStandingAt D.device areas.new table.new) }
 {
+    ended_jobs_stay();
     reopening();
     let event = Event::Reopen;
     match table.prepare(&event) {

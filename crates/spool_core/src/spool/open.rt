@@ -6,14 +6,14 @@ ghost use Rattle.spool_types.specs.State.{State};
 ghost use Rattle.spool_types.specs.declared.event.Event.TheVariants as Event;
 ghost use Rattle.spool_disk.specs.Disk.{Blames, LeavesOnly, ChangesNothing};
 ghost use Rattle.gate_journal.specs.Appends.{kept_room};
-ghost use Rattle.spool_core.specs.Image.{HasTable, HasRoom, HasBeforeOrAfterEvent, IsReopenedFrom, IsMidway, IsFaultOf, IsReopeningFault};
+ghost use Rattle.spool_core.specs.Image.{HasTable, HasDocuments, HasRoom, HasBeforeOrAfterEvent, IsReopenedFrom, IsMidway, IsFaultOf, IsReopeningFault};
 ghost use Rattle.spool_core.specs.Standing.{LeavesRoom, record_len};
 
 use super::Spool;
 use super::journalling::journal_reopening;
 use crate::fold::fold;
 use gate_journal::KEPT_ROOM;
-use job_table::{Table, reopening};
+use job_table::{Table, ended_jobs_stay, reopening};
 use spool_areas::{Areas, OpenError, OpenFault, Opened};
 use spool_disk::Disk;
 use spool_types::Event;
@@ -44,10 +44,12 @@ impl<D: Disk> Spool<D> {
         ensures unwritten { IfOk result (λ spool. (r : List ℕ) (t : State) → D.device.bytes disk ≡ Some r → HasTable t r → HasNoProcessing t → D.device.bytes spool.disk ≡ Some r) }
 
         // Until its first sync has answered a crash leaves what it was handed, and from then on an image with the table of
-        // the bytes, or that one after the policy.
+        // the bytes, or that one after the policy, and with the documents of the bytes.
         ensures synced { IfOk result (λ spool. (synced : D) × LeavesOnly D.device disk synced (D.device.image disk)
             × LeavesOnly D.device synced spool.disk (λ c. (r : List ℕ) → D.device.bytes disk ≡ Some r → IsMidway r c)) }
         ensures kept { IfOk result (λ spool. IsSome (D.device.bytes disk) → (c : List ℕ) → D.device.image spool.disk c → HasTable spool.state c) }
+        ensures documents { IfOk result (λ spool. (r : List ℕ) (t : State) (documents : ℕ → List ℕ) → D.device.bytes disk ≡ Some r → HasTable t r → HasDocuments t documents r →
+            (c : List ℕ) → D.device.image spool.disk c → HasDocuments spool.state documents c) }
 
         // An error hands the disk back. But for a failed device it reads as before and has no new image.
         ensures back { IfErr result (λ e. ¬ (e.fault ≡ OpenFault.Disk) → (D.device.bytes e.disk ≡ D.device.bytes disk) × LeavesOnly D.device disk e.disk (D.device.image disk)) }
@@ -58,6 +60,7 @@ impl<D: Disk> Spool<D> {
         ensures idle { IfOk result (λ spool. HasNoProcessing spool.state) }
     {
         reopening();
+        ended_jobs_stay();
         let mut spool = match Spool::load(alloc, disk) {
             Ok(spool) => spool,
             Err(error) => return Err(error),
@@ -145,6 +148,7 @@ impl<D: Disk> Spool<D> {
         ensures fixed { D.device.size self.new.disk ≡ D.device.size self.old.disk }
         ensures told { IsSome (D.device.bytes self.new.disk) ↔ IsSome (D.device.bytes self.old.disk) }
         ensures any_moment { LeavesOnly D.device self.old.disk self.new.disk (λ c. IsSome (D.device.bytes self.old.disk) → HasBeforeOrAfterEvent self.old.state Event.Reopen c) }
+        ensures documents { LeavesOnly D.device self.old.disk self.new.disk (λ c. (r : List ℕ) (documents : ℕ → List ℕ) → D.device.bytes self.old.disk ≡ Some r → HasDocuments self.old.state documents r → HasDocuments self.old.state documents c) }
         ensures kept { OnOk result (IsSome (D.device.bytes self.old.disk) → (c : List ℕ) → D.device.image self.new.disk c → HasTable self.new.state c) }
         ensures room { OnOk result ((r : List ℕ) → D.device.bytes self.new.disk ≡ Some r → HasRoom self.new.room r) }
     {

@@ -1,7 +1,7 @@
 use Rattle.std.proofs.Common.{◌+◌}
 use Rattle.spool_areas.specs.Header.{header_len}
 use Rattle.event_codec.specs.RowSpelling.{row_spelling}
-use Rattle.documents.specs.Placed.{piece_of}
+use Rattle.spool_types.specs.Sent.{piece_of}
 use Rattle.documents.proofs.Placed.{held_first, lie_between, one_more}
 use Rattle.documents.proofs.Moved as moved
 use Rattle.documents.proofs.laws.moves_law.Goals as goal
@@ -25,10 +25,10 @@ pub returns-clause-history_added : goal.returns-clause-history_added
 returns-clause-history_added c base j rows events e = moved.history_added base j rows events e
 
 pub returns-clause-pieces : goal.returns-clause-pieces
-returns-clause-pieces c r = moved.whole r
+returns-clause-pieces c r document = moved.whole r document
 
 pub returns-clause-listed : goal.returns-clause-listed
-returns-clause-listed c before after r one two = moved.in_listing before after r one two
+returns-clause-listed c documents before after r one two = moved.in_listing documents before after r one two
 
 pub returns-clause-others : goal.returns-clause-others
-returns-clause-others c r j apart = moved.others r j apart
+returns-clause-others c r document j apart = moved.others r document j apart

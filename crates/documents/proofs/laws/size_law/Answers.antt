@@ -1,6 +1,6 @@
 use Rattle.event_codec.specs.Spelling.{spelling}
 use Rattle.event_codec.specs.RowSpelling.{row_spelling}
-use Rattle.documents.specs.Placed.{sent_by, piece_of}
+use Rattle.spool_types.specs.Sent.{sent_by, piece_of}
 use Rattle.documents.proofs.Joined as joined
 use Rattle.documents.proofs.Placed as placed
 use Rattle.documents.proofs.Moved as moved

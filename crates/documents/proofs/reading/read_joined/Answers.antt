@@ -5,7 +5,7 @@ use borrow.Rule.Slice.PartMut.{put_mid}
 use Rattle.spool_disk.specs.Disk.{DiskView, IsLawful}
 use Rattle.spool_disk.proofs.Moments.{twice_still}
 use Rattle.gate_journal.proofs.Places.{read_told}
-use Rattle.spool_areas.specs.declared.extent.Extent.{Extent}
+use Rattle.extents.specs.declared.extent.Extent.{Extent}
 use Rattle.spool_areas.specs.Header.{header_len}
 use Rattle.documents.specs.Documents.{joined}
 use Rattle.documents.proofs.Joined.{next_lies, next_size, skipped, more, passed, put_len, put_to, put_all}

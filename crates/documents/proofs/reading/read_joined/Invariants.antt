@@ -2,7 +2,8 @@ use Rattle.std.proofs.Common.{◌≡◌, ◌≤◌, ◌+◌, ◌-◌, ℕ, List,
 use Rattle.spool_disk.specs.Disk.{ChangesNothing}
 use Rattle.spool_areas.specs.Header.{header_len}
 use Rattle.spool_areas.specs.Current.{KeepsPayloads}
-use Rattle.documents.specs.Documents.{joined, size_of, LieIn}
+use Rattle.extents.specs.Extents.{size_of}
+use Rattle.documents.specs.Documents.{joined, LieIn}
 use Rattle.documents.proofs.reading.read_joined.Given as goal
 
 abbrev pub invariant-loop-extent : goal.invariant-loop-extent

@@ -1,9 +1,8 @@
 -- a job whose document is whole
-use Rattle.std.proofs.Common.{arith}
 use Rattle.spool_types.specs.State.{job_of}
 use Rattle.job_table.proofs.Loaded.{legal_new_job}
 use Rattle.job_table.proofs.loading.settle.Goals as goal
 
 pub push_job-requires-clause-legal : goal.push_job-requires-clause-legal
 push_job-requires-clause-legal c =
-    legal_new_job c.args.store.now.state (job_of c.args.row) c.requires.legal c.requires.new (omega (arith, c.args.row.document.ok.0, c.len.ensures, c.if-len-document_len.true, c.document_len.ensures))
+    legal_new_job c.args.store.now.state (job_of c.args.last.row) c.requires.legal c.requires.new

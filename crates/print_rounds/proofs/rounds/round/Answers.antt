@@ -70,7 +70,7 @@ returns-in-None-clause-round g c =
     c.free_old.new.runner (c.free_old.ensures ∙ ap (λ s. current_slots s c.args.runner.now) c.table-3.ensures.table)
     c.deref.result.now (c.deref.ensures.value ∙ c.list_busy.ensures.value ∙ ap (λ (s : State). busy_jobs s (finite.keys s.queues)) c.table-4.ensures.table) (subst AreDistinct (sym c.deref.ensures.value) c.list_busy.ensures.distinct)
     new (c.run_stages-stages.ensures.rest (subst HasNoneRunning (sym c.free_old.ensures) (current_rests c.table-3.result.now.state c.args.runner.now c.requires)))
-    c.run_stages-stages.result c.run_stages-stages.ensures.steps
+    c.run_stages-stages.result (c.run_stages-stages.ensures.steps.0, c.run_stages-stages.ensures.steps.1, c.run_stages-stages.ensures.steps.4)
     c.run_stages-stages.result (λ round later is. later_answer round (starting_fault ts) later c.run_stages-stages.result (sym fault ∙ c.in-None.is) is)
 
 pub returns-in-None-clause-rest : goal.returns-in-None-clause-rest
@@ -93,7 +93,7 @@ returns-clause-round g c =
     c.free_old.new.runner (c.free_old.ensures ∙ ap (λ s. current_slots s c.args.runner.now) c.table-3.ensures.table)
     c.deref.result.now (c.deref.ensures.value ∙ c.list_busy.ensures.value ∙ ap (λ (s : State). busy_jobs s (finite.keys s.queues)) c.table-4.ensures.table) (subst AreDistinct (sym c.deref.ensures.value) c.list_busy.ensures.distinct)
     new (c.run_stages-stages.ensures.rest (subst HasNoneRunning (sym c.free_old.ensures) (current_rests c.table-3.result.now.state c.args.runner.now c.requires)))
-    c.run_stages-stages.result c.run_stages-stages.ensures.steps
+    c.run_stages-stages.result (c.run_stages-stages.ensures.steps.0, c.run_stages-stages.ensures.steps.1, c.run_stages-stages.ensures.steps.4)
     (Err c.in-Some.fault) (λ round later is. first_answer round (starting_fault ts) later c.in-Some.fault (sym fault ∙ c.in-Some.is))
 
 pub returns-clause-rest : goal.returns-clause-rest
@@ -113,19 +113,19 @@ returns-then-is_dead-2-clause-told g c =
 pub returns-in-None-clause-later : goal.returns-in-None-clause-later
 returns-in-None-clause-later g c =
     let (ts, starts, queues, fault, exact) = c.start_jobs-fault.ensures in
-    (run_part g.D.Disk.device c.args.place.now c.args.spool.now ts starts c.run_stages-stages.ensures.steps.0).counted
+    (run_part g.D.Disk.device g.met.D.Disk.lawful c.args.place.now c.args.spool.now ts starts c.run_stages-stages.ensures.steps.0).counted
 
 pub returns-in-None-clause-told : goal.returns-in-None-clause-told
 returns-in-None-clause-told g c =
     let (ts, starts, queues, fault, exact) = c.start_jobs-fault.ensures in
-    (run_part g.D.Disk.device c.args.place.now c.args.spool.now ts starts c.run_stages-stages.ensures.steps.0).told
+    (run_part g.D.Disk.device g.met.D.Disk.lawful c.args.place.now c.args.spool.now ts starts c.run_stages-stages.ensures.steps.0).told
 
 pub returns-clause-later : goal.returns-clause-later
 returns-clause-later g c =
     let (ts, starts, queues, fault, exact) = c.start_jobs-fault.ensures in
-    (run_part g.D.Disk.device c.args.place.now c.args.spool.now ts starts c.run_stages-stages.ensures.steps.0).counted
+    (run_part g.D.Disk.device g.met.D.Disk.lawful c.args.place.now c.args.spool.now ts starts c.run_stages-stages.ensures.steps.0).counted
 
 pub returns-clause-told : goal.returns-clause-told
 returns-clause-told g c =
     let (ts, starts, queues, fault, exact) = c.start_jobs-fault.ensures in
-    (run_part g.D.Disk.device c.args.place.now c.args.spool.now ts starts c.run_stages-stages.ensures.steps.0).told
+    (run_part g.D.Disk.device g.met.D.Disk.lawful c.args.place.now c.args.spool.now ts starts c.run_stages-stages.ensures.steps.0).told

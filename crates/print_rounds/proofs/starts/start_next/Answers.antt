@@ -14,7 +14,14 @@ pub returns-in-Some : goal.returns-in-Some
 returns-in-Some g c =
     let (name, there, next) = c.in-Some.ensures.next in
     let accepted = ap (λ s. refusal_of s (Start c.in-Some.job)) (sym c.table.ensures.table) ∙ c.in-Some.ensures.startable in
-    let applied : IsApplied g.D.Disk.device c.args.spool.now (Start c.in-Some.job) c.apply.result c.apply.new.self = record { cause = c.apply.ensures.answer; counted = c.apply.ensures.later; told = c.apply.ensures.told; crash = c.apply.ensures.any_moment } in
+    let applied : IsApplied g.D.Disk.device c.args.spool.now (Start c.in-Some.job) c.apply.result c.apply.new.self = record {
+      cause = c.apply.ensures.answer;
+      counted = c.apply.ensures.later;
+      told = c.apply.ensures.told;
+      crash = c.apply.ensures.any_moment;
+      whole = c.apply.ensures.documents;
+      sent = c.apply.ensures.sent;
+    } in
     starting_at g.D.Disk.device c.args.spool.now c.table.result.now.state c.table.ensures.table c.args.at name there (Some c.in-Some.job) next (Some c.apply.result) c.apply.new.self (accepted, applied)
 
 pub returns-in-None : goal.returns-in-None

@@ -15,7 +15,7 @@ taken_front s (x ∷ xs) t y = y.1.0 ∙ ap (λ ys. x ∷ ys) (taken_front y.0 x
 pub loop-event-init : goal.loop-event-init
 loop-event-init g c = record {
   driven = driven_none g.D.Disk.device g.met.D.Disk.lawful c.args.spool.now c.args.events.items
-      c.new-replies.result.items c.new-replies.ensures.items c.look.ensures;
+      c.new-replies.result.items c.new-replies.ensures.items c.look.ensures.kept c.look.ensures.synced;
   so_many = ap length c.new-replies.ensures.items;
   lives = c.if-is_over.ensures.on refl;
 }
@@ -39,8 +39,8 @@ loop-event-preserved g c =
     record {
       driven = driven_more g.D.Disk.device g.met.D.Disk.lawful c.args.spool.now c.args.events.items
           replies c.loop-event.spool c.loop-event.invariant.driven c.loop-event.yielded c.in-Some.event next c.drive_one.new.spool
-          (record { fixed = c.drive_one.ensures.fixed; told = c.drive_one.ensures.told.0; tells = c.drive_one.ensures.told.1; any_moment = c.drive_one.ensures.any_moment })
-          c.in-Ok.answer c.push.new.self.items more c.in-Ok.ensures.driven c.in-Ok.ensures.kept
+          (record { fixed = c.drive_one.ensures.fixed; told = c.drive_one.ensures.told.0; tells = c.drive_one.ensures.told.1; any_moment = c.drive_one.ensures.any_moment; documents = c.drive_one.ensures.documents })
+          c.in-Ok.answer c.push.new.self.items more c.in-Ok.ensures.driven c.in-Ok.ensures.kept c.in-Ok.ensures.sent
           (c.drive_one.ensures.blames.counted (λ is. cc (is, c.in-Ok.is)));
       so_many = omega (arith, ap length more, length-append replies (c.in-Ok.answer ∷ []), length-append c.loop-event.yielded (c.in-Some.event ∷ []), c.loop-event.invariant.so_many);
       lives = c.loop-event.invariant.lives;
@@ -55,7 +55,7 @@ returns-in-Err g c =
     replies c.reserve.new.self.items c.in-Err.ending c.drive_one.new.spool c.reserve.ensures.items
     (end_of_turn g.D.Disk.device g.met.D.Disk.lawful c.args.spool.now c.args.events.items
     replies c.loop-event.spool c.loop-event.invariant.driven c.loop-event.yielded c.in-Some.event next c.drive_one.new.spool
-    (record { fixed = c.drive_one.ensures.fixed; told = c.drive_one.ensures.told.0; tells = c.drive_one.ensures.told.1; any_moment = c.drive_one.ensures.any_moment })
+    (record { fixed = c.drive_one.ensures.fixed; told = c.drive_one.ensures.told.0; tells = c.drive_one.ensures.told.1; any_moment = c.drive_one.ensures.any_moment; documents = c.drive_one.ensures.documents })
     c.in-Err.ending c.in-Err.ensures.driven)
 
 -- how many it has given

@@ -1,6 +1,8 @@
 -- Rows that are a whole listing, or events behind one.
-use Rattle.std.proofs.Common.{◌≡◌, refl, subst, false, true}
-use Rattle.spool_core.specs.Folding.{HasRead}
+use Rattle.std.proofs.Common.{◌≡◌, refl, sym, subst, false, true}
+use Rattle.spool_core.specs.Folding.{HasRead, ReadLiesIn}
+use Rattle.documents.specs.Documents.{LieIn}
+use Rattle.job_table.specs.Contents.{places_of}
 use Rattle.spool_core.proofs.FoldLaws.{rows_finished, events_finished}
 use Rattle.spool_core.proofs.fold.finish.Goals as goal
 
@@ -8,15 +10,22 @@ never : false ≡ true → ⊥
 never is = absurd (cc)
 
 pub returns-in-Ok-clause-table : goal.returns-in-Ok-clause-table
-returns-in-Ok-clause-table c = λ payloads has.
-    rows_finished payloads c.in-Rows.loading c.in-Ok.table.state (subst (λ r. HasRead r payloads) c.in-Rows.is has) (c.if-is_whole.ensures.0 refl) c.in-Ok.ensures
+returns-in-Ok-clause-table c = λ base payloads has.
+    rows_finished base payloads c.in-Rows.loading c.in-Ok.table (subst (λ r. HasRead base r payloads) c.in-Rows.is has) (c.if-is_whole.ensures.0 refl) c.in-Ok.ensures.state c.in-Ok.ensures.places
+
+pub returns-in-Ok-clause-lie : goal.returns-in-Ok-clause-lie
+returns-in-Ok-clause-lie c = λ low high lie j lives.
+    subst (λ ps. LieIn low high (places_of ps j)) (sym c.in-Ok.ensures.places) ((subst (ReadLiesIn low high) c.in-Rows.is lie) j)
 
 pub returns-else-is_whole-clause-fault : goal.returns-else-is_whole-clause-fault
-returns-else-is_whole-clause-fault c = λ payloads has. (
+returns-else-is_whole-clause-fault c = λ base payloads has. (
   refl,
-  record { progress = c.in-Rows.loading; begins = subst (λ r. HasRead r payloads) c.in-Rows.is has; short = λ whole. never (c.if-is_whole.ensures.1 whole) },
+  record { progress = c.in-Rows.loading.progress; begins = (subst (λ r. HasRead base r payloads) c.in-Rows.is has).begins; short = λ whole. never (c.if-is_whole.ensures.1 whole) },
 )
 
 pub returns-in-Events-clause-table : goal.returns-in-Events-clause-table
-returns-in-Events-clause-table c = λ payloads has.
-    events_finished payloads c.in-Events.table.state c.in-Events.table.state (subst (λ r. HasRead r payloads) c.in-Events.is has) refl
+returns-in-Events-clause-table c = λ base payloads has.
+    events_finished base payloads c.in-Events.table (subst (λ r. HasRead base r payloads) c.in-Events.is has)
+
+pub returns-in-Events-clause-lie : goal.returns-in-Events-clause-lie
+returns-in-Events-clause-lie c = λ low high lie. subst (ReadLiesIn low high) c.in-Events.is lie

@@ -1,22 +1,43 @@
 -- Each life is a list of events after the acknowledged ones of another.
-use Rattle.std.proofs.Common.{◌++◌, sym, ap, ◌∙◌, subst, take}
+use Rattle.std.proofs.Common.{◌≡◌, ◌++◌, refl, sym, ap, ◌∙◌, subst, take}
 use Rattle.std.specs.Prelude.{IsSome}
-use Rattle.spool_types.specs.declared.event.Event.TheVariants.{Create}
+use Rattle.spool_types.specs.declared.event.Event.TheVariants.{Create, Reopen}
 use Rattle.spool_types.specs.State.{State, job_at, nothing}
 use Rattle.job_table.specs.Attempts.{reopened}
 use Rattle.job_table.specs.Fold.{after_all}
 use Rattle.job_table.specs.Legal.{IsLegal}
 use Rattle.job_table.specs.Step.{refusal_of}
+use Rattle.spool_core.specs.Driving.{documents_after}
+use Rattle.spool_core.specs.Image.{HasDocuments}
 use Rattle.spool_core.specs.Lives.{history_of}
-use Rattle.spool_core.proofs.LifeLaws.{one_history, later_events, after_acknowledged, further}
+use Rattle.spool_core.proofs.DocumentLaws.{documents_stay}
+use Rattle.spool_core.proofs.ImageLaws.{over_after}
+use Rattle.spool_core.proofs.LifeLaws.{one_history, one_history_sends, legal_found, later_events, after_acknowledged, further}
 use Rattle.spool_core.proofs.laws.lives_go_on.Goals as goal
 
 pub returns-clause-opened : goal.returns-clause-opened
 returns-clause-opened c s t events acknowledged most image has found =
     (has.0, has.1, has.2, found.reopened_is ∙ ap reopened (c.one_reading.ensures.table found.table (after_all s (take has.0 events)) image found.found has.3))
 
+pub returns-clause-documents : goal.returns-clause-documents
+returns-clause-documents c s t documents events acknowledged most image has found =
+    let left = after_all s (take has.0 events) in
+    let same : t ≡ reopened left = found.reopened_is ∙ ap reopened (c.one_reading.ensures.table found.table left image found.found has.3.0) in
+    let legal = legal_found c.legal_tables_stay_legal.ensures.begins c.legal_tables_stay_legal.ensures.stays left image has.3.0 in
+    let documents_left = documents_after s documents (take has.0 events) in (
+      has.0,
+      has.1,
+      has.2,
+      same,
+      subst (λ (u : State). HasDocuments u documents_left image) (sym same)
+          (documents_stay left (reopened left) documents_left image (over_after left Reopen legal refl c.ended_jobs_stay.ensures.unchanged) has.3.1),
+    )
+
 pub returns-clause-history : goal.returns-clause-history
 returns-clause-history c s lives = one_history s lives
+
+pub returns-clause-sent : goal.returns-clause-sent
+returns-clause-sent c s documents lives = one_history_sends s documents lives
 
 pub returns-clause-legal : goal.returns-clause-legal
 returns-clause-legal c lives =

@@ -1,4 +1,4 @@
-use Rattle.std.proofs.Common.{◌+◌, ◌-◌, ◌≤◌, length, arith}
+use Rattle.std.proofs.Common.{◌≤◌, length, arith}
 use Rattle.spool_disk.proofs.Ranges.{both_ok}
 use Rattle.gate_journal.proofs.window.Window.reach.Goals as goal
 

@@ -7,6 +7,9 @@ use Rattle.spool_types.specs.declared.listing.Row.TheVariants.{Head as HeadRow}
 use Rattle.job_table.proofs.loading.Loading.load_head.Goals as goal
 
 pub invariant_of-self : goal.invariant_of-self
-invariant_of-self c = subst IsReading
-    (sym (progress_is (loaded (progress_of c.self.inside) (HeadRow c.args.head)) _ c.set_head.ensures refl (c.self.invariant.fresh c.if-self.false).whole))
-    (reading_head (progress_of c.self.inside) c.args.head)
+invariant_of-self c = record {
+  reading = subst IsReading
+      (sym (progress_is (loaded (progress_of c.self.inside) (HeadRow c.args.head)) _ c.set_head.ensures.state refl (c.self.invariant.reading.fresh c.if-self.false).whole))
+      (reading_head (progress_of c.self.inside) c.args.head);
+  measured = c.self.invariant.measured;
+}

@@ -3,6 +3,7 @@ use Rattle.std.proofs.Common.{◌<◌, sym, ap, subst, ◌∙◌, arith}
 use Rattle.std.specs.FinMap as finite
 use Rattle.spool_types.specs.declared.event.Event.TheVariants.{AddQueue}
 use Rattle.std.specs.List.{insert}
+use Rattle.job_table.specs.Contents.{Contents, places_at}
 use Rattle.job_table.specs.Seen.{contents_of}
 use Rattle.job_table.specs.Step.{after, refusal_of}
 use Rattle.job_table.proofs.Accepted.{accepted_queue}
@@ -37,3 +38,6 @@ returns-clause-room c = room_seen c.self.view_is
     (rw c.unwrap.ensures at c.insert.ensures.items ∙ ap (insert c.self.inside.queues.items c.in-Err.at) c.new_queue_row-row.ensures)
     (c.insert.ensures.in_place (fits c.self.inside.queues (subst (λ v. 0 < v.room.queues) (sym c.self.view_is) c.requires.room))).1.0
     (omega (arith, rw c.unwrap.ensures at c.insert.ensures.len)))
+
+pub returns-clause-places : goal.returns-clause-places
+returns-clause-places c = λ j lives. ap (λ (v : Contents). places_at v j) c.self.view_is

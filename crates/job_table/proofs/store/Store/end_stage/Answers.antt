@@ -1,14 +1,15 @@
 -- the effects are folded, and the verdict is then the one of the job's queue
 use Rattle.std.proofs.Common.{◌≡◌, refl, sym, ap, subst, ◌∙◌}
-use Rattle.job_table.specs.Attempts.{rule_at, stage_verdict, with_effects}
+use Rattle.job_table.specs.Attempts.{is_processing_at, rule_at, stage_verdict, with_effects}
 use Rattle.job_table.specs.Legal.{IsLegal}
 use Rattle.job_table.specs.Step.{phase_found}
 use Rattle.spool_types.specs.declared.event.Event.TheVariants.{Stage}
 use Rattle.spool_types.specs.declared.event.Reply.TheVariants.{Phase}
 use Rattle.spool_types.specs.State.{State, job_at}
-use Rattle.job_table.proofs.Accepted.{has_job}
+use Rattle.job_table.proofs.Accepted.{has_job, busy_stage}
 use Rattle.job_table.proofs.Legal.{legal_verdict}
 use Rattle.job_table.proofs.Rooms.{no_more_then}
+use Rattle.job_table.proofs.Rules.{busy_effects}
 use Rattle.job_table.proofs.Steps.{rule_same}
 use Rattle.job_table.proofs.store.Store.end_stage.Goals as goal
 
@@ -20,6 +21,14 @@ stage_verdict-verdict-requires c = c.fold_effects.ensures.there
 
 pub rule-requires-clause-there : goal.rule-requires-clause-there
 rule-requires-clause-there c = c.fold_effects.ensures.there
+
+pub rule-requires-clause-busy : goal.rule-requires-clause-busy
+rule-requires-clause-busy c =
+    let folded : c.fold_effects.new.self.state ≡ with_effects c.args.self.now.state c.args.end.job c.args.end.effects =
+    c.fold_effects.ensures.state ∙ ap (with_effects c.args.self.now.state c.args.end.job) c.into_vec.ensures.value in
+    ap (λ (s : State). is_processing_at (job_at s c.args.end.job)) folded
+    ∙ busy_effects c.args.self.now.state c.args.end.job c.args.end.effects
+    ∙ busy_stage c.args.self.now.state c.args.end c.requires.accepted
 
 pub rule-requires-clause-legal : goal.rule-requires-clause-legal
 rule-requires-clause-legal c = λ legal.
@@ -46,3 +55,6 @@ returns-clause-reply c = ap Phase (c.rule.ensures.phase ∙ ap (λ (s : State). 
 
 pub returns-clause-room : goal.returns-clause-room
 returns-clause-room c = no_more_then _ _ _ c.fold_effects.ensures.room c.rule.ensures.room
+
+pub returns-clause-places : goal.returns-clause-places
+returns-clause-places c = λ j lives. c.rule.ensures.places j lives ∙ c.fold_effects.ensures.places j

@@ -25,3 +25,6 @@ returns-clause-there c =
 
 pub returns-clause-room : goal.returns-clause-room
 returns-clause-room c = no_more_then _ _ _ c.fold_into_job.ensures.room c.fold_into_queue.ensures.room
+
+pub returns-clause-places : goal.returns-clause-places
+returns-clause-places c = λ j. c.fold_into_queue.ensures.places j ∙ c.fold_into_job.ensures.places j

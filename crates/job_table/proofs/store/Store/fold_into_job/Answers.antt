@@ -2,13 +2,14 @@
 use Rattle.std.proofs.Common.{IsSome, refl, sym, ap, subst, ◌∙◌}
 use Rattle.std.specs.FinMap as finite
 use Rattle.spool_types.specs.State.{State, job_at}
+use Rattle.job_table.specs.Contents.{Contents, places_at}
 use Rattle.job_table.specs.Attempts.{with_pages}
 use Rattle.job_table.specs.Changes.{change_job}
 use Rattle.job_table.specs.Seen.{contents_of}
 use Rattle.job_table.proofs.Changes.{changed_stays}
 use Rattle.job_table.proofs.Legal.{legal_print}
 use Rattle.job_table.proofs.Rooms.{room_seen}
-use Rattle.job_table.proofs.Steps.{change_state, change_ordered, change_room}
+use Rattle.job_table.proofs.Steps.{change_state, change_ordered, change_room, same_places}
 use Rattle.job_table.proofs.Tables.{get_no_job, needed_and_not}
 use Rattle.job_table.proofs.store.Store.fold_into_job.Goals as goal
 
@@ -48,3 +49,10 @@ returns-clause-room c = room_seen c.self.view_is
 
 pub returns-clause-spare : goal.returns-clause-spare
 returns-clause-spare c = ap (λ v. v.room.spare) c.self.view_is
+
+pub returns-clause-places : goal.returns-clause-places
+returns-clause-places c = λ j.
+    same_places c.self.inside c.self.invariant c.args.job c.in-Ok.at c.index_mut.result.now c.add_pages.new.row c.index_mut.ensures.value
+    (rw c.deref.ensures.value at c.in-Ok.ensures.found) (with_pages c.args.effects.now) (λ x. refl)
+    c.add_pages.ensures.row c.add_pages.ensures.memory (ap (λ d. d.items) c.add_pages.ensures.document) j
+    ∙ ap (λ (v : Contents). places_at v j) c.self.view_is

@@ -4,6 +4,7 @@ use Rattle.std.specs.FinMap as finite
 use Rattle.row_effects.specs.Fold.{queue_after}
 use Rattle.row_effects.specs.Room.{HasRoom}
 use Rattle.spool_types.specs.State.{job_of, job_at}
+use Rattle.job_table.specs.Contents.{Contents, places_at}
 use Rattle.job_table.specs.Changes.{change_own_queue, change_queue_of}
 use Rattle.job_table.specs.Seen.{contents_of}
 use Rattle.job_table.proofs.Changes.{legal_change_queue}
@@ -57,3 +58,6 @@ returns-clause-room c = room_seen c.self.view_is
     (rw c.deref-2.ensures.value at c.in-Ok-queue_place.ensures.found) (queue_after c.args.effects.items) (λ x. refl)
     (c.fold_queue.ensures.row ∙ ap (queue_after c.args.effects.items) c.index_mut.ensures.value)
     c.fold_queue.ensures.reasons c.fold_queue.ensures.attributes)
+
+pub returns-clause-places : goal.returns-clause-places
+returns-clause-places c = λ j. ap (λ (v : Contents). places_at v j) c.self.view_is

@@ -2,6 +2,7 @@
 use Rattle.std.proofs.Common.{refl, ap, ◌∙◌}
 use Rattle.std.specs.FinMap as finite
 use Rattle.spool_types.specs.declared.event.Event.TheVariants.{Info}
+use Rattle.job_table.specs.Contents.{Contents, places_at}
 use Rattle.job_table.specs.Changes.{with_notes}
 use Rattle.job_table.specs.Step.{after, refusal_of}
 use Rattle.job_table.specs.Seen.{contents_of}
@@ -37,3 +38,6 @@ returns-clause-room c = room_seen c.self.view_is
     (rw c.deref.ensures.value at c.in-Ok.ensures.found) (with_notes c.args.notes) (λ x. refl)
     (c.set_notes.ensures ∙ ap (with_notes c.args.notes) c.index_mut.ensures.value)
     (same_room _) (same_room _))
+
+pub returns-clause-places : goal.returns-clause-places
+returns-clause-places c = λ j lives. ap (λ (v : Contents). places_at v j) c.self.view_is

@@ -4,8 +4,10 @@ use Rattle.std.specs.Ordering.{nat_cmp}
 use Rattle.std.specs.Cmp.{nat_cmp_total}
 use Rattle.spool_types.specs.State.{job_of}
 use Rattle.std.specs.FinMap as finite
+use Rattle.job_table.specs.Contents.{places_at}
 use Rattle.job_table.specs.Loading.{IsAbove}
 use Rattle.job_table.proofs.Above.{above_yes, above_no, above_none}
+use Rattle.job_table.proofs.Pushed.{above_places}
 use Rattle.job_table.proofs.Tables.{keys_jobs}
 use Rattle.job_table.proofs.store.Store.is_above_jobs.Goals as goal
 
@@ -26,3 +28,17 @@ returns-in-None-clause-yes c = λ _.
     let keys = ap (λ v. finite.keys v.state.jobs) (sym c.self.view_is) ∙ keys_jobs c.self.inside.jobs.items c.self.invariant.jobs in
     let item = rw c.deref.ensures.value at c.in-None.ensures.item in
     subst (IsAbove nat_cmp c.args.id) (sym keys) (above_none nat_cmp nat_cmp_total (λ r. r.id) job_of c.args.id c.self.inside.jobs.items item.3)
+
+pub returns-in-Some-clause-absent : goal.returns-in-Some-clause-absent
+returns-in-Some-clause-absent c = λ lt.
+    let item = rw c.deref.ensures.value at c.in-Some.ensures.item in
+    ap (λ v. places_at v c.args.id) (sym c.self.view_is)
+    ∙ above_places c.self.inside c.self.invariant c.args.id (subst (IsAbove nat_cmp c.args.id) (sym (keys_jobs c.self.inside.jobs.items c.self.invariant.jobs))
+    (above_yes nat_cmp nat_cmp_total (λ r. r.id) job_of c.args.id c.self.inside.jobs.items c.self.invariant.jobs c.in-Some.last.now item.3.0 item.1 (sym c.lt.ensures ∙ lt)))
+
+pub returns-in-None-clause-absent : goal.returns-in-None-clause-absent
+returns-in-None-clause-absent c = λ _.
+    let item = rw c.deref.ensures.value at c.in-None.ensures.item in
+    ap (λ v. places_at v c.args.id) (sym c.self.view_is)
+    ∙ above_places c.self.inside c.self.invariant c.args.id (subst (IsAbove nat_cmp c.args.id) (sym (keys_jobs c.self.inside.jobs.items c.self.invariant.jobs))
+    (above_none nat_cmp nat_cmp_total (λ r. r.id) job_of c.args.id c.self.inside.jobs.items item.3))

@@ -1,8 +1,9 @@
 -- no rows make empty maps
-use Rattle.std.proofs.Common.{refl, sym, subst, arith}
+use Rattle.std.proofs.Common.{map, refl, sym, ap, subst, arith}
 use Rattle.std.specs.Ordering.{nat_cmp}
 use Rattle.std.specs.Cmp.Lexicographic.{slice_cmp}
 use Rattle.job_table.specs.Legal.{IsLegal}
+use Rattle.job_table.specs.Rows.{place_entry}
 use Rattle.job_table.proofs.Rows.{map_none}
 use Rattle.job_table.proofs.Legal.{legal_nothing}
 use Rattle.job_table.proofs.store.Store.new.Goals as goal
@@ -15,6 +16,9 @@ invariant_of-result-2 c = record {
   queues = rw c.new.ensures.items refl;
   jobs = rw c.new-2.ensures.items refl;
   highest = omega arith;
-  freed = rw c.new-2.ensures.items tt;
+  documents = rw c.new-2.ensures.items tt;
   legal = subst IsLegal (sym (returns-clause-state c)) legal_nothing;
 }
+
+pub returns-clause-places : goal.returns-clause-places
+returns-clause-places c = ap (map place_entry) c.new-2.ensures.items

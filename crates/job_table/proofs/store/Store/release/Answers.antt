@@ -3,12 +3,13 @@ use Rattle.std.proofs.Common.{refl, ap, ◌∙◌}
 use Rattle.std.specs.FinMap as finite
 use Rattle.spool_types.specs.declared.phase.Hold.TheVariants.{Free}
 use Rattle.spool_types.specs.declared.event.Event.TheVariants.{Release}
+use Rattle.job_table.specs.Contents.{Contents, places_at}
 use Rattle.job_table.specs.Changes.{held}
 use Rattle.job_table.specs.Step.{after, refusal_of}
 use Rattle.job_table.specs.Seen.{contents_of}
 use Rattle.job_table.proofs.Accepted.{has_job}
 use Rattle.job_table.proofs.Legal.{legal_after}
-use Rattle.job_table.proofs.Steps.{change_state, change_ordered, change_room}
+use Rattle.job_table.proofs.Steps.{change_state, change_ordered, change_room, change_places}
 use Rattle.job_table.proofs.Rooms.{room_seen}
 use Rattle.job_table.proofs.Tables.{get_no_job, needed_and_not}
 use Rattle.job_table.proofs.store.Store.release.Goals as goal
@@ -37,3 +38,11 @@ returns-clause-room c = room_seen c.self.view_is
     (change_room c.self.inside c.self.invariant c.args.job c.in-Ok.at c.index_mut.result.now c.hold_row.new.row c.index_mut.ensures.value
     (rw c.deref.ensures.value at c.in-Ok.ensures.found) (held Free) (λ x. refl)
     c.hold_row.ensures.row c.hold_row.ensures.memory)
+
+pub returns-clause-places : goal.returns-clause-places
+returns-clause-places c = λ j lives.
+    change_places c.self.inside c.self.invariant c.args.job c.in-Ok.at c.index_mut.result.now c.hold_row.new.row c.index_mut.ensures.value
+    (rw c.deref.ensures.value at c.in-Ok.ensures.found) (held Free) (λ x. refl)
+    c.hold_row.ensures.row c.hold_row.ensures.memory
+    (λ lives. ap (λ d. d.items) c.hold_row.ensures.document) j lives
+    ∙ ap (λ (v : Contents). places_at v j) c.self.view_is

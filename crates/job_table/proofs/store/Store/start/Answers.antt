@@ -3,6 +3,7 @@ use Rattle.std.proofs.Common.{◌≡◌, Some, refl, sym, ap, ◌∙◌}
 use Rattle.std.specs.FinMap as finite
 use Rattle.spool_types.specs.declared.event.Event.TheVariants.{Start}
 use Rattle.spool_types.specs.declared.event.Reply.TheVariants.{Phase}
+use Rattle.job_table.specs.Contents.{Contents, places_at}
 use Rattle.job_table.specs.Attempts.{started}
 use Rattle.spool_types.specs.State.{Job, job_of, job_at}
 use Rattle.spool_types.specs.Phases.{is_waiting}
@@ -10,8 +11,8 @@ use Rattle.job_table.specs.Step.{after, refusal_of, phase_found}
 use Rattle.job_table.specs.Seen.{contents_of}
 use Rattle.job_table.proofs.Accepted.{job_there, job_must}
 use Rattle.job_table.proofs.Legal.{legal_after}
-use Rattle.job_table.proofs.Rules.{few_attempts}
-use Rattle.job_table.proofs.Steps.{change_state, change_ordered, change_room}
+use Rattle.job_table.proofs.Rules.{few_attempts, waiting_alive}
+use Rattle.job_table.proofs.Steps.{change_state, change_ordered, change_room, change_places}
 use Rattle.job_table.proofs.Changes.{changed_there}
 use Rattle.job_table.proofs.Rooms.{room_seen}
 use Rattle.job_table.proofs.Tables.{get_job, get_no_job, there_and_not}
@@ -24,14 +25,22 @@ unreachable-requires c =
     (get_no_job c.self.inside.jobs.items c.self.invariant.jobs c.args.job c.in-Err.field-0 (rw c.deref.ensures.value at c.in-Err.ensures.absent))
     (sym (ap (λ v. finite.get v.state.jobs c.args.job) c.self.view_is))
 
-pub start_row-requires : goal.start_row-requires
-start_row-requires c =
+pub start_row-requires-clause-more : goal.start_row-requires-clause-more
+start_row-requires-clause-more c =
     let there : job_at (contents_of c.self.inside).state c.args.job ≡ Some (job_of c.index_mut.result.now) =
     get_job c.self.inside.jobs.items c.self.invariant.jobs c.args.job c.in-Ok.at c.index_mut.result.now (rw c.deref.ensures.value at c.in-Ok.ensures.found)
     ∙ ap (λ r. Some (job_of r)) (sym c.index_mut.ensures.value) in
     few_attempts (contents_of c.self.inside).state.queues c.args.job (job_of c.index_mut.result.now)
     (job_must (contents_of c.self.inside).state (Start c.args.job) c.args.job (λ r. is_waiting r.phase) _ _ (job_of c.index_mut.result.now) refl there (ap (λ v. refusal_of v.state (Start c.args.job)) c.self.view_is ∙ c.requires))
     (c.self.invariant.legal.jobs c.args.job (job_of c.index_mut.result.now) there)
+
+pub start_row-requires-clause-live : goal.start_row-requires-clause-live
+start_row-requires-clause-live c =
+    let there : job_at (contents_of c.self.inside).state c.args.job ≡ Some (job_of c.index_mut.result.now) =
+    get_job c.self.inside.jobs.items c.self.invariant.jobs c.args.job c.in-Ok.at c.index_mut.result.now (rw c.deref.ensures.value at c.in-Ok.ensures.found)
+    ∙ ap (λ r. Some (job_of r)) (sym c.index_mut.ensures.value) in
+    waiting_alive c.index_mut.result.now.phase
+    (job_must (contents_of c.self.inside).state (Start c.args.job) c.args.job (λ r. is_waiting r.phase) _ _ (job_of c.index_mut.result.now) refl there (ap (λ v. refusal_of v.state (Start c.args.job)) c.self.view_is ∙ c.requires))
 
 pub invariant_of-self : goal.invariant_of-self
 invariant_of-self c = change_ordered c.self.inside c.self.invariant c.args.job c.in-Ok.at c.index_mut.result.now c.start_row.new.row c.index_mut.ensures.value
@@ -62,3 +71,11 @@ returns-clause-reply c =
     c.start_row.ensures.phase
     ∙ ap (λ (x : Job). x.phase) c.start_row.ensures.row
     ∙ sym (ap phase_found (changed_there c.args.self.now.state c.args.job started (job_of c.index_mut.result.now) there)))
+
+pub returns-clause-places : goal.returns-clause-places
+returns-clause-places c = λ j lives.
+    change_places c.self.inside c.self.invariant c.args.job c.in-Ok.at c.index_mut.result.now c.start_row.new.row c.index_mut.ensures.value
+    (rw c.deref.ensures.value at c.in-Ok.ensures.found) started (λ x. refl)
+    c.start_row.ensures.row c.start_row.ensures.memory
+    (λ lives. ap (λ d. d.items) c.start_row.ensures.document) j lives
+    ∙ ap (λ (v : Contents). places_at v j) c.self.view_is

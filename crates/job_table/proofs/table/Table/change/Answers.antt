@@ -1,5 +1,7 @@
 -- an event about a queue that is there leaves the jobs, and so the lanes
 use Rattle.std.proofs.Common.{◌≡◌, None, sym, ap, subst, ◌∙◌}
+use Rattle.spool_types.specs.Sent.{sent_by, with_placed}
+use Rattle.job_table.specs.Contents.{Contents, places_at}
 use Rattle.job_table.specs.Legal.{IsLegal}
 use Rattle.job_table.specs.Step.{refusal_of, after}
 use Rattle.job_table.proofs.Held.{stepped, stays_about}
@@ -20,3 +22,6 @@ invariant_of-self c =
       legal = subst IsLegal (sym after_it) (legal_after s e (keeps_each c.queues_stay_in_order.ensures.stays e) accepted c.self.invariant.legal);
       lanes = lanes_stay s t c.self.inside.vacant c.self.inside.lanes.items c.self.invariant.lanes stays;
     }
+
+pub returns-in-None-clause-places : goal.returns-in-None-clause-places
+returns-in-None-clause-places c = λ j lives. c.commit.ensures.places j lives ∙ ap (λ (v : Contents). with_placed (places_at v j) c.args.at j (sent_by c.args.event)) c.self.view_is

@@ -1,6 +1,8 @@
 -- the job goes to where it stands then in the lane of its queue, and no other job stands elsewhere
 use Rattle.std.proofs.Common.{◌≡◌, None, sym, ap, subst, ◌∙◌}
 use Rattle.std.specs.Prelude.{is_some}
+use Rattle.spool_types.specs.Sent.{sent_by, with_placed}
+use Rattle.job_table.specs.Contents.{Contents, places_at}
 use Rattle.job_table.specs.Lanes.{standing_of, is_live}
 use Rattle.job_table.specs.Step.{refusal_of}
 use Rattle.job_table.proofs.Held.{stepped}
@@ -64,3 +66,6 @@ invariant_of-self c =
           (subst (λ x. IsReseatedLane c.args.job x (standing_of (gone _ _ _ g)) c.index_mut.result.now new) from
           (subst (λ x. IsReseatedLane c.args.job c.seat-place.result.1 x c.index_mut.result.now new) to changed));
     }
+
+pub returns-clause-places : goal.returns-clause-places
+returns-clause-places c = λ j lives. c.commit-reply.ensures.places j lives ∙ ap (λ (v : Contents). with_placed (places_at v j) c.args.at j (sent_by c.args.event)) c.self.view_is

@@ -4,6 +4,7 @@ use Rattle.std.specs.FinMap as finite
 use Rattle.std.proofs.lemmas.List.{with_items_is}
 use Rattle.spool_types.specs.declared.event.Event.TheVariants.{Clock}
 use Rattle.spool_types.specs.State.{State, job_at}
+use Rattle.job_table.specs.Contents.{Contents, places_at}
 use Rattle.job_table.specs.Lanes.{IsAdvanced, AreLanes}
 use Rattle.job_table.specs.Legal.{IsLegal}
 use Rattle.job_table.specs.Step.{after}
@@ -36,3 +37,6 @@ invariant_of-self c =
           (λ i d lt. subst (λ n. IsAdvanced n (get_or old i d) (get_or new i d)) c.now.ensures
           (subst (λ ls. IsAdvanced c.now.result (get_or ls i d) (get_or new i d)) c.deref_mut.ensures.value (c.advance_each.ensures.each i d lt))));
     }
+
+pub returns-clause-places : goal.returns-clause-places
+returns-clause-places c = λ j lives. c.commit-reply.ensures.places j lives ∙ ap (λ (v : Contents). places_at v j) c.self.view_is

@@ -1,12 +1,18 @@
+use Rattle.std.specs.Prelude.{IsSome}
 use Rattle.std.proofs.Common.{◌≡◌, ◌⊎◌, ◌-◌, ℕ, List, Some, Err, refl, sym, subst, ap, ◌∙◌}
-use Rattle.job_table.specs.Attempts.{HasNoProcessing}
+use Rattle.job_table.specs.Attempts.{HasNoProcessing, reopened}
+use Rattle.job_table.specs.Legal.{IsLegal}
+use Rattle.spool_types.specs.State.{State}
 use Rattle.spool_types.specs.declared.event.Event.TheVariants.{Reopen}
 use Rattle.spool_disk.specs.Disk.{LeavesOnly}
+use Rattle.spool_disk.proofs.Moments.{both_runs, at_return}
 use Rattle.spool_areas.specs.declared.fault.OpenFault.{OpenFault}
-use Rattle.spool_core.specs.Image.{IsMidway}
+use Rattle.spool_core.specs.Image.{HasTable, HasDocuments, IsMidway}
 use Rattle.spool_core.specs.Standing.{Standing, record_len}
+use Rattle.spool_core.proofs.DocumentLaws.{documents_stay}
+use Rattle.spool_core.proofs.ImageLaws.{over_after}
 use Rattle.spool_core.proofs.ReadingLaws.{one_table, one_room}
-use Rattle.spool_core.proofs.Restarts.{wants_memory, still, since_sync, since_start}
+use Rattle.spool_core.proofs.Restarts.{wants_memory, blames_disk, still, since_sync, since_start}
 use Rattle.spool_core.proofs.spool.Spool.open.Goals as goal
 
 pub returns-then-is_idle-clause-opened : goal.returns-then-is_idle-clause-opened
@@ -19,6 +25,16 @@ returns-then-is_idle-clause-synced g c =
     let disk = g.D.Disk in
     let w = c.in-Ok.ensures.synced in
     (w.0, w.1, still disk.device c.args.disk c.in-Ok.spool.disk w.0 c.in-Ok.spool.state c.in-Ok.ensures.opened c.in-Ok.ensures.same.bytes w.2)
+
+-- nothing was written
+pub returns-then-is_idle-clause-documents : goal.returns-then-is_idle-clause-documents
+returns-then-is_idle-clause-documents g c = λ r t documents tells found has image left.
+    let disk = g.D.Disk in
+    let w = c.in-Ok.ensures.synced in
+    let now = c.in-Ok.spool in
+    let same = at_return disk.device g.met.D.Disk.lawful w.0 now.disk (λ b. (r : List ℕ) → disk.device.bytes c.args.disk ≡ Some r → (b ≡ r) × HasTable now.state b) w.2 image left r tells in
+    subst (λ (s : State). HasDocuments s documents image) (one_table image t now.state (subst (HasTable t) (sym same.0) found) same.1)
+    (subst (HasDocuments t documents) (sym same.0) has)
 
 pub returns-then-is_idle-clause-left : goal.returns-then-is_idle-clause-left
 returns-then-is_idle-clause-left g c = λ r t room tells has roomy.
@@ -36,6 +52,19 @@ reopen-requires-clause-busy g c =
 pub returns-in-Ok-reopen-clause-opened : goal.returns-in-Ok-reopen-clause-opened
 returns-in-Ok-reopen-clause-opened g c = λ r tells.
     record { table = c.in-Ok.spool.state; found = c.in-Ok.ensures.opened r tells; reopened_is = c.in-Ok-reopen.ensures.state.0 }
+
+pub returns-in-Ok-reopen-clause-documents : goal.returns-in-Ok-reopen-clause-documents
+returns-in-Ok-reopen-clause-documents g c = λ r t documents tells found has image left.
+    let disk = g.D.Disk in
+    let loaded = c.in-Ok.spool in
+    let new = c.reopen.new.self in
+    let legal : IsLegal loaded.state = subst (λ (v : Standing g.row.D.Denot). IsLegal v.state) c.spool.view_is c.is_idle.ensures.legal in
+    let same : t ≡ loaded.state = one_table r t loaded.state found (c.in-Ok.ensures.opened r tells) in
+    let kept = at_return disk.device g.met.D.Disk.lawful loaded.disk new.disk
+    (λ b. (r : List ℕ) (documents : ℕ → List ℕ) → disk.device.bytes loaded.disk ≡ Some r → HasDocuments loaded.state documents r → HasDocuments loaded.state documents b)
+    c.reopen.ensures.documents image left r documents (c.in-Ok.ensures.same.bytes ∙ tells) (subst (λ (s : State). HasDocuments s documents r) same has) in
+    subst (λ (s : State). HasDocuments s documents image) (sym c.in-Ok-reopen.ensures.state.0)
+    (documents_stay loaded.state (reopened loaded.state) documents image (over_after loaded.state Reopen legal refl c.ended_jobs_stay.ensures.unchanged) kept)
 
 pub returns-in-Ok-reopen-clause-left : goal.returns-in-Ok-reopen-clause-left
 returns-in-Ok-reopen-clause-left g c = λ r t room tells has roomy.
@@ -59,8 +88,17 @@ returns-in-Ok-reopen-clause-synced g c =
       w.0,
       w.1,
       since_sync disk.device c.args.disk c.in-Ok.spool.disk w.0 c.in-Ok.spool.state c.in-Ok.ensures.opened c.in-Ok.ensures.same.bytes w.2
-          busy c.reopen.new.self.disk c.reopen.ensures.any_moment,
+          busy c.reopen.new.self.disk (both_runs disk.device c.in-Ok.spool.disk c.reopen.new.self.disk _ _ c.reopen.ensures.any_moment c.reopen.ensures.documents),
     )
+
+pub returns-in-Ok-reopen-clause-kept : goal.returns-in-Ok-reopen-clause-kept
+returns-in-Ok-reopen-clause-kept g c = λ told. c.in-Ok-reopen.ensures.kept (subst IsSome (sym c.in-Ok.ensures.same.bytes) told)
+
+pub returns-in-Err-reopen-clause-blames : goal.returns-in-Err-reopen-clause-blames
+returns-in-Err-reopen-clause-blames g c =
+    let failures = g.D.Disk.device.failures in
+    blames_disk (failures c.args.disk) (failures c.in-Ok.spool.disk) (failures c.reopen.new.self.disk) (failures c.into_disk-disk.result) c.in-Err-reopen.fault
+    c.in-Ok.ensures.counted (ap failures c.into_disk-disk.ensures) c.in-Err-reopen.ensures.blames
 
 pub returns-in-Err-reopen-clause-back : goal.returns-in-Err-reopen-clause-back
 returns-in-Err-reopen-clause-back g c = λ other.
@@ -77,5 +115,5 @@ returns-in-Err-reopen-clause-failed g c =
       ap disk.device.size c.into_disk-disk.ensures ∙ c.reopen.ensures.fixed ∙ c.in-Ok.ensures.same.size,
       subst (λ d. LeavesOnly disk.device c.args.disk d (λ b. disk.device.image c.args.disk b ⊎ ((r : List ℕ) → disk.device.bytes c.args.disk ≡ Some r → IsMidway r b))) (sym c.into_disk-disk.ensures)
           (since_start disk.device c.args.disk c.in-Ok.spool.disk w.0 c.in-Ok.spool.state c.in-Ok.ensures.opened c.in-Ok.ensures.same.bytes w.2
-          busy c.reopen.new.self.disk c.reopen.ensures.any_moment w.1),
+          busy c.reopen.new.self.disk (both_runs disk.device c.in-Ok.spool.disk c.reopen.new.self.disk _ _ c.reopen.ensures.any_moment c.reopen.ensures.documents) w.1),
     )

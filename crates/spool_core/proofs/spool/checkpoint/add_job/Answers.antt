@@ -1,7 +1,8 @@
-use Rattle.std.proofs.Common.{◌∷◌, [], map, sym, subst}
+use Rattle.std.proofs.Common.{ℕ, ◌∷◌, [], map, replicate, sym, subst}
 use Rattle.spool_types.specs.State.{job_of}
 use Rattle.spool_types.specs.declared.listing.ListedJob.{ListedJob}
 use Rattle.spool_types.specs.declared.listing.Row.TheVariants.{Job, Piece}
+use Rattle.job_table.specs.Documents.{document_len}
 use Rattle.job_table.specs.Listing.{listed, pieces}
 use Rattle.event_codec.specs.RowSpelling.{IsLegalRow}
 use Rattle.spool_core.specs.Checkpointing.{AreAdded}
@@ -10,7 +11,7 @@ use Rattle.spool_core.proofs.spool.checkpoint.add_job.Goals as goal
 
 pub add_frame-requires : goal.add_frame-requires
 add_frame-requires c =
-    subst (λ (r : ListedJob). IsLegalRow (Job r)) (sym c.in_ok-listed.ensures) (legal_job (job_of c.args.job.now) c.requires c.as_slice-filters.ensures.short)
+    subst (λ (r : ListedJob). IsLegalRow (Job r)) (sym c.in_ok-listed.ensures) (legal_job (job_of c.args.job.now) c.requires.may c.as_slice-filters.ensures.short)
 
 pub returns : goal.returns
 returns c =
@@ -19,6 +20,6 @@ returns c =
     let mid = c.add_frame.new.frames.items in
     on_ok c.add_pieces.result c.add_pieces.ensures
     (λ more.
-    added_then (Job (listed r) ∷ []) (map (λ bytes. Piece r.id bytes) (pieces r.document)) start mid c.add_pieces.new.frames.items
+    added_then (Job (listed r) ∷ []) (map (λ bytes. Piece r.id bytes) (pieces (replicate (document_len r) 0))) start mid c.add_pieces.new.frames.items
     (subst (λ (row : ListedJob). AreAdded (Job row ∷ []) start mid) c.in_ok-listed.ensures c.in_ok-add_frame.ensures)
-    (subst (λ (bytes : _). AreAdded (map (λ part. Piece r.id part) (pieces bytes)) mid c.add_pieces.new.frames.items) c.deref.ensures.value more))
+    (subst (λ (n : ℕ). AreAdded (map (λ part. Piece r.id part) (pieces (replicate n 0))) mid c.add_pieces.new.frames.items) c.document_len.ensures more))

@@ -2,11 +2,10 @@
 use Rattle.std.proofs.Common.{take, map}
 use Rattle.std.specs.List.{flat_map}
 use Rattle.spool_types.specs.State.{job_of}
-use Rattle.job_table.specs.Listing.{job_rows}
-use Rattle.spool_core.specs.Checkpointing.{AreAdded}
+use Rattle.spool_core.specs.Checkpointing.{AreAdded, blank_rows}
 use Rattle.spool_core.proofs.spool.checkpoint.add_jobs.Given as goal
 
 abbrev pub invariant-loop-job : goal.invariant-loop-job
 invariant-loop-job l = record {
-  added : AreAdded (flat_map job_rows (take l.job-index (map job_of l.fn.jobs))) l.fn.frames.items l.frames.items;
+  added : AreAdded (flat_map blank_rows (take l.job-index (map job_of l.fn.jobs))) l.fn.frames.items l.frames.items;
 }

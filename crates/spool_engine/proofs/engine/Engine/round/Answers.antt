@@ -1,5 +1,5 @@
 -- a round of the printer, where what was found goes by another name
-use Rattle.std.proofs.Common.{List, subst}
+use Rattle.std.proofs.Common.{List, ℕ, subst}
 use Rattle.spool_types.specs.declared.event.Event.{Event}
 use Rattle.spool_engine.specs.EventTurns.{setting}
 use Rattle.spool_engine.specs.Rounds.{IsRan}
@@ -8,5 +8,5 @@ use Rattle.spool_engine.proofs.engine.Engine.round.Goals as goal
 
 pub returns-clause-round : goal.returns-clause-round
 returns-clause-round g c =
-    subst (λ (e : Engine g.row.D.Denot). (tried : List Event) × IsRan (setting g.D.Disk.device e.mime e.place) e.course (record { next = c.round.new.self; result = c.round.result; tried = tried })) c.self.view_is
+    subst (λ (e : Engine g.row.D.Denot). (tried : List Event) × (documents : ℕ → List ℕ) × IsRan (setting g.D.Disk.device e.mime e.place) e.course (record { next = c.round.new.self; result = c.round.result; tried = tried; documents = documents })) c.self.view_is
     (c.round.ensures c.self.inside.mime)

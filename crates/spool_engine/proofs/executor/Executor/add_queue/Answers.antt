@@ -13,15 +13,15 @@ returns-in-Ok g c = λ m p.
     let s = c.args.self.now in
     let q = c.args.queue in
     let is = queue_event m s.state q (ap is_device_uri (sym c.as_str.ensures.value) ∙ c.in-Ok.ensures.device) in
-    event_told (λ v. v.items) c.execute_event.result (setting g.D.Disk.device m p) s _ (Queue q) (AddQueue q) reply_line g.met.D.Disk.lawful.only_now is c.execute_event.ensures
+    event_told (λ v. v.items) c.execute_event.result (setting g.D.Disk.device m p) s _ (Queue q) (AddQueue q) reply_line g.met.D.Disk.lawful.only_now (λ o. tt) is c.execute_event.ensures
 
 pub returns-in-Err-BadUri : goal.returns-in-Err-BadUri
 returns-in-Err-BadUri g c = λ m p.
     let s = c.args.self.now in
     let q = c.args.queue in
     let is = no_queue_event m s.state q (ap is_device_uri (sym c.as_str.ensures.value) ∙ c.in-Err-BadUri.ensures.no_device (ap Err c.in-Err-BadUri.field-0-is)) in
-    said_told (λ v. v.items) c.print_reply.result (setting g.D.Disk.device m p) s (Queue q) (codes "error uri\n") g.met.D.Disk.lawful.only_now (kept_as g.D.Disk.device _ _ c.self.view_is c.self.invariant) is c.print_reply.ensures
+    said_told (λ v. v.items) c.print_reply.result (setting g.D.Disk.device m p) s (Queue q) (codes "error uri\n") g.met.D.Disk.lawful.only_now (kept_as g.D.Disk.device _ _ c.self.view_is c.self.invariant) (λ o. tt) is c.print_reply.ensures
 
 pub returns : goal.returns
 returns g c = λ m p.
-    unread_told (λ v. v.items) c.print_reply-in-Err-Memory.result (setting g.D.Disk.device m p) c.args.self.now (Queue c.args.queue) g.met.D.Disk.lawful.only_now (kept_as g.D.Disk.device _ _ c.self.view_is c.self.invariant) c.as_str.ensures.allowed c.print_reply-in-Err-Memory.ensures
+    unread_told (λ v. v.items) c.print_reply-in-Err-Memory.result (setting g.D.Disk.device m p) c.args.self.now (Queue c.args.queue) g.met.D.Disk.lawful.only_now (kept_as g.D.Disk.device _ _ c.self.view_is c.self.invariant) (λ o. tt) c.as_str.ensures.allowed c.print_reply-in-Err-Memory.ensures

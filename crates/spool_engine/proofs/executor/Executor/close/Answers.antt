@@ -1,28 +1,72 @@
--- where the spool isn't asked, it is as it was
-use Rattle.std.proofs.Common.{refl, sym, ap, ◌∙◌, Err}
-use Rattle.spool_types.specs.declared.event.Event.TheVariants.{Close}
-use Rattle.job_table.specs.Step.{answered, refusal_of}
+-- A job is closed by its document, if that is read, and where the spool isn't asked it is as it was.
+use Rattle.std.proofs.Common.{refl, sym, ap, ◌∙◌, subst, codes, []}
+use Rattle.spool_types.specs.declared.event.Event.TheVariants.{Close as Closes}
+use Rattle.job_table.specs.Step.{refusal_of}
+use Rattle.command_lines.specs.Replies.{refusal_line}
+use Rattle.spool_engine.specs.EventTurns.{setting, IsDocumentOf}
 use Rattle.spool_engine.specs.Script.{closing_of}
-use Rattle.spool_core.specs.declared.spool.apply_fault.ApplyFault.TheVariants.{Dead, Refused, Memory}
-use Rattle.spool_engine.proofs.EventLaws.{unasked}
+use Rattle.spool_engine.proofs.CloseLaws.{dead_close, refused_close, is_there, not_over, closed_told, unread_document, unreadable_document, told_as}
 use Rattle.spool_engine.proofs.executor.Executor.close.Goals as goal
 
 pub returns-then-met_fault : goal.returns-then-met_fault
-returns-then-met_fault g c =
+returns-then-met_fault g c = λ p.
     let s = c.args.self.now in
-    let e = Close (closing_of c.args.mime.now s.state c.args.job c.args.name.now) in
-    (Err Dead, unasked g.D.Disk.device s e (Err Dead) g.met.D.Disk.lawful.only_now c.if-met_fault.ensures.kept (sym c.if-met_fault.ensures.dead, refl), c.fault_text.ensures)
+    let v = setting g.D.Disk.device c.args.mime.now p in
+    told_as (λ x. x.items) c.fault_text.result v s s c.args.job c.args.name.now (codes "error dead\n")
+    (dead_close v s c.args.job c.args.name.now g.met.D.Disk.lawful c.if-met_fault.ensures.kept (sym c.if-met_fault.ensures.dead))
+    c.fault_text.ensures
 
 pub returns-in-Some : goal.returns-in-Some
-returns-in-Some g c =
+returns-in-Some g c = λ p.
     let s = c.args.self.now in
-    let n = closing_of c.args.mime.now s.state c.args.job c.args.name.now in
-    let cause = ap (answered s.state (Close n)) (ap (λ t. refusal_of t (Close n)) (sym c.table.ensures) ∙ sym (c.close_refusal.ensures n refl) ∙ c.in-Some.is) in
-    (Err (Refused c.in-Some.refusal), unasked g.D.Disk.device s (Close n) (Err (Refused c.in-Some.refusal)) g.met.D.Disk.lawful.only_now c.if-met_fault.ensures.kept (sym c.if-met_fault.ensures.dead, cause, refl), c.fault_text-in-Some.ensures)
+    let v = setting g.D.Disk.device c.args.mime.now p in
+    let n = closing_of v.mime s.state [] c.args.job c.args.name.now in
+    let is = ap (λ t. refusal_of t (Closes n)) (sym c.table.ensures) ∙ sym (c.close_refusal.ensures n refl) ∙ c.in-Some.is in
+    told_as (λ x. x.items) c.fault_text-in-Some.result v s s c.args.job c.args.name.now (refusal_line c.in-Some.refusal)
+    (refused_close v s c.args.job c.args.name.now c.in-Some.refusal g.met.D.Disk.lawful c.if-met_fault.ensures.kept (sym c.if-met_fault.ensures.dead) is)
+    c.fault_text-in-Some.ensures
 
-pub returns-in-Err : goal.returns-in-Err
-returns-in-Err g c =
+pub document-requires-clause-there : goal.document-requires-clause-there
+document-requires-clause-there g c =
     let s = c.args.self.now in
-    let n = closing_of c.args.mime.now s.state c.args.job c.args.name.now in
-    let cause = ap (λ t. refusal_of t (Close n)) (sym c.table.ensures) ∙ sym (c.close_refusal.ensures n refl) ∙ c.in_default.is in
-    (Err Memory, unasked g.D.Disk.device s (Close n) (Err Memory) g.met.D.Disk.lawful.only_now c.if-met_fault.ensures.kept (sym c.if-met_fault.ensures.dead, cause, refl), c.fault_text-in-Err.ensures)
+    let n = closing_of c.args.mime.now s.state [] c.args.job c.args.name.now in
+    is_there s.state n (ap (λ t. refusal_of t (Closes n)) (sym c.table.ensures) ∙ sym (c.close_refusal.ensures n refl) ∙ c.in_default.is)
+
+pub document-requires-clause-lasts : goal.document-requires-clause-lasts
+document-requires-clause-lasts g c =
+    let s = c.args.self.now in
+    let n = closing_of c.args.mime.now s.state [] c.args.job c.args.name.now in
+    not_over s.state n (ap (λ t. refusal_of t (Closes n)) (sym c.table.ensures) ∙ sym (c.close_refusal.ensures n refl) ∙ c.in_default.is)
+
+pub returns-in-Ok : goal.returns-in-Ok
+returns-in-Ok g c = λ p.
+    let s = c.args.self.now in
+    let v = setting g.D.Disk.device c.args.mime.now p in
+    let n = closing_of v.mime s.state c.as_slice.result.now c.args.job c.args.name.now in
+    let none = ap (λ t. refusal_of t (Closes n)) (sym c.table.ensures) ∙ sym (c.close_refusal.ensures n refl) ∙ c.in_default.is in
+    let (still, own) = c.in-Ok.ensures in
+    closed_told (λ x. x.items) c.close_typed.result v s c.document.new.self c.close_typed.new.self c.args.job c.args.name.now c.as_slice.result.now g.met.D.Disk.lawful c.if-met_fault.ensures.kept (sym c.if-met_fault.ensures.dead) none still
+    (subst (IsDocumentOf g.D.Disk.device s c.args.job) (sym c.as_slice.ensures) own)
+    c.close_typed.ensures
+
+pub returns-in-Err-Memory : goal.returns-in-Err-Memory
+returns-in-Err-Memory g c = λ p.
+    let s = c.args.self.now in
+    let v = setting g.D.Disk.device c.args.mime.now p in
+    let n = closing_of v.mime s.state [] c.args.job c.args.name.now in
+    let none = ap (λ t. refusal_of t (Closes n)) (sym c.table.ensures) ∙ sym (c.close_refusal.ensures n refl) ∙ c.in_default.is in
+    let same = rw c.in-Err-Memory.field-0-is at c.in-Err-Memory.ensures in
+    told_as (λ x. x.items) c.fault_text-in-Err-Memory.result v s c.document.new.self c.args.job c.args.name.now (codes "error memory\n")
+    (unread_document v s c.document.new.self c.args.job c.args.name.now g.met.D.Disk.lawful c.if-met_fault.ensures.kept (sym c.if-met_fault.ensures.dead) none same)
+    c.fault_text-in-Err-Memory.ensures
+
+pub returns-in-Err-Disk : goal.returns-in-Err-Disk
+returns-in-Err-Disk g c = λ p.
+    let s = c.args.self.now in
+    let v = setting g.D.Disk.device c.args.mime.now p in
+    let n = closing_of v.mime s.state [] c.args.job c.args.name.now in
+    let none = ap (λ t. refusal_of t (Closes n)) (sym c.table.ensures) ∙ sym (c.close_refusal.ensures n refl) ∙ c.in_default.is in
+    let cut = rw c.in-Err-Disk.field-0-is at c.in-Err-Disk.ensures in
+    told_as (λ x. x.items) c.fault_text-in-Err-Disk.result v s c.document.new.self c.args.job c.args.name.now (codes "error disk\n")
+    (unreadable_document v s c.document.new.self c.args.job c.args.name.now c.if-met_fault.ensures.kept none cut)
+    c.fault_text-in-Err-Disk.ensures

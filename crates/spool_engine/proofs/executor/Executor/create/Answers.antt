@@ -17,15 +17,15 @@ returns-in-Ok-Some g c = λ m p.
     let is = create_event m s.state n c.in-Ok-Some.options kept
     ∙ ap (λ j. asks (NewJob (record { queue = n.queue; job = j; user = n.user; title = n.title; copies = n.copies; priority = n.priority; options = c.in-Ok-Some.options })) reply_line) (sym c.next_number.ensures)
     ∙ ap (λ j. asks (NewJob j) reply_line) (sym c.new_job-job.ensures) in
-    event_told (λ v. v.items) c.execute_event.result (setting g.D.Disk.device m p) s _ (Create n) (NewJob c.new_job-job.result) reply_line g.met.D.Disk.lawful.only_now is c.execute_event.ensures
+    event_told (λ v. v.items) c.execute_event.result (setting g.D.Disk.device m p) s _ (Create n) (NewJob c.new_job-job.result) reply_line g.met.D.Disk.lawful.only_now (λ o. tt) is c.execute_event.ensures
 
 pub returns-in-Ok-None : goal.returns-in-Ok-None
 returns-in-Ok-None g c = λ m p.
     let s = c.args.self.now in
     let n = c.args.creation in
     let is = no_create_event m s.state n (ap job_options (sym c.as_str.ensures.value) ∙ sym c.in-Ok-None.ensures.value ∙ c.in-Ok-None.field-0-is) in
-    said_told (λ v. v.items) c.print_reply.result (setting g.D.Disk.device m p) s (Create n) (codes "error options\n") g.met.D.Disk.lawful.only_now (kept_as g.D.Disk.device _ _ c.self.view_is c.self.invariant) is c.print_reply.ensures
+    said_told (λ v. v.items) c.print_reply.result (setting g.D.Disk.device m p) s (Create n) (codes "error options\n") g.met.D.Disk.lawful.only_now (kept_as g.D.Disk.device _ _ c.self.view_is c.self.invariant) (λ o. tt) is c.print_reply.ensures
 
 pub returns-in-Err : goal.returns-in-Err
 returns-in-Err g c = λ m p.
-    unread_told (λ v. v.items) c.print_reply-in-Err.result (setting g.D.Disk.device m p) c.args.self.now (Create c.args.creation) g.met.D.Disk.lawful.only_now (kept_as g.D.Disk.device _ _ c.self.view_is c.self.invariant) (subst (λ text. IsOk (reading text)) c.as_str.ensures.value c.in-Err.ensures.memory) c.print_reply-in-Err.ensures
+    unread_told (λ v. v.items) c.print_reply-in-Err.result (setting g.D.Disk.device m p) c.args.self.now (Create c.args.creation) g.met.D.Disk.lawful.only_now (kept_as g.D.Disk.device _ _ c.self.view_is c.self.invariant) (λ o. tt) (subst (λ text. IsOk (reading text)) c.as_str.ensures.value c.in-Err.ensures.memory) c.print_reply-in-Err.ensures

@@ -1,5 +1,5 @@
 -- a round over the spool, and what a crash leaves meanwhile
-use Rattle.std.proofs.Common.{refl, subst, List}
+use Rattle.std.proofs.Common.{refl, subst, ℕ, List}
 use Rattle.spool_types.specs.declared.event.Event.{Event}
 use Rattle.spool_core.specs.Standing.{Standing}
 use Rattle.print_rounds.specs.Courses.{course}
@@ -13,6 +13,6 @@ returns-clause-round g c = λ m.
     let tells = g.C.Children.tells in
     let v = setting g.D.Disk.device m c.args.place.now in
     let new = course c.round-ran.new.spool c.round-ran.new.runner (tells c.round-ran.new.children) in
-    subst (λ (s : Standing g.row.D.Denot). (tried : List Event) × IsRan v (course s c.args.runner.now (tells c.args.children.now)) (record { next = new; result = c.round-ran.result; tried = tried })) c.self.view_is
+    subst (λ (s : Standing g.row.D.Denot). (tried : List Event) × (documents : ℕ → List ℕ) × IsRan v (course s c.args.runner.now (tells c.args.children.now)) (record { next = new; result = c.round-ran.result; tried = tried; documents = documents })) c.self.view_is
     (ran_of v (course c.self.inside.spool c.args.runner.now (tells c.args.children.now)) new c.round-ran.result c.self.inside.spool.dead refl g.met.D.Disk.lawful.only_now c.self.invariant c.table-table.ensures.kept
     c.round-ran.ensures.later c.round-ran.ensures.told c.round-ran.ensures.finished c.round-ran.ensures.round)

@@ -1,11 +1,13 @@
 -- each command is told as it went
-use Rattle.std.proofs.Common.{ap, ◌∙◌, sym, codes}
+use Rattle.std.proofs.Common.{◌≡◌, ap, subst, refl, codes, []}
+use Rattle.std.specs.Prelude.{IfOk}
 use Rattle.std.specs.FinMap as finite
-use Rattle.spool_types.specs.declared.event.Event.TheVariants.{Close}
 use Rattle.spool_types.specs.declared.refusal.Refusal.TheVariants.{TooLong}
 use Rattle.command_lines.specs.Replies.{jobs_text, queues_text, refusal_line}
-use Rattle.spool_engine.specs.EventTurns.{setting}
-use Rattle.spool_engine.specs.Script.{asks, meaning, closing_line, closing_of, reply_line, round_text, drain_text}
+use Rattle.command_lines.specs.declared.command.Command.TheVariants.{Apply, Close, OversizedSend, Jobs, Queues, Checkpoint, Malformed}
+use Rattle.spool_engine.specs.Answers.{Takes}
+use Rattle.spool_engine.specs.EventTurns.{EventTurn, setting}
+use Rattle.spool_engine.specs.Script.{reply_line, meaning, round_text, drain_text}
 use Rattle.spool_engine.proofs.EventLaws.{event_told, said_told, listing_told, same_command}
 use Rattle.spool_engine.proofs.RoundLaws.{event_lifted, said_lifted, listed, rounds_turn}
 use Rattle.spool_engine.proofs.printer.Printer.execute.Goals as goal
@@ -14,7 +16,8 @@ pub returns-in-Apply : goal.returns-in-Apply
 returns-in-Apply g c =
     let e = c.self.inside.executor in
     event_lifted (λ v. v.items) c.execute_event.result _ e _ _ _ _ c.args.command c.self.view_is
-    (event_told (λ v. v.items) c.execute_event.result (setting g.D.Disk.device c.args.mime.now c.args.place.now) e _ c.args.command c.in-Apply.event reply_line g.met.D.Disk.lawful.only_now (ap (meaning c.args.mime.now e.state) c.in-Apply.is) c.execute_event.ensures)
+    (same_command (λ v. v.items) c.execute_event.result _ e _ c.args.command _ c.in-Apply.is
+    (event_told (λ v. v.items) c.execute_event.result (setting g.D.Disk.device c.args.mime.now c.args.place.now) e _ (Apply c.in-Apply.event) c.in-Apply.event reply_line g.met.D.Disk.lawful.only_now (λ o. tt) refl c.execute_event.ensures))
 
 pub returns-in-Queue : goal.returns-in-Queue
 returns-in-Queue g c =
@@ -29,49 +32,52 @@ returns-in-Create g c =
 pub returns-in-Close : goal.returns-in-Close
 returns-in-Close g c =
     let e = c.self.inside.executor in
-    let m = c.args.mime.now in
-    let job = c.in-Close.job in
-    let n = closing_of m e.state job c.as_str.result.now in
-    let is = ap (meaning m e.state) c.in-Close.is ∙ ap (λ name. asks (Close (closing_of m e.state job name)) (closing_line (closing_of m e.state job name))) (sym c.as_str.ensures.value) in
+    let v = setting g.D.Disk.device c.args.mime.now c.args.place.now in
     event_lifted (λ v. v.items) c.close.result _ e _ _ _ _ c.args.command c.self.view_is
-    (event_told (λ v. v.items) c.close.result (setting g.D.Disk.device m c.args.place.now) e _ c.args.command (Close n) (closing_line n) g.met.D.Disk.lawful.only_now is c.close.ensures)
+    (same_command (λ v. v.items) c.close.result _ e _ c.args.command _ c.in-Close.is
+    (subst (λ name. (t : EventTurn g.row.D.Denot) × Takes v e (Close c.in-Close.job name) t c.close.new.self × IfOk c.close.result (λ x. x.items ≡ t.text)) c.as_str.ensures.value (c.close.ensures c.args.place.now)))
 
 pub returns-in-OversizedSend : goal.returns-in-OversizedSend
 returns-in-OversizedSend g c =
     let s = c.args.self.now in
     said_lifted (λ v. v.items) c.print_reply.result _ s c.args.command
-    (said_told (λ v. v.items) c.print_reply.result (setting g.D.Disk.device c.args.mime.now c.args.place.now) s.spool c.args.command (refusal_line TooLong) g.met.D.Disk.lawful.only_now c.met_fault-kept.ensures.kept (ap (meaning c.args.mime.now s.spool.state) c.in-OversizedSend.is) c.print_reply.ensures)
+    (same_command (λ v. v.items) c.print_reply.result _ s.spool _ c.args.command _ c.in-OversizedSend.is
+    (said_told (λ v. v.items) c.print_reply.result (setting g.D.Disk.device c.args.mime.now c.args.place.now) s.spool OversizedSend (refusal_line TooLong) g.met.D.Disk.lawful.only_now c.met_fault-kept.ensures.kept (λ o. tt) refl c.print_reply.ensures))
 
 pub returns-in-Jobs : goal.returns-in-Jobs
 returns-in-Jobs g c =
     let e = c.self.inside.executor in
     listed (λ v. v.items) c.jobs.result _ e _ _ _ c.args.command c.self.view_is
-    (said_told (λ v. v.items) c.jobs.result (setting g.D.Disk.device c.args.mime.now c.args.place.now) e c.args.command (jobs_text e.state.moment (finite.values e.state.jobs)) g.met.D.Disk.lawful.only_now c.jobs.ensures.kept (ap (meaning c.args.mime.now e.state) c.in-Jobs.is) c.jobs.ensures.text)
+    (same_command (λ v. v.items) c.jobs.result _ e _ c.args.command _ c.in-Jobs.is
+    (said_told (λ v. v.items) c.jobs.result (setting g.D.Disk.device c.args.mime.now c.args.place.now) e Jobs (jobs_text e.state.moment (finite.values e.state.jobs)) g.met.D.Disk.lawful.only_now c.jobs.ensures.kept (λ o. tt) refl c.jobs.ensures.text))
 
 pub returns-in-Queues : goal.returns-in-Queues
 returns-in-Queues g c =
     let e = c.self.inside.executor in
     listed (λ v. v.items) c.queues.result _ e _ _ _ c.args.command c.self.view_is
-    (said_told (λ v. v.items) c.queues.result (setting g.D.Disk.device c.args.mime.now c.args.place.now) e c.args.command (queues_text (finite.values e.state.jobs) (finite.values e.state.queues)) g.met.D.Disk.lawful.only_now c.queues.ensures.kept (ap (meaning c.args.mime.now e.state) c.in-Queues.is) c.queues.ensures.text)
+    (same_command (λ v. v.items) c.queues.result _ e _ c.args.command _ c.in-Queues.is
+    (said_told (λ v. v.items) c.queues.result (setting g.D.Disk.device c.args.mime.now c.args.place.now) e Queues (queues_text (finite.values e.state.jobs) (finite.values e.state.queues)) g.met.D.Disk.lawful.only_now c.queues.ensures.kept (λ o. tt) refl c.queues.ensures.text))
 
 pub returns-in-Round : goal.returns-in-Round
 returns-in-Round g c =
     let s = c.args.self.now in
-    rounds_turn (setting g.D.Disk.device c.args.mime.now c.args.place.now) g.met.D.Disk.lawful.only_now (λ v. v.items) c.round_text.result s _ c.args.command 1 round_text c.met_fault-kept.ensures.kept (ap (meaning c.args.mime.now s.spool.state) c.in-Round.is) (c.round_text.ensures c.args.mime.now)
+    rounds_turn (setting g.D.Disk.device c.args.mime.now c.args.place.now) g.met.D.Disk.lawful.only_now (λ v. v.items) c.round_text.result s _ c.args.command 1 round_text c.met_fault-kept.ensures.kept (ap (meaning c.args.mime.now s.spool.state []) c.in-Round.is) (c.round_text.ensures c.args.mime.now)
 
 pub returns-in-Drain : goal.returns-in-Drain
 returns-in-Drain g c =
     let s = c.args.self.now in
-    rounds_turn (setting g.D.Disk.device c.args.mime.now c.args.place.now) g.met.D.Disk.lawful.only_now (λ v. v.items) c.drain_text.result s _ c.args.command c.in-Drain.most drain_text c.met_fault-kept.ensures.kept (ap (meaning c.args.mime.now s.spool.state) c.in-Drain.is) (c.drain_text.ensures c.args.mime.now)
+    rounds_turn (setting g.D.Disk.device c.args.mime.now c.args.place.now) g.met.D.Disk.lawful.only_now (λ v. v.items) c.drain_text.result s _ c.args.command c.in-Drain.most drain_text c.met_fault-kept.ensures.kept (ap (meaning c.args.mime.now s.spool.state []) c.in-Drain.is) (c.drain_text.ensures c.args.mime.now)
 
 pub returns-in-Checkpoint : goal.returns-in-Checkpoint
 returns-in-Checkpoint g c =
     let e = c.self.inside.executor in
     event_lifted (λ v. v.items) c.checkpoint.result _ e _ _ _ _ c.args.command c.self.view_is
-    (listing_told (λ v. v.items) c.checkpoint.result (setting g.D.Disk.device c.args.mime.now c.args.place.now) e _ c.args.command (ap (meaning c.args.mime.now e.state) c.in-Checkpoint.is) c.checkpoint.ensures)
+    (same_command (λ v. v.items) c.checkpoint.result _ e _ c.args.command _ c.in-Checkpoint.is
+    (listing_told (λ v. v.items) c.checkpoint.result (setting g.D.Disk.device c.args.mime.now c.args.place.now) e _ Checkpoint (λ o. tt) refl c.checkpoint.ensures))
 
 pub returns-in-Malformed : goal.returns-in-Malformed
 returns-in-Malformed g c =
     let s = c.args.self.now in
     said_lifted (λ v. v.items) c.print_reply-in-Malformed.result _ s c.args.command
-    (said_told (λ v. v.items) c.print_reply-in-Malformed.result (setting g.D.Disk.device c.args.mime.now c.args.place.now) s.spool c.args.command (codes "error syntax\n") g.met.D.Disk.lawful.only_now c.met_fault-kept.ensures.kept (ap (meaning c.args.mime.now s.spool.state) c.in-Malformed.is) c.print_reply-in-Malformed.ensures)
+    (same_command (λ v. v.items) c.print_reply-in-Malformed.result _ s.spool _ c.args.command _ c.in-Malformed.is
+    (said_told (λ v. v.items) c.print_reply-in-Malformed.result (setting g.D.Disk.device c.args.mime.now c.args.place.now) s.spool Malformed (codes "error syntax\n") g.met.D.Disk.lawful.only_now c.met_fault-kept.ensures.kept (λ o. tt) refl c.print_reply-in-Malformed.ensures))

@@ -1,5 +1,5 @@
 -- a round of the executor, where what was found goes by another name
-use Rattle.std.proofs.Common.{List, subst}
+use Rattle.std.proofs.Common.{List, ℕ, subst}
 use Rattle.spool_types.specs.declared.event.Event.{Event}
 use Rattle.print_rounds.specs.Courses.{Course, course}
 use Rattle.spool_engine.specs.EventTurns.{setting}
@@ -10,4 +10,4 @@ pub returns : goal.returns
 returns g c = λ m.
     let v = setting g.D.Disk.device m c.args.place.now in
     let new = course c.round.new.self c.round.new.runner (g.C.Children.tells c.round.new.children) in
-    subst (λ (s : Course g.row.D.Denot). (tried : List Event) × IsRan v s (record { next = new; result = c.round.result; tried = tried })) c.self.view_is (c.round.ensures.round m)
+    subst (λ (s : Course g.row.D.Denot). (tried : List Event) × (documents : ℕ → List ℕ) × IsRan v s (record { next = new; result = c.round.result; tried = tried; documents = documents })) c.self.view_is (c.round.ensures.round m)

@@ -1,0 +1,23 @@
+-- the lanes stay, as no row says anything else
+use Rattle.std.proofs.Common.{sym, ap, subst, ◌∙◌}
+use Rattle.job_table.specs.Contents.{Contents, Noted, HasMoves, places_of}
+use Rattle.job_table.specs.Lanes.{AreLanes}
+use Rattle.job_table.specs.Legal.{IsLegal}
+use Rattle.job_table.proofs.table.Table.commit_moves.Goals as goal
+
+pub move_documents-requires : goal.move_documents-requires
+move_documents-requires c =
+    subst (HasMoves c.self.inside.store.state) (sym c.replace-noted.ensures.value)
+    (subst (λ (v : Contents). HasMoves v.state v.moves) (sym c.self.view_is) c.requires)
+
+pub invariant_of-self : goal.invariant_of-self
+invariant_of-self c = record {
+  legal = subst IsLegal (sym c.move_documents.ensures.state) c.self.invariant.legal;
+  lanes = subst (λ s. AreLanes s c.self.inside.vacant c.self.inside.lanes.items) (sym c.move_documents.ensures.state) c.self.invariant.lanes;
+}
+
+pub returns-clause-places : goal.returns-clause-places
+returns-clause-places c = λ j r there lives.
+    c.move_documents.ensures.places j r there lives
+    ∙ ap (λ (m : Noted). places_of m.places j) c.replace-noted.ensures.value
+    ∙ ap (λ (v : Contents). places_of v.moves.places j) c.self.view_is

@@ -1,0 +1,39 @@
+-- What the fields of the new places of documents mean.
+use Rattle.std.specs.Prelude.{◌≡◌, ℕ, ◌-◌, ◌*◌, ◌≤◌, List, [], map, vec_len, vec_capacity, IsTrue}
+use Rattle.std.specs.Ordering.{nat_cmp}
+use Rattle.std.specs.FinMap as finite
+use Rattle.extents.specs.declared.extent.Extent.{Extent}
+use Rattle.spool_types.specs.Limits.{longest_send}
+use Rattle.spool_types.specs.State.{job_of}
+use Rattle.spool_types.specs.declared.rows.JobRow.{JobRow}
+use Rattle.job_table.specs.Contents.{Noted}
+use Rattle.job_table.specs.Documents.{document_len}
+use Rattle.job_table.specs.declared.new_places.NewDocument.{NewDocument}
+use Rattle.job_table.specs.declared.new_places.NewPlaces.TheInside.{Inside}
+
+abbrev pub new_entry : NewDocument → ℕ × List Extent
+new_entry d = (d.job, d.extents.items)
+
+-- how many extents more it can take with no further memory
+abbrev pub new_spare : NewDocument → ℕ
+new_spare d = vec_capacity d.extents - vec_len d.extents
+
+abbrev pub spare_entry : NewDocument → ℕ × ℕ
+spare_entry d = (d.job, new_spare d)
+
+abbrev pub noted_of : Inside → Noted
+noted_of a = record { places = map new_entry a.documents.items; room = map spare_entry a.documents.items }
+
+-- the jobs stand in ascending order, each once
+abbrev pub AreNoted : Inside → Type 0
+AreNoted a = IsTrue (finite.is_sorted nat_cmp (map new_entry a.documents.items))
+
+-- a job, and no extents
+abbrev pub blank_entry : JobRow → ℕ × List Extent
+blank_entry r = (r.id, [])
+
+-- no extents for the job of this row, and room for all pieces of its document
+pub record IsNewFor (r : JobRow) (d : NewDocument) : Type 0 where
+  pub job : d.job ≡ r.id
+  pub none : d.extents.items ≡ []
+  pub room : document_len (job_of r) ≤ new_spare d * longest_send

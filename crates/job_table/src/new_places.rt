@@ -1,0 +1,134 @@
+//! New places for documents: they are noted one after another, and then taken for all documents at once.
+ghost use Rattle.std.specs.Prelude.{◌≡◌, ℕ, ◌-◌, ◌*◌, ◌==◌, ◌<◌, ◌≤◌, ◌++◌, ◌∷◌, [], Some, IsSome, IsTrue, IfOk, IfErr, map, if◌then◌else◌};
+ghost use Rattle.std.specs.Ordering.{nat_cmp};
+ghost use Rattle.std.specs.FinMap as finite;
+ghost use Rattle.spool_types.specs.Limits.{longest_send};
+ghost use Rattle.spool_types.specs.State.{Job};
+ghost use Rattle.job_table.specs.Contents.{no_moves, places_of, move_room};
+ghost use Rattle.job_table.specs.Documents.{document_len};
+ghost use Rattle.job_table.specs.Noted.{new_entry, new_spare, blank_entry, IsNewFor};
+ghost use Rattle.job_table.specs.Places.{IsPlace, IsGap};
+ghost use Rattle.job_table.specs.Rows.{job_entry};
+
+use crate::places::{document_len, piece_count};
+use spool_types::{Extent, JobId, JobRow};
+use std::alloc::{AllocError, Global};
+use std::marker::Model;
+use std::mem;
+
+/// A job, and the new extents of its document so far.
+#[derive(Debug, Drop)]
+struct NewDocument {
+    job: JobId,
+    extents: Vec<Extent>,
+}
+
+/// The new places of documents.
+#[derive(Debug, Drop)]
+pub(crate) struct NewPlaces {
+    // In ascending order of number, each number once.
+    documents: Vec<NewDocument>,
+}
+
+impl Model for NewPlaces {
+    ghost use Rattle.job_table.specs.Contents.{Noted};
+    ghost use Rattle.std.specs.Coded.{codes};
+    ghost use Rattle.std.specs.FinMap as map;
+
+    ghost Value = { Noted };
+
+    ghost coded = { Prim.hlevel (codes, map.code) };
+
+    ghost use Rattle.job_table.specs.Noted.{noted_of, AreNoted};
+
+    ghost view = { noted_of };
+
+    ghost invariant = { AreNoted };
+}
+
+impl NewPlaces {
+    /// None, of no job. It takes no memory.
+    pub fn none(alloc: Global) -> NewPlaces
+        ensures { result ≡ no_moves }
+    {
+        NewPlaces {
+            documents: Vec::new(alloc),
+        }
+    }
+
+    /// No extents for the job of each row, with memory for as many as its document has pieces.
+    pub fn of_rows(alloc: Global, rows: &[JobRow]) -> Result<NewPlaces, AllocError>
+        requires { IsTrue (finite.is_sorted nat_cmp (map job_entry rows.now)) }
+        ensures none { IfOk result (λ noted. noted.places ≡ map blank_entry rows.now) }
+        ensures room { IfOk result (λ noted. (j : ℕ) (r : Job) → finite.find nat_cmp j (map job_entry rows.now) ≡ Some r → document_len r ≤ move_room noted j * longest_send) }
+    {
+        let mut documents = Vec::with_capacity(alloc, rows.len())?;
+        for row in rows {
+            documents.push(new_document(alloc, row)?)?;
+        }
+        Ok(NewPlaces { documents })
+    }
+
+    /// Notes one extent more of a job's document. It takes no memory.
+    pub fn note(&mut self, job: JobId, extent: Extent)
+        requires { 0 < move_room self.old job }
+        ensures noted { (j : ℕ) → places_of self.new.places j ≡ (if job == j then places_of self.old.places j ++ extent ∷ [] else places_of self.old.places j) }
+        ensures there { (j : ℕ) → IsSome (finite.find nat_cmp j self.old.places) → IsSome (finite.find nat_cmp j self.new.places) }
+        ensures room { (j : ℕ) → move_room self.new j ≡ (if job == j then move_room self.old j - 1 else move_room self.old j) }
+    {
+        match place(&self.documents, job) {
+            Ok(at) => add_extent(&mut self.documents[at], extent),
+            Err(_) => unreachable!(),
+        }
+    }
+
+    /// Gives the new extents of a job's document away.
+    pub fn take(&mut self, job: JobId) -> Vec<Extent>
+        requires { IsSome (finite.find nat_cmp job self.old.places) }
+        ensures value { result.items ≡ places_of self.old.places job }
+        ensures others { (j : ℕ) → ¬ (j ≡ job) → finite.find nat_cmp j self.new.places ≡ finite.find nat_cmp j self.old.places }
+    {
+        let alloc = *self.documents.allocator();
+        match place(&self.documents, job) {
+            Ok(at) => take_extents(alloc, &mut self.documents[at]),
+            Err(_) => unreachable!(),
+        }
+    }
+}
+
+// Where the job stands, or would go.
+fn place(documents: &[NewDocument], job: JobId) -> Result<usize, usize>
+    requires { IsTrue (finite.is_sorted nat_cmp (map new_entry documents.now)) }
+    ensures found { IfOk result (IsPlace nat_cmp (λ d. d.job) documents.now job) }
+    ensures absent { IfErr result (IsGap nat_cmp (λ d. d.job) documents.now job) }
+{
+    documents.binary_search_by_key(&job, |document| document.job)
+}
+
+// No extents for the job of this row, with memory for as many as its document has pieces.
+fn new_document(alloc: Global, row: &JobRow) -> Result<NewDocument, AllocError>
+    ensures { IfOk result (IsNewFor row.now) }
+{
+    let count = piece_count(document_len(row.phase, row.size));
+    let extents = Vec::with_capacity(alloc, count)?;
+    Ok(NewDocument {
+        job: row.id,
+        extents,
+    })
+}
+
+fn add_extent(document: &mut NewDocument, extent: Extent)
+    requires { 0 < new_spare document.old }
+    ensures job { document.new.job ≡ document.old.job }
+    ensures added { document.new.extents.items ≡ document.old.extents.items ++ extent ∷ [] }
+    ensures room { new_spare document.new ≡ new_spare document.old - 1 }
+{
+    document.extents.push_reserved(extent);
+}
+
+fn take_extents(alloc: Global, document: &mut NewDocument) -> Vec<Extent>
+    ensures value { result ≡ document.old.extents }
+    ensures job { document.new.job ≡ document.old.job }
+{
+    mem::replace(&mut document.extents, Vec::new(alloc))
+}

@@ -1,1 +1,0 @@
-use Rattle.spool_core.proofs.fold.read_payload.Goals as goal

@@ -1,0 +1,76 @@
+-- Which bytes are a job's document, and where a journal has them: those that events sent to it, and those that a listing
+-- has as its pieces.
+use Rattle.std.specs.Prelude.{ℕ, ◌+◌, List, [], ◌∷◌, ◌++◌, length, Option, None, Some, ◌==◌, if◌then◌else◌}
+use Rattle.extents.specs.declared.extent.Extent.{Extent}
+use Rattle.spool_types.specs.declared.event.Event.{Event}
+use Rattle.spool_types.specs.declared.event.Event.TheVariants.{AddQueue, Info, SetAccept, SetStop, Create, Send, Close, Hold, Release, Cancel, Clock, Start, Stage, Abandon, Reopen}
+use Rattle.spool_types.specs.declared.listing.Row.{Row}
+use Rattle.spool_types.specs.declared.listing.Row.TheVariants as rows
+
+-- the job that an event sends bytes to, and these bytes
+abbrev pub sent_by : Event → Option (ℕ × List ℕ)
+sent_by (AddQueue q) = None
+sent_by (Info notes) = None
+sent_by (SetAccept queue accepting) = None
+sent_by (SetStop queue stopped) = None
+sent_by (Create n) = None
+sent_by (Send j bytes) = Some (j, bytes)
+sent_by (Close c) = None
+sent_by (Hold j until) = None
+sent_by (Release j) = None
+sent_by (Cancel j) = None
+sent_by (Clock m) = None
+sent_by (Start j) = None
+sent_by (Stage e) = None
+sent_by (Abandon j) = None
+sent_by Reopen = None
+
+-- the job that a row has a piece of, and the bytes of the piece
+abbrev pub piece_of : Row → Option (ℕ × List ℕ)
+piece_of (rows.Head head) = None
+piece_of (rows.Queue q) = None
+piece_of (rows.Job r) = None
+piece_of (rows.Piece j bytes) = Some (j, bytes)
+
+-- ---- what was sent
+
+-- these bytes, if they are for this job
+abbrev pub sent_to : ℕ → Option (ℕ × List ℕ) → List ℕ
+sent_to j None = []
+sent_to j (Some (k, bytes)) = if k == j then bytes else []
+
+-- All bytes that a list has for this job, in order, by what each of its members sends: its document, as long as it hasn't
+-- ended.
+abbrev pub sent_in : {E : Type 0} → (E → Option (ℕ × List ℕ)) → List E → ℕ → List ℕ
+sent_in sends [] j = []
+sent_in sends (e ∷ es) j = sent_to j (sends e) ++ sent_in sends es j
+
+abbrev pub sent : List Event → ℕ → List ℕ
+sent events j = sent_in sent_by events j
+
+abbrev pub listed_pieces : List Row → ℕ → List ℕ
+listed_pieces rows j = sent_in piece_of rows j
+
+-- what a listing and the events behind it have for this job
+abbrev pub document_in : List Row → List Event → ℕ → List ℕ
+document_in rows events j = listed_pieces rows j ++ sent events j
+
+-- ---- where it lies
+
+-- Behind a payload's kind in one byte, the job in four and the length in four come the bytes of a send or of a piece.
+abbrev pub bytes_behind : ℕ
+bytes_behind = 9
+
+-- the extent of so many bytes of a send or of a piece whose payload is at this place
+abbrev pub extent_behind : ℕ → ℕ → Extent
+extent_behind place count = record { place = place + bytes_behind; len = count }
+
+-- the extent of these bytes, if they are for this job, in the payload at this place
+abbrev pub placed_to : ℕ → ℕ → Option (ℕ × List ℕ) → List Extent
+placed_to place j None = []
+placed_to place j (Some (k, bytes)) = if k == j then extent_behind place (length bytes) ∷ [] else []
+
+-- the extents of a job, and that of these bytes where they are for it
+abbrev pub with_placed : List Extent → ℕ → ℕ → Option (ℕ × List ℕ) → List Extent
+with_placed xs place j None = xs
+with_placed xs place j (Some (k, bytes)) = if k == j then xs ++ extent_behind place (length bytes) ∷ [] else xs
