@@ -11,7 +11,7 @@ use Rattle.job_table.specs.Step.{refusal_of, step, answered}
 use Rattle.spool_disk.specs.Disk.{DiskView, IsLawful, LeavesOnly}
 use Rattle.spool_disk.proofs.Moments.{started, runs_on, weaker_run}
 use Rattle.spool_core.specs.Image.{HasTable, HasDocuments, HasWhole, HasBeforeOrAfterEvent, HasWholeBeforeOrAfterEvent, documents_after_one, unless_refused_sent}
-use Rattle.spool_core.specs.Driving.{answer_to, replies_to, documents_after, HasPrefixTable, HasWholePrefix, IsInHand, LeavesTable, IsChain, room_after, room_after_one}
+use Rattle.spool_core.specs.Driving.{answer_to, replies_to, documents_after, HasPrefixTable, HasWholePrefix, IsInHand, LeavesTable, LeavesWhole, IsChain, IsWholeChain, room_after, room_after_one}
 
 pub after_all_last : (s : State) (es : List Event) (e : Event) → after_all s (es ++ e ∷ []) ≡ after_one (after_all s es) e
 after_all_last s [] e = refl
@@ -132,3 +132,10 @@ module _ {D : Type 0} (v : DiskView D) (lawful : IsLawful v) where
       → LeavesTable v (after_one (after_all s taken) e) new → IsChain v s (taken ++ e ∷ []) old new
   chain_more s [] e old mid new same run kept = (new, subst (λ (d : D). LeavesOnly v d new (HasBeforeOrAfterEvent s e)) (sym same) run, kept, refl)
   chain_more s (d ∷ taken) e old mid new chain run kept = (chain.0, chain.1, chain.2, chain_more (after_one s d) taken e chain.0 mid new chain.3 run kept)
+
+  -- and so does the chain with the documents
+  pub whole_more : (s : State) (documents : ℕ → List ℕ) (taken : List Event) (e : Event) (old mid new : D) → IsWholeChain v s documents taken old mid
+      → LeavesOnly v mid new (HasWholeBeforeOrAfterEvent (after_all s taken) (documents_after s documents taken) e)
+      → LeavesWhole v (after_one (after_all s taken) e) (documents_after_one (after_all s taken) (documents_after s documents taken) e) new → IsWholeChain v s documents (taken ++ e ∷ []) old new
+  whole_more s documents [] e old mid new same run kept = (new, subst (λ (d : D). LeavesOnly v d new (HasWholeBeforeOrAfterEvent s documents e)) (sym same) run, kept, refl)
+  whole_more s documents (d ∷ taken) e old mid new chain run kept = (chain.0, chain.1, chain.2, whole_more (after_one s d) (documents_after_one s documents d) taken e chain.0 mid new chain.3 run kept)

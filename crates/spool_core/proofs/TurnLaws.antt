@@ -11,11 +11,11 @@ use Rattle.spool_disk.proofs.Moments.{started, weaker_run, at_return}
 use Rattle.spool_disk.proofs.Ranges.{told}
 use Rattle.spool_core.specs.Image.{HasTable, HasDocuments, HasBeforeOrAfterEvent, HasWholeBeforeOrAfterEvent, documents_after_one}
 use Rattle.spool_core.specs.Standing.{Standing}
-use Rattle.spool_core.specs.Driving.{answer_to, replies_to, documents_after, HasPrefixTable, HasWholePrefix, IsAcknowledged, IsChain, KeepsImages, LeavesDocuments, room_after, room_after_one, IsDriven, IsOutcome, IsEnding, reach}
+use Rattle.spool_core.specs.Driving.{answer_to, replies_to, documents_after, HasPrefixTable, HasWholePrefix, IsAcknowledged, IsAcknowledgedWhole, IsChain, IsWholeChain, KeepsImages, LeavesDocuments, room_after, room_after_one, IsDriven, IsOutcome, IsEnding, reach}
 use Rattle.spool_core.specs.Turns.{IsAnswered, IsBroken, DrivesOne}
 use Rattle.spool_core.specs.declared.driving.Ending.{Ending}
 use Rattle.spool_core.specs.declared.driving.Ending.TheVariants.{End, Memory, Full, Disk, Dead}
-use Rattle.spool_core.proofs.DriveLaws.{after_all_last, replies_last, documents_after-append, IsNext, HasTableAfter, HasWholeAfter, turn_prefix, turn_whole, run_none, run_more, chain_more, room_last}
+use Rattle.spool_core.proofs.DriveLaws.{after_all_last, replies_last, documents_after-append, IsNext, HasTableAfter, HasWholeAfter, turn_prefix, turn_whole, run_none, run_more, chain_more, whole_more, room_last}
 
 not_dead : (b : Bool) → b ≡ false → b ≡ true → ⊥
 not_dead b p q = cc
@@ -62,6 +62,7 @@ module _ {D : Type 0} (v : DiskView D)
         run_none v lawful (HasWholeAfter old.state documents events) old.disk
         (λ c left. (kept alive (subst IsSome (sym tells) refl) c left, subst (HasDocuments old.state documents) (sym (synced alive r tells c left)) has));
     sent = λ alive r documents tells has c left. subst (HasDocuments old.state documents) (sym (synced alive r tells c left)) has;
+    whole_chain = λ alive r documents tells has. refl;
   })
 
   module _ (replies : List (Result Reply Refusal)) (now : Standing D) (driven : IsDriven v old events replies now) where
@@ -91,6 +92,14 @@ module _ {D : Type 0} (v : DiskView D)
       ),
     )
 
+    acknowledged_whole : old.dead ≡ false → (r : List ℕ) (documents : ℕ → List ℕ) → v.bytes old.disk ≡ Some r → HasDocuments old.state documents r
+        → IsAcknowledgedWhole v old.state documents events (length replies) (length replies) old.disk now.disk
+    acknowledged_whole alive r documents tells has = (
+      now.disk,
+      driven.whole_chain alive r documents tells has,
+      started v now.disk (HasWholePrefix old.state documents events (length replies) (length replies)) (λ c left. whole_here alive r documents tells has c (lawful.only_now now.disk c left)),
+    )
+
     pub end_of_all : length replies ≡ length events → IsOutcome v old events replies End now
     end_of_all all = record {
       replies_are = driven.replies_are;
@@ -107,6 +116,7 @@ module _ {D : Type 0} (v : DiskView D)
       acknowledged = acknowledged_here;
       documents = driven.documents;
       sent = whole_here;
+      whole = acknowledged_whole;
     }
 
     pub end_of_memory : length replies < length events → old.dead ≡ false → IsOutcome v old events replies Memory now
@@ -125,6 +135,7 @@ module _ {D : Type 0} (v : DiskView D)
       acknowledged = acknowledged_here;
       documents = driven.documents;
       sent = whole_here;
+      whole = acknowledged_whole;
     }
 
     module _ (taken : List Event) (e : Event) (next : IsNext events taken e (length replies)) (new : Standing D) (turns : Turns v now e new) where
@@ -175,8 +186,23 @@ module _ {D : Type 0} (v : DiskView D)
         documents_with =
             run_more v lawful (HasWholeAfter old.state documents events) 0 (length replies) (length replies + 1) old.disk now.disk new.disk (omega arith) (omega arith) (driven.documents alive r documents tells has) turn_documents
 
+        whole_with : IsAcknowledgedWhole v old.state documents events (length replies) (length replies + 1) old.disk new.disk
+        whole_with = (now.disk, driven.whole_chain alive r documents tells has, turn_documents)
+
         sent_with : (c : List ℕ) → v.image new.disk c → HasWholePrefix old.state documents events (length replies) (length replies + 1) c
         sent_with = at_return v lawful now.disk new.disk (HasWholePrefix old.state documents events (length replies) (length replies + 1)) turn_documents
+
+        -- the same of the table and the documents that the events before it lead to
+        whole_turn : LeavesOnly v now.disk new.disk (HasWholeBeforeOrAfterEvent (after_all old.state taken) (documents_after old.state documents taken) e)
+        whole_turn =
+            subst (λ (s : State). LeavesOnly v now.disk new.disk (HasWholeBeforeOrAfterEvent s (documents_after old.state documents taken) e)) now_table
+            (subst (λ (ds : ℕ → List ℕ). LeavesOnly v now.disk new.disk (HasWholeBeforeOrAfterEvent now.state ds e)) now_documents
+            (turns.documents (now_alive alive) told_now.0 documents_now told_now.1 has_now))
+
+        -- an answered event has sent what it sends
+        sent_on : ((r : List ℕ) (documents : ℕ → List ℕ) → v.bytes now.disk ≡ Some r → HasDocuments now.state documents r → LeavesDocuments v new.state (documents_after_one now.state documents e) new.disk)
+            → LeavesDocuments v new.state (documents_after_one (after_all old.state taken) (documents_after old.state documents taken) e) new.disk
+        sent_on sent c left = subst (λ (ds : ℕ → List ℕ). HasDocuments new.state ds c) (λ i. documents_after_one (now_table i) (now_documents i) e) (sent told_now.0 documents_now told_now.1 has_now c left)
 
       -- the device failed
       end_of_disk : IsBroken v now e new → IsOutcome v old events replies Disk new
@@ -195,6 +221,7 @@ module _ {D : Type 0} (v : DiskView D)
         acknowledged = acknowledged_with;
         documents = documents_with;
         sent = sent_with;
+        whole = whole_with;
       }
 
       -- nothing has changed
@@ -215,6 +242,7 @@ module _ {D : Type 0} (v : DiskView D)
         acknowledged = λ alive tells. subst (λ (k : ℕ). IsAcknowledged v old.state events (length replies) k old.disk now.disk) (sym reaches) (acknowledged_here alive tells);
         documents = λ alive r documents tells has. subst (λ (k : ℕ). LeavesOnly v old.disk now.disk (HasWholePrefix old.state documents events 0 k)) (sym reaches) (driven.documents alive r documents tells has);
         sent = λ alive r documents tells has c left. subst (λ (k : ℕ). HasWholePrefix old.state documents events (length replies) k c) (sym reaches) (whole_here alive r documents tells has c left);
+        whole = λ alive r documents tells has. subst (λ (k : ℕ). IsAcknowledgedWhole v old.state documents events (length replies) k old.disk now.disk) (sym reaches) (acknowledged_whole alive r documents tells has);
       })
 
       none_answered : (n : ℕ) → (0 < n → old.dead ≡ false) → IsTrue old.dead → n ≡ 0
@@ -267,9 +295,17 @@ module _ {D : Type 0} (v : DiskView D)
                 (λ c left. subst (λ (s : State). HasTable s c) (answered.table ∙ ap (λ (s : State). after_one s e) now_table) (keeps tells c left)));
             documents = λ alive r documents tells has. subst (λ (k : ℕ). LeavesOnly v old.disk new.disk (HasWholePrefix old.state documents events 0 k)) (sym long) (documents_with alive r documents tells has);
             sent = λ alive r documents tells has c left.
-                let here = told_now alive r documents tells has in
-                let were = documents_now alive r documents tells has in
                 subst (λ (ds : ℕ → List ℕ). HasDocuments new.state ds c)
-                ((λ i. documents_after_one (now_table i) (now_documents alive r documents tells has i) e) ∙ sym (documents_after-append old.state documents taken (e ∷ [])) ∙ ap (documents_after old.state documents) (sym whole))
-                (sent here.0 were here.1 (has_now alive r documents tells has) c left);
+                (sym (documents_after-append old.state documents taken (e ∷ [])) ∙ ap (documents_after old.state documents) (sym whole))
+                (sent_on alive r documents tells has sent c left);
+            whole_chain = λ alive r documents tells has. subst (λ (es : List Event). IsWholeChain v old.state documents es old.disk new.disk) (sym whole)
+                (whole_more v lawful old.state documents taken e old.disk now.disk new.disk
+                (subst (λ (es : List Event). IsWholeChain v old.state documents es old.disk now.disk) next.before (driven.whole_chain alive r documents tells has))
+                (whole_turn alive r documents tells has)
+                (λ c left.
+                    let leads : new.state ≡ after_one (after_all old.state taken) e = answered.table ∙ ap (λ (s : State). after_one s e) now_table in
+                    let now_tells : IsSome (v.bytes old.disk) = subst IsSome (sym tells) refl in (
+                      subst (λ (s : State). HasTable s c) leads (keeps now_tells c left),
+                      subst (λ (s : State). HasDocuments s (documents_after_one (after_all old.state taken) (documents_after old.state documents taken) e) c) leads (sent_on alive r documents tells has sent c left),
+                    )));
           }

@@ -7,7 +7,7 @@ use Rattle.spool_types.specs.State.{State}
 use Rattle.job_table.specs.Step.{refusal_of, reply_to}
 use Rattle.job_table.specs.Fold.{after_one, after_all}
 use Rattle.spool_disk.specs.Disk.{DiskView, Blames, LeavesOnly}
-use Rattle.spool_core.specs.Image.{HasTable, HasDocuments, HasWhole, HasBeforeOrAfterEvent, documents_after_one}
+use Rattle.spool_core.specs.Image.{HasTable, HasDocuments, HasWhole, HasBeforeOrAfterEvent, HasWholeBeforeOrAfterEvent, documents_after_one}
 use Rattle.spool_core.specs.Standing.{Standing, IsFull, record_len}
 use Rattle.spool_core.specs.declared.driving.Ending.{Ending}
 use Rattle.spool_core.specs.declared.driving.Ending.TheVariants.{End, Memory, Full, Disk, Dead}
@@ -81,6 +81,10 @@ LeavesTable v s d = (c : List ℕ) → v.image d c → HasTable s c
 abbrev pub LeavesDocuments : {D : Type 0} → DiskView D → State → (ℕ → List ℕ) → D → Type 0
 LeavesDocuments v s documents d = (c : List ℕ) → v.image d c → HasDocuments s documents c
 
+-- A crash leaves this table with these documents.
+abbrev pub LeavesWhole : {D : Type 0} → DiskView D → State → (ℕ → List ℕ) → D → Type 0
+LeavesWhole v s documents d = (c : List ℕ) → v.image d c → HasWhole s documents c
+
 -- A chain of disks from one to another, with one more for each event: between two neighbours a crash leaves the table
 -- before the event or the one after it, and from the later of them on the event isn't lost.
 abbrev pub IsChain : {D : Type 0} → DiskView D → State → List Event → D → D → Type 0
@@ -92,6 +96,17 @@ IsChain {D} v s (e ∷ es) d new =
 abbrev pub IsAcknowledged : {D : Type 0} → DiskView D → State → List Event → ℕ → ℕ → D → D → Type 0
 IsAcknowledged {D} v s events n most old new =
     (last : D) × IsChain v s (take n events) old last × LeavesOnly v last new (HasPrefixTable s events n most)
+
+-- Such a chain with the documents: from the later of two neighbours on what the event sent isn't lost.
+abbrev pub IsWholeChain : {D : Type 0} → DiskView D → State → (ℕ → List ℕ) → List Event → D → D → Type 0
+IsWholeChain v s documents [] d new = d ≡ new
+IsWholeChain {D} v s documents (e ∷ es) d new =
+    (next : D) × LeavesOnly v d next (HasWholeBeforeOrAfterEvent s documents e) × LeavesWhole v (after_one s e) (documents_after_one s documents e) next
+    × IsWholeChain v (after_one s e) (documents_after_one s documents e) es next new
+
+abbrev pub IsAcknowledgedWhole : {D : Type 0} → DiskView D → State → (ℕ → List ℕ) → List Event → ℕ → ℕ → D → D → Type 0
+IsAcknowledgedWhole {D} v s documents events n most old new =
+    (last : D) × IsWholeChain v s documents (take n events) old last × LeavesOnly v last new (HasWholePrefix s documents events n most)
 
 -- What a crash leaves of a spool with this table, as long as the device hasn't failed.
 abbrev pub KeepsImages : {D : Type 0} → DiskView D → Standing D → Type 0
@@ -117,6 +132,8 @@ pub record IsDriven {D : Type 0} (v : DiskView D) (old : Standing D) (events : L
       LeavesOnly v old.disk new.disk (HasWholePrefix old.state documents events 0 (length replies))
   pub sent : old.dead ≡ false → (r : List ℕ) (documents : ℕ → List ℕ) → v.bytes old.disk ≡ Some r → HasDocuments old.state documents r →
       LeavesDocuments v new.state (documents_after old.state documents (take (length replies) events)) new.disk
+  pub whole_chain : old.dead ≡ false → (r : List ℕ) (documents : ℕ → List ℕ) → v.bytes old.disk ≡ Some r → HasDocuments old.state documents r →
+      IsWholeChain v old.state documents (take (length replies) events) old.disk new.disk
 
 -- The run ended so, with these replies.
 pub record IsOutcome {D : Type 0} (v : DiskView D) (old : Standing D) (events : List Event) (replies : List (Result Reply Refusal)) (ending : Ending) (new : Standing D) : Type 0 where
@@ -138,3 +155,5 @@ pub record IsOutcome {D : Type 0} (v : DiskView D) (old : Standing D) (events : 
       LeavesOnly v old.disk new.disk (HasWholePrefix old.state documents events 0 (reach ending (length replies)))
   pub sent : old.dead ≡ false → (r : List ℕ) (documents : ℕ → List ℕ) → v.bytes old.disk ≡ Some r → HasDocuments old.state documents r →
       (c : List ℕ) → v.image new.disk c → HasWholePrefix old.state documents events (length replies) (reach ending (length replies)) c
+  pub whole : old.dead ≡ false → (r : List ℕ) (documents : ℕ → List ℕ) → v.bytes old.disk ≡ Some r → HasDocuments old.state documents r →
+      IsAcknowledgedWhole v old.state documents events (length replies) (reach ending (length replies)) old.disk new.disk

@@ -11,7 +11,7 @@ ghost use Rattle.job_table.specs.Fold.{after_all};
 ghost use Rattle.job_table.specs.Ended.{HasEndedJob, subject};
 ghost use Rattle.spool_core.specs.Image.{HasTable, HasDocuments, HasBeforeOrAfterEvent, HasWholeBeforeOrAfterEvent, documents_after_one};
 ghost use Rattle.spool_core.specs.Standing.{IsFull};
-ghost use Rattle.spool_core.specs.Driving.{replies_to, reach, room_after, HasPrefixTable, HasWholePrefix, IsEnding, IsAcknowledged, KeepsImages, LeavesDocuments, IsOutcome};
+ghost use Rattle.spool_core.specs.Driving.{replies_to, reach, room_after, HasPrefixTable, HasWholePrefix, IsEnding, IsAcknowledged, IsAcknowledgedWhole, KeepsImages, LeavesDocuments, IsOutcome};
 ghost use Rattle.spool_core.specs.Turns.{DrivesOne};
 
 use crate::spool::{ApplyFault, Spool};
@@ -132,10 +132,12 @@ pub fn drive<D: Disk>(alloc: Global, spool: &mut Spool<D>, events: Vec<Event>) -
     ensures after_fault { spool.old.dead ≡ false → IsSome (D.device.bytes spool.old.disk) → (c : List ℕ) → D.device.image spool.new.disk c →
         HasPrefixTable spool.old.state events.items (length result.replies.items) (reach result.ending (length result.replies.items)) c }
 
-    // So it is with the documents: at any moment a crash leaves those after some of the events, and at the end what every
-    // acknowledged event sent is there.
+    // So it is with the documents: at any moment a crash leaves those after some of the events, from a reply on what its
+    // event sent is there, and at the end what every acknowledged event sent.
     ensures documents { spool.old.dead ≡ false → (r : List ℕ) (documents : ℕ → List ℕ) → D.device.bytes spool.old.disk ≡ Some r → HasDocuments spool.old.state documents r →
         LeavesOnly D.device spool.old.disk spool.new.disk (HasWholePrefix spool.old.state documents events.items 0 (reach result.ending (length result.replies.items))) }
+    ensures whole { spool.old.dead ≡ false → (r : List ℕ) (documents : ℕ → List ℕ) → D.device.bytes spool.old.disk ≡ Some r → HasDocuments spool.old.state documents r →
+        IsAcknowledgedWhole D.device spool.old.state documents events.items (length result.replies.items) (reach result.ending (length result.replies.items)) spool.old.disk spool.new.disk }
     ensures sent { spool.old.dead ≡ false → (r : List ℕ) (documents : ℕ → List ℕ) → D.device.bytes spool.old.disk ≡ Some r → HasDocuments spool.old.state documents r →
         (c : List ℕ) → D.device.image spool.new.disk c → HasWholePrefix spool.old.state documents events.items (length result.replies.items) (reach result.ending (length result.replies.items)) c }
 

@@ -19,7 +19,8 @@ ghost use Rattle.spool_areas.specs.declared.fault.OpenFault.{OpenFault};
 use job_table::{ended_jobs_stay, legal_tables_stay_legal, reopening};
 
 /// An image has at most one table or one fault, and never both, and at most one room, so what an opening finds is
-/// determined by the bytes. So are the documents: where there is a table each number has one document.
+/// determined by the bytes. So are the documents: a job's number has at most one, and where there is a table each job that
+/// hasn't ended has one.
 pub fn one_reading()
     ensures table { (s t : State) (c : List ℕ) → HasTable s c → HasTable t c → s ≡ t }
     ensures either { (s : State) (f : OpenFault) (c : List ℕ) → HasTable s c → ¬ (HasFault f c) }
