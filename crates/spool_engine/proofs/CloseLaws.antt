@@ -13,10 +13,10 @@ use Rattle.spool_types.specs.State.{State, Job, job_at}
 use Rattle.job_table.specs.Contents.{is_over}
 use Rattle.job_table.specs.Step.{answered, first_cause, refusal_of, step, where_it}
 use Rattle.spool_disk.specs.Disk.{DiskView, IsLawful, Blames, ChangesNothing, LeavesOnly}
-use Rattle.spool_disk.proofs.Moments.{at_return, no_change, runs_on, weaker_run}
+use Rattle.spool_disk.proofs.Moments.{at_return, runs_on, weaker_run}
 use Rattle.command_lines.specs.declared.command.Command.TheVariants.{Close}
 use Rattle.spool_core.specs.Driving.{documents_after}
-use Rattle.spool_core.specs.Image.{HasTable, HasDocument, HasBeforeOrAfterEvent}
+use Rattle.spool_core.specs.Image.{HasTable, HasDocument, HasBeforeOrAfterEvent, HasWholeBeforeOrAfterEvent}
 use Rattle.spool_core.specs.Standing.{Standing, IsDone, IsFull, IsFailed, len_at}
 use Rattle.spool_core.specs.declared.spool.apply_fault.ApplyFault.{ApplyFault}
 use Rattle.spool_core.specs.declared.spool.apply_fault.ApplyFault.TheVariants.{Dead, Refused, Memory, Full, Disk}
@@ -26,10 +26,10 @@ use Rattle.print_rounds.specs.Rounds.{HasSomeOf, LeavesDocuments}
 use Rattle.print_rounds.specs.declared.reading.Unread.{Unread}
 use Rattle.print_rounds.specs.declared.reading.Unread.TheVariants as reads
 use Rattle.spool_engine.specs.Script.{closing_of, closing_line, step_line}
-use Rattle.spool_engine.specs.EventTurns.{Setting, Outcome, EventTurn, served, no_memory, full, disk, unreadable, IsTaken, IsOutcome, IsKept, IsStill, IsCut, IsDocumentOf, tried_as}
+use Rattle.spool_engine.specs.EventTurns.{Setting, Outcome, EventTurn, served, no_memory, full, disk, unreadable, IsTaken, IsOutcome, IsKept, IsStill, IsCut, IsDocumentOf, HasSomeSent, tried_as}
 use Rattle.spool_engine.specs.Answers.{IsApplied, IsDocumentRead, Takes, answer_line}
 use Rattle.command_lines.specs.Replies.{refusal_line}
-use Rattle.spool_engine.proofs.EventLaws.{dead_turn, refused_turn, same_bytes, unasked}
+use Rattle.spool_engine.proofs.EventLaws.{LeavesSent, none_whole, one_whole, still_whole, unmoved, dead_turn, refused_turn, same_bytes, unasked}
 
 -- ## A spool that was read
 
@@ -120,6 +120,10 @@ module _ {D : Type 0} (v : Setting D) (s : Standing D) (d : D) (s' : Standing D)
   crash_read same lives tells = subst (λ x. LeavesOnly v.device s.disk x.disk (HasSomeOf s.state [])) (sym same)
       (weaker_run v.device s.disk d (HasSomeOf s.state []) (v.device.image s.disk) still.images (λ c now. none_of s.state [] c (kept lives tells c now)))
 
+  whole_read : s' ≡ over s d → LeavesSent v.device s s' []
+  whole_read same lives tells documents has = subst (λ x. LeavesOnly v.device s.disk x.disk (HasSomeSent s.state documents [])) (sym same)
+      (weaker_run v.device s.disk d (HasSomeSent s.state documents []) (v.device.image s.disk) still.images (λ c now. none_whole s.state documents [] c (kept lives tells c now, has c now)))
+
   -- the event was
   crash_tried : (a : Result Reply ApplyFault) → IsApplied v.device (over s d) event a s' → s.dead ≡ false → IsSome (v.device.bytes s.disk) → LeavesOnly v.device s.disk s'.disk (HasSomeOf s.state (event ∷ []))
   crash_tried a h lives tells = runs_on v.device s.disk d s'.disk (HasSomeOf s.state (event ∷ [])) (HasBeforeOrAfterEvent s.state event)
@@ -127,13 +131,20 @@ module _ {D : Type 0} (v : Setting D) (s : Standing D) (d : D) (s' : Standing D)
       (h.crash lives (subst IsSome (sym still.bytes) tells))
       (one_of s.state event)
 
+  whole_tried : (a : Result Reply ApplyFault) → IsApplied v.device (over s d) event a s' → LeavesSent v.device s s' (event ∷ [])
+  whole_tried a h lives tells documents has = runs_on v.device s.disk d s'.disk (HasSomeSent s.state documents (event ∷ [])) (HasWholeBeforeOrAfterEvent s.state documents event)
+      (weaker_run v.device s.disk d (HasSomeSent s.state documents (event ∷ [])) (v.device.image s.disk) still.images (λ c now. none_whole s.state documents (event ∷ []) c (kept lives tells c now, has c now)))
+      (h.whole lives (subst IsSome (sym still.bytes) tells) documents (read_documents v.device s d documents lawful still has))
+      (one_whole s.state documents event)
+
   -- a turn whose event went so behind the read
   closed_as : (a : Result Reply ApplyFault) (o : Outcome) (text : List ℕ) → IsApplied v.device (over s d) event a s' → IsDocumentOf v.device s job document
       → IsOutcome v s (record { command = Close job name; document = document; outcome = o; text = text; next = s' }) o
       → (s.dead ≡ false → IsSome (v.device.bytes s.disk) → LeavesOnly v.device s.disk s'.disk (HasSomeOf s.state (tried_as (Some event) o)))
+      → LeavesSent v.device s s' (tried_as (Some event) o)
       → (s'.dead ≡ false → IsSome (v.device.bytes s.disk) → (documents : ℕ → List ℕ) → LeavesDocuments v.device documents s → LeavesDocuments v.device (documents_after s.state documents (tried_as (Some event) o)) s')
       → (t : EventTurn D) × Takes v s (Close job name) t s' × (t.text ≡ text)
-  closed_as a o text h own out crash lasting = (
+  closed_as a o text h own out crash whole lasting = (
     record { command = Close job name; document = document; outcome = o; text = text; next = s' },
     record {
       legal = record {
@@ -142,6 +153,7 @@ module _ {D : Type 0} (v : Setting D) (s : Standing D) (d : D) (s' : Standing D)
         counted = let more = h.counted in omega (arith, counted, more);
         told = subst (λ b. IsSome (v.device.bytes s'.disk) ↔ IsSome b) still.bytes h.told;
         crash = crash;
+        whole = whole;
         kept = h.kept;
         lasting = lasting;
       };
@@ -164,20 +176,24 @@ module _ {D : Type 0} (v : Setting D) (s : Standing D) (d : D) (s' : Standing D)
       closed_as (Ok reply) served (line reply) h own
       (sym (ap (step_line line) done.step), subst (λ r. IsTaken s event r s') (sym done.step) done)
       (crash_tried (Ok reply) h)
+      (whole_tried (Ok reply) h)
       (λ lives tells documents has. h.sent (subst IsSome (sym still.bytes) tells) documents (read_documents v.device s d documents lawful still has))
   closed_turn (Err (Refused refusal)) none own h = absurd (accepted_only refusal none h.cause.1)
   closed_turn (Err Dead) none own h = absurd (let died = h.cause.0 in cc)
   closed_turn (Err Memory) none own h = closed_as (Err Memory) no_memory (codes "error memory\n") h own
       (record { event = event; is = refl; cause = (alive, none, inr (tt, still_of v.device s d s' still counted h.cause.2)); text = refl })
       (crash_read h.cause.2)
+      (whole_read h.cause.2)
       (λ lives tells documents has. lasting_read h.cause.2 documents has)
   closed_turn (Err Full) none own h = closed_as (Err Full) full (codes "error full\n") h own
       (record { event = event; is = refl; cause = (full_of v.device s d event h.cause.0, inr (tt, still_of v.device s d s' still counted h.cause.1)); text = refl })
       (crash_read h.cause.1)
+      (whole_read h.cause.1)
       (λ lives tells documents has. lasting_read h.cause.1 documents has)
   closed_turn (Err Disk) none own h = closed_as (Err Disk) disk (codes "error disk\n") h own
       (record { event = event; is = refl; cause = failed_of v.device s d event s' counted h.cause; text = refl })
       (crash_tried (Err Disk) h)
+      (whole_tried (Err Disk) h)
       (λ lives tells documents has. absurd (let died = h.cause.dead in cc))
 
 -- ## Before a read
@@ -246,7 +262,8 @@ unread_document {D} v s s' job name lawful kept alive none same = subst (λ x. (
       read = λ behind accepted. absurd (let bad : false ≡ true = behind in cc);
       counted = omega arith;
       told = (λ h. h, λ h. h);
-      crash = λ lives tells. weaker_run v.device s.disk s.disk (HasSomeOf s.state []) (v.device.image s.disk) (no_change v.device s.disk lawful).images (λ c now. none_of s.state [] c (kept lives tells c now));
+      crash = unmoved v.device s (HasSomeOf s.state []) lawful.only_now kept (none_of s.state []);
+      whole = still_whole v.device s [] lawful.only_now kept;
       kept = kept;
       lasting = λ lives tells documents has. has;
     };
@@ -268,6 +285,7 @@ unreadable_document v s s' job name kept none cut = (
       counted = let more = cut.cause in omega (arith, more);
       told = (λ h. subst IsSome cut.disk.bytes h, λ h. subst IsSome (sym cut.disk.bytes) h);
       crash = λ lives tells. weaker_run v.device s.disk s'.disk (HasSomeOf s.state []) (v.device.image s.disk) cut.disk.images (λ c now. none_of s.state [] c (kept lives tells c now));
+      whole = λ lives tells documents has. weaker_run v.device s.disk s'.disk (HasSomeSent s.state documents []) (v.device.image s.disk) cut.disk.images (λ c now. none_whole s.state documents [] c (kept lives tells c now, has c now));
       kept = cut_kept v.device s s' cut;
       lasting = λ lives tells documents has. absurd (let died = cut.dead in cc);
     };

@@ -13,12 +13,12 @@ use Rattle.spool_core.specs.Checkpointing.{IsCheckpoint}
 use Rattle.spool_core.specs.declared.spool.checkpoint_fault.CheckpointFault.{CheckpointFault}
 use Rattle.spool_core.specs.declared.spool.checkpoint_fault.CheckpointFault.TheVariants as listing
 use Rattle.print_rounds.specs.Courses.{Course}
-use Rattle.spool_engine.specs.Script.{Meaning, says, asks, lists, runs, meaning}
-use Rattle.print_rounds.specs.Rounds.{HasSomeOf}
+use Rattle.spool_engine.specs.Script.{Documents, Meaning, says, asks, lists, runs, meaning}
+use Rattle.print_rounds.specs.Rounds.{HasSomeOf, LeavesDocuments}
 use Rattle.spool_engine.specs.EventTurns.{Setting, Outcome, EventTurn, served, no_memory, full, disk, dead, unread, unreadable, unlisted, IsTaken, IsServedBy, IsOutcome, IsKept}
 use Rattle.spool_engine.specs.Rounds.{Ran, AreRunBy}
-use Rattle.spool_engine.specs.Runs.{Turn, How, answered, ran, event_turn, tried_in, IsHow, IsTurn, IsAlong, AreTurns, last_course}
-use Rattle.spool_engine.proofs.EventLaws.{OnlyNow, unmoved}
+use Rattle.spool_engine.specs.Runs.{Turn, How, answered, ran, event_turn, tried_in, documents_left, HasSomeIn, IsHow, IsTurn, IsAlong, IsWholeAlong, AreTurns, last_course, last_documents}
+use Rattle.spool_engine.proofs.EventLaws.{OnlyNow, unmoved, unmoved_whole}
 use Rattle.spool_engine.proofs.RoundLaws.{dead_rans}
 
 -- a dead spool takes no event
@@ -87,7 +87,44 @@ along : {D : Type 0} (v : Setting D) (m : Course D) (ts : List (Turn D)) → Onl
 along v m [] now kept h alive tells = unmoved v.device m.spool (IsAlong v.mime m []) now kept (λ c has. has) alive tells
 along v m (t ∷ ts) now kept h alive tells = after_turn v m t ts t.next.spool.dead refl h.0 h.1 alive tells (λ lives. along v t.next ts now h.0.kept h.1 lives (h.0.told.1 tells))
 
+-- so it is with the documents
+one_whole_turn : {D : Type 0} (v : Setting D) (m : Course D) (documents : Documents) (t : Turn D) (ts : List (Turn D)) → IsTurn v m t → m.spool.dead ≡ false → IsSome (v.device.bytes m.spool.disk) → LeavesDocuments v.device documents m.spool → LeavesOnly v.device m.spool.disk t.next.spool.disk (IsWholeAlong v.mime m documents (t ∷ ts))
+one_whole_turn v m documents t ts one alive tells has = weaker_run v.device m.spool.disk t.next.spool.disk (IsWholeAlong v.mime m documents (t ∷ ts)) (HasSomeIn v.mime m documents t) (one.whole alive tells documents has) (λ c some. inl some)
+
+after_whole_turn : {D : Type 0} (v : Setting D) (m : Course D) (documents : Documents) (t : Turn D) (ts : List (Turn D)) (b : Bool) → t.next.spool.dead ≡ b → IsTurn v m t → AreTurns v t.next ts → m.spool.dead ≡ false → IsSome (v.device.bytes m.spool.disk) → LeavesDocuments v.device documents m.spool
+    → (t.next.spool.dead ≡ false → LeavesDocuments v.device (documents_left v.mime m documents t) t.next.spool → LeavesOnly v.device t.next.spool.disk (last_course t.next ts).spool.disk (IsWholeAlong v.mime t.next (documents_left v.mime m documents t) ts))
+    → LeavesOnly v.device m.spool.disk (last_course t.next ts).spool.disk (IsWholeAlong v.mime m documents (t ∷ ts))
+after_whole_turn v m documents t ts false is one more alive tells has rest = runs_on v.device m.spool.disk t.next.spool.disk (last_course t.next ts).spool.disk (IsWholeAlong v.mime m documents (t ∷ ts)) (IsWholeAlong v.mime t.next (documents_left v.mime m documents t) ts)
+    (one_whole_turn v m documents t ts one alive tells has)
+    (rest is (one.lasting is tells documents has))
+    (λ c along. inr along)
+after_whole_turn v m documents t ts true is one more alive tells has rest = subst (λ x. LeavesOnly v.device m.spool.disk x.disk (IsWholeAlong v.mime m documents (t ∷ ts))) (sym (dead_last v t.next ts is more))
+    (one_whole_turn v m documents t ts one alive tells has)
+
+whole_along : {D : Type 0} (v : Setting D) (m : Course D) (documents : Documents) (ts : List (Turn D)) → OnlyNow v.device → IsKept v.device m.spool → AreTurns v m ts → m.spool.dead ≡ false → IsSome (v.device.bytes m.spool.disk) → LeavesDocuments v.device documents m.spool → LeavesOnly v.device m.spool.disk (last_course m ts).spool.disk (IsWholeAlong v.mime m documents ts)
+whole_along v m documents [] now kept h alive tells has = unmoved_whole v.device m.spool documents (IsWholeAlong v.mime m documents []) now kept (λ c whole. whole) alive tells has
+whole_along v m documents (t ∷ ts) now kept h alive tells has = after_whole_turn v m documents t ts t.next.spool.dead refl h.0 h.1 alive tells has (λ lives left. whole_along v t.next (documents_left v.mime m documents t) ts now h.0.kept h.1 lives (h.0.told.1 tells) left)
+
+first_turns : {D : Type 0} (v : Setting D) (s : Course D) (first others : List (Turn D)) → AreTurns v s (first ++ others) → AreTurns v s first
+first_turns v s [] others h = tt
+first_turns v s (t ∷ first) others h = (h.0, first_turns v t.next first others h.1)
+
+told_first : {D : Type 0} (v : Setting D) (s : Course D) (first others : List (Turn D)) → AreTurns v s (first ++ others) → IsSome (v.device.bytes (last_course s first).spool.disk) → IsSome (v.device.bytes s.spool.disk)
+told_first v s [] others h tells = tells
+told_first v s (t ∷ first) others h tells = h.0.told.0 (told_first v t.next first others h.1 tells)
+
+lives_first : {D : Type 0} (v : Setting D) (s : Course D) (first others : List (Turn D)) (b : Bool) → s.spool.dead ≡ b → AreTurns v s (first ++ others) → (last_course s first).spool.dead ≡ false → s.spool.dead ≡ false
+lives_first v s first others true is h lives = let died = ap (λ x. x.dead) (dead_last v s first is (first_turns v s first others h)) ∙ is in absurd cc
+lives_first v s first others false is h lives = is
+
 -- the same behind the first of them
 pub along_others : {D : Type 0} (v : Setting D) (s : Course D) (first others : List (Turn D)) → OnlyNow v.device → IsKept v.device s.spool → AreTurns v s (first ++ others) → (last_course s first).spool.dead ≡ false → IsSome (v.device.bytes (last_course s first).spool.disk) → LeavesOnly v.device (last_course s first).spool.disk (last_course s (first ++ others)).spool.disk (IsAlong v.mime (last_course s first) others)
 along_others v s [] others now kept h alive tells = along v s others now kept h alive tells
 along_others v s (t ∷ first) others now kept h alive tells = along_others v t.next first others now h.0.kept h.1 alive tells
+
+pub whole_along_others : {D : Type 0} (v : Setting D) (s : Course D) (documents : Documents) (first others : List (Turn D)) → OnlyNow v.device → IsKept v.device s.spool → AreTurns v s (first ++ others) → (last_course s first).spool.dead ≡ false → IsSome (v.device.bytes (last_course s first).spool.disk) → LeavesDocuments v.device documents s.spool
+    → LeavesOnly v.device (last_course s first).spool.disk (last_course s (first ++ others)).spool.disk (IsWholeAlong v.mime (last_course s first) (last_documents v.mime s documents first) others)
+whole_along_others v s documents [] others now kept h alive tells has = whole_along v s documents others now kept h alive tells has
+whole_along_others v s documents (t ∷ first) others now kept h alive tells has =
+    let lives = lives_first v t.next first others t.next.spool.dead refl h.1 alive in
+    whole_along_others v t.next (documents_left v.mime s documents t) first others now h.0.kept h.1 alive tells (h.0.lasting lives (told_first v s (t ∷ first) others h tells) documents has)

@@ -1,5 +1,5 @@
 -- A turn of a command that is no round.
-use Rattle.std.proofs.Common.{◌≡◌, ℕ, List, [], ◌∷◌, refl, ap, sym, ◌∙◌, subst, inl, arith, true, false, cond, Option, None, Some, Result, Ok, Err}
+use Rattle.std.proofs.Common.{◌≡◌, ℕ, List, [], ◌∷◌, refl, ap, sym, ◌∙◌, subst, inl, ⊎_elim, arith, true, false, cond, Option, None, Some, Result, Ok, Err}
 use Rattle.std.specs.Prelude.{◌≤◌, ◌↔◌, IfOk, OnOk, IsSome, codes}
 use Rattle.spool_types.specs.declared.event.Event.{Event}
 use Rattle.spool_types.specs.declared.event.Event.TheVariants.{AddQueue, Create as NewJob}
@@ -11,13 +11,13 @@ use Rattle.job_table.specs.Step.{answered, refusal_of}
 use Rattle.job_table.specs.Fold.{unless_refused}
 use Rattle.device_uri.specs.Devices.{is_device_uri}
 use Rattle.spool_disk.specs.Disk.{DiskView, IsLawful, LeavesOnly}
-use Rattle.spool_disk.proofs.Moments.{at_return, started, weaker_run}
+use Rattle.spool_disk.proofs.Moments.{at_return, both_runs, started, weaker_run}
 use Rattle.command_lines.specs.Replies.{refusal_line}
 use Rattle.command_lines.specs.declared.command.Command.{Command}
 use Rattle.command_lines.specs.declared.command.Creation.{Creation}
 use Rattle.command_lines.specs.declared.command.Command.TheVariants.{Queue, Create}
 use Rattle.spool_core.specs.Driving.{documents_after}
-use Rattle.spool_core.specs.Image.{HasTable, HasDocuments, HasBeforeOrAfterEvent, unless_refused_sent, documents_after_one}
+use Rattle.spool_core.specs.Image.{HasTable, HasDocuments, HasWhole, HasBeforeOrAfterEvent, HasWholeBeforeOrAfterEvent, unless_refused_sent, documents_after_one}
 use Rattle.spool_core.specs.Standing.{Standing, IsAnswer}
 use Rattle.spool_core.specs.Checkpointing.{IsCheckpoint}
 use Rattle.spool_core.specs.declared.spool.checkpoint_fault.CheckpointFault.{CheckpointFault}
@@ -28,7 +28,7 @@ use Rattle.print_rounds.proofs.PrefixLaws.{none_of, one_of}
 use Rattle.spool_engine.specs.Mime.{Mime}
 use Rattle.spool_engine.specs.Script.{says, asks, lists, meaning, creating, job_options, job_of_creation, event_in, event_of, step_line, step_state, reply_line}
 use Rattle.print_rounds.specs.Rounds.{HasSomeOf, LeavesDocuments}
-use Rattle.spool_engine.specs.EventTurns.{Setting, Outcome, EventTurn, served, no_memory, full, disk, dead, unread, unlisted, IsServedBy, IsTaken, IsOutcome, IsReadFor, MayBeRead, IsKept, tried_as, checkpoint_fault_line}
+use Rattle.spool_engine.specs.EventTurns.{Setting, Outcome, EventTurn, served, no_memory, full, disk, dead, unread, unlisted, IsServedBy, IsTaken, IsOutcome, IsReadFor, MayBeRead, IsKept, HasSomeSent, tried_as, checkpoint_fault_line}
 use Rattle.spool_engine.specs.Answers.{answer_line, checkpoint_line, IsApplied, IsRelisted, Takes}
 
 -- since this moment there is no other
@@ -60,7 +60,25 @@ refused_sent s documents e r (Some q) is = refl
 same_documents : {D : Type 0} (v : DiskView D) (s s' : Standing D) (documents : ℕ → List ℕ) → s' ≡ s → LeavesDocuments v documents s → LeavesDocuments v documents s'
 same_documents v s s' documents same has = subst (LeavesDocuments v documents) (sym same) has
 
+-- an image of a table with its documents is one of those that events lead to from it
+pub none_whole : (s : State) (documents : ℕ → List ℕ) (es : List Event) (c : List ℕ) → HasWhole s documents c → HasSomeSent s documents es c
+none_whole s documents es c has = (0, omega arith, omega arith, has)
+
+pub one_whole : (s : State) (documents : ℕ → List ℕ) (e : Event) (c : List ℕ) → HasWholeBeforeOrAfterEvent s documents e c → HasSomeSent s documents (e ∷ []) c
+one_whole s documents e c = ⊎_elim (λ before. none_whole s documents (e ∷ []) c before) (λ after. (1, omega arith, omega arith, after))
+
+-- where nothing is done a crash leaves the table and its documents
+pub unmoved_whole : {D : Type 0} (v : DiskView D) (s : Standing D) (documents : ℕ → List ℕ) (P : List ℕ → Type 0) → OnlyNow v → IsKept v s → ((c : List ℕ) → HasWhole s.state documents c → P c) → s.dead ≡ false → IsSome (v.bytes s.disk) → LeavesDocuments v documents s → LeavesOnly v s.disk s.disk P
+unmoved_whole v s documents P now kept weaker alive tells has = started v s.disk P (λ c since. weaker c (kept alive tells c (now s.disk c since), has c (now s.disk c since)))
+
+-- what a crash leaves from one spool to another, where these events were tried
+abbrev pub LeavesSent : {D : Type 0} → DiskView D → Standing D → Standing D → List Event → Type 0
+LeavesSent v s s' es = s.dead ≡ false → IsSome (v.bytes s.disk) → (documents : ℕ → List ℕ) → LeavesDocuments v documents s → LeavesOnly v s.disk s'.disk (HasSomeSent s.state documents es)
+
 -- ## A command that is no event
+
+pub still_whole : {D : Type 0} (v : DiskView D) (s : Standing D) (es : List Event) → OnlyNow v → IsKept v s → LeavesSent v s s es
+still_whole v s es now kept = λ alive tells documents has. unmoved_whole v s documents (HasSomeSent s.state documents es) now kept (none_whole s.state documents es) alive tells has
 
 -- a command that closes no job reads no document
 abbrev pub ReadsNothing : {D : Type 0} → Setting D → Standing D → Command → Type 0
@@ -77,6 +95,7 @@ said_turn v s c text now kept none is = (
       counted = omega arith;
       told = (λ h. h, λ h. h);
       crash = unmoved v.device s (HasSomeOf s.state (tried_as (event_of v.mime s.state [] c) served)) now kept (none_of s.state (tried_as (event_of v.mime s.state [] c) served));
+      whole = still_whole v.device s (tried_as (event_of v.mime s.state [] c) served) now kept;
       kept = kept;
       lasting = λ lives tells documents has. subst (λ w. LeavesDocuments v.device (documents_after s.state documents (tried_as (event_in w) served)) s) (sym is) has;
     };
@@ -94,12 +113,19 @@ untried : {D : Type 0} (v : DiskView D) (s s' : Standing D) (e : Event) (a : Res
 untried v s s' e a now h same alive tells = subst (λ x. LeavesOnly v s.disk x.disk (HasSomeOf s.state [])) (sym same)
     (unmoved v s (HasSomeOf s.state []) now (subst (IsKept v) same h.kept) (none_of s.state []) alive tells)
 
+tried_whole : {D : Type 0} (v : DiskView D) (s s' : Standing D) (e : Event) (a : Result Reply ApplyFault) → IsApplied v s e a s' → LeavesSent v s s' (e ∷ [])
+tried_whole v s s' e a h = λ alive tells documents has.
+    weaker_run v s.disk s'.disk (HasSomeSent s.state documents (e ∷ [])) (HasWholeBeforeOrAfterEvent s.state documents e) (h.whole alive tells documents has) (one_whole s.state documents e)
+
+untried_whole : {D : Type 0} (v : DiskView D) (s s' : Standing D) (e : Event) (a : Result Reply ApplyFault) → OnlyNow v → IsApplied v s e a s' → s' ≡ s → LeavesSent v s s' []
+untried_whole v s s' e a now h same = subst (λ x. LeavesSent v s x []) (sym same) (still_whole v s [] now (subst (IsKept v) same h.kept))
+
 -- a turn whose event went so
 pub applied_turn : {D : Type 0} (v : Setting D) (s s' : Standing D) (c : Command) (document : List ℕ) (e : Event) (line : Reply → List ℕ) (a : Result Reply ApplyFault) (o : Outcome) (text : List ℕ) → meaning v.mime s.state document c ≡ asks e line → IsApplied v.device s e a s'
-    → IsOutcome v s (record { command = c; document = document; outcome = o; text = text; next = s' }) o → IsReadFor v s document o c → (s.dead ≡ false → IsSome (v.device.bytes s.disk) → LeavesOnly v.device s.disk s'.disk (HasSomeOf s.state (tried_as (Some e) o)))
+    → IsOutcome v s (record { command = c; document = document; outcome = o; text = text; next = s' }) o → IsReadFor v s document o c → (s.dead ≡ false → IsSome (v.device.bytes s.disk) → LeavesOnly v.device s.disk s'.disk (HasSomeOf s.state (tried_as (Some e) o))) → LeavesSent v.device s s' (tried_as (Some e) o)
     → (s'.dead ≡ false → IsSome (v.device.bytes s.disk) → (documents : ℕ → List ℕ) → LeavesDocuments v.device documents s → LeavesDocuments v.device (documents_after s.state documents (tried_as (Some e) o)) s')
     → (t : EventTurn D) × Takes v s c t s' × (t.text ≡ text)
-applied_turn v s s' c document e line a o text is h out read crash lasting = (
+applied_turn v s s' c document e line a o text is h out read crash whole lasting = (
   record { command = c; document = document; outcome = o; text = text; next = s' },
   record {
     legal = record {
@@ -108,6 +134,7 @@ applied_turn v s s' c document e line a o text is h out read crash lasting = (
       counted = h.counted;
       told = h.told;
       crash = λ alive tells. subst (λ w. LeavesOnly v.device s.disk s'.disk (HasSomeOf s.state (tried_as (event_in w) o))) (sym is) (crash alive tells);
+      whole = subst (λ w. LeavesSent v.device s s' (tried_as (event_in w) o)) (sym is) whole;
       kept = h.kept;
       lasting = λ lives tells documents has. subst (λ w. LeavesDocuments v.device (documents_after s.state documents (tried_as (event_in w) o)) s') (sym is) (lasting lives tells documents has);
     };
@@ -124,6 +151,7 @@ refused_turn v s s' c e line refusal is h read = applied_turn v s s' c [] e line
     (subst (λ w. IsServedBy v.device s w (refusal_line refusal) s') (sym is) (sym (ap (step_line line) h.cause.1), subst (λ r. IsTaken s e r s') (sym h.cause.1) (h.cause.0, h.cause.2)))
     read
     (tried v.device s s' e (Err (Refused refusal)) h)
+    (tried_whole v.device s s' e (Err (Refused refusal)) h)
     (λ lives tells documents has. subst (λ d. LeavesDocuments v.device d s') (sym (refused_sent s.state documents e refusal (refusal_of s.state e) h.cause.1)) (same_documents v.device s s' documents h.cause.2 has))
 
 -- an event of a dead spool
@@ -131,6 +159,7 @@ pub dead_turn : {D : Type 0} (v : Setting D) (s s' : Standing D) (c : Command) (
     → (t : EventTurn D) × Takes v s c t s' × (t.text ≡ codes "error dead\n")
 dead_turn v s s' c e line now is h read = applied_turn v s s' c [] e line (Err Dead) dead (codes "error dead\n") is h (record { event = e; is = ap event_in is; cause = h.cause; text = refl }) read
     (untried v.device s s' e (Err Dead) now h h.cause.1)
+    (untried_whole v.device s s' e (Err Dead) now h h.cause.1)
     (λ lives tells documents has. same_documents v.device s s' documents h.cause.1 has)
 
 pub answered_turn : {D : Type 0} (v : Setting D) (s s' : Standing D) (c : Command) (e : Event) (line : Reply → List ℕ) (a : Result Reply ApplyFault) → OnlyNow v.device → ReadsNothing v s c → meaning v.mime s.state [] c ≡ asks e line → IsApplied v.device s e a s' → (t : EventTurn D) × Takes v s c t s' × (t.text ≡ answer_line line a)
@@ -138,17 +167,21 @@ answered_turn v s s' c e line (Ok reply) now none is h = applied_turn v s s' c [
     (subst (λ w. IsServedBy v.device s w (line reply) s') (sym is) (sym (ap (step_line line) h.cause.step), subst (λ r. IsTaken s e r s') (sym h.cause.step) h.cause))
     (none served)
     (tried v.device s s' e (Ok reply) h)
+    (tried_whole v.device s s' e (Ok reply) h)
     (λ lives. h.sent)
 answered_turn v s s' c e line (Err (Refused refusal)) now none is h = refused_turn v s s' c e line refusal is h (none served)
 answered_turn v s s' c e line (Err Dead) now none is h = dead_turn v s s' c e line now is h (none dead)
 answered_turn v s s' c e line (Err Memory) now none is h = applied_turn v s s' c [] e line (Err Memory) no_memory (codes "error memory\n") is h (record { event = e; is = ap event_in is; cause = (h.cause.0, h.cause.1, inl h.cause.2); text = refl }) (none no_memory)
     (untried v.device s s' e (Err Memory) now h h.cause.2)
+    (untried_whole v.device s s' e (Err Memory) now h h.cause.2)
     (λ lives tells documents has. same_documents v.device s s' documents h.cause.2 has)
 answered_turn v s s' c e line (Err Full) now none is h = applied_turn v s s' c [] e line (Err Full) full (codes "error full\n") is h (record { event = e; is = ap event_in is; cause = (h.cause.0, inl h.cause.1); text = refl }) (none full)
     (untried v.device s s' e (Err Full) now h h.cause.1)
+    (untried_whole v.device s s' e (Err Full) now h h.cause.1)
     (λ lives tells documents has. same_documents v.device s s' documents h.cause.1 has)
 answered_turn v s s' c e line (Err Disk) now none is h = applied_turn v s s' c [] e line (Err Disk) disk (codes "error disk\n") is h (record { event = e; is = ap event_in is; cause = h.cause; text = refl }) (none disk)
     (tried v.device s s' e (Err Disk) h)
+    (tried_whole v.device s s' e (Err Disk) h)
     (λ lives tells documents has. absurd (let died = h.cause.dead in cc))
 
 -- a text that is Ok has other bytes, where these are the same
@@ -181,6 +214,7 @@ unread_told bytes r v s c now kept none may h = (
       counted = omega arith;
       told = (λ h. h, λ h. h);
       crash = unmoved v.device s (HasSomeOf s.state (tried_as (event_of v.mime s.state [] c) unread)) now kept (none_of s.state (tried_as (event_of v.mime s.state [] c) unread));
+      whole = still_whole v.device s (tried_as (event_of v.mime s.state [] c) unread) now kept;
       kept = kept;
       lasting = λ lives tells documents has. has;
     };
@@ -215,6 +249,7 @@ unasked v s e fault now kept h = record {
   counted = omega arith;
   told = (λ h. h, λ h. h);
   crash = unmoved v s (HasBeforeOrAfterEvent s.state e) now kept (λ image h. inl h);
+  whole = λ alive tells documents has. unmoved_whole v s documents (HasWholeBeforeOrAfterEvent s.state documents e) now kept (λ image h. inl h) alive tells has;
   kept = kept;
   sent = tt;
 }
@@ -248,14 +283,18 @@ sent_of v s (Err f) P lawful h = tt
 -- what the spool says of an event
 pub spool_applied : {D : Type 0} (v : DiskView D) (s s' : Standing D) (e : Event) (a : Result Reply ApplyFault) → IsLawful v → IsAnswer v s e a s' → v.failures s.disk ≤ v.failures s'.disk → (IsSome (v.bytes s'.disk) ↔ IsSome (v.bytes s.disk))
     → (s.dead ≡ false → IsSome (v.bytes s.disk) → LeavesOnly v s.disk s'.disk (HasBeforeOrAfterEvent s.state e))
+    → (s.dead ≡ false → (bytes : List ℕ) (documents : ℕ → List ℕ) → v.bytes s.disk ≡ Some bytes → HasDocuments s.state documents bytes → LeavesOnly v s.disk s'.disk (HasWholeBeforeOrAfterEvent s.state documents e))
     → OnOk a (IsSome (v.bytes s.disk) → (c : List ℕ) → v.image s'.disk c → HasTable s'.state c)
     → OnOk a ((bytes : List ℕ) (documents : ℕ → List ℕ) → v.bytes s.disk ≡ Some bytes → HasDocuments s.state documents bytes → LeavesDocuments v (documents_after_one s.state documents e) s')
     → IsKept v s → IsApplied v s e a s'
-spool_applied v s s' e a lawful h counted told crash ok sent kept = record {
+spool_applied v s s' e a lawful h counted told crash whole ok sent kept = record {
   cause = h;
   counted = counted;
   told = told;
   crash = crash;
+  whole = λ alive tells documents has.
+      let (bytes, is) = has_bytes (v.bytes s.disk) tells in
+      whole alive bytes documents is (told_documents v s documents bytes lawful has is);
   kept = still_kept v s s' e a h told ok kept;
   sent = sent_of v s a (λ documents. LeavesDocuments v (documents_after_one s.state documents e) s') lawful sent;
 }
@@ -278,6 +317,10 @@ listed_turn v s s' c a o text quiet is h out none lasting = (
           subst (λ w. LeavesOnly v.device s.disk s'.disk (HasSomeOf s.state (tried_as (event_in w) o))) (sym is)
           (subst (λ es. LeavesOnly v.device s.disk s'.disk (HasSomeOf s.state es)) (sym none)
           (weaker_run v.device s.disk s'.disk (HasSomeOf s.state []) (HasTable s.state) (h.crash alive tells) (none_of s.state [])));
+      whole = λ alive tells documents has.
+          subst (λ w. LeavesOnly v.device s.disk s'.disk (HasSomeSent s.state documents (tried_as (event_in w) o))) (sym is)
+          (subst (λ es. LeavesOnly v.device s.disk s'.disk (HasSomeSent s.state documents es)) (sym none)
+          (weaker_run v.device s.disk s'.disk (HasSomeSent s.state documents []) (HasWhole s.state documents) (h.whole alive tells documents has) (none_whole s.state documents [])));
       kept = h.kept;
       lasting = λ lives tells documents has.
           subst (λ w. LeavesDocuments v.device (documents_after s.state documents (tried_as (event_in w) o)) s') (sym is)
@@ -335,11 +378,14 @@ pub spool_relisted : {D : Type 0} (v : DiskView D) (s s' : Standing D) (a : Resu
     → (s.dead ≡ false → IsSome (v.bytes s.disk) → LeavesOnly v s.disk s'.disk (HasTable s.state))
     → (s.dead ≡ false → (bytes : List ℕ) (documents : ℕ → List ℕ) → v.bytes s.disk ≡ Some bytes → HasDocuments s.state documents bytes → LeavesOnly v s.disk s'.disk (HasDocuments s.state documents))
     → OnOk a (IsSome (v.bytes s.disk) → (c : List ℕ) → v.image s'.disk c → HasTable s'.state c) → IsKept v s → IsRelisted v s a s'
-spool_relisted v s s' a lawful h counted told crash documents ok kept = record {
+spool_relisted v s s' a lawful h counted told crash left ok kept = record {
   cause = h;
   counted = counted;
   told = told;
   crash = crash;
+  whole = λ alive tells documents has.
+      let (bytes, is) = has_bytes (v.bytes s.disk) tells in
+      both_runs v s.disk s'.disk (HasTable s.state) (HasDocuments s.state documents) (crash alive tells) (left alive bytes documents is (told_documents v s documents bytes lawful has is));
   kept = listing_kept v s s' a h told ok kept;
-  lasting = listing_lasts v s s' a lawful h documents;
+  lasting = listing_lasts v s s' a lawful h left;
 }

@@ -1,8 +1,12 @@
 -- Rounds, one after another.
-use Rattle.std.proofs.Common.{◌≡◌, ℕ, ◌≤◌, List, [], ◌∷◌, ◌++◌, refl, ap, sym, ◌∙◌, subst, inl, inr, ⊎_elim, arith, true, false, Bool, Option, Some, Result}
+use Rattle.std.proofs.Math.Seq.{take-append-add}
+use Rattle.std.proofs.lemmas.List.{take-append-le}
+use Rattle.std.proofs.Common.{◌≡◌, ℕ, ◌≤◌, ◌+◌, List, [], ◌∷◌, ◌++◌, length, length-append, take, refl, ap, sym, ◌∙◌, subst, inl, inr, ⊎_elim, arith, true, false, Bool, Option, Some, Result}
 use Rattle.std.specs.Prelude.{◌↔◌, IfOk, IsSome}
 use Rattle.std.specs.List.{flat_map}
 use Rattle.spool_types.specs.declared.event.Event.{Event}
+use Rattle.spool_types.specs.State.{State}
+use Rattle.spool_core.specs.Image.{HasWhole}
 use Rattle.spool_core.specs.Standing.{Standing}
 use Rattle.job_table.specs.Fold.{after_all}
 use Rattle.spool_disk.specs.Disk.{LeavesOnly}
@@ -11,9 +15,9 @@ use Rattle.command_lines.specs.declared.command.Command.{Command}
 use Rattle.child_pipeline.specs.Slots.{Slots}
 use Rattle.child_pipeline.specs.Told.{Told}
 use Rattle.print_rounds.specs.Courses.{Course, course}
-use Rattle.print_rounds.proofs.PrefixLaws.{none_of, some_first, some_later}
+use Rattle.print_rounds.proofs.PrefixLaws.{after_both, none_of, some_first, some_later}
 use Rattle.print_rounds.specs.Finished.{EachFinishedOnce}
-use Rattle.print_rounds.specs.Rounds.{HasSomeOf, LeavesDocuments, IsRoundBy, tried_in}
+use Rattle.print_rounds.specs.Rounds.{HasSomeOf, HasSomeWhole, LeavesDocuments, IsRoundBy, tried_in}
 use Rattle.print_rounds.specs.declared.outcome.Round.{Round}
 use Rattle.print_rounds.specs.declared.outcome.RoundFault.{RoundFault}
 use Rattle.spool_engine.specs.Script.{meaning, runs}
@@ -21,7 +25,24 @@ use Rattle.spool_engine.specs.EventTurns.{Setting, EventTurn, IsEventTurn, IsKep
 use Rattle.spool_engine.specs.Answers.{Takes}
 use Rattle.spool_engine.specs.Rounds.{Ran, IsRoundWith, IsRan, AreRan, AreRun, AreRunBy}
 use Rattle.spool_engine.specs.Runs.{Turn, TakesTurn, IsHeld, answered, ran}
-use Rattle.spool_engine.proofs.EventLaws.{OnlyNow, unmoved}
+use Rattle.spool_engine.proofs.EventLaws.{OnlyNow, unmoved, unmoved_whole}
+
+-- ## Some events that send nothing
+
+whole_none : (s : State) (documents : ℕ → List ℕ) (es : List Event) (c : List ℕ) → HasWhole s documents c → HasSomeWhole s documents es c
+whole_none s documents es c has = (0, omega arith, has)
+
+-- some of the first, and then more
+whole_first : (s : State) (documents : ℕ → List ℕ) (es fs : List Event) (c : List ℕ) → HasSomeWhole s documents es c → HasSomeWhole s documents (es ++ fs) c
+whole_first s documents es fs c (k, high, has) = (k, omega (arith, high, length-append es fs), subst (λ l. HasWhole (after_all s l) documents c) (sym (take-append-le k es fs high)) has)
+
+-- all of the first, and some more
+whole_later : (s t : State) (documents : ℕ → List ℕ) (es fs : List Event) (c : List ℕ) → t ≡ after_all s es → HasSomeWhole t documents fs c → HasSomeWhole s documents (es ++ fs) c
+whole_later s t documents es fs c is (k, high, has) = (
+  length es + k,
+  omega (arith, high, length-append es fs),
+  subst (λ u. HasWhole u documents c) (ap (λ u. after_all u (take k fs)) is ∙ sym (after_both s es (take k fs)) ∙ ap (after_all s) (sym (take-append-add es fs k))) has,
+)
 
 -- ## A round
 
@@ -57,6 +78,7 @@ ran_of v old new result true is now kept later counted told finished h = (
     told = told;
     crash = λ alive tells. absurd cc;
     kept = later;
+    whole = λ alive tells documents has. absurd cc;
     lasting = λ lives tells documents has. subst (λ x. LeavesDocuments v.device documents x.spool) (sym h.1) has;
   },
 )
@@ -71,6 +93,8 @@ ran_of v old new result false is now kept later counted told finished h = ⊎_el
         told = told;
         crash = λ alive tells. subst (λ x. LeavesOnly v.device old.spool.disk x.spool.disk (HasSomeOf old.spool.state [])) (sym unbegun.1) (unmoved v.device old.spool (HasSomeOf old.spool.state []) now kept (none_of old.spool.state []) alive tells);
         kept = later;
+        whole = λ alive tells documents has. subst (λ x. LeavesOnly v.device old.spool.disk x.spool.disk (HasSomeWhole old.spool.state documents [])) (sym unbegun.1)
+            (unmoved_whole v.device old.spool documents (HasSomeWhole old.spool.state documents []) now kept (whole_none old.spool.state documents []) alive tells has);
         lasting = λ lives tells documents has. subst (λ x. LeavesDocuments v.device documents x.spool) (sym unbegun.1) has;
       },
     ))
@@ -84,6 +108,7 @@ ran_of v old new result false is now kept later counted told finished h = ⊎_el
         told = told;
         crash = made.any_moment;
         kept = later;
+        whole = made.any_whole;
         lasting = made.lasting;
       },
     ))
@@ -139,6 +164,25 @@ module _ {D : Type 0} (v : Setting D) (now : OnlyNow v.device) where
       (unmoved v.device s.spool (HasSomeOf s.spool.state []) now kept (none_of s.spool.state []) alive tells)
   rounds_crash s (r ∷ rs) new kept h alive tells = crash_by s r rs new r.next.spool.dead refl h.0 h.1 alive tells (λ lives. rounds_crash r.next rs new h.0.kept h.1 lives (h.0.told.1 tells))
 
+  -- so it is with the documents
+  whole_by : (s : Course D) (r : Ran D) (rs : List (Ran D)) (new : Course D) (documents : ℕ → List ℕ) (b : Bool) → r.next.spool.dead ≡ b → IsRan v s r → AreRan v r.next rs new → s.spool.dead ≡ false → IsSome (v.device.bytes s.spool.disk) → LeavesDocuments v.device documents s.spool
+      → (r.next.spool.dead ≡ false → LeavesDocuments v.device documents r.next.spool → LeavesOnly v.device r.next.spool.disk new.spool.disk (HasSomeWhole r.next.spool.state documents (all_tried rs)))
+      → LeavesOnly v.device s.spool.disk new.spool.disk (HasSomeWhole s.spool.state documents (r.tried ++ all_tried rs))
+  whole_by s r rs new documents true is h more alive tells has rest =
+      subst (λ x. LeavesOnly v.device s.spool.disk x.spool.disk (HasSomeWhole s.spool.state documents (r.tried ++ all_tried rs))) (sym (dead_rans v r.next rs new is more))
+      (weaker_run v.device s.spool.disk r.next.spool.disk (HasSomeWhole s.spool.state documents (r.tried ++ all_tried rs)) (HasSomeWhole s.spool.state documents r.tried) (h.whole alive tells documents has) (whole_first s.spool.state documents r.tried (all_tried rs)))
+  whole_by s r rs new documents false is h more alive tells has rest =
+      runs_on v.device s.spool.disk r.next.spool.disk new.spool.disk (HasSomeWhole s.spool.state documents (r.tried ++ all_tried rs)) (HasSomeWhole r.next.spool.state documents (all_tried rs))
+      (weaker_run v.device s.spool.disk r.next.spool.disk (HasSomeWhole s.spool.state documents (r.tried ++ all_tried rs)) (HasSomeWhole s.spool.state documents r.tried) (h.whole alive tells documents has) (whole_first s.spool.state documents r.tried (all_tried rs)))
+      (rest is (h.lasting is tells documents has))
+      (λ c. whole_later s.spool.state r.next.spool.state documents r.tried (all_tried rs) c (tried_table v s r is (subst (λ b. IsRoundWith v.device v.place s b r) alive h.round)))
+
+  rounds_whole : (s : Course D) (rs : List (Ran D)) (new : Course D) (documents : ℕ → List ℕ) → IsKept v.device s.spool → AreRan v s rs new → s.spool.dead ≡ false → IsSome (v.device.bytes s.spool.disk) → LeavesDocuments v.device documents s.spool → LeavesOnly v.device s.spool.disk new.spool.disk (HasSomeWhole s.spool.state documents (all_tried rs))
+  rounds_whole s [] new documents kept h alive tells has =
+      subst (λ x. LeavesOnly v.device s.spool.disk x.spool.disk (HasSomeWhole s.spool.state documents [])) (sym h)
+      (unmoved_whole v.device s.spool documents (HasSomeWhole s.spool.state documents []) now kept (whole_none s.spool.state documents []) alive tells has)
+  rounds_whole s (r ∷ rs) new documents kept h alive tells has = whole_by s r rs new documents r.next.spool.dead refl h.0 h.1 alive tells has (λ lives left. rounds_whole r.next rs new documents h.0.kept h.1 lives (h.0.told.1 tells) left)
+
   -- the turn of a command that is told by rounds
   pub rounds_turn : {X E : Type 0} (bytes : X → List ℕ) (result : Result X E) (s new : Course D) (c : Command) (most : ℕ) (line : List Round → List ℕ) → IsKept v.device s.spool → meaning v.mime s.spool.state [] c ≡ runs most line
       → (rs : List (Ran D)) × (reply : List ℕ) × AreRun v most line s rs new reply × IfOk result (λ x. bytes x ≡ reply) → (t : Turn D) × TakesTurn v s c t new × IfOk result (λ x. bytes x ≡ t.text)
@@ -151,6 +195,7 @@ module _ {D : Type 0} (v : Setting D) (now : OnlyNow v.device) where
         counted = rounds_counted v s rs new run.each;
         told = rounds_told v s rs new run.each;
         crash = rounds_crash s rs new kept run.each;
+        whole = λ alive tells documents has. rounds_whole s rs new documents kept run.each alive tells has;
         kept = rounds_kept v s rs new kept run.each;
         lasting = λ lives tells documents has. rounds_lasting v s rs new documents run.each lives tells has;
       };
@@ -173,7 +218,7 @@ held_turn bytes result v s new c held (t, takes, told) =
     let one = subst (IsEventTurn v s.spool) (same_turn t c new.spool takes.command takes.next) takes.legal in (
       record { command = c; document = t.document; how = answered t.outcome; text = t.text; next = new },
       record {
-        legal = record { how = (one.outcome, held); read = one.read; counted = one.counted; told = one.told; crash = one.crash; kept = one.kept; lasting = one.lasting };
+        legal = record { how = (one.outcome, held); read = one.read; counted = one.counted; told = one.told; crash = one.crash; whole = one.whole; kept = one.kept; lasting = one.lasting };
         command = refl;
         next = refl;
       },

@@ -5,7 +5,7 @@ use Rattle.spool_types.specs.declared.event.Reply.{Reply}
 use Rattle.spool_disk.specs.Disk.{DiskView, LeavesOnly}
 use Rattle.command_lines.specs.declared.command.Command.{Command}
 use Rattle.command_lines.specs.Replies.{refusal_line}
-use Rattle.spool_core.specs.Image.{HasTable, HasBeforeOrAfterEvent, documents_after_one}
+use Rattle.spool_core.specs.Image.{HasTable, HasWhole, HasBeforeOrAfterEvent, HasWholeBeforeOrAfterEvent, documents_after_one}
 use Rattle.spool_core.specs.Checkpointing.{IsCheckpoint}
 use Rattle.spool_core.specs.declared.spool.checkpoint_fault.CheckpointFault.{CheckpointFault}
 use Rattle.spool_core.specs.Standing.{Standing, IsAnswer}
@@ -36,6 +36,8 @@ pub record IsApplied {D : Type 0} (device : DiskView D) (old : Standing D) (e : 
   pub told : IsSome (device.bytes new.disk) ↔ IsSome (device.bytes old.disk)
   pub crash : old.dead ≡ false → IsSome (device.bytes old.disk) →
       LeavesOnly device old.disk new.disk (HasBeforeOrAfterEvent old.state e)
+  pub whole : old.dead ≡ false → IsSome (device.bytes old.disk) → (documents : ℕ → List ℕ) → LeavesDocuments device documents old →
+      LeavesOnly device old.disk new.disk (HasWholeBeforeOrAfterEvent old.state documents e)
   pub kept : IsKept device new
   pub sent : OnOk answer (IsSome (device.bytes old.disk) → (documents : ℕ → List ℕ) → LeavesDocuments device documents old →
       LeavesDocuments device (documents_after_one old.state documents e) new)
@@ -58,6 +60,8 @@ pub record IsRelisted {D : Type 0} (device : DiskView D) (old : Standing D) (ans
   pub told : IsSome (device.bytes new.disk) ↔ IsSome (device.bytes old.disk)
   pub crash : old.dead ≡ false → IsSome (device.bytes old.disk) →
       LeavesOnly device old.disk new.disk (HasTable old.state)
+  pub whole : old.dead ≡ false → IsSome (device.bytes old.disk) → (documents : ℕ → List ℕ) → LeavesDocuments device documents old →
+      LeavesOnly device old.disk new.disk (HasWhole old.state documents)
   pub kept : IsKept device new
   pub lasting : OnOk answer (IsSome (device.bytes old.disk) → (documents : ℕ → List ℕ) → LeavesDocuments device documents old → LeavesDocuments device documents new)
 

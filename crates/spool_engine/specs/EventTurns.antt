@@ -13,7 +13,7 @@ use Rattle.job_table.specs.Step.{refusal_of, step}
 use Rattle.spool_disk.specs.Disk.{DiskView, ChangesNothing, LeavesOnly}
 use Rattle.command_lines.specs.declared.command.Command.{Command}
 use Rattle.command_lines.specs.declared.command.Command.TheVariants.{Queue, Create, Close}
-use Rattle.spool_core.specs.Driving.{documents_after}
+use Rattle.spool_core.specs.Driving.{HasWholePrefix, documents_after}
 use Rattle.spool_core.specs.Image.{HasTable, HasDocument}
 use Rattle.spool_core.specs.Standing.{Standing, IsDone, IsFull, IsFailed, len_at}
 use Rattle.spool_core.specs.Checkpointing.{IsCheckpoint, IsListed}
@@ -192,9 +192,13 @@ tried_as asked unread = []
 tried_as asked unreadable = []
 tried_as asked (unlisted fault) = []
 
+-- the table after some of these events, the first of them, and these documents with what they sent
+abbrev pub HasSomeSent : State → (ℕ → List ℕ) → List Event → List ℕ → Type 0
+HasSomeSent s documents events image = HasWholePrefix s documents events 0 (length events) image
+
 -- A turn on the spool that it found. Unless the device had failed before, a crash at any moment of it leaves the table
 -- before the command or, where its event was tried, the one after it. Unless it has failed by then, a crash after it leaves
--- the table that is shown, and the documents with what the event sent.
+-- the table that is shown. So it is with the documents: with those before, or with what the event sends.
 pub record IsEventTurn {D : Type 0} (v : Setting D) (s : Standing D) (t : EventTurn D) : Type 0 where
   pub outcome : IsOutcome v s t t.outcome
   pub read : IsReadFor v s t.document t.outcome t.command
@@ -202,6 +206,8 @@ pub record IsEventTurn {D : Type 0} (v : Setting D) (s : Standing D) (t : EventT
   pub told : IsSome (v.device.bytes t.next.disk) ↔ IsSome (v.device.bytes s.disk)
   pub crash : s.dead ≡ false → IsSome (v.device.bytes s.disk) →
       LeavesOnly v.device s.disk t.next.disk (HasSomeOf s.state (tried_as (event_of v.mime s.state t.document t.command) t.outcome))
+  pub whole : s.dead ≡ false → IsSome (v.device.bytes s.disk) → (documents : ℕ → List ℕ) → LeavesDocuments v.device documents s →
+      LeavesOnly v.device s.disk t.next.disk (HasSomeSent s.state documents (tried_as (event_of v.mime s.state t.document t.command) t.outcome))
   pub kept : IsKept v.device t.next
   pub lasting : t.next.dead ≡ false → IsSome (v.device.bytes s.disk) → (documents : ℕ → List ℕ) → LeavesDocuments v.device documents s →
       LeavesDocuments v.device (documents_after s.state documents (tried_as (event_of v.mime s.state t.document t.command) t.outcome)) t.next

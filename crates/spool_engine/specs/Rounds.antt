@@ -7,7 +7,7 @@ use Rattle.child_pipeline.specs.Told.{Told}
 use Rattle.command_lines.specs.Replies.{rounded_line, drained_line}
 use Rattle.print_rounds.specs.Courses.{Course, AreHanded}
 use Rattle.print_rounds.specs.Finished.{EachFinishedOnce}
-use Rattle.print_rounds.specs.Rounds.{HasSomeOf, LeavesDocuments, IsUnbegun, IsRoundOf, IsRoundBy, tried_in}
+use Rattle.print_rounds.specs.Rounds.{HasSomeOf, HasSomeWhole, LeavesDocuments, IsUnbegun, IsRoundOf, IsRoundBy, tried_in}
 use Rattle.print_rounds.specs.declared.outcome.Round.{Round}
 use Rattle.print_rounds.specs.declared.outcome.RoundFault.{RoundFault}
 use Rattle.print_rounds.specs.declared.outcome.RoundFault.TheVariants as faults
@@ -39,7 +39,9 @@ pub record IsRan {D : Type 0} (v : Setting D) (old : Course D) (r : Ran D) : Typ
   pub crash : old.spool.dead ≡ false → IsSome (v.device.bytes old.spool.disk) →
       LeavesOnly v.device old.spool.disk r.next.spool.disk (HasSomeOf old.spool.state r.tried)
   pub kept : IsKept v.device r.next.spool
-  -- and so it is with the documents, which a round leaves as they are
+  -- so it is with the documents, which a round leaves as they are
+  pub whole : old.spool.dead ≡ false → IsSome (v.device.bytes old.spool.disk) → (documents : ℕ → List ℕ) → LeavesDocuments v.device documents old.spool →
+      LeavesOnly v.device old.spool.disk r.next.spool.disk (HasSomeWhole old.spool.state documents r.tried)
   pub lasting : r.next.spool.dead ≡ false → IsSome (v.device.bytes old.spool.disk) → (documents : ℕ → List ℕ) → LeavesDocuments v.device documents old.spool →
       LeavesDocuments v.device documents r.next.spool
 

@@ -12,12 +12,12 @@ use Rattle.command_lines.specs.Pending.{Pending, Leads, to_come}
 use Rattle.command_lines.specs.declared.command.Command.{Command}
 use Rattle.command_lines.specs.declared.command.Command.TheVariants as commands
 use Rattle.spool_core.specs.Driving.{documents_after}
-use Rattle.spool_core.specs.Image.{HasTable}
+use Rattle.spool_core.specs.Image.{HasTable, HasWhole}
 use Rattle.child_pipeline.specs.Told.{Told}
 use Rattle.print_rounds.specs.Courses.{Course}
 use Rattle.spool_engine.specs.Mime.{Mime}
-use Rattle.print_rounds.specs.Rounds.{HasSomeOf, LeavesDocuments}
-use Rattle.spool_engine.specs.EventTurns.{Setting, Outcome, served, EventTurn, IsOutcome, IsReadFor, IsKept, tried_as}
+use Rattle.print_rounds.specs.Rounds.{HasSomeOf, HasSomeWhole, LeavesDocuments}
+use Rattle.spool_engine.specs.EventTurns.{Setting, Outcome, served, EventTurn, IsOutcome, IsReadFor, IsKept, HasSomeSent, tried_as}
 use Rattle.spool_engine.specs.Rounds.{Ran, AreRunBy, counts_in, results_of}
 use Rattle.spool_engine.specs.Script.{Documents, Asked, Scene, meaning, event_of, script_text, script_events, script_scene, asked_on, documents_on}
 use Rattle.spool_engine.specs.declared.fault.RunFault.{RunFault}
@@ -77,10 +77,18 @@ documents_by_how s documents asked (ran rs) = documents
 abbrev pub documents_left : {D : Type 0} → Mime → Course D → Documents → Turn D → Documents
 documents_left m s documents t = documents_by_how s documents (event_of m s.spool.state t.document t.command) t.how
 
+-- a crash left the table after some of the events that were tried, and the documents with what they sent
+abbrev pub HasSomeBy : {D : Type 0} → Course D → Documents → Option Event → How D → List ℕ → Type 0
+HasSomeBy s documents asked (answered outcome) image = HasSomeSent s.spool.state documents (tried_as asked outcome) image
+HasSomeBy s documents asked (ran rs) image = HasSomeWhole s.spool.state documents (tried_by asked (ran rs)) image
+
+abbrev pub HasSomeIn : {D : Type 0} → Mime → Course D → Documents → Turn D → List ℕ → Type 0
+HasSomeIn m s documents t = HasSomeBy s documents (event_of m s.spool.state t.document t.command) t.how
+
 -- A turn on the spool that it found. Unless the device had failed before, a crash at any moment of it leaves the table
 -- after some of the events that were tried in it, the first of them: for a command of one event the table before it or
--- the one after it. Unless the device has failed by then, a crash after the turn leaves the table that is shown, and the
--- documents with what was sent.
+-- the one after it. Unless the device has failed by then, a crash after the turn leaves the table that is shown. So it is
+-- with the documents.
 pub record IsTurn {D : Type 0} (v : Setting D) (s : Course D) (t : Turn D) : Type 0 where
   pub how : IsHow v s t t.how
   pub read : IsReadIn v s t t.how
@@ -88,6 +96,8 @@ pub record IsTurn {D : Type 0} (v : Setting D) (s : Course D) (t : Turn D) : Typ
   pub told : IsSome (v.device.bytes t.next.spool.disk) ↔ IsSome (v.device.bytes s.spool.disk)
   pub crash : s.spool.dead ≡ false → IsSome (v.device.bytes s.spool.disk) →
       LeavesOnly v.device s.spool.disk t.next.spool.disk (HasSomeOf s.spool.state (tried_in v.mime s t))
+  pub whole : s.spool.dead ≡ false → IsSome (v.device.bytes s.spool.disk) → (documents : Documents) → LeavesDocuments v.device documents s.spool →
+      LeavesOnly v.device s.spool.disk t.next.spool.disk (HasSomeIn v.mime s documents t)
   pub kept : IsKept v.device t.next.spool
   pub lasting : t.next.spool.dead ≡ false → IsSome (v.device.bytes s.spool.disk) → (documents : Documents) → LeavesDocuments v.device documents s.spool →
       LeavesDocuments v.device (documents_left v.mime s documents t) t.next.spool
@@ -121,6 +131,16 @@ AllServed (t ∷ ts) = IsWell t.how × AllServed ts
 abbrev pub IsAlong : {D : Type 0} → Mime → Course D → List (Turn D) → List ℕ → Type 0
 IsAlong m s [] image = HasTable s.spool.state image
 IsAlong m s (t ∷ ts) image = HasSomeOf s.spool.state (tried_in m s t) image ⊎ IsAlong m t.next ts image
+
+-- and these documents, with what the events sent
+abbrev pub IsWholeAlong : {D : Type 0} → Mime → Course D → Documents → List (Turn D) → List ℕ → Type 0
+IsWholeAlong m s documents [] image = HasWhole s.spool.state documents image
+IsWholeAlong m s documents (t ∷ ts) image = HasSomeIn m s documents t image ⊎ IsWholeAlong m t.next (documents_left m s documents t) ts image
+
+-- the documents behind these turns
+abbrev pub last_documents : {D : Type 0} → Mime → Course D → Documents → List (Turn D) → Documents
+last_documents m s documents [] = documents
+last_documents m s documents (t ∷ ts) = last_documents m t.next (documents_left m s documents t) ts
 
 -- the replies but for the last, and of the last a front and not all
 pub record WroteUpTo {D : Type 0} (old new : Option (List ℕ)) (turns : List (Turn D)) : Type 0 where

@@ -7,8 +7,8 @@ use Rattle.spool_engine.proofs.executor.Executor.apply.Goals as goal
 
 pub invariant_of-self : goal.invariant_of-self
 invariant_of-self g c =
-    (spool_applied g.D.Disk.device c.self.inside.spool c.apply.new.self c.args.event c.apply.result g.met.D.Disk.lawful c.apply.ensures.answer c.apply.ensures.later c.apply.ensures.told c.apply.ensures.any_moment c.apply.ensures.kept c.apply.ensures.sent c.self.invariant).kept
+    (spool_applied g.D.Disk.device c.self.inside.spool c.apply.new.self c.args.event c.apply.result g.met.D.Disk.lawful c.apply.ensures.answer c.apply.ensures.later c.apply.ensures.told c.apply.ensures.any_moment c.apply.ensures.documents c.apply.ensures.kept c.apply.ensures.sent c.self.invariant).kept
 
 pub returns : goal.returns
 returns g c = subst (λ (s : Standing g.row.D.Denot). IsApplied g.D.Disk.device s c.args.event c.apply.result c.apply.new.self) c.self.view_is
-    (spool_applied g.D.Disk.device c.self.inside.spool c.apply.new.self c.args.event c.apply.result g.met.D.Disk.lawful c.apply.ensures.answer c.apply.ensures.later c.apply.ensures.told c.apply.ensures.any_moment c.apply.ensures.kept c.apply.ensures.sent c.self.invariant)
+    (spool_applied g.D.Disk.device c.self.inside.spool c.apply.new.self c.args.event c.apply.result g.met.D.Disk.lawful c.apply.ensures.answer c.apply.ensures.later c.apply.ensures.told c.apply.ensures.any_moment c.apply.ensures.documents c.apply.ensures.kept c.apply.ensures.sent c.self.invariant)
