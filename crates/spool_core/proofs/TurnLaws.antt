@@ -303,9 +303,9 @@ module _ {D : Type 0} (v : DiskView D)
                 (subst (λ (es : List Event). IsWholeChain v old.state documents es old.disk now.disk) next.before (driven.whole_chain alive r documents tells has))
                 (whole_turn alive r documents tells has)
                 (λ c left.
-                    let leads : new.state ≡ after_one (after_all old.state taken) e = answered.table ∙ ap (λ (s : State). after_one s e) now_table in
-                    let now_tells : IsSome (v.bytes old.disk) = subst IsSome (sym tells) refl in (
-                      subst (λ (s : State). HasTable s c) leads (keeps now_tells c left),
-                      subst (λ (s : State). HasDocuments s (documents_after_one (after_all old.state taken) (documents_after old.state documents taken) e) c) leads (sent_on alive r documents tells has sent c left),
-                    )));
+                let leads : new.state ≡ after_one (after_all old.state taken) e = answered.table ∙ ap (λ (s : State). after_one s e) now_table in
+                let now_tells : IsSome (v.bytes old.disk) = subst IsSome (sym tells) refl in (
+                  subst (λ (s : State). HasTable s c) leads (keeps now_tells c left),
+                  subst (λ (s : State). HasDocuments s (documents_after_one (after_all old.state taken) (documents_after old.state documents taken) e) c) leads (sent_on alive r documents tells has sent c left),
+                )));
           }
