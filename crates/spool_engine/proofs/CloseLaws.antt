@@ -1,6 +1,5 @@
 -- A job that is closed: its document is read, and then its event is applied.
-use Rattle.std.proofs.Common.{◌≡◌, ◌⊎◌, ℕ, ◌∷◌, List, [], length, take, drop, refl, ap, sym, ◌∙◌, subst, inl, inr, ⊎_elim, cond, arith, true, false, Bool, Option, None, Some, Result, Ok, Err}
-use Rattle.std.proofs.Math.Seq.{take-length}
+use Rattle.std.proofs.Common.{◌≡◌, ◌⊎◌, ℕ, ◌∷◌, List, [], refl, ap, sym, ◌∙◌, subst, inl, inr, ⊎_elim, cond, arith, true, false, Bool, Option, None, Some, Result, Ok, Err}
 use Rattle.std.specs.Prelude.{◌↔◌, ⊤, IfOk, IsSome, IsTrue, is_none, not, codes}
 use Rattle.spool_types.specs.declared.event.Event.TheVariants as events
 use Rattle.spool_types.specs.declared.event.Event.{Event}
@@ -16,8 +15,8 @@ use Rattle.spool_disk.specs.Disk.{DiskView, IsLawful, Blames, ChangesNothing, Le
 use Rattle.spool_disk.proofs.Moments.{at_return, runs_on, weaker_run}
 use Rattle.command_lines.specs.declared.command.Command.TheVariants.{Close}
 use Rattle.spool_core.specs.Driving.{documents_after}
-use Rattle.spool_core.specs.Image.{HasTable, HasDocument, HasBeforeOrAfterEvent, HasWholeBeforeOrAfterEvent}
-use Rattle.spool_core.specs.Standing.{Standing, IsDone, IsFull, IsFailed, len_at}
+use Rattle.spool_core.specs.Image.{HasTable, HasBeforeOrAfterEvent, HasWholeBeforeOrAfterEvent}
+use Rattle.spool_core.specs.Standing.{Standing, IsDone, IsFull, IsFailed}
 use Rattle.spool_core.specs.declared.spool.apply_fault.ApplyFault.{ApplyFault}
 use Rattle.spool_core.specs.declared.spool.apply_fault.ApplyFault.TheVariants.{Dead, Refused, Memory, Full, Disk}
 use Rattle.print_rounds.proofs.PrefixLaws.{none_of, one_of}
