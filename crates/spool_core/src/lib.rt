@@ -47,8 +47,9 @@
 //!   and the documents after a prefix of the events, the one in hand among them only where the device failed (`any_moment`,
 //!   `documents`).
 //! - *CrashSafeDrive*, acknowledged: no acknowledged event is lost. A chain of disks leads from one reply to the next
-//!   (`acknowledged`): between two neighbours a crash leaves the table before the event or the one after it. At the end every
-//!   image has what the acknowledged events sent (`sent`).
+//!   (`acknowledged`): between two neighbours a crash leaves the table before the event or the one after it. The chain holds
+//!   the documents too: from an event's disk on what it sent isn't lost (`whole`). At the end every image has what the
+//!   acknowledged events sent (`sent`).
 //! - *ManyLives*: a spool that is driven, crashes and is opened again, any number of times, has the tables and the documents of
 //!   one list of events, and a job whose end was acknowledged has ended in all later lives ([`lives_go_on`]).
 //! - *CrashSafeDrive*, at its end: every image has the table that is shown (`kept`), or after a fault that one or the one with
@@ -59,9 +60,9 @@
 //! - *ExactRefusals*: each answer of `apply` comes with its cause, in the order of [`ApplyFault`] (`answer`). `open`
 //!   answers `NotASpool` or `Damaged` only for bytes with that fault (`fault`), and `Disk` only where the device's
 //!   count of failures rose (`blames`). So it is with `checkpoint` and [`CheckpointFault`]: it is `EpochEnd` exactly at the
-//!   greatest epoch, and `Full` exactly where its rows don't fit (`holds_listing`), if memory was found. Out of memory is the one answer without a cause that a clause can see. `make`
-//!   is `Full` exactly where the device is too short (`full`), and a document isn't read exactly where the spool is
-//!   dead (`dead`).
+//!   greatest epoch, and `Full` exactly where its rows don't fit (`holds_listing`), if memory was found. Out of memory is the
+//!   one answer without a cause that a clause can see. `make` is `Full` exactly where the device is too short (`full`), and a
+//!   document isn't read exactly where the spool is dead (`dead`).
 //! - *UnchangedAfterRefusal*: after `Dead`, `Refused`, `Memory` and `Full` the disk and the table are as before
 //!   (`answer`), and after `Full` from `make` the disk (`untouched`).
 //!

@@ -43,9 +43,11 @@
 //!   round returns, and every start came before the first finish.
 //! - *Crashes* (`crash` and `kept` of each turn): unless the device had failed before, a crash at any moment of a turn
 //!   leaves the table before its command or the one after it, and of rounds the table after some of the events that were
-//!   tried in them, the first of them. A crash after the turn leaves the table that is shown or, after a fault of the
-//!   device, that table or the one with the event in hand. [`crashes_between_replies`] says of whole runs that
-//!   no turn is lost, as long as the device hasn't failed. This speaks of disks that tell their bytes.
+//!   tried in them, the first of them. With the table it leaves the documents after the same events (`whole`). A crash after
+//!   the turn leaves the table that is shown or, after a fault of the device, that table or the one with the event in hand.
+//!   While the device hasn't failed it leaves all that the turn sent (`lasting`). [`crashes_between_replies`] says of whole
+//!   runs that no turn is lost, as long as the device hasn't failed: not its events (`tables`), nor what they sent
+//!   (`documents`). This speaks of disks that tell their bytes.
 //! - What was written (`wrote`): all replies; after a fault of the writer a prefix of them and not all; where the text
 //!   of a reply found no memory, all but that reply.
 //!
