@@ -4,12 +4,11 @@ use Rattle.std.specs.Prelude.{◌==◌, Result, Ok, Err, IfOk}
 use Rattle.std.proofs.lemmas.List.{map-append}
 use Rattle.mime_rules.specs.declared.stop.Stop.{Stop}
 use Rattle.mime_rules.specs.declared.stop.Stop.TheVariants.{Memory, Fault}
-use Rattle.mime_rules.specs.Seen.{Stopped, EndsBy, PatternSays}
+use Rattle.mime_rules.specs.Seen.{Stopped, EndsBy}
 use Rattle.std.proofs.lemmas.Bool.Decides.{nat_tests}
-use Rattle.mime_rules.specs.Patterns.{pattern_of}
 use Rattle.spool_types.specs.declared.warning.WarningKind.{WarningKind}
-use Rattle.mime_rules.specs.Reading.{Read, read, wrong}
-use Rattle.mime_rules.specs.Tokens.{Token, fault, token_at, match_token, with_token, tokens_within, tokens_of}
+use Rattle.mime_rules.specs.Reading.{read, wrong}
+use Rattle.mime_rules.specs.Tokens.{Token, fault, token_at, with_token, tokens_within, tokens_of}
 
 -- these bytes have these tokens, with enough steps
 abbrev pub TokensSay : List ℕ → List Token → Type 0
