@@ -7,7 +7,7 @@ use spool_types::{AttemptNumber, Exit, FilterName, JobId, LONGEST_DOCUMENT, Stag
 use std::alloc::Global;
 
 /// The program that a child runs.
-#[derive(Debug, Drop)]
+#[derive(Drop)]
 pub enum Program {
     Filter(FilterName),
     /// The backend of this scheme.
@@ -15,7 +15,7 @@ pub enum Program {
 }
 
 /// What a child is handed.
-#[derive(Debug, Drop)]
+#[derive(Drop)]
 pub enum Input {
     /// The job's document, as the file that the last word names. Standard input is empty.
     Document(Content),
@@ -24,7 +24,7 @@ pub enum Input {
 }
 
 /// All that the child of a stage is started by.
-#[derive(Debug, Drop)]
+#[derive(Drop)]
 pub struct Order {
     pub job: JobId,
     pub attempt: AttemptNumber,
@@ -38,7 +38,7 @@ pub struct Order {
 }
 
 /// How a child ended, and all that it wrote on standard output and standard error.
-#[derive(Debug, Drop)]
+#[derive(Drop)]
 pub struct Finish {
     pub exit: Exit,
     pub output: Content,
@@ -89,7 +89,7 @@ impl Finish {
 pub struct ChildFault;
 
 /// An order, and how many children had been finished before it.
-#[derive(Debug, Drop)]
+#[derive(Drop)]
 pub struct Placed {
     pub order: Order,
     pub before: usize,

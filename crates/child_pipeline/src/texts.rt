@@ -7,7 +7,7 @@ use std::alloc::Global;
 use std::marker::Model;
 
 /// Bytes, seen as their list.
-#[derive(Debug, Drop)]
+#[derive(Drop)]
 pub struct Content {
     bytes: Vec<u8>,
 }
@@ -53,7 +53,7 @@ impl Content {
 }
 
 /// Texts in order, seen as the list of their bytes.
-#[derive(Debug, Drop)]
+#[derive(Drop)]
 pub struct Texts {
     texts: Vec<String>,
 }
@@ -91,7 +91,7 @@ impl Texts {
 }
 
 /// The scheme of a device's URI, seen as its bytes. It is empty where the URI doesn't parse.
-#[derive(Debug, Drop)]
+#[derive(Drop)]
 pub struct Scheme {
     scheme: String,
 }

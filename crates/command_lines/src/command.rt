@@ -8,7 +8,7 @@ use spool_types::{
 pub type Rounds = Ranged<1, 1000>;
 
 /// A job to be made, but for its number.
-#[derive(Debug, PartialEq, Eq, Drop)]
+#[derive(Drop)]
 pub struct Creation {
     pub queue: QueueName,
     pub user: UserName,
@@ -20,7 +20,7 @@ pub struct Creation {
 }
 
 /// A command: an event as it is, or what becomes one by the table or by the text of a document, or none.
-#[derive(Debug, PartialEq, Eq, Drop)]
+#[derive(Drop)]
 pub enum Command {
     /// Asks for an event that the line says whole.
     Apply(Event),
@@ -47,7 +47,7 @@ pub enum Command {
 }
 
 // What a line says.
-#[derive(Debug, Drop)]
+#[derive(Drop)]
 pub enum Kind {
     // Nothing: it is empty or a remark.
     Remark,

@@ -13,7 +13,7 @@ use std::alloc::Global;
 pub type Field = Items<u8, 1_023>;
 
 /// The quoted fields of a line.
-#[derive(Debug, Drop)]
+#[derive(Drop)]
 pub struct Fields {
     pub make: Field,
     pub info: Field,

@@ -42,7 +42,7 @@ impl TextKind for DeviceClassKind {
 pub type DeviceClass = Text<DeviceClassKind>;
 
 /// What a backend tells of one device.
-#[derive(Debug, Drop)]
+#[derive(Drop)]
 pub struct DeviceLine {
     /// What it is reached by.
     pub class: DeviceClass,

@@ -30,7 +30,7 @@ impl From<AllocError> for OptionsFault {
 const MOST_PAIRS: usize = 64;
 
 /// A name and its value, of a URI's query. Seen as the pair of their bytes.
-#[derive(Debug, Drop)]
+#[derive(Drop)]
 pub struct DeviceOption {
     name: String,
     value: String,

@@ -104,5 +104,5 @@ pub use laws::{
 };
 pub use reading::decode;
 pub use row_reading::decode_row;
-pub use row_writing::{encode_row, encode_row_onto};
+pub use row_writing::{encode_queue_onto, encode_row, encode_row_onto};
 pub use writing::{encode, encode_onto};

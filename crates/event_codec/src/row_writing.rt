@@ -5,6 +5,7 @@ ghost use Rattle.std.specs.List.{flat_map, AllByRecursion};
 ghost use Rattle.spool_types.specs.Limits.{greatest_moment};
 ghost use Rattle.event_codec.specs.Spelling.{attribute_code, queue_code, IsIn, IsQueue, IsJob, IsAttribute};
 ghost use Rattle.event_codec.specs.RowSpelling.{hold_reason_number, holding_code, abort_reason_number, waiting_code, phase_code, typed_code, attributes_code, head_code, new_queue_of, queue_state_code, queue_row_code, new_job_of, created_code, job_state_code, job_row_code, row_spelling, IsHolding, IsWaitingFor, HasMoments, IsTyped, IsQueueState, HasQueueFields, IsJobState, HasJobFields, HasFields, IsLegalRow, IsRowSpellable};
+ghost use Rattle.spool_types.specs.declared.listing.Row.TheVariants.{Queue};
 
 use crate::effect_writing::put_attribute;
 use crate::field_writing::{
@@ -395,5 +396,15 @@ pub fn encode_row_onto(row: &Row, out: &mut Vec<u8>) -> Result<(), AllocError>
 {
     out.reserve(spelled_row_len(row))?;
     put_row(out, row);
+    Ok(())
+}
+
+/// As `encode_row_onto`, the row of a queue, which is only looked at.
+pub fn encode_queue_onto(queue: &QueueRow, out: &mut Vec<u8>) -> Result<(), AllocError>
+    ensures spelled { OnOk result (out.new.items ≡ out.old.items ++ row_spelling (Queue queue.now)) }
+{
+    out.reserve(1 + added_len(queue) + queue_state_len(queue))?;
+    put(out, &0x41u8.to_be_bytes());
+    put_queue_row(out, queue);
     Ok(())
 }

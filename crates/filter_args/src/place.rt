@@ -1,7 +1,7 @@
 //! Where the spooler's children run.
 
 /// What the children of every job share.
-#[derive(Debug, Drop)]
+#[derive(Drop)]
 pub struct Place {
     /// The spool's folder.
     pub root: String,

@@ -44,7 +44,7 @@ pub(crate) fn standing_of_row(row: &JobRow) -> Standing
 }
 
 /// The lane of a queue.
-#[derive(Debug, Drop)]
+#[derive(Drop)]
 pub(crate) struct Lane {
     // The waiting jobs.
     pub index: Index,

@@ -49,7 +49,7 @@ impl From<AllocError> for LoadFault {
 }
 
 /// A job whose document is short.
-#[derive(Debug, Drop)]
+#[derive(Drop)]
 struct Partial {
     row: JobRow,
     // How many bytes of its document have come.
@@ -57,7 +57,7 @@ struct Partial {
 }
 
 /// A table while the rows of a listing come.
-#[derive(Debug, Drop)]
+#[derive(Drop)]
 pub struct Loading {
     // All that is whole.
     store: Store,

@@ -17,14 +17,14 @@ use std::marker::Model;
 use std::mem;
 
 /// A job, and the new extents of its document so far.
-#[derive(Debug, Drop)]
+#[derive(Drop)]
 struct NewDocument {
     job: JobId,
     extents: Vec<Extent>,
 }
 
 /// The new places of documents.
-#[derive(Debug, Drop)]
+#[derive(Drop)]
 pub(crate) struct NewPlaces {
     // In ascending order of number, each number once.
     documents: Vec<NewDocument>,

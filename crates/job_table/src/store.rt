@@ -29,7 +29,7 @@ mod row_changes;
 pub use attempts::is_in_stage;
 
 /// The rows of queues and jobs.
-#[derive(Debug, Drop)]
+#[derive(Drop)]
 pub(crate) struct Store {
     // In ascending order of name, each name once.
     queues: Vec<QueueRow>,

@@ -5,7 +5,7 @@ ghost use Rattle.line_words.specs.Seen.{bytes_of};
 use std::alloc::{AllocError, Global};
 
 /// A word of a line, without its quotes.
-#[derive(Debug, Drop)]
+#[derive(Drop)]
 pub enum Word<'a> {
     /// A word as it stands in the line.
     Borrowed(&'a [u8]),

@@ -16,7 +16,7 @@ use spool_types::MediaType;
 use std::alloc::{AllocError, Global};
 
 /// A walk: the numbers of its lines, and its cost.
-#[derive(Debug, Drop)]
+#[derive(Drop)]
 pub struct Chain {
     pub lines: Vec<usize>,
     pub cost: u32,

@@ -54,7 +54,7 @@ fn is_media_byte(b: u8) -> bool
 }
 
 /// A conversion from types to a type.
-#[derive(Debug, Drop)]
+#[derive(Drop)]
 pub struct Conversion {
     /// The number of its line, from 1. A joined line has the number of its first.
     pub line: usize,

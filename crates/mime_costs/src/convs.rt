@@ -17,7 +17,7 @@ use std::alloc::{AllocError, Global};
 use std::marker::Model;
 
 /// The conversions of a file, in the order of their lines.
-#[derive(Debug, Drop)]
+#[derive(Drop)]
 pub struct Convs {
     alloc: Global,
     conversions: Vec<Conversion>,

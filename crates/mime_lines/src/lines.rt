@@ -14,7 +14,7 @@ const CARRIAGE_RETURN: u8 = b'\r';
 const BACKSLASH: u8 = b'\\';
 
 /// The text of a line, without its line feed.
-#[derive(Debug, Drop)]
+#[derive(Drop)]
 pub enum LineText<'a> {
     /// A line as it stands in the file.
     Lent(&'a [u8]),
@@ -35,7 +35,7 @@ impl<'a> LineText<'a> {
 }
 
 /// A line with those that backslashes join to it.
-#[derive(Debug, Drop)]
+#[derive(Drop)]
 pub struct JoinedLine<'a> {
     /// The number of its first line, from 1.
     pub number: usize,

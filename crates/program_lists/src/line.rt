@@ -14,14 +14,14 @@ const BACKEND: &[u8] = b"backend";
 const SIDE: &[u8] = b"side";
 
 /// A program: where it lies, and the word that comes before the words of a job, if there is one.
-#[derive(Debug, Drop)]
+#[derive(Drop)]
 pub struct ListedProgram {
     pub path: ProgramPath,
     pub word: Option<ProgramWord>,
 }
 
 /// A program and its name, a text of the kind `K`.
-#[derive(Debug, Drop)]
+#[derive(Drop)]
 pub struct Listed<K: TextKind> {
     pub name: Text<K>,
     pub program: ListedProgram,
@@ -34,7 +34,7 @@ pub type ListedFilter = Listed<FilterNameKind>;
 pub type ListedBackend = Listed<BackendNameKind>;
 
 /// What a line says.
-#[derive(Debug, Drop)]
+#[derive(Drop)]
 pub enum Said {
     /// It has no words.
     Nothing,

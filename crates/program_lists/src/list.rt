@@ -30,7 +30,7 @@ impl From<AllocError> for ListFault {
 }
 
 /// The programs that a file names, each kind in the order of its lines.
-#[derive(Debug, Drop)]
+#[derive(Drop)]
 pub struct ProgramList {
     filters: Vec<ListedFilter>,
     backends: Vec<ListedBackend>,

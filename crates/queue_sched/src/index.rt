@@ -16,7 +16,7 @@ use std::collections::VecDeque;
 use std::marker::Model;
 
 /// The waiting jobs of one queue in the order of their turns, at a moment.
-#[derive(Debug, Drop)]
+#[derive(Drop)]
 pub struct Index {
     // In the order of their turns.
     entries: VecDeque<Entry>,

@@ -9,7 +9,7 @@ use std::alloc::{AllocError, Global};
 use std::marker::Model;
 
 /// Memory that is set aside for effects: seen as for how many reasons, and for how many attributes.
-#[derive(Debug, Drop)]
+#[derive(Drop)]
 pub struct Spare {
     pub(super) reasons: Vec<Reason>,
     pub(super) attributes: Vec<Attribute>,

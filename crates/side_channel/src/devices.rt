@@ -5,7 +5,7 @@ use std::alloc::Global;
 use std::marker::Model;
 
 /// A device's id (IEEE 1284), of at most 1,000 bytes.
-#[derive(Debug, Drop)]
+#[derive(Drop)]
 pub struct DeviceId {
     bytes: Vec<u8>,
 }
@@ -62,7 +62,7 @@ impl DeviceId {
 }
 
 /// What a device tells of itself.
-#[derive(Debug, Drop)]
+#[derive(Drop)]
 pub struct Device {
     /// Whether it can be read from.
     pub bidi: bool,

@@ -13,7 +13,7 @@ use std::marker::Model;
 use whole_writes::write_whole;
 
 /// A packet. Data above 2,048 bytes are not kept: the body is empty then, and otherwise has the length that is told.
-#[derive(Debug, Drop)]
+#[derive(Drop)]
 pub struct Packet {
     pub command: u8,
     pub status: u8,

@@ -9,7 +9,7 @@ use crate::packets::write_packet;
 use std::io::Write;
 
 /// The data of an answer.
-#[derive(Clone, Copy, Debug)]
+#[derive(Clone, Copy)]
 pub enum AnswerBody<'a> {
     Empty,
     One(u8),
@@ -18,7 +18,7 @@ pub enum AnswerBody<'a> {
 }
 
 /// An answer, which repeats the command of its request.
-#[derive(Clone, Copy, Debug)]
+#[derive(Clone, Copy)]
 pub struct Answer<'a> {
     pub command: u8,
     pub status: Status,

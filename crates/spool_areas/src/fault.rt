@@ -23,7 +23,7 @@ pub enum OpenFault {
 }
 
 /// A device that was not opened, and why.
-#[derive(Debug, Drop)]
+#[derive(Drop)]
 pub struct OpenError<D> {
     pub disk: D,
     pub fault: OpenFault,

@@ -36,7 +36,7 @@ pub enum Ending {
 }
 
 /// What a run of events was answered, and why it ended.
-#[derive(Debug, Drop)]
+#[derive(Drop)]
 pub struct Driven {
     /// A reply or a refusal for each event, up to the end of the run.
     pub replies: Vec<Result<Reply, Refusal>>,

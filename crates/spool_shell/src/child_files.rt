@@ -17,7 +17,7 @@ use std::{fs, io};
 const PIECE: usize = 65_536;
 
 /// The paths of a child's files.
-#[derive(Debug, Drop)]
+#[derive(Drop)]
 pub(crate) struct ChildPaths {
     pub input: String,
     pub output: String,

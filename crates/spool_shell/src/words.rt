@@ -43,7 +43,7 @@ pub struct ShellWords<'a> {
 }
 
 /// Why the words say nothing.
-#[derive(Debug, Drop)]
+#[derive(Drop)]
 pub enum WordsFault {
     /// They are refused, or ask for the help. It is what there is to print.
     Refused(Error),

@@ -1,7 +1,6 @@
 //! How a child ended, and what it said on standard error.
 use crate::items::Words;
 use crate::kinds::{AttributeName, Message};
-use std::alloc::AllocError;
 
 /// How a child ended.
 #[derive(Clone, Copy, Debug, PartialEq, Eq)]
@@ -29,14 +28,14 @@ pub enum Level {
 }
 
 /// An attribute of a queue.
-#[derive(Clone, Debug, PartialEq, Eq, Drop)]
+#[derive(Debug, Drop)]
 pub struct Attribute {
     pub name: AttributeName,
     pub value: Message,
 }
 
 /// What a line of a child's standard error does (filter(7)).
-#[derive(Debug, PartialEq, Eq, Drop)]
+#[derive(Debug, Drop)]
 pub enum Effect {
     /// `PAGE: page copies` adds the copies to the job's pages.
     Pages { page: u32, copies: u32 },
@@ -52,29 +51,4 @@ pub enum Effect {
     Attribute(Attribute),
     /// `ERROR: text` and the like set the queue's message.
     Message { level: Level, text: Message },
-}
-
-// By hand, as it says at once that a copy is the same effect, which the copy of a list needs.
-impl Clone for Effect {
-    ghost use Rattle.std.specs.Prelude.{◌≡◌};
-
-    ghost is_clone = { λ effect copy. copy ≡ effect };
-
-    fn clone(&self) -> Result<Effect, AllocError> {
-        Ok(match self {
-            Effect::Pages { page, copies } => Effect::Pages {
-                page: *page,
-                copies: *copies,
-            },
-            Effect::TotalPages(pages) => Effect::TotalPages(*pages),
-            Effect::SetReasons(words) => Effect::SetReasons(words.clone()?),
-            Effect::AddReasons(words) => Effect::AddReasons(words.clone()?),
-            Effect::DropReasons(words) => Effect::DropReasons(words.clone()?),
-            Effect::Attribute(attribute) => Effect::Attribute(attribute.clone()?),
-            Effect::Message { level, text } => Effect::Message {
-                level: *level,
-                text: text.clone()?,
-            },
-        })
-    }
 }

@@ -89,7 +89,7 @@ fn have_room(effects: &[Effect]) -> bool
 
 /// The effects of one stage in the order of their lines, seen as a list: those that add reasons or drop some name one at
 /// least, and their codes have at most 16,384 bytes.
-#[derive(Clone, Debug, PartialEq, Eq, Drop)]
+#[derive(Drop)]
 pub struct Effects {
     effects: Items<Effect, 16_384>,
 }

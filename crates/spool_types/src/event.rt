@@ -1,6 +1,4 @@
 //! Events, and what they are answered.
-ghost use Rattle.std.specs.Prelude.{◌≡◌, IfOk};
-
 use crate::effect::Exit;
 use crate::effects::Effects;
 use crate::items::{Filters, Piece};
@@ -9,10 +7,9 @@ use crate::media::MediaType;
 use crate::numbers::{JobId, Moment};
 use crate::phase::{Phase, Policy};
 use crate::ranged::{AttemptNumber, Copies, Interval, Priority, StageNumber};
-use std::alloc::AllocError;
 
 /// A queue to be made.
-#[derive(Clone, Debug, PartialEq, Eq, Drop)]
+#[derive(Drop)]
 pub struct NewQueue {
     pub name: QueueName,
     pub uri: Uri,
@@ -23,7 +20,7 @@ pub struct NewQueue {
 }
 
 /// What is told of a queue (printer-info and printer-location, RFC 8011).
-#[derive(Clone, Debug, PartialEq, Eq, Drop)]
+#[derive(Drop)]
 pub struct QueueNotes {
     pub queue: QueueName,
     pub info: Note,
@@ -31,7 +28,7 @@ pub struct QueueNotes {
 }
 
 /// A job to be made.
-#[derive(Clone, Debug, PartialEq, Eq, Drop)]
+#[derive(Drop)]
 pub struct NewJob {
     pub queue: QueueName,
     pub job: JobId,
@@ -43,7 +40,7 @@ pub struct NewJob {
 }
 
 /// The end of a document: its media type, and the filters to the queue's target, if any lead there.
-#[derive(Clone, Debug, PartialEq, Eq, Drop)]
+#[derive(Drop)]
 pub struct Closing {
     pub job: JobId,
     pub media: MediaType,
@@ -51,7 +48,7 @@ pub struct Closing {
 }
 
 /// The end of a stage of a job's attempt.
-#[derive(Clone, Debug, PartialEq, Eq, Drop)]
+#[derive(Drop)]
 pub struct StageEnd {
     pub job: JobId,
     pub attempt: AttemptNumber,
@@ -65,7 +62,7 @@ pub struct StageEnd {
 }
 
 /// A change of the table.
-#[derive(Clone, Debug, PartialEq, Eq, Drop)]
+#[derive(Drop)]
 pub enum Event {
     AddQueue(NewQueue),
     /// Sets what is told of a queue.
@@ -90,15 +87,6 @@ pub enum Event {
     Abandon(JobId),
     /// Gives up every attempt, as the spooler was started anew.
     Reopen,
-}
-
-impl Event {
-    /// The same event, in memory of its own.
-    pub fn copy(&self) -> Result<Event, AllocError>
-        ensures { IfOk result (λ copy. copy ≡ self.now) }
-    {
-        self.clone()
-    }
 }
 
 /// What an accepted event is answered.

@@ -7,7 +7,6 @@ ghost use Rattle.spool_types.specs.Values.{is_plain, is_printable, is_graphic, i
 use crate::text::{Text, TextKind};
 
 /// The kind of a user's name: 1 to 255 bytes, no control character.
-#[derive(Clone, Copy, Debug)]
 pub struct UserNameKind;
 
 /// Who a job is for.
@@ -22,7 +21,6 @@ impl TextKind for UserNameKind {
 }
 
 /// The kind of a title: up to 255 bytes, no control character.
-#[derive(Clone, Copy, Debug)]
 pub struct TitleKind;
 
 /// What a job is called.
@@ -37,7 +35,6 @@ impl TextKind for TitleKind {
 }
 
 /// The kind of a job's options: up to 2,048 bytes, no control character.
-#[derive(Clone, Copy, Debug)]
 pub struct OptionTextKind;
 
 /// A job's options as one text, the fifth argument of a filter (filter(7)).
@@ -52,7 +49,6 @@ impl TextKind for OptionTextKind {
 }
 
 /// The kind of a note: up to 127 bytes, no control character.
-#[derive(Clone, Copy, Debug)]
 pub struct NoteKind;
 
 /// What is told of a queue: its printer-info or its printer-location.
@@ -67,7 +63,6 @@ impl TextKind for NoteKind {
 }
 
 /// The kind of a message: up to 1,023 bytes of printable ASCII.
-#[derive(Clone, Copy, Debug)]
 pub struct MessageKind;
 
 /// A queue's message, or the value of an attribute.
@@ -82,7 +77,6 @@ impl TextKind for MessageKind {
 }
 
 /// The kind of a document's name: up to 4,096 bytes, no control character.
-#[derive(Clone, Copy, Debug)]
 pub struct FileNameKind;
 
 /// The name of a document, by which it is typed.
@@ -97,7 +91,6 @@ impl TextKind for FileNameKind {
 }
 
 /// The kind of a device's URI: 1 to 1,023 bytes of ASCII without blanks.
-#[derive(Clone, Copy, Debug)]
 pub struct UriKind;
 
 /// A device's URI as it was given.
@@ -112,7 +105,6 @@ impl TextKind for UriKind {
 }
 
 /// The kind of a queue's name: 1 to 127 letters, digits, `-` and `_`.
-#[derive(Clone, Copy, Debug)]
 pub struct QueueNameKind;
 
 /// The name of a queue.
@@ -127,7 +119,6 @@ impl TextKind for QueueNameKind {
 }
 
 /// The kind of a filter's name: 1 to 127 letters, digits, `-`, `_` and `.`.
-#[derive(Clone, Copy, Debug)]
 pub struct FilterNameKind;
 
 /// The name of a filter program.
@@ -142,7 +133,6 @@ impl TextKind for FilterNameKind {
 }
 
 /// The kind of a reason: 1 to 127 letters, digits, `-`, `_` and `.`, and not `none`.
-#[derive(Clone, Copy, Debug)]
 pub struct ReasonKind;
 
 /// A word of a queue's printer-state-reasons.
@@ -157,7 +147,6 @@ impl TextKind for ReasonKind {
 }
 
 /// The kind of an attribute's name: 1 to 127 letters, digits and hyphens.
-#[derive(Clone, Copy, Debug)]
 pub struct AttributeNameKind;
 
 /// The name of a queue's attribute.

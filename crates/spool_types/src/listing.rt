@@ -17,7 +17,7 @@ pub struct Head {
 }
 
 /// A job without its document, whose pieces follow it.
-#[derive(Debug, PartialEq, Eq, Drop)]
+#[derive(Drop)]
 pub struct ListedJob {
     pub id: JobId,
     pub queue: QueueName,
@@ -35,7 +35,7 @@ pub struct ListedJob {
 }
 
 /// A row of a listing.
-#[derive(Debug, PartialEq, Eq, Drop)]
+#[derive(Drop)]
 pub enum Row {
     Head(Head),
     Queue(QueueRow),

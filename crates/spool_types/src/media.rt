@@ -11,7 +11,6 @@ use std::marker::Model;
 
 /// The kind of a media type in lower case: a type, a slash and a subtype, at most 255 bytes. Each part is of lower-case
 /// letters, digits and `!#$&^_.+-` (RFC 6838).
-#[derive(Clone, Copy, Debug)]
 pub struct MediaTypeKind;
 
 /// The text of a media type.
@@ -67,7 +66,7 @@ fn folds_to_part(text: &str) -> bool
 }
 
 /// A media type, in lower case.
-#[derive(Clone, Debug, PartialEq, Eq, PartialOrd, Ord, Drop)]
+#[derive(Clone, PartialEq, Eq, PartialOrd, Ord, Drop)]
 pub struct MediaType {
     name: MediaName,
 }

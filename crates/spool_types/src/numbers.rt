@@ -5,7 +5,7 @@ ghost use Rattle.spool_types.specs.Limits.{greatest_number, greatest_moment};
 use std::marker::Model;
 
 /// The number of a job (job-id, RFC 8011).
-#[derive(Clone, Copy, Debug, PartialEq, Eq, PartialOrd, Ord, Hash)]
+#[derive(Clone, Copy, Debug, PartialEq, Eq, PartialOrd, Ord)]
 pub struct JobId {
     number: u32,
 }
@@ -50,7 +50,7 @@ impl JobId {
 }
 
 /// A moment: seconds from a beginning that the clock of the script sets.
-#[derive(Clone, Copy, Debug, PartialEq, Eq, PartialOrd, Ord, Hash)]
+#[derive(Clone, Copy, Debug, PartialEq, Eq, PartialOrd, Ord)]
 pub struct Moment {
     seconds: u64,
 }

@@ -20,7 +20,7 @@ const LINE_FEED: u8 = b'\n';
 const CARRIAGE_RETURN: u8 = b'\r';
 
 /// What a child said on standard error.
-#[derive(Debug, PartialEq, Eq, Drop)]
+#[derive(Drop)]
 pub struct Report {
     /// The effects in the order of their lines, whose codes have at most 16,384 bytes.
     pub effects: Vec<Effect>,
@@ -29,7 +29,7 @@ pub struct Report {
 }
 
 /// A reader of a child's standard error, which comes in pieces.
-#[derive(Debug, Drop)]
+#[derive(Drop)]
 pub struct Lines {
     // The line in hand, as far as it is read.
     line: Vec<u8>,

@@ -13,7 +13,7 @@ use std::alloc::{AllocError, Global};
 use std::marker::Model;
 
 /// The effects of the lines so far, as far as they are kept.
-#[derive(Debug, Drop)]
+#[derive(Drop)]
 pub struct Tally {
     effects: Vec<Effect>,
     // How many bytes of code have still room. Once an effect was left out, there is none.

@@ -12,7 +12,7 @@ use spool_types::{JobId, Moment};
 use std::alloc::{AllocError, Global};
 
 /// A lane whose waiting jobs aren't in order yet.
-#[derive(Debug, Drop)]
+#[derive(Drop)]
 pub(crate) struct Draft {
     waiting: Vec<Entry>,
     processing: Option<JobId>,

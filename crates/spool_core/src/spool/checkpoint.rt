@@ -17,7 +17,7 @@ ghost use Rattle.spool_core.specs.Checkpointing.{AreAdded, AreFramesOf, HasEpoch
 
 use super::filling::fill_documents;
 use super::{CheckpointFault, Spool};
-use event_codec::encode_row_onto;
+use event_codec::{encode_queue_onto, encode_row_onto};
 use job_table::{Table, listed, listings_are_loaded};
 use spool_areas::{AreaFault, Areas};
 use spool_disk::Disk;
@@ -168,7 +168,11 @@ fn add_queue(alloc: Global, frames: &mut Vec<Vec<u8>>, queue: &QueueRow) -> Resu
     requires { IsOrderedQueue queue.now }
     ensures { OnOk result (AreAdded (RowOf.Queue queue.now ∷ []) frames.old.items frames.new.items) }
 {
-    add_frame(alloc, frames, &Row::Queue(queue.clone()?))
+    let mut frame = Vec::from_slice(alloc, &[0; 4])?;
+    encode_queue_onto(queue, &mut frame)?;
+    frame.push(0)?;
+    frames.push(frame)?;
+    Ok(())
 }
 
 // Adds the frames of jobs, each with those of its document's pieces.
