@@ -1,0 +1,130 @@
+#!/usr/bin/env python3
+"""Sees that each edit of a wrong body still applies to its crate: tests/edits_apply.py.
+
+An edit is a file of crates/NAME/must-fail, which the gate tries, or of crates/NAME/more-edits, which tests/more_edits.py
+tries. It has to name files below src/ of its crate, never a definition or a proof, and each text that it replaces has to
+stand there exactly once. The gate tries the wrong bodies that docs/PROMISES.md names, each in one crate, and at most one
+edit more of a crate.
+
+It takes seconds and proves nothing. The last line is `none`, with status 0. Otherwise it prints what is wrong, and ends
+with status 1.
+"""
+import re
+import sys
+from collections import Counter
+from pathlib import Path
+
+HERE = Path(__file__).resolve().parent.parent
+
+# The wrong bodies that the promises name. Two more are refused by tests: a call that always wants memory, and a start
+# that waits for its child's end.
+PROMISED = {
+    "always-appends-reopen",
+    "bytes-left-over",
+    "cheapest-first-step",
+    "checkpoint-does-nothing",
+    "closes-current-first",
+    "document-to-every-stage",
+    "drive-appends-nothing",
+    "drops-cut-line",
+    "empty-listing-after-full",
+    "finish-before-next-start",
+    "forgets-other-children",
+    "gate-with-payload",
+    "header-in-one-write",
+    "keeps-after-full",
+    "keeps-no-disk",
+    "next-stage-after-cancel",
+    "ok-before-apply",
+    "ok-before-second-sync",
+    "open-without-sync",
+    "opens-empty",
+    "reopens-as-pending",
+    "retry-current-as-retry",
+    "round-starts-nothing",
+    "stops-all-queues",
+    "takes-away-and-puts-back",
+}
+
+IN_GATE, ON_DEMAND = "must-fail", "more-edits"
+# How many edits of a crate the gate tries beside those of the promises.
+MOST_BESIDE = 1
+# rt reads no other name as an edit.
+NAME = re.compile(r"[A-Za-z0-9_-][A-Za-z0-9_.-]*\.edit")
+
+
+def pairs_of(text):
+    """The path, the old and the new text of each replacement, as rt reads them, and the lines that it doesn't read.
+
+    A line that begins with # is a remark.
+    """
+    path, old, pairs, unread = None, None, [], []
+    for line in text.split("\n"):
+        if line.startswith("file: "):
+            path = line.removeprefix("file: ").strip()
+        elif line.startswith("old: "):
+            old = line.removeprefix("old: ")
+        elif line.startswith("new:"):
+            pairs.append((path, old, line.removeprefix("new:").removeprefix(" ")))
+            old = None
+        elif line.strip() and not line.startswith("#"):
+            unread.append(line)
+    return pairs, unread
+
+
+def fault_of(edit, crate):
+    """What is wrong with an edit of a crate, or None. A later replacement applies to what the earlier ones made."""
+    pairs, unread = pairs_of(edit.read_text(encoding="utf-8"))
+    if unread:
+        return f"a line begins with none of 'file: ', 'old: ' and 'new: ': {unread[0][:60]}"
+    if not pairs:
+        return "it replaces nothing"
+    texts, before = {}, {}
+    for path, old, new in pairs:
+        if path is None or not old:
+            return "a line 'new: ' has no lines 'file: ' and 'old: ' before it"
+        if not path.startswith("src/") or ".." in path.split("/"):
+            return f"{path} isn't below src/"
+        if path not in texts:
+            if not (crate / path).is_file():
+                return f"there is no file {path}"
+            texts[path] = before[path] = (crate / path).read_text(encoding="utf-8")
+        count = texts[path].count(old)
+        if count != 1:
+            return f"a text stands {count} times in {path}, and not once: {old.strip()[:60]}"
+        texts[path] = texts[path].replace(old, new)
+    return "it changes nothing" if texts == before else None
+
+
+def edits_in(crate, folder):
+    return sorted((crate / folder).iterdir()) if (crate / folder).is_dir() else []
+
+
+def faults():
+    """What is wrong, a line each."""
+    places = Counter()
+    for crate in sorted(it for it in (HERE / "crates").iterdir() if it.is_dir()):
+        for folder in (IN_GATE, ON_DEMAND):
+            for edit in edits_in(crate, folder):
+                is_edit = edit.is_file() and NAME.fullmatch(edit.name)
+                fault = fault_of(edit, crate) if is_edit else "its name isn't that of an edit"
+                if fault:
+                    yield f"{edit.relative_to(HERE)}: {fault}"
+        names = {it.stem for it in edits_in(crate, IN_GATE)}
+        places.update(names & PROMISED)
+        beside = sorted(names - PROMISED)
+        if MOST_BESIDE < len(beside):
+            yield f"crates/{crate.name}/{IN_GATE}: {len(beside)} edits beside those of the promises: {' '.join(beside)}"
+    for name in sorted(PROMISED):
+        if places[name] != 1:
+            yield f"{name}: it stands in {IN_GATE} of {places[name]} crates, and not of one"
+
+
+def main():
+    found = list(faults())
+    print("\n".join(found or ["none"]))
+    return 1 if found else 0
+
+
+if __name__ == "__main__":
+    sys.exit(main())
