@@ -91,16 +91,22 @@ class Spool:
         same("the rows spelled again", [row.payload() for row in rows], payloads)
         return rows
 
+    def with_file(self, name, words, mode=0o600):
+        """A file in its folder."""
+        path = os.path.join(self.root, name)
+        with open(path, "w") as file:
+            file.write(words)
+        os.chmod(path, mode)
+        return path
+
+    def options(self, **files):
+        """The words that name files of types, of conversions and of programs."""
+        return [word for option, words in files.items() for word in (f"--{option}", self.with_file(option, words))]
+
     def printed(self, job):
         """The document that the backend is given for a job in a round."""
-        backend = os.path.join(self.root, "backend")
-        programs = os.path.join(self.root, "programs")
-        with open(backend, "w") as file:
-            file.write(BACKEND)
-        os.chmod(backend, 0o700)
-        with open(programs, "w") as file:
-            file.write(f"backend s {backend}\n")
-        self.says(("round", "ok started 1 finished 1"), words=("--programs", programs))
+        backend = self.with_file("backend", BACKEND, 0o700)
+        self.says(("round", "ok started 1 finished 1"), words=self.options(programs=f"backend s {backend}\n"))
         with open(f"{backend}.{job}", "rb") as file:
             return file.read()
 
@@ -440,16 +446,12 @@ def the_greatest_epoch(folder):
 
 
 def applied_until_full(folder):
-    types = os.path.join(folder, "types")
-    with open(types, "w") as file:
-        file.write("a/b x\n")
-    words = ("--types", types)
     spool = Spool(folder, image(198))
     spool.says((CREATE, "error 1 NoQueue"), ("jobs", "ok 0"))
     same("the file", spool.content(), image(198))
     spool.says((QUEUE, "ok"), (QUEUE, "error 2 QueueExists"), (CREATE, "ok job 1"))
     spool.says(("queues", QUEUES), ("jobs", ['job 1 q 4 job-incoming "u" 0 0 ""', "ok 1"]), ("close 1 f.x", "ok type a/b stages 1"),
-               ("clock 0", "error full"), ("cancel 1", "ok"), words=words)
+               ("clock 0", "error full"), ("cancel 1", "ok"), words=spool.options(types="a/b x\n"))
     same("the file", spool.content(), image(198, FIRST + (cancel(1),)))
     same("its last record", spool.content()[82:93].hex(), "a5000000050a0000000100")
 
@@ -531,12 +533,7 @@ def a_listing_of_each_phase(folder):
 
 def a_running_job_is_listed(folder):
     spool = Spool(folder, image(SIZE))
-    words = []
-    for option, text in (("types", "a/a x\n"), ("convs", "a/a a/b 10 f\n"), ("programs", "filter f /bin/true\nbackend s /bin/true\n")):
-        name = os.path.join(folder, option)
-        with open(name, "w") as file:
-            file.write(text)
-        words += [f"--{option}", name]
+    words = spool.options(types="a/a x\n", convs="a/a a/b 10 f\n", programs="filter f /bin/true\nbackend s /bin/true\n")
     running = ['job 1 q 5 job-printing "u" 0 0 ""', "ok 1"]
     spool.says((QUEUE, "ok"), (CREATE, "ok job 1"), ("close 1 f.x", "ok type a/a stages 2"), ("round", "ok started 1 finished 1"),
                ("jobs", running), ("checkpoint", "ok"), ("jobs", running), words=words)
@@ -546,6 +543,51 @@ def a_running_job_is_listed(folder):
 
 
 # ---- events
+
+# What a backend says of its device and its pages, and the effects of it.
+SAYS = "#!/bin/sh\nprintf 'STATE: +toner-low,door-open\\nPAGE: 1 2\\nATTR: marker-levels=5\\nINFO: hello\\nPAGE: total 9\\n' >&2\n"
+EFFECTS = (journal.add_reasons("toner-low", "door-open"), journal.pages(1, 2), journal.attribute("marker-levels", "5"),
+           journal.message("hello"), journal.total_pages(9))
+
+
+def each_command_is_its_event(folder):
+    spool = Spool(folder, image(SIZE))
+    backend = spool.with_file("backend", SAYS, 0o700)
+    words = spool.options(types="a/a x\n", convs="a/a a/b 10 f\n", programs=f"filter f /bin/true\nbackend s {backend}\n")
+    lab = Queue("lab", uri="s:/dev", policy="stop-printer", interval=60, limit=7)
+    job = of_lab(1, user="ann", title="A title", copies=3, priority=80, options="collate=false note=a\\ b")
+    octets = "application/octet-stream"
+    story = (
+        ("queue lab s:/dev a/b stop-printer 60 7", "ok", [lab.event()]),
+        ('info lab Laser "Room 5"', "ok", [journal.info("lab", "Laser", "Room 5")]),
+        ("reject lab", "ok", [set_accept("lab", False)]),
+        ("accept lab", "ok", [set_accept("lab", True)]),
+        ("disable lab", "ok", [set_stop("lab", True)]),
+        ("enable lab", "ok", [set_stop("lab", False)]),
+        ("create lab ann \"A title\" 3 80 \"nocollate note='a b'\"", "ok job 1", [job.event()]),
+        (b"send 1 5\nhello\n", "ok bytes 5", [send(1, b"hello")]),
+        ("hold 1 indefinite", "ok", [hold(1)]),
+        ("release 1", "ok", [release(1)]),
+        ("hold 1 100", "ok", [hold(1, 100)]),
+        ("close 1 f.x", "ok type a/a stages 2", [close(1, ["f"], media="a/a")]),
+        ("clock 100", "ok", [clock(100)]),
+        ("round", "ok started 1 finished 1", [start(1), stage(1, 1, 1, 0)]),
+        ("abandon 1", "ok", [abandon(1)]),
+        ("enable lab", "ok", [set_stop("lab", False)]),
+        ("drain 3", "ok rounds 3", [start(1), stage(1, 2, 1, 0), stage(1, 2, 2, 0, *EFFECTS)]),
+        ('create lab u "" 1 50 ""', "ok job 2", [of_lab(2).event()]),
+        ("close 2 f", f"ok type {octets} unprintable", [close(2, None, media=octets)]),
+        ('create lab u "" 1 50 ""', "ok job 3", [of_lab(3).event()]),
+        ("cancel 3", "ok", [cancel(3)]),
+    )
+    spool.says(*[(command, reply) for command, reply, _ in story], words=words)
+    same("the journal", journal.current(spool.content())[0], [event for _, _, events in story for event in events])
+    told = replace(lab, info="Laser", location="Room 5", message="hello", reasons=("door-open", "toner-low"),
+                   attributes=(("marker-levels", "5"),))
+    done = replace(job, media="a/a", filters=("f",), attempts=2, pages=9, size=5, phase=COMPLETED)
+    same("the rows", spool.listing(), [Head(3, 100), told, done, of_lab(2, media=octets, phase=aborted("no-filter")),
+                                       of_lab(3, phase=CANCELED)])
+
 
 def a_65th_queue(folder):
     queues = [Queue("q" * count, policy="retry-job") for count in range(1, 65)]
@@ -670,16 +712,22 @@ def the_next_job_is_chosen_and_started(folder):
 
 def a_held_job_keeps_its_place(folder):
     story = Story(folder, LAB.event(), *closed_job(1), *closed_job(2), *closed_job(3, priority=80), *closed_job(4))
+    first, third = of_lab(1, media="a/b"), of_lab(3, priority=80, media="a/b")
+    second, fourth = replace(first, number=2), replace(first, number=4)
     story.runs(3, 1, 2, 4)
     story.takes(hold(3))
+    story.has(replace(third, phase=waiting(held())))
     story.starts(1, 2, 3, 4)
     story.takes(hold(1))
     story.starts(2, 1, 3, 4)
     story.takes(hold(2, 100))
+    story.has(replace(second, phase=waiting(until(100))))
     story.starts(4, 1, 2, 3)
     story.takes(hold(4, 200))
     story.refuses(*map(start, (1, 2, 3, 4)))
-    story.takes(hold(2, 150), clock(100))
+    story.takes(hold(2, 150))
+    story.has(*[replace(job, phase=waiting(until(moment))) for job, moment in ((second, 150), (fourth, 200))])
+    story.takes(clock(100))
     story.refuses(*map(start, (1, 2, 3, 4)))
     story.takes(clock(150))
     story.starts(2, 1, 3, 4)
@@ -688,6 +736,7 @@ def a_held_job_keeps_its_place(folder):
     story.takes(release(3))
     story.starts(3, 1, 2, 4)
     story.takes(release(4))
+    story.has(*[replace(job, phase=waiting()) for job in (first, third, fourth)])
     story.runs(3, 1, 2, 4)
     # The jobs of another queue are not among them, and their holds change nothing here.
     attic = Queue("attic", policy="retry-job")
