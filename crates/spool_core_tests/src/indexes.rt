@@ -1,0 +1,83 @@
+//! The waiting jobs of a queue, in the order of their turns.
+
+use crate::spelled::event;
+use job_table::{PrepareFault, Table};
+use spool_types::{Event, JobId, QueueName};
+use std::alloc::Global;
+use std::test::*;
+
+// Where the payload of each event lies.
+const PAYLOAD: u64 = 1_000;
+
+// Events in turn, each beside the index of the queue q that it leaves. Job 3 has the priority 80, and the others 50.
+const PLACES: &str = "\
+01 000171 0003733a2f 0003612f62 02 0000001e 0005 =\n\
+05 000171 00000001 000175 0000 0001 32 0000 =\n\
+05 000171 00000002 000175 0000 0001 32 0000 =\n\
+05 000171 00000003 000175 0000 0001 50 0000 =\n\
+05 000171 00000004 000175 0000 0001 32 0000 =\n\
+08 00000004 01 =\n\
+07 00000001 0003612f62 01 00 = 1\n\
+07 00000002 0003612f62 01 00 = 1 2\n\
+07 00000003 0003612f62 01 00 = 3 1 2\n\
+07 00000004 0003612f62 01 00 = 3 1 2 4\n\
+08 00000003 01 = 3 1 2 4\n\
+08 00000001 01 = 3 1 2 4\n\
+08 00000002 02 0000000000000064 = 3 1 2 4\n\
+08 00000002 02 0000000000000096 = 3 1 2 4\n\
+0b 0000000000000096 = 3 1 2 4\n\
+09 00000001 = 3 1 2 4\n\
+09 00000003 = 3 1 2 4\n\
+09 00000004 = 3 1 2 4\n\
+01 000172 0003733a2f 0003612f62 00 0000001e 0005 = 3 1 2 4\n\
+05 000172 00000005 000175 0000 0001 5a 0000 = 3 1 2 4\n\
+07 00000005 0003612f62 01 00 = 3 1 2 4\n\
+08 00000005 01 = 3 1 2 4\n\
+08 00000001 01 = 3 1 2 4\n\
+0a 00000002 = 3 1 4\n\
+0c 00000003 = 1 4\n\
+0d 00000003 00000001 01 0001 00000000 0000 = 3 1 4\n\
+0c 00000003 = 1 4\n\
+0d 00000003 00000002 01 0000 00000000 0000 = 1 4\n\
+0c 00000004 = 1\n\
+0f = 4 1\n\
+0a 00000004 = 1\n\
+09 00000001 = 1";
+
+fn apply(table: &mut Table, event: Event) -> Result<(), Fail> {
+    match table.prepare(&event) {
+        Ok(()) => {
+            table.commit(event, PAYLOAD);
+            Ok(())
+        }
+        Err(PrepareFault::Refused(refusal)) => Err(Fail::from(refusal)),
+        Err(PrepareFault::Memory) => Err(Fail::from("memory")),
+    }
+}
+
+// The numbers that a text has.
+fn numbers(alloc: Global, text: &str) -> Result<Vec<JobId>, Fail> {
+    let mut numbers = Vec::new(alloc);
+    for word in text.split_whitespace() {
+        numbers.push(JobId::new(word.parse::<u32>()?).ok_or("no number")?)?;
+    }
+    Ok(numbers)
+}
+
+#[test]
+fn jobs_are_in_the_order_of_their_turns(rt: HostRuntime) -> Result<(), Fail> {
+    let alloc = rt.alloc();
+    let queue = QueueName::read(alloc, "q")?;
+    let mut table = Table::new(alloc);
+    assert!(rt; table.index(&queue).is_none());
+    for line in PLACES.lines() {
+        let (spelling, wanted) = line.split_once(" =").ok_or("no index")?;
+        apply(&mut table, event(alloc, spelling)?)?;
+        let index = table.index(&queue).ok_or("no queue")?;
+        assert_eq!(rt;
+            (spelling, index.jobs()),
+            (spelling, numbers(alloc, wanted)?.as_slice())
+        );
+    }
+    Ok(())
+}

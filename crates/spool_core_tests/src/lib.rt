@@ -1,0 +1,16 @@
+//! The tests of the tables and spools of `job_table` and `spool_core`: whole runs, cut by a device that fails, and listings
+//! that are loaded. Their events and rows are spelled in hexadecimal.
+#![tactic(auto)]
+
+#[cfg(test)]
+mod documents;
+#[cfg(test)]
+mod indexes;
+#[cfg(test)]
+mod listings;
+#[cfg(test)]
+mod runs;
+#[cfg(test)]
+mod spelled;
+#[cfg(test)]
+mod spools;

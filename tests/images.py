@@ -1,0 +1,369 @@
+#!/usr/bin/env python3
+"""Writes spools of any bytes, and looks at what the shell says of them and leaves: images.py [SHELL [TEST..]]
+
+SHELL is the program, and crates/spool_shell/out/spool_shell (made by `rt run` in that folder) where none is given. The files are
+spelled by tests/journal.py, a second writer of the formats. A file that no spool writes has to be refused, `spool: damaged PLACE`
+with the place of the gate, and stays as it is. Of any other one the replies, the standard error, the status and the bytes that
+are left have to be those that are wanted here: of headers, gates and records, of the rows of a listing, and of what commands,
+checkpoints and openings leave.
+
+Each TEST is the name of a function below; without one all are run. The last line is `N of N`, with status 0, or the first
+difference, with status 1. The folder of that test stays then, and is named.
+"""
+import sys
+from dataclasses import replace
+
+import journal
+from journal import (CANCELED, COMPLETED, REOPEN, Head, Job, Piece, Queue, aborted, cancel, clock, close, hold, image, incoming,
+                     processing, send, stage, start, waiting)
+from stories import (CREATE, FIRST, FIRST_ROWS, GREATEST, GREATEST_NUMBER, LAB, Q, QUEUE, QUEUES, SIZE, Spool, Story, of_lab,
+                     of_q, run, same, spelled)
+
+
+# ---- files that are no spool, or are damaged
+
+def zeros_are_no_spool(folder):
+    Spool(folder, bytes(198)).is_refused("not-a-spool")
+
+
+def two_areas_of_23_bytes(folder):
+    Spool(folder, image(45)).is_refused("not-a-spool")
+    spool = Spool(folder, image(46))
+    spool.says(("queues", "ok 0"), ("jobs", "ok 0"), ("clock 0", "error full"), ("checkpoint", "error full"))
+
+
+def an_empty_spool(folder):
+    spool = Spool(folder, image(198))
+    spool.says(("jobs", "ok 0"), ("queues", "ok 0"))
+    same("the file", spool.content(), image(198))
+
+
+def one_header_is_the_newest(folder):
+    half = 99
+    second = journal.area(half, 2, [Head(0, 5).payload()])
+    # Of two open headers the higher epoch counts. The other area may hold anything behind its header.
+    for first in (journal.area(half, 1, [clock(3)]), journal.area(half, 1, [b"\x7f"])):
+        for content in (first + second, second + first):
+            spool = Spool(folder, content.ljust(198, b"\0"))
+            same("the rows", spool.listing(), [Head(0, 5)])
+            same("the area that was current", second in journal.halves(spool.content()), True)
+    # No open header, or two of one epoch.
+    Spool(folder, journal.area(half, 1, [], gate=0) + journal.area(half, 2, [], gate=1)).is_refused("not-a-spool")
+    Spool(folder, journal.area(half, 7, []) + journal.area(half, 7, [])).is_refused("not-a-spool")
+
+
+def a_header_of_another_form_is_damage(folder):
+    half = 99
+    for at, byte in ((1, 0), (1, 3), (10, 1), (15, 1)):
+        for area, place in ((0, 0), (1, half)):
+            halves = [journal.area(half, 1, []), journal.area(half, 2, [])]
+            halves[area] = halves[area][:at] + bytes([byte]) + halves[area][at + 1:]
+            Spool(folder, b"".join(halves)).is_refused(f"damaged {place}")
+
+
+def any_closed_gate(folder):
+    # The record of the clock at 1000, and behind it a gate at 30.
+    for closed in (0x00, 0x01, 0x07, 0x5A, 0xA4, 0xA6, 0xFF):
+        spool = Spool(folder, image(198, [clock(1_000)], closed=closed))
+        spool.says(("clock 1001", "ok"))
+        same("the file", spool.content(), image(198, [clock(1_000), clock(1_001)]))
+        same("the next record", spool.content()[30:45].hex(), "a5000000090b00000000000003e900")
+        same("the rows", spool.listing(), [Head(0, 1_001)])
+    # What lies behind it counts for nothing.
+    behind = image(198, [clock(1_000)])[:30] + b"\0" + journal.record(clock(9)) + b"\xA5\xFF"
+    same("the rows", Spool(folder, behind.ljust(198, b"\0")).listing(), [Head(0, 1_000)])
+
+
+def an_unknown_kind_is_damage(folder):
+    story = Story(folder, clock(0), size=198)
+    story.spool(b"\x7f").is_refused("damaged 30")
+    story.refuses(b"\x7f", b"\x00", b"\x3f", b"")
+
+
+def a_refused_event_is_damage(folder):
+    story = Story(folder, size=198)
+    story.spool(cancel(1)).is_refused("damaged 16")
+
+
+def a_record_of_another_length_is_damage(folder):
+    story = Story(folder, *FIRST)
+    story.refuses(cancel(1)[:-1], cancel(1) + b"\0", start(0), hold(1, 4_000_000_000_001), clock(4_000_000_000_001))
+    # It leaves its area, which ends at 99.
+    before = image(198, FIRST)
+    for length in (12, 13, GREATEST):
+        record = b"\xA5" + journal.number(length, 4)
+        Spool(folder, (before[:82] + record).ljust(198, b"\0")).is_refused("damaged 82")
+
+
+def a_started_job_wants_seven_bytes(folder):
+    # The gate behind its start is at 92, and the area ends at 98, or at 99.
+    started = FIRST + (start(1),)
+    Spool(folder, image(196, started)).is_refused("damaged 92")
+    spool = Spool(folder, image(198, started))
+    for _ in range(2):
+        spool.says(("jobs", ['job 1 q 8 attempt-lost "u" 0 0 ""', "ok 1"]))
+        same("the file", spool.content(), image(198, started + (REOPEN,)))
+    same("its last record", spool.content()[92:99].hex(), "a5000000010f00")
+
+
+# ---- rows of a listing
+
+def no_rows_are_the_empty_table(folder):
+    story = Story(folder)
+    story.lists(Head(0))
+    story.refuses(LAB, of_lab(1, media="a/b", phase=waiting()), Piece(1, b"a"), Head(GREATEST_NUMBER + 1))
+    Story(folder, Head(GREATEST_NUMBER)).lists(Head(GREATEST_NUMBER))
+
+
+def queues_in_their_order(folder):
+    story = Story(folder, Head(9, 100))
+    story.refuses(Head(9, 100), of_lab(1, media="a/b", phase=waiting()))
+    lab, pit = Queue("lab", reasons=("a", "b"), attributes=(("c", ""), ("d", ""))), Queue("pit")
+    story.takes(lab)
+    story.refuses(Queue("hall"), lab, Queue("lab"), replace(pit, reasons=("b", "a")), replace(pit, reasons=("a", "a")))
+    story.refuses(replace(pit, attributes=(("d", ""), ("c", ""))), replace(pit, attributes=(("c", "1"), ("c", "2"))))
+    story.takes(pit)
+    story.lists(Head(9, 100), lab, pit)
+
+
+def jobs_in_their_order(folder):
+    lab, pit = Queue("lab"), Queue("pit")
+    story = Story(folder, Head(9, 100), lab, pit)
+    waits = of_lab(2, media="a/b", phase=waiting())
+    runs = of_lab(2, media="a/b", attempts=1, phase=processing(1))
+    story.refuses(replace(waits, queue="attic"), replace(waits, phase=incoming()), replace(waits, media=None))
+    story.refuses(replace(waits, attempts=GREATEST), replace(runs, attempts=0), replace(runs, media=None))
+    story.refuses(replace(runs, phase=processing(0)), replace(runs, phase=processing(2)))
+    story.refuses(replace(runs, filters=("f",), phase=processing(3)))
+    story.refuses(replace(waits, number=10), replace(waits, number=0), replace(waits, size=1_048_577))
+    story.takes(runs)
+    story.refuses(Queue("roof"), Head(9, 100), waits, runs, replace(waits, number=1), replace(runs, number=3))
+    third, fourth = replace(runs, number=3, queue="pit"), Job(4, "pit", media="a/b", attempts=1, size=7, phase=COMPLETED)
+    story.takes(third, fourth)
+    story.refuses(Piece(4, b"aaaaaaa"))
+    story.takes(of_lab(9))
+    lost = [replace(row, phase=aborted("attempt-lost")) for row in (runs, third)]
+    story.lists(Head(9, 100), lab, pit, *lost, fourth, of_lab(9))
+    story.takes(send(9, b"hello"))
+    story.refuses(of_lab(9).event())
+    story.takes(of_lab(10).event())
+    story.spool().says((b"send 9 1\n!\n", "ok bytes 6"), ('create lab u "" 1 50 ""', "ok job 11"))
+
+
+def rows_out_of_place_are_damage(folder):
+    head, job, piece = Head(1, 1_000), of_q(1, media="a/b", size=2, phase=waiting()), Piece(1, b"hi")
+    # Each list ends with the row or the event that is out of place. A document that is short is told at the closed gate.
+    for place, rows in (
+        (16, [Q]),
+        (30, [clock(1_001), head]),
+        (34, [head, head]),
+        (34, [head, job]),
+        (70, [Head(0, 1_000), Q, job]),
+        (70, [head, Q, Q]),
+        (123, [head, Q, job, Piece(2, b"hi")]),
+        (123, [head, Q, job, clock(1_001)]),
+        (123, [head, Q, job]),
+        (139, [head, Q, job, piece, piece]),
+    ):
+        Spool(folder, image(400, list(map(spelled, rows)))).is_refused(f"damaged {place}")
+
+
+def a_listing_is_its_table(folder):
+    head, job, piece = Head(1, 1_000), of_q(1, media="a/b", size=2, phase=waiting()), Piece(1, b"hi")
+    story = Story(folder, head, Q, job, piece, clock(1_001), size=400)
+    same("where its document lies", story.spool().content()[137:139], b"hi")
+    spool = story.spool()
+    spool.says(("jobs", ['job 1 q 3 none "u" 2 0 ""', "ok 1"]), ("queues", QUEUES))
+    same("the document", spool.printed(1), b"hi")
+    story.lists(Head(1, 1_001), Q, job, piece)
+    story.spool().says((CREATE, "ok job 2"))
+
+
+def pieces_make_the_document(folder):
+    size = 400_000
+    whole = b"a" * 65_536 + b"b"
+    first = of_lab(1, media="a/b", size=4, phase=waiting())
+    second = of_lab(2, media="a/b", size=65_537, phase=waiting())
+    begun = Story(folder, Head(3), LAB, first, size=size)
+    begun.is_short()
+    begun.refuses(Piece(1, b"ab"), Piece(1, b"abcde"), Piece(1, b""), Piece(2, b"abcd"), Queue("pit"))
+    begun.refuses(of_lab(2, media="a/b", phase=waiting()), Head(3), clock(1))
+    story = Story(folder, Head(3), LAB, first, Piece(1, b"abcd"), size=size)
+    story.refuses(Piece(1, b"a"))
+    begun = Story(folder, *story.payloads, second, size=size)
+    begun.is_short()
+    begun.refuses(Piece(2, b"a"), Piece(2, b"a" * 65_535))
+    begun = Story(folder, *begun.payloads, Piece(2, b"a" * 65_536), size=size)
+    begun.is_short()
+    begun.refuses(Piece(1, b"b"), Piece(2, b"bb"))
+    story.takes(second, *journal.pieces(2, whole))
+    story.lists(Head(3), LAB, first, Piece(1, b"abcd"), second, *journal.pieces(2, whole))
+    story.runs(1, 2)
+    spool = story.spool()
+    same("the document", spool.printed(1), b"abcd")
+    same("the document", spool.printed(2), whole)
+
+
+# ---- what checkpoints, commands and openings leave
+
+def a_listing_of_an_empty_table(folder):
+    spool = Spool(folder, image(198))
+    spool.says(("checkpoint", "ok"))
+    # Its epoch is 2, and the one row is the head: its kind, no number and the moment 0.
+    listed = bytes.fromhex("a5010000000000000002000000000000a50000000d4000000000000000000000000000")
+    same("the file", spool.content(), image(198)[:99] + listed.ljust(99, b"\0"))
+    spool.says(("jobs", "ok 0"))
+
+
+def a_listing_in_pieces(folder):
+    target = "application/octet-stream"
+    queue = Queue("q", target=target)
+    for size in (0, 1, 65_535, 65_536, 65_537, 131_072, 150_000):
+        document = bytes(at % 251 for at in range(size))
+        sends = [send(1, document[at:at + 50_000]) for at in range(0, size, 50_000)]
+        spool = Spool(folder, image(1_048_576, [queue.event(), of_q(1).event(), *sends]))
+        spool.says(("checkpoint", "ok"), ("close 1 x", f"ok type {target} stages 1"))
+        rows = [Head(1), queue, of_q(1, size=size), *journal.pieces(1, document)]
+        wanted = [row.payload() for row in rows] + [close(1, media=target)]
+        same("the journal is its rows and the close", journal.current(spool.content()) == (wanted, 2), True)
+        rows[2] = of_q(1, size=size, media=target, phase=waiting())
+        same("the next listing is its rows", spool.listing() == rows, True)
+        same("the document is given to its backend", spool.printed(1) == document, True)
+
+
+def room_for_one_reopening(folder):
+    # The rows of the listing take 13, 31 and 48 bytes. An area of 129 bytes has no room for them and a reopening, and one of
+    # 130 just that.
+    waits = ['job 1 q 3 none "u" 0 0 ""', "ok 1"]
+    spool = Spool(folder, image(258, FIRST))
+    spool.says(("checkpoint", "error full"), ("jobs", waits), ("hold 1 indefinite", "ok"))
+    same("the file", spool.content(), image(258, FIRST + (hold(1),)))
+    spool = Spool(folder, image(260, FIRST))
+    spool.says(("checkpoint", "ok"), ("jobs", waits), ("round", "error full"))
+    listed = image(260, FIRST)[:130] + journal.area(130, 2, [row.payload() for row in FIRST_ROWS])
+    same("the file", spool.content(), listed)
+    spool.says(("jobs", waits), ("queues", QUEUES), ("round", "error full"), ("hold 1 indefinite", "error full"))
+    same("the file", spool.content(), listed)
+
+
+def a_checkpoint_makes_room(folder):
+    spool = Spool(folder, image(400, [Q.event()]))
+    clocks = [(f"clock {moment}", "ok") for moment in range(1, 11)]
+    spool.says(*clocks, ("clock 11", "error full"), ("checkpoint", "ok"), ("clock 11", "ok"), ("checkpoint", "ok"),
+               ("clock 12", "ok"))
+    rows = [Head(0, 11).payload(), Q.payload()]
+    same("the journal", journal.current(spool.content()), (rows + [clock(12)], 3))
+    second = journal.area(200, 2, [Head(0, 10).payload(), Q.payload(), clock(11)])
+    same("the other area", journal.halves(spool.content())[1], second)
+    same("the rows", spool.listing(), [Head(0, 12), Q])
+
+
+def the_greatest_epoch(folder):
+    greatest = 2 ** 64 - 1
+    spool = Spool(folder, image(198, epoch=greatest))
+    spool.says(("checkpoint", "error epoch"), (QUEUE, "ok"), ("checkpoint", "error epoch"), ("queues", QUEUES))
+    same("the file", spool.content(), image(198, [Q.event()], epoch=greatest))
+    spool = Spool(folder, image(198, epoch=greatest - 1))
+    spool.says(("checkpoint", "ok"), ("checkpoint", "error epoch"))
+    same("the journal", journal.current(spool.content()), ([Head(0).payload()], greatest))
+
+
+def applied_until_full(folder):
+    spool = Spool(folder, image(198))
+    spool.says((CREATE, "error 1 NoQueue"), ("jobs", "ok 0"))
+    same("the file", spool.content(), image(198))
+    spool.says((QUEUE, "ok"), (QUEUE, "error 2 QueueExists"), (CREATE, "ok job 1"))
+    spool.says(("queues", QUEUES), ("jobs", ['job 1 q 4 job-incoming "u" 0 0 ""', "ok 1"]), ("close 1 f.x", "ok type a/b stages 1"),
+               ("clock 0", "error full"), ("cancel 1", "ok"), words=spool.options(types="a/b x\n"))
+    same("the file", spool.content(), image(198, FIRST + (cancel(1),)))
+    same("its last record", spool.content()[82:93].hex(), "a5000000050a0000000100")
+
+
+def a_reopening_takes_the_last_bytes(folder):
+    spool = Spool(folder, image(198, FIRST))
+    # The job is started, and there is no room for the end of its stage.
+    spool.says(("round", "error full"), (CREATE, "error full"), ("jobs", ['job 1 q 5 job-printing "u" 0 0 ""', "ok 1"]))
+    same("the file", spool.content(), image(198, FIRST + (start(1),)))
+    for _ in range(2):
+        spool.says(("jobs", ['job 1 q 8 attempt-lost "u" 0 0 ""', "ok 1"]), (CREATE, "error full"))
+        same("the file", spool.content(), image(198, FIRST + (start(1), REOPEN)))
+
+
+def documents_on_the_disk(folder):
+    # The records of the queue, the job and its first bytes have 26, 23 and 19 bytes, and a document's bytes lie 14 behind the
+    # gate of their record.
+    spool = Spool(folder, image(1_024))
+    spool.says((QUEUE, "ok"), (CREATE, "ok job 1"), (CREATE, "ok job 2"), (b"send 1 5\nhello\n", "ok bytes 5"),
+               (b"send 2 5\nother\n", "ok bytes 5"), (b"send 1 4\n you\n", "ok bytes 9"))
+    for place, part in ((102, b"hello"), (121, b"other"), (140, b" you")):
+        same("what lies there", spool.content()[place:place + len(part)], part)
+    rows = [Head(2), Q, of_q(1, size=9), Piece(1, b"hello you"), of_q(2, size=5), Piece(2, b"other")]
+    for _ in range(2):
+        same("the rows", spool.listing(), rows)
+    spool.says((b"send 1 1\n!\n", "ok bytes 10"))
+    same("the journal", journal.current(spool.content())[0], [row.payload() for row in rows] + [send(1, b"!")])
+    rows[2:4] = [of_q(1, size=10), Piece(1, b"hello you!")]
+    for _ in range(2):
+        same("the rows", spool.listing(), rows)
+    spool.says(("cancel 2", "ok"))
+    same("the rows", spool.listing(), rows[:4] + [of_q(2, size=5, phase=CANCELED)])
+
+
+def documents_loaded_again(folder):
+    other = Queue("p")
+    long = b"a" * 65_536 + b"b"
+    story = Story(folder, clock(7), Q.event(), other.event(), of_q(1).event(), send(1, long[:65_536]), send(1, b"b"),
+                  Job(2, "p").event(), send(2, b"hello"), close(2, ["texttops"]), Job(5, "p").event(), send(5, b"gone"), cancel(5),
+                  size=400_000)
+    waits = Job(2, "p", media="a/b", filters=("texttops",), size=5, phase=waiting())
+    last = Job(5, "p", size=4, phase=CANCELED)
+    rows = [Head(5, 7), other, Q, of_q(1, size=65_537), *journal.pieces(1, long), waits, Piece(2, b"hello"), last]
+    story.lists(*rows)
+    again = Story(folder, *rows, size=400_000)
+    again.lists(*rows)
+    again.takes(start(2))
+    rows[6:8] = [replace(waits, attempts=1, phase=aborted("attempt-lost"))]
+    again.lists(*rows)
+
+
+def a_listing_of_each_phase(folder):
+    queue = Queue("q", policy="retry-job")
+    head, piece = Head(1, 1_000), Piece(1, b"abcde")
+    story = Story(folder, queue.event(), clock(1_000), of_q(1).event(), send(1, b"abc"))
+    rows = [head, queue, of_q(1, size=3), Piece(1, b"abc")]
+    story.lists(*rows)
+    story = Story(folder, *rows, send(1, b"de"), close(1))
+    job = of_q(1, size=5, media="a/b", phase=waiting())
+    story.lists(head, queue, job, piece)
+    # Its attempt is lost at an opening, whether that is in the journal or not.
+    tried = replace(job, attempts=1)
+    waits = [head, queue, replace(tried, phase=waiting(not_before=1_030)), piece]
+    for begun in ([head, queue, job, piece, start(1)], [head, queue, replace(tried, phase=processing(1)), piece]):
+        Story(folder, *begun).lists(*waits)
+        Story(folder, *begun, REOPEN).lists(*waits)
+        Story(folder, *begun, stage(1, 1, 1, 0)).lists(head, queue, replace(tried, phase=COMPLETED))
+    story = Story(folder, *waits)
+    story.lists(*waits)
+    story.refuses(start(1))
+    story.takes(clock(1_030), start(1), cancel(1))
+    rows = [Head(1, 1_030), queue, replace(job, attempts=2, phase=CANCELED)]
+    story.lists(*rows)
+    again = Story(folder, *rows)
+    again.refuses(of_q(1).event(), piece)
+    again.takes(of_q(2).event())
+    again.lists(Head(2, 1_030), queue, rows[2], of_q(2))
+
+
+def a_running_job_is_listed(folder):
+    spool = Spool(folder, image(SIZE))
+    words = spool.options(types="a/a x\n", convs="a/a a/b 10 f\n", programs="filter f /bin/true\nbackend s /bin/true\n")
+    running = ['job 1 q 5 job-printing "u" 0 0 ""', "ok 1"]
+    spool.says((QUEUE, "ok"), (CREATE, "ok job 1"), ("close 1 f.x", "ok type a/a stages 2"), ("round", "ok started 1 finished 1"),
+               ("jobs", running), ("checkpoint", "ok"), ("jobs", running), words=words)
+    job = of_q(1, media="a/a", filters=("f",), attempts=1, phase=processing(2))
+    same("the journal", journal.current(spool.content())[0], [Head(1).payload(), Q.payload(), job.payload()])
+    same("the next rows", spool.listing(), [Head(1), Q, replace(job, phase=aborted("attempt-lost"))])
+
+
+if __name__ == "__main__":
+    sys.exit(run(globals()))

@@ -1,0 +1,375 @@
+"""A spool's bytes: how events, rows, records and areas are spelled, and what a file of them says.
+
+This is a second spelling, written from the tables of codes and not from the program's code, so that tests/images.py can make
+a spool's file of any bytes and read what the program left of it. Numbers are big-endian. A text is its length in 2 bytes, then
+its bytes. A list of texts is their number, then the texts.
+
+A spool's file has two areas of the same length. An area is a header and records, the last with a closed gate behind it:
+
+    header   gate, version 1, epoch in 8 bytes, 6 zeros
+    record   gate, length of the payload in 4 bytes, payload
+
+A gate is open where it is A5. The payload is an event or a row of a listing.
+"""
+from dataclasses import dataclass
+
+OPEN = 0xA5
+HEADER = 16
+FRAME = 5  # the gate and the length of a record
+LONGEST_PIECE = 65_536
+
+POLICIES = ("abort-job", "retry-job", "retry-current-job", "stop-printer")
+LEVELS = ("EMERG", "ALERT", "CRIT", "ERROR", "WARNING", "NOTICE", "INFO")
+HOLDS = ("job-hold-until-specified", "cups-held-for-authentication", "held-by-backend")
+ABORTS = ("filter-failed", "backend-failed", "retry-limit", "attempt-lost", "no-filter")
+
+
+def number(value, width):
+    return value.to_bytes(width, "big")
+
+
+def text(words):
+    spelled = words.encode()
+    return number(len(spelled), 2) + spelled
+
+
+def texts(words, width):
+    return number(len(words), width) + b"".join(map(text, words))
+
+
+def optional(words):
+    return b"\0" if words is None else b"\1" + text(words)
+
+
+# ---- phases
+
+FREE = b"\0"
+COMPLETED = b"\3"
+CANCELED = b"\4"
+
+
+def held(reason=HOLDS[0]):
+    return b"\1" + number(HOLDS.index(reason), 1)
+
+
+def until(moment):
+    return b"\2" + number(moment, 8)
+
+
+def incoming(hold=FREE):
+    return b"\0" + hold
+
+
+def waiting(hold=FREE, not_before=0, first=False):
+    return b"\1" + hold + number(not_before, 8) + number(first, 1)
+
+
+def processing(stage):
+    return b"\2" + number(stage, 1)
+
+
+def aborted(reason):
+    return b"\5" + number(ABORTS.index(reason), 1)
+
+
+# ---- rows of a listing
+
+@dataclass(frozen=True)
+class Head:
+    highest: int
+    now: int = 0
+
+    def payload(self):
+        return b"\x40" + number(self.highest, 4) + number(self.now, 8)
+
+
+@dataclass(frozen=True)
+class Queue:
+    name: str
+    uri: str = "s:/"
+    target: str = "a/b"
+    policy: str = POLICIES[0]
+    interval: int = 30
+    limit: int = 5
+    info: str = ""
+    location: str = ""
+    accepting: bool = True
+    stopped: bool = False
+    message: str = ""
+    reasons: tuple = ()
+    attributes: tuple = ()  # pairs of a name and a value
+
+    def fields(self):
+        words = text(self.name) + text(self.uri) + text(self.target)
+        return words + number(POLICIES.index(self.policy), 1) + number(self.interval, 4) + number(self.limit, 2)
+
+    def event(self):
+        """The event that adds it."""
+        return b"\x01" + self.fields()
+
+    def payload(self):
+        state = number(self.accepting, 1) + number(self.stopped, 1) + text(self.message)
+        pairs = b"".join(text(name) + text(value) for name, value in self.attributes)
+        told = texts(self.reasons, 1) + number(len(self.attributes), 1) + pairs
+        return b"\x41" + self.fields() + text(self.info) + text(self.location) + state + told
+
+
+@dataclass(frozen=True)
+class Job:
+    number: int
+    queue: str
+    user: str = "u"
+    title: str = ""
+    copies: int = 1
+    priority: int = 50
+    options: str = ""
+    media: str | None = None
+    filters: tuple = ()
+    attempts: int = 0
+    pages: int = 0
+    size: int = 0
+    phase: bytes = incoming()
+
+    def event(self):
+        """The event that creates it."""
+        words = text(self.queue) + number(self.number, 4) + text(self.user) + text(self.title)
+        return b"\x05" + words + number(self.copies, 2) + number(self.priority, 1) + text(self.options)
+
+    def payload(self):
+        words = number(self.number, 4) + text(self.queue) + text(self.user) + text(self.title)
+        wishes = number(self.copies, 2) + number(self.priority, 1) + text(self.options)
+        chain = optional(self.media) + texts(self.filters, 1)
+        counts = number(self.attempts, 4) + number(self.pages, 4) + number(self.size, 4)
+        return b"\x42" + words + wishes + chain + counts + self.phase
+
+
+@dataclass(frozen=True)
+class Piece:
+    job: int
+    data: bytes
+
+    def payload(self):
+        return b"\x43" + number(self.job, 4) + number(len(self.data), 4) + self.data
+
+
+def pieces(job, document):
+    """The pieces of a document."""
+    return [Piece(job, document[at:at + LONGEST_PIECE]) for at in range(0, len(document), LONGEST_PIECE)]
+
+
+# ---- events
+
+def info(queue, words, location):
+    return b"\x02" + text(queue) + text(words) + text(location)
+
+
+def set_accept(queue, accepting):
+    return b"\x03" + text(queue) + number(accepting, 1)
+
+
+def set_stop(queue, stopped):
+    return b"\x04" + text(queue) + number(stopped, 1)
+
+
+def send(job, data):
+    return b"\x06" + number(job, 4) + number(len(data), 4) + data
+
+
+def close(job, filters=(), media="a/b"):
+    """Filters of None: no chain of filters leads to the queue's type."""
+    return b"\x07" + number(job, 4) + text(media) + (b"\0" if filters is None else b"\1" + texts(filters, 1))
+
+
+def hold(job, moment=None):
+    return b"\x08" + number(job, 4) + (b"\1" if moment is None else b"\2" + number(moment, 8))
+
+
+def release(job):
+    return b"\x09" + number(job, 4)
+
+
+def cancel(job):
+    return b"\x0A" + number(job, 4)
+
+
+def clock(moment):
+    return b"\x0B" + number(moment, 8)
+
+
+def start(job):
+    return b"\x0C" + number(job, 4)
+
+
+def stage(job, attempt, at, code, *effects):
+    """The end of a stage whose child exited with this code, or of another exit, spelled."""
+    ended = code if isinstance(code, bytes) else b"\0" + number(code, 1)
+    counts = number(0, 4) + number(len(effects), 2)
+    return b"\x0D" + number(job, 4) + number(attempt, 4) + number(at, 1) + ended + counts + b"".join(effects)
+
+
+SIGNAL = b"\1"
+NO_START = b"\2"
+LOST = b"\3"
+
+
+def abandon(job):
+    return b"\x0E" + number(job, 4)
+
+
+REOPEN = b"\x0F"
+
+
+# ---- effects
+
+def pages(page, copies):
+    return b"\1" + number(page, 4) + number(copies, 4)
+
+
+def total_pages(count):
+    return b"\2" + number(count, 4)
+
+
+def set_reasons(*words):
+    return b"\3" + texts(words, 2)
+
+
+def add_reasons(*words):
+    return b"\4" + texts(words, 2)
+
+
+def drop_reasons(*words):
+    return b"\5" + texts(words, 2)
+
+
+def attribute(name, value):
+    return b"\6" + text(name) + text(value)
+
+
+def message(words, level="INFO"):
+    return b"\7" + number(LEVELS.index(level), 1) + text(words)
+
+
+# ---- records, areas and files
+
+def record(payload):
+    return bytes([OPEN]) + number(len(payload), 4) + payload
+
+
+def header(epoch, gate=OPEN, version=1):
+    return bytes([gate, version]) + number(epoch, 8) + bytes(6)
+
+
+def area(length, epoch, payloads, gate=OPEN, closed=0):
+    """An area of this length: its records, and a closed gate behind them. It is cut where it is longer."""
+    written = header(epoch, gate) + b"".join(map(record, payloads)) + bytes([closed])
+    return written[:length].ljust(length, b"\0")
+
+
+def image(size, payloads=(), epoch=1, closed=0):
+    """A spool's file: the first area has these payloads, and the other one is as it was made."""
+    half = size // 2
+    return (area(half, epoch, payloads, closed=closed) + bytes(half)).ljust(size, b"\0")
+
+
+def places(payloads):
+    """Where the gate of each record is, and the one behind the last."""
+    found = [HEADER]
+    for payload in payloads:
+        found.append(found[-1] + FRAME + len(payload))
+    return found
+
+
+def halves(file):
+    half = len(file) // 2
+    return file[:half], file[half:2 * half]
+
+
+def epoch_of(half):
+    """The epoch of an area whose header is open, or 0."""
+    return int.from_bytes(half[2:10], "big") if half[0] == OPEN else 0
+
+
+def payloads_of(half):
+    """The payloads of an area up to its first closed gate."""
+    found, gate = [], HEADER
+    while gate < len(half) and half[gate] == OPEN:
+        length = int.from_bytes(half[gate + 1:gate + FRAME], "big")
+        found.append(half[gate + FRAME:gate + FRAME + length])
+        gate += FRAME + length
+    return found
+
+
+def current(file):
+    """The payloads of the area with the higher epoch, and that epoch."""
+    half = max(halves(file), key=epoch_of)
+    return payloads_of(half), epoch_of(half)
+
+
+# ---- rows that are read back
+
+class Reader:
+    """Takes the fields of a payload in turn."""
+
+    def __init__(self, payload):
+        self.rest = payload
+
+    def take(self, count):
+        taken, self.rest = self.rest[:count], self.rest[count:]
+        assert len(taken) == count, "a payload is cut"
+        return taken
+
+    def number(self, width):
+        return int.from_bytes(self.take(width), "big")
+
+    def text(self):
+        return self.take(self.number(2)).decode()
+
+    def texts(self, width):
+        return tuple(self.text() for _ in range(self.number(width)))
+
+    def hold(self):
+        kind = self.take(1)
+        return kind + self.take({0: 0, 1: 1, 2: 8}[kind[0]])
+
+    def phase(self):
+        kind = self.take(1)
+        if kind[0] == 0:
+            return kind + self.hold()
+        if kind[0] == 1:
+            return kind + self.hold() + self.take(9)
+        return kind + self.take({2: 1, 3: 0, 4: 0, 5: 1}[kind[0]])
+
+
+def read_queue(reader):
+    words = [reader.text() for _ in range(3)]
+    numbers = [POLICIES[reader.number(1)], reader.number(4), reader.number(2)]
+    notes = [reader.text() for _ in range(2)]
+    state = [bool(reader.number(1)), bool(reader.number(1)), reader.text()]
+    reasons = reader.texts(1)
+    return Queue(*words, *numbers, *notes, *state, reasons, tuple((reader.text(), reader.text()) for _ in range(reader.number(1))))
+
+
+def read_job(reader):
+    words = [reader.number(4)] + [reader.text() for _ in range(3)]
+    wishes = [reader.number(2), reader.number(1), reader.text()]
+    media = reader.text() if reader.number(1) else None
+    chain = [media, reader.texts(1)]
+    return Job(*words, *wishes, *chain, *[reader.number(4) for _ in range(3)], reader.phase())
+
+
+def read_row(payload):
+    """The row of a listing that a payload is."""
+    reader = Reader(payload)
+    kind = reader.number(1)
+    if kind == 0x40:
+        row = Head(reader.number(4), reader.number(8))
+    elif kind == 0x41:
+        row = read_queue(reader)
+    elif kind == 0x42:
+        row = read_job(reader)
+    elif kind == 0x43:
+        row = Piece(reader.number(4), reader.take(reader.number(4)))
+    else:
+        raise AssertionError(f"no row begins with {kind:#x}")
+    assert not reader.rest, "bytes are left over"
+    return row

@@ -1,0 +1,213 @@
+"""A spool of any bytes, on which the shell is given commands: what tests/images.py and tests/events.py share.
+
+The first word of their command is the program, and crates/spool_shell/out/spool_shell (made by `rt run` in that folder) where
+there is none. Further words name tests. Each test is a function that takes a folder, where it keeps its files.
+"""
+import inspect
+import os
+import shutil
+import subprocess
+import sys
+import tempfile
+
+import journal
+from journal import REOPEN, Head, Job, Queue, cancel, close, image, places, start, waiting
+
+here = os.path.dirname(os.path.abspath(__file__))
+built = os.path.join(here, "..", "crates", "spool_shell", "out", "spool_shell")
+shell = os.path.abspath(sys.argv[1] if len(sys.argv) > 1 else built)
+
+SIZE = 8_192  # of a spool where a test doesn't say
+SECONDS = 60  # a program that takes longer hangs
+GREATEST = 2 ** 32 - 1
+GREATEST_NUMBER = 2 ** 31 - 1
+
+# The backend of the scheme `s`: it keeps the document that it is given.
+BACKEND = '#!/bin/sh\ncat "$6" > "$0.$1"\n'
+
+
+class Difference(Exception):
+    """The program doesn't do what it has to."""
+
+
+def same(what, found, wanted):
+    if found != wanted:
+        raise Difference(f"{what}: {found!r} in place of {wanted!r}")
+
+
+class Spool:
+    """A spool of these bytes in a folder of its own."""
+
+    def __init__(self, folder, content):
+        self.root = tempfile.mkdtemp(dir=folder)
+        self.file = os.path.join(self.root, "spool.disk")
+        with open(self.file, "wb") as file:
+            file.write(content)
+
+    def content(self):
+        with open(self.file, "rb") as file:
+            return file.read()
+
+    def lines(self, commands, words=(), status=0, errors=""):
+        """The lines of the replies to commands. The status and what is on standard error have to be these."""
+        script = b"".join(command if isinstance(command, bytes) else command.encode() + b"\n" for command in commands)
+        done = subprocess.run([shell, "--root", self.root, *words], input=script, capture_output=True, timeout=SECONDS)
+        same("standard error", done.stderr.decode(), errors)
+        same("status", done.returncode, status)
+        return done.stdout.decode().splitlines()
+
+    def says(self, *rows, words=()):
+        """Gives the commands of the rows, each a command and the line, or the lines, of its reply."""
+        wanted = []
+        for _, reply in rows:
+            wanted += [reply] if isinstance(reply, str) else reply
+        same("replies", self.lines([command for command, _ in rows], words), wanted)
+
+    def is_refused(self, fault):
+        """The program opens nothing, answers nothing and changes nothing."""
+        before = self.content()
+        same("replies", self.lines(["jobs"], status=1, errors=f"spool: {fault}\n"), [])
+        same("the file is as it was", self.content() == before, True)
+
+    def listing(self):
+        """The rows that a checkpoint writes."""
+        _, before = journal.current(self.content())
+        self.says(("checkpoint", "ok"))
+        payloads, epoch = journal.current(self.content())
+        same("the epoch", epoch, before + 1)
+        rows = [journal.read_row(payload) for payload in payloads]
+        same("the rows spelled again", [row.payload() for row in rows], payloads)
+        return rows
+
+    def with_file(self, name, words, mode=0o600):
+        """A file in its folder."""
+        path = os.path.join(self.root, name)
+        with open(path, "w") as file:
+            file.write(words)
+        os.chmod(path, mode)
+        return path
+
+    def options(self, **files):
+        """The words that name files of types, of conversions and of programs."""
+        return [word for option, words in files.items() for word in (f"--{option}", self.with_file(option, words))]
+
+    def printed(self, job):
+        """The document that the backend is given for a job in a round."""
+        backend = self.with_file("backend", BACKEND, 0o700)
+        self.says(("round", "ok started 1 finished 1"), words=self.options(programs=f"backend s {backend}\n"))
+        with open(f"{backend}.{job}", "rb") as file:
+            return file.read()
+
+
+def spelled(payload):
+    return payload if isinstance(payload, bytes) else payload.payload()
+
+
+class Story:
+    """The rows and events that a spool's journal holds."""
+
+    def __init__(self, folder, *payloads, size=SIZE):
+        self.folder = folder
+        self.size = size
+        self.payloads = [spelled(payload) for payload in payloads]
+
+    def spool(self, *more):
+        """A spool of these, and of some more."""
+        return Spool(self.folder, image(self.size, self.payloads + [spelled(payload) for payload in more]))
+
+    def takes(self, *payloads):
+        """The journal goes on with these, and the program opens it. It writes nothing but a reopening."""
+        self.payloads = self.payloads + [spelled(payload) for payload in payloads]
+        spool = self.spool()
+        same("replies", spool.lines([]), [])
+        as_it_was, reopened = image(self.size, self.payloads), image(self.size, self.payloads + [REOPEN])
+        same("the file is as it was, or reopened", spool.content() in (as_it_was, reopened), True)
+
+    def refuses(self, *payloads):
+        """Each of these alone, behind the others, is damage at its gate."""
+        for payload in payloads:
+            self.spool(payload).is_refused(f"damaged {places(self.payloads)[-1]}")
+
+    def lists(self, *rows):
+        """The listing is these rows."""
+        same("the listing", self.spool().listing(), list(rows))
+
+    def has(self, *rows):
+        """The listing has these rows."""
+        found = self.spool().listing()
+        for row in rows:
+            same(f"{row!r} is in {found!r}", row in found, True)
+
+    def starts(self, job, *others):
+        """This job may be started next, and none of the others."""
+        same("replies", self.spool(start(job)).lines([]), [])
+        self.refuses(*map(start, others))
+
+    def is_short(self):
+        """It ends within a document, which is told at the gate behind it."""
+        self.spool().is_refused(f"damaged {places(self.payloads)[-1]}")
+
+    def runs(self, *jobs):
+        """The jobs may be started in this order alone, where each is canceled before the next."""
+        copy = Story(self.folder, *self.payloads, size=self.size)
+        for at, job in enumerate(jobs):
+            copy.starts(job, *jobs[at + 1:])
+            copy.takes(start(job), cancel(job))
+
+
+Q = Queue("q")
+LAB = Queue("lab", policy="retry-job")
+HALL = Queue("hall", policy="retry-job")
+
+
+def of_q(number, **fields):
+    return Job(number, "q", **fields)
+
+
+def of_lab(number, **fields):
+    return Job(number, "lab", **fields)
+
+
+def closed_job(number, filters=(), **fields):
+    """The events of a job of the queue lab whose document has ended."""
+    return of_lab(number, **fields).event(), close(number, filters)
+
+
+# A queue, its job, and the end of the job's document, of 26, 23 and 17 bytes with their frames. The gate behind is at 82.
+FIRST = (Q.event(), of_q(1).event(), close(1))
+
+# What they are listed as.
+FIRST_ROWS = (Head(1), Q, of_q(1, media="a/b", phase=waiting()))
+
+# The commands that make the first two.
+QUEUE = "queue q s:/ a/b abort-job"
+CREATE = 'create q u "" 1 50 ""'
+
+QUEUES = ['queue q 3 accepting a/b abort-job 30 5 none ""', "ok 1"]
+
+
+# ---- the tests in turn
+
+def tests(module):
+    """The functions of a module that take a folder alone, in their order."""
+    found = [(name, test) for name, test in module.items() if inspect.isfunction(test)]
+    return [(name, test) for name, test in found if list(inspect.signature(test).parameters) == ["folder"]]
+
+
+def run(module):
+    """Runs the tests of a module, or those that are asked for, and prints how it went. The status to end with."""
+    asked = sys.argv[2:]
+    chosen = [(name, test) for name, test in tests(module) if not asked or name in asked]
+    if len(chosen) < len(asked) or not os.path.exists(shell):
+        print(f"no program {shell}, or no test of {asked}")
+        return 1
+    for name, test in chosen:
+        folder = tempfile.mkdtemp(prefix="spool-")
+        try:
+            test(folder)
+        except (Difference, AssertionError, OSError, subprocess.TimeoutExpired) as difference:
+            print(f"{name}: {difference}, in {folder}")
+            return 1
+        shutil.rmtree(folder)
+    print(f"{len(chosen)} of {len(chosen)}")
+    return 0
