@@ -11,3 +11,4 @@ pub mod ListedRows
 pub mod ListedFaults
 pub mod Options
 pub mod Children
+pub mod Devices

@@ -15,6 +15,7 @@
 //!   `next_job` by the clauses `tested` and `only` of `order_law`.
 //! - [`events`] and [`listings`]: which bytes spell which event and which row, and the first fault of others (`event_codec`).
 //! - [`options`] and [`children`]: what options say, and what a child is run with (`filter_args`).
+//! - [`devices`]: what bytes of a device are, as entries of a journal and as areas of a spool (`gate_journal`, `spool_areas`).
 #![tactic(auto)]
 
 ghost use Rattle.decision_facts.specs.Values.{LimitsRows, LaterRows, QueueNameRows, MediaRows, LongMediaRows, TitleRows, RefusedTexts, EffectSizeRows, EnoughRows};
@@ -28,6 +29,7 @@ ghost use Rattle.decision_facts.specs.ListedRows.{ListedRows, LeastRows, PhaseRo
 ghost use Rattle.decision_facts.specs.ListedFaults.{ListedFaultRows, QueueFaultRows, PhaseFaultRows};
 ghost use Rattle.decision_facts.specs.Options.{OptionRows, OptionFaultRows, LastValueRows};
 ghost use Rattle.decision_facts.specs.Children.{FileRows, ArgumentRows};
+ghost use Rattle.decision_facts.specs.Devices.{EntryRows, DamagedRows, ClosedRows, LeastAreaRows, MadeRows, MadeAnewRows, AreaRows, HeaderFaultRows, PlanRows};
 
 /// Limits, texts, media types and the size of effects.
 pub fn values()
@@ -84,6 +86,7 @@ pub fn turns()
 {}
 
 /// How events are spelled, and which bytes are none.
+#[tactic(auto, unfolding(crate::proofs::Computing::reading_events))]
 pub fn events()
     ensures spelled { EventRows }
     ensures effects { EffectRows }
@@ -98,6 +101,7 @@ pub fn events()
 {}
 
 /// How the rows of a listing are spelled, and which bytes are none.
+#[tactic(auto, unfolding(crate::proofs::Computing::reading_rows))]
 pub fn listings()
     ensures spelled { ListedRows }
     ensures least { LeastRows }
@@ -118,4 +122,17 @@ pub fn options()
 pub fn children()
     ensures files { FileRows }
     ensures arguments { ArgumentRows }
+{}
+
+/// What bytes of a device are.
+pub fn devices()
+    ensures entries { EntryRows }
+    ensures damaged { DamagedRows }
+    ensures closed { ClosedRows }
+    ensures least { LeastAreaRows }
+    ensures made { MadeRows }
+    ensures made_anew { MadeAnewRows }
+    ensures area { AreaRows }
+    ensures header_faults { HeaderFaultRows }
+    ensures plans { PlanRows }
 {}
