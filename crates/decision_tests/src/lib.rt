@@ -1,13 +1,18 @@
-//! The tests of the crates that decide: verdicts, effects on a queue, choices and the index.
+//! The tests of the crates that decide, read and spell: what no clause says of them.
+//!
+//! Rows of functions that only compute are facts (`decision_facts`). What takes memory runs here once with ample memory,
+//! since a clause lets it answer that there is none; and the index of waiting jobs, beside the choice among all rows.
 #![tactic(auto)]
 
 #[cfg(test)]
-mod choices;
-#[cfg(test)]
-mod codes;
+mod codec;
 #[cfg(test)]
 mod effects;
 #[cfg(test)]
 mod indexes;
 #[cfg(test)]
+mod options;
+#[cfg(test)]
 mod samples;
+#[cfg(test)]
+mod texts;

@@ -1,93 +1,102 @@
-//! Jobs of tests, as plain numbers.
-use sample_rows::{sample_job, sample_queue};
-use spool_types::{Hold, HoldReason, JobId, JobRow, Moment, Phase, Priority, QueueName, QueueRow};
+//! Jobs, queues and entries of tests.
+ghost use Rattle.std.specs.Prelude.{◌≡◌, [], IfOk};
+
+use queue_sched::Entry;
+use spool_types::{
+    Copies, Hold, HoldReason, Interval, Items, JobId, JobRow, MediaType, Message, Moment, Note,
+    OptionText, Phase, Policy, Priority, QueueName, QueueRow, Title, Uri, UserName,
+};
 use std::alloc::Global;
 use std::test::Fail;
 
 /// What holds a job.
-#[derive(Clone, Copy, Debug)]
+#[derive(Clone, Copy)]
 pub(crate) enum Held {
     Free,
     ForGood,
     Until(u64),
 }
 
-use Held::Free;
-
-/// What a job is in.
-#[derive(Clone, Copy, Debug)]
-pub(crate) enum Stand {
-    /// Waiting, held so, not before a moment, and marked first or not.
-    Waits(Held, u64, bool),
-    Incoming,
-    Processing,
-    Completed,
-}
-
-/// A job that may be started at any moment.
-pub(crate) const READY: Stand = Stand::Waits(Free, 0, false);
-
-/// A job: its queue, number, priority and what it is in.
-pub(crate) type Sample<'a> = (&'a str, u32, u32, Stand);
+/// A waiting job: its number, its priority, what holds it, the moment that it waits for, and whether it is marked.
+pub(crate) type Waiting = (u32, u32, Held, u64, bool);
 
 pub(crate) fn moment(seconds: u64) -> Result<Moment, Fail> {
     Ok(Moment::new(seconds).ok_or("no moment")?)
 }
 
-pub(crate) fn hold(held: Held) -> Result<Hold, Fail> {
-    Ok(match held {
+/// The entry of a waiting job.
+pub(crate) fn entry(waiting: Waiting) -> Result<Entry, Fail>
+    ensures { IfOk result (λ e. e.id ≡ waiting.0) }
+{
+    let (number, priority, held, seconds, first) = waiting;
+    let hold = match held {
         Held::Free => Hold::Free,
         Held::ForGood => Hold::Indefinite(HoldReason::Unspecified),
         Held::Until(seconds) => Hold::Until(moment(seconds)?),
-    })
-}
-
-fn phase(stand: Stand) -> Result<Phase, Fail> {
-    Ok(match stand {
-        Stand::Waits(held, seconds, first) => Phase::Waiting {
-            hold: hold(held)?,
-            not_before: moment(seconds)?,
-            first,
-        },
-        Stand::Incoming => Phase::Incoming(Hold::Free),
-        Stand::Processing => Phase::Processing {
-            attempt: 1,
-            stage: 1,
-            stages: 1,
-        },
-        Stand::Completed => Phase::Completed,
-    })
-}
-
-pub(crate) fn row(alloc: Global, sample: &Sample) -> Result<JobRow, Fail> {
-    let (queue, number, priority, stand) = *sample;
-    Ok(JobRow {
+    };
+    Ok(Entry {
         id: JobId::new(number).ok_or("no number of a job")?,
-        queue: QueueName::read(alloc, queue)?,
+        first,
         priority: Priority::new(priority).ok_or("no priority")?,
-        ..sample_job(alloc, phase(stand)?)?
+        hold,
+        not_before: moment(seconds)?,
     })
 }
 
-pub(crate) fn rows(alloc: Global, samples: &[Sample]) -> Result<Vec<JobRow>, Fail> {
-    let mut rows = Vec::new(alloc);
-    for sample in samples {
-        rows.push(row(alloc, sample)?)?;
-    }
-    Ok(rows)
+/// The row of that job, in the queue `lab`.
+pub(crate) fn waiting_row(alloc: Global, entry: &Entry) -> Result<JobRow, Fail> {
+    let phase = Phase::Waiting {
+        hold: entry.hold,
+        not_before: entry.not_before,
+        first: entry.first,
+    };
+    Ok(JobRow {
+        id: entry.id,
+        priority: entry.priority,
+        ..sample_job(alloc, phase)?
+    })
 }
 
-/// The queue `lab`.
-pub(crate) fn queue(alloc: Global, stopped: bool) -> Result<QueueRow, Fail> {
-    let mut queue = sample_queue(alloc, "socket://printer")?;
-    queue.stopped = stopped;
-    Ok(queue)
+/// Job 7 of the queue `lab`, in this phase, with no filter and no document.
+pub(crate) fn sample_job(alloc: Global, phase: Phase) -> Result<JobRow, Fail>
+    ensures phase { IfOk result (λ row. row.phase ≡ phase) }
+{
+    Ok(JobRow {
+        id: JobId::new(7).ok_or("no number of a job")?,
+        queue: QueueName::read(alloc, "lab")?,
+        user: UserName::read(alloc, "ann")?,
+        title: Title::read(alloc, "P 1")?,
+        copies: Copies::new(2).ok_or("no copies")?,
+        priority: Priority::new(50).ok_or("no priority")?,
+        options: OptionText::read(alloc, "media=A4")?,
+        media: Some(MediaType::read(alloc, "text/plain")?),
+        filters: Items::empty(alloc),
+        attempts: 1,
+        pages: 0,
+        size: 3,
+        phase,
+        document: Vec::new(alloc),
+    })
 }
 
-/// The number of a job, or 0 for none.
-pub(crate) fn number_of(job: Option<JobId>) -> u32 {
-    match job {
-        Some(id) => id.get(),
-        None => 0,
-    }
+/// The queue `lab`, with no message, reasons or attributes.
+pub(crate) fn sample_queue(alloc: Global) -> Result<QueueRow, Fail>
+    ensures reasons { IfOk result (λ row. row.reasons ≡ []) }
+    ensures attributes { IfOk result (λ row. row.attributes ≡ []) }
+{
+    Ok(QueueRow {
+        name: QueueName::read(alloc, "lab")?,
+        uri: Uri::read(alloc, "spoolfile:/out")?,
+        target: MediaType::read(alloc, "application/x-prn")?,
+        policy: Policy::AbortJob,
+        interval: Interval::new(30).ok_or("no interval")?,
+        limit: 5,
+        info: Note::read(alloc, "Front")?,
+        location: Note::empty(alloc),
+        accepting: true,
+        stopped: false,
+        message: Message::empty(alloc),
+        reasons: Items::empty(alloc),
+        attributes: Items::empty(alloc),
+    })
 }

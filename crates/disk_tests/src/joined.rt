@@ -1,3 +1,4 @@
+//! Documents whose bytes lie in several records.
 ghost use Rattle.std.specs.Prelude.{◌≡◌, ◌≤◌, ◌+◌, length};
 
 use documents::read_joined;
@@ -6,7 +7,7 @@ use spool_areas::{Areas, Extent, ReadFault, make};
 use spool_disk::{Disk, FuseDisk, MemDisk};
 use spool_types::{Event, JobId, Piece};
 use std::alloc::Global;
-use std::test::*;
+use std::test::Fail;
 
 // The calls of a device that opening the spool of `three_sends` takes: a sync, two headers and two blocks.
 const CALLS_OF_OPEN: u64 = 5;
@@ -104,31 +105,28 @@ fn read_twice(
     Ok(read_both(&mut areas, at, into))
 }
 
+// Whole, from within, over an end, at the last byte and behind it, with no more calls than these.
 #[test]
-fn document_is_read_whole(rt: HostRuntime) -> Result<(), Fail> {
-    let mut got = [0; 10];
-    assert_eq!(rt; read_twice(rt.alloc(), 4, 0, &mut got)?, (Ok(()), Ok(())));
-    assert_eq!(rt; &got, b"abcdefghij");
-    Ok(())
-}
-
-#[test]
-fn document_is_read_from_within(rt: HostRuntime) -> Result<(), Fail> {
-    let mut got = [0; 2];
-    assert_eq!(rt; read_twice(rt.alloc(), 1, 5, &mut got)?, (Ok(()), Ok(())));
-    assert_eq!(rt; &got, b"fg");
-    let mut over = [0; 7];
-    assert_eq!(rt; read_twice(rt.alloc(), 4, 2, &mut over)?, (Ok(()), Ok(())));
-    assert_eq!(rt; &over, b"cdefghi");
-    let mut last = [0; 1];
-    assert_eq!(rt; read_twice(rt.alloc(), 1, 9, &mut last)?, (Ok(()), Ok(())));
-    assert_eq!(rt; &last, b"j");
-    Ok(())
-}
-
-#[test]
-fn nothing_is_read_at_the_end(rt: HostRuntime) -> Result<(), Fail> {
-    assert_eq!(rt; read_twice(rt.alloc(), 0, 10, &mut [])?, (Ok(()), Ok(())));
+fn document_is_read_from_any_place(rt: HostRuntime) -> Result<(), Fail> {
+    let rows: [(u64, u64, &[u8]); 5] = [
+        (4, 0, b"abcdefghij"),
+        (1, 5, b"fg"),
+        (4, 2, b"cdefghi"),
+        (1, 9, b"j"),
+        (0, 10, b""),
+    ];
+    for (calls, at, wanted) in rows {
+        let mut got = Vec::new(rt.alloc());
+        got.resize(wanted.len(), 0)?;
+        if calls > 100 || 10u64.saturating_sub(at) < got.len() as u64 {
+            return Err("another row")?;
+        }
+        assert_eq!(rt;
+            read_twice(rt.alloc(), calls, at, &mut got)?,
+            (Ok(()), Ok(()))
+        );
+        assert_eq!(rt; got.as_slice(), wanted);
+    }
     Ok(())
 }
 

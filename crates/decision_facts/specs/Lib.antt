@@ -1,0 +1,14 @@
+pub mod Bytes
+pub mod Samples
+pub mod Values
+pub mod States
+pub mod Verdicts
+pub mod Effects
+pub mod Turns
+pub mod Events
+pub mod EventFaults
+pub mod ListedRows
+pub mod ListedFaults
+pub mod Options
+pub mod Children
+pub mod Devices

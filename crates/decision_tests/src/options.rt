@@ -1,0 +1,86 @@
+//! Options, and what a child is run with.
+use crate::samples::{sample_job, sample_queue};
+use filter_args::{ChildFile, Options, Place, environment, words};
+use spool_types::{JobRow, Phase};
+use std::alloc::Global;
+use std::test::Fail;
+
+#[test]
+fn options_are_read_and_printed(rt: HostRuntime) -> Result<(), Fail> {
+    let text = "media=A4 nocollate duplex note='a b' media=\"it's\"";
+    let options = Options::parse(rt.alloc(), text)?;
+    assert_eq!(rt; options.get("media"), Some("it's"));
+    assert_eq!(rt; options.get("side"), None);
+    let printed = options.print()?;
+    assert_eq!(rt;
+        printed.as_str(),
+        "media=it\\'s collate=false duplex=true note=a\\ b"
+    );
+    Ok(())
+}
+
+// The first stage of an attempt.
+const PHASE: Phase = Phase::Processing {
+    attempt: 1,
+    stage: 1,
+    stages: 1,
+};
+
+fn place(alloc: Global, side: bool) -> Result<Place, Fail> {
+    Ok(Place {
+        root: String::from_str(alloc, "/r")?,
+        lang: String::from_str(alloc, "C")?,
+        path: String::from_str(alloc, "/usr/bin:/bin")?,
+        side,
+    })
+}
+
+// Each text on a line.
+fn lines(alloc: Global, texts: &[String]) -> Result<String, Fail> {
+    let mut lines = String::new(alloc);
+    for text in texts {
+        lines.push_str(text.as_str())?;
+        lines.push('\n')?;
+    }
+    Ok(lines)
+}
+
+#[test]
+fn the_arguments_are_in_their_order(rt: HostRuntime) -> Result<(), Fail> {
+    let alloc = rt.alloc();
+    let job = sample_job(alloc, PHASE)?;
+    let document = ChildFile::Input.path(alloc, &place(alloc, true)?, job.id, 1, 1)?;
+    for (file, wanted) in [
+        (
+            Some(document.as_str()),
+            "7\nann\nP 1\n2\nmedia=A4\n/r/in-7-1-1\n",
+        ),
+        (None, "7\nann\nP 1\n2\nmedia=A4\n"),
+    ] {
+        let words = words(alloc, &job, file)?;
+        assert_eq!(rt; lines(alloc, &words)?.as_str(), wanted);
+    }
+    Ok(())
+}
+
+fn environment_lines(alloc: Global, job: &JobRow, side: bool) -> Result<String, Fail> {
+    if !job.phase.is_processing() {
+        return Err("not processing")?;
+    }
+    let variables = environment(alloc, job, &sample_queue(alloc)?, &place(alloc, side)?)?;
+    lines(alloc, &variables)
+}
+
+#[test]
+fn the_environment_is_in_its_order(rt: HostRuntime) -> Result<(), Fail> {
+    let alloc = rt.alloc();
+    let job = sample_job(alloc, PHASE)?;
+    let with_side = environment_lines(alloc, &job, true)?;
+    assert_eq!(rt;
+        with_side.as_str(),
+        "CHARSET=utf-8\nCONTENT_TYPE=text/plain\nCUPS_FILETYPE=document\nDEVICE_URI=spoolfile:/out\nFINAL_CONTENT_TYPE=application/x-prn\nLANG=C\nPATH=/usr/bin:/bin\nPRINTER=lab\nPRINTER_INFO=Front\nPRINTER_LOCATION=\nTMPDIR=/r\nSPOOL_ATTEMPT=1\nSPOOL_SIDE=/r/side-7-1-1\nSPOOL_STAGE=1\n"
+    );
+    let without = environment_lines(alloc, &job, false)?;
+    assert!(rt; without.as_str().contains("\nSPOOL_SIDE=\n"));
+    Ok(())
+}

@@ -1,5 +1,0 @@
-//! The tests of `event_codec`.
-#![tactic(auto)]
-
-#[cfg(test)]
-mod tests;

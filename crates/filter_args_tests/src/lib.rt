@@ -1,5 +1,0 @@
-//! The tests of `filter_args`.
-#![tactic(auto)]
-
-#[cfg(test)]
-mod tests;

@@ -1,5 +1,0 @@
-//! The tests of `spool_types`.
-#![tactic(auto)]
-
-#[cfg(test)]
-mod tests;
