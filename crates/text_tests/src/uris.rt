@@ -1,6 +1,24 @@
-use device_uri::{DeviceUri, Field, LineFault, OptionsFault, UriFault, read_device_line};
-use std::alloc::Global;
+//! URIs of devices, their options, and the lines by which backends report devices.
+use device_options::{last_value, options_or_none};
+use device_uri::{DeviceUri, Field, LineFault, read_device_line};
+use std::alloc::{AllocError, Global};
 use std::test::Fail;
+
+// A front, a piece so many times, and an end.
+fn padded(
+    alloc: Global,
+    front: &str,
+    piece: &str,
+    count: usize,
+    end: &str,
+) -> Result<String, AllocError> {
+    let mut text = String::from_str(alloc, front)?;
+    for _ in 0..count {
+        text.push_str(piece)?;
+    }
+    text.push_str(end)?;
+    Ok(text)
+}
 
 // The options of a URI, a line for each, or the fault's name.
 fn shown(alloc: Global, text: &str) -> Result<String, Fail> {
@@ -35,6 +53,7 @@ fn a_uri_has_a_scheme_a_path_and_options(rt: HostRuntime) -> Result<(), Fail> {
         ("lpt1", "BadUri"),
         ("SOCKET://10.0.0.2:9100", "socket \n"),
         ("ipp://host/a%20b?", "ipp /a%20b\n"),
+        ("IPP://Host/a/../b", "ipp /b\n"),
         ("usb:/x?a=&b&&c=+1%2B", "usb /x\na=\nb=\nc= 1+\n"),
         ("usb:/x?a=%FF#f", "usb /x\na=\u{FFFD}\n"),
         ("usb:/x?a=1&=2", "usb /x\nBadOption"),
@@ -45,69 +64,56 @@ fn a_uri_has_a_scheme_a_path_and_options(rt: HostRuntime) -> Result<(), Fail> {
     ] {
         assert_eq!(rt; shown(alloc, text)?.as_str(), want);
     }
-    Ok(())
-}
-
-#[test]
-fn a_uri_keeps_its_text(rt: HostRuntime) -> Result<(), Fail> {
-    let uri = DeviceUri::parse(rt.alloc(), "IPP://Host/a/../b")?;
+    let uri = DeviceUri::parse(alloc, "IPP://Host/a/../b")?;
     assert_eq!(rt; uri.text(), "IPP://Host/a/../b");
-    assert_eq!(rt; uri.path(), "/b");
     Ok(())
 }
 
-// A URI of so many bytes.
-fn long_uri(alloc: Global, count: usize) -> Result<String, Fail> {
-    let mut text = String::from_str(alloc, "usb:/")?;
-    for _ in 5..count {
-        text.push('x')?;
-    }
-    Ok(text)
-}
+// A front of a URI, so many pieces behind it, and the same of what is shown, with its end.
+const LIMITS: [(&str, &str, usize, &str, &str, usize, &str); 4] = [
+    ("usb:/", "x", 1_018, "usb /", "x", 1_018, "\n"),
+    ("usb:/", "x", 1_019, "BadUri", "", 0, ""),
+    ("usb:/x?", "&a=1", 64, "usb /x\n", "a=1\n", 64, ""),
+    ("usb:/x?", "&a=1", 65, "usb /x\nBadOption", "", 0, ""),
+];
 
 #[test]
-fn a_uri_has_at_most_1023_bytes(rt: HostRuntime) -> Result<(), Fail> {
+fn a_uri_has_at_most_1023_bytes_and_64_options(rt: HostRuntime) -> Result<(), Fail> {
     let alloc = rt.alloc();
-    let longest = long_uri(alloc, 1_023)?;
-    assert_eq!(rt;
-        DeviceUri::parse(alloc, longest.as_str())?.path().len(),
-        1_019
-    );
-    let longer = long_uri(alloc, 1_024)?;
-    assert!(rt;
-        matches!(
-            DeviceUri::parse(alloc, longer.as_str()),
-            Err(UriFault::BadUri)
-        )
-    );
+    for (front, piece, count, want, again, times, end) in LIMITS {
+        let uri = padded(alloc, front, piece, count, "")?;
+        let want = padded(alloc, want, again, times, end)?;
+        assert_eq!(rt; shown(alloc, uri.as_str())?.as_str(), want.as_str());
+    }
     Ok(())
 }
 
-// A URI with so many options.
-fn with_options(alloc: Global, count: usize) -> Result<String, Fail> {
-    let mut text = String::from_str(alloc, "usb:/x?")?;
-    for _ in 0..count {
-        text.push_str("&a=1")?;
-    }
-    Ok(text)
-}
-
 #[test]
-fn a_uri_has_at_most_64_options(rt: HostRuntime) -> Result<(), Fail> {
+fn the_last_value_counts(rt: HostRuntime) -> Result<(), Fail> {
     let alloc = rt.alloc();
-    let most = with_options(alloc, 64)?;
-    assert_eq!(rt;
-        DeviceUri::parse(alloc, most.as_str())?.options()?.len(),
-        64
-    );
-    let more = with_options(alloc, 65)?;
-    let refused = DeviceUri::parse(alloc, more.as_str())?.options();
-    assert!(rt; matches!(refused, Err(OptionsFault::BadOption)));
+    let most = padded(alloc, "usb:/x?", "&a=1", 64, "")?;
+    let more = padded(alloc, "usb:/x?", "&a=1", 65, "")?;
+    for (uri, name, count, want) in [
+        ("spoolfile:/out?exit=6", "exit", 1, Some("6")),
+        ("spoolfile:/out?exit=6&turns=2&exit=7", "exit", 3, Some("7")),
+        ("spoolfile:/out?exit=6&exit=", "exit", 2, Some("")),
+        ("spoolfile:/out?EXIT=6&exits=7", "exit", 2, None),
+        ("spoolfile:/out?id=MFG%3AX%3B", "id", 1, Some("MFG:X;")),
+        ("spoolfile:/out", "exit", 0, None),
+        ("spoolfile:/out?exit=6&=7", "exit", 0, None),
+        (most.as_str(), "a", 64, Some("1")),
+        (more.as_str(), "a", 0, None),
+    ] {
+        let uri = DeviceUri::parse(alloc, uri)?;
+        let options = options_or_none(alloc, &uri)?;
+        assert_eq!(rt; options.len(), count);
+        assert_eq!(rt; last_value(&options, name), want);
+    }
     Ok(())
 }
 
 // Adds a field behind a stroke, or a hyphen where there is none.
-fn push_field(text: &mut Vec<u8>, field: Option<&Field>) -> Result<(), Fail> {
+fn push_field(text: &mut Vec<u8>, field: Option<&Field>) -> Result<(), AllocError> {
     text.push(b'|')?;
     match field {
         Some(field) => text.extend_from_slice(field.as_slice())?,
@@ -133,68 +139,55 @@ fn fields_shown(alloc: Global, line: &str) -> Result<Vec<u8>, Fail> {
     Ok(text)
 }
 
-#[test]
-fn lines_have_four_to_six_fields(rt: HostRuntime) -> Result<(), Fail> {
-    let alloc = rt.alloc();
-    for (line, want) in [
-        (
-            "network socket \"Unknown\" \"AppSocket\"",
-            "network|socket|Unknown|AppSocket|-|-",
-        ),
-        (
-            "direct \t usb:/x\t\"A\"  \"B\" \"MFG:A;\"",
-            "direct|usb:/x|A|B|MFG:A;|-",
-        ),
-        (
-            "direct usb:/x \"A\" \"B\" \"\" \"Room 4\"",
-            "direct|usb:/x|A|B||Room 4",
-        ),
-        (
-            "a usb:/x \"\\\"A\\\\\" \"C:\\new\u{e9}\u{7}\"",
-            "a|usb:/x|\"A\\|C:\\new\u{e9}\u{7}|-|-",
-        ),
-    ] {
-        assert_eq!(rt; fields_shown(alloc, line)?.as_slice(), want.as_bytes());
-    }
-    Ok(())
-}
+// A line, and its fields.
+const LINES: [(&str, &str); 21] = [
+    (
+        "network socket \"Unknown\" \"AppSocket\"",
+        "network|socket|Unknown|AppSocket|-|-",
+    ),
+    (
+        "direct \t usb:/x\t\"A\"  \"B\" \"MFG:A;\"",
+        "direct|usb:/x|A|B|MFG:A;|-",
+    ),
+    (
+        "direct usb:/x \"A\" \"B\" \"\" \"Room 4\"",
+        "direct|usb:/x|A|B||Room 4",
+    ),
+    (
+        "a usb:/x \"\\\"A\\\\\" \"C:\\new\u{e9}\u{7}\"",
+        "a|usb:/x|\"A\\|C:\\new\u{e9}\u{7}|-|-",
+    ),
+    ("direct usb:/x \"A", "bad"),
+    ("", "bad"),
+    ("direct", "bad"),
+    ("direct usb:/x", "bad"),
+    ("direct usb:/x \"A\"", "bad"),
+    ("direct usb:/x A \"B\"", "bad"),
+    ("direct usb:/x \"A\" B", "bad"),
+    ("direct usb:/x \"A\"\"B\"", "bad"),
+    ("direct usb:/x\"A\" \"B\"", "bad"),
+    ("direct \"usb:/x\" \"A\" \"B\"", "bad"),
+    ("dir_ect usb:/x \"A\" \"B\"", "bad"),
+    ("direct usb:/\u{e9} \"A\" \"B\"", "bad"),
+    (" direct usb:/x \"A\" \"B\"", "bad"),
+    ("direct usb:/x \"A\" \"B\" ", "bad"),
+    ("direct usb:/x \"A\" \"B\"\r", "bad"),
+    ("direct usb:/x \"A\" \"B\\\"", "bad"),
+    ("direct usb:/x \"A\" \"B\" \"C\" \"D\" \"E\"", "bad"),
+];
 
 #[test]
-fn other_lines_are_bad(rt: HostRuntime) -> Result<(), Fail> {
+fn device_lines_have_four_to_six_fields(rt: HostRuntime) -> Result<(), Fail> {
     let alloc = rt.alloc();
-    for line in [
-        "direct usb:/x \"A",
-        "",
-        "direct",
-        "direct usb:/x",
-        "direct usb:/x \"A\"",
-        "direct usb:/x A \"B\"",
-        "direct usb:/x \"A\" B",
-        "direct usb:/x \"A\"\"B\"",
-        "direct usb:/x\"A\" \"B\"",
-        "direct \"usb:/x\" \"A\" \"B\"",
-        "dir_ect usb:/x \"A\" \"B\"",
-        "direct usb:/\u{e9} \"A\" \"B\"",
-        " direct usb:/x \"A\" \"B\"",
-        "direct usb:/x \"A\" \"B\" ",
-        "direct usb:/x \"A\" \"B\"\r",
-        "direct usb:/x \"A\" \"B\\\"",
-        "direct usb:/x \"A\" \"B\" \"C\" \"D\" \"E\"",
-    ] {
-        assert_eq!(rt; fields_shown(alloc, line)?.as_slice(), b"bad".as_slice());
+    for (line, want) in LINES {
+        assert_eq!(rt;
+            fields_shown(alloc, line)?.as_slice(),
+            want.as_bytes(),
+            "{line}"
+        );
     }
-    Ok(())
-}
-
-#[test]
-fn fields_have_at_most_1023_bytes(rt: HostRuntime) -> Result<(), Fail> {
-    let alloc = rt.alloc();
     for (count, fits) in [(1_023, true), (1_024, false)] {
-        let mut line = String::from_str(alloc, "direct usb:/x \"A\" \"")?;
-        for _ in 0..count {
-            line.push_str("\\\"")?;
-        }
-        line.push('"')?;
+        let line = padded(alloc, "direct usb:/x \"A\" \"", "\\\"", count, "\"")?;
         assert_eq!(rt; read_device_line(alloc, line.as_str()).is_ok(), fits);
     }
     Ok(())

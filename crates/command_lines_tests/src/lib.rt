@@ -1,5 +1,0 @@
-//! The tests of `command_lines`.
-#![tactic(auto)]
-
-#[cfg(test)]
-mod tests;

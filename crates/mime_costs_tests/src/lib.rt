@@ -1,5 +1,0 @@
-//! The tests of `mime_costs`.
-#![tactic(auto)]
-
-#[cfg(test)]
-mod tests;

@@ -1,5 +1,0 @@
-//! The tests of `stderr_lines`.
-#![tactic(auto)]
-
-#[cfg(test)]
-mod tests;

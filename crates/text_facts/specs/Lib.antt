@@ -1,0 +1,10 @@
+pub mod Written
+pub mod Words
+pub mod Lines
+pub mod Types
+pub mod Chains
+pub mod Programs
+pub mod Commands
+pub mod Replies
+pub mod Reports
+pub mod Sessions
