@@ -63,6 +63,7 @@ PARTS = [
     "large_run.py",
     "large_spelling.py",
     "large_tables.py",
+    "stored_scripts.py",
 ]
 
 PROGRAMS = ["spool_shell", "spool_tools"]
