@@ -101,10 +101,14 @@ def unlisted():
     ]
 
 
-def unbuilt():
-    """The programs that have to be built first."""
+def unbuilt(names):
+    """What says how to build the programs that are missing."""
     missing = [name for name in PROGRAMS if not installed(os.path.join(ROOT, "crates", name, "out", name))]
-    return [f"crates/{name}/out has no program: run `rt run` in crates/{name} first" for name in missing]
+    lines = [f"crates/{name}/out has no program: run `rt run` in crates/{name} first" for name in missing]
+    if "allocations.py" in names:
+        told = subprocess.run([sys.executable, os.path.join(HERE, "allocations.py"), "--programs"], capture_output=True, text=True)
+        lines += told.stdout.splitlines() if told.returncode else []
+    return sorted(set(lines))
 
 
 def run(name, room):
@@ -128,8 +132,9 @@ def main():
     unknown = [name for name in names if name not in SCRIPTS]
     if unknown:
         raise SystemExit(f"no script of this folder that is run here: {' '.join(unknown)}")
-    if unbuilt():
-        print("\n".join(unbuilt()))
+    missing = unbuilt(names)
+    if missing:
+        print("\n".join(missing))
         sys.exit(2)
     failures = unlisted()
     missing = wants()

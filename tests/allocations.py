@@ -22,6 +22,7 @@ that folder. With `--programs` nothing is run, and those that are missing are to
 `N differ`, with status 1. It takes some two minutes.
 """
 import concurrent.futures
+import itertools
 import os
 import re
 import shutil
@@ -29,7 +30,7 @@ import subprocess
 import sys
 import tempfile
 
-import replies
+import stored_scripts as scripts
 
 HERE = os.path.dirname(os.path.realpath(__file__))
 CRATES_FOLDER = os.path.join(HERE, "..", "crates")
@@ -37,8 +38,19 @@ STORED = os.path.join(HERE, "allocations.txt")
 SOURCE = os.path.join(HERE, "count_allocations.c")
 SHELL = os.path.join(CRATES_FOLDER, "spool_shell", "out", "spool_shell")
 
+# The crates whose tests are counted and refused their allocations. In those of memory_tests calls are marked.
 CRATES = ["memory_tests", "filter_args_tests", "decision_tests", "stderr_lines_tests"]
 SHELL_NAME = "shell"
+
+# The scripts whose allocations are refused, up to their first opening.
+REFUSED_SCRIPTS = [
+    "conversions_with_faults",
+    "documents_over_checkpoints",
+    "held_jobs",
+    "queues_listed",
+    "quotes_and_backslashes",
+    "typed_by_bytes",
+]
 
 # The allocations that are refused of a test or a script: the first so many, and then one in so many.
 FIRST = 200
@@ -61,20 +73,29 @@ class Counting:
 
     def __init__(self, room):
         self.room = room
+        self.names = itertools.count()
         self.library = os.path.join(room, "count_allocations.so")
         subprocess.run(["gcc", "-shared", "-fPIC", "-O1", "-o", self.library, SOURCE], check=True)
 
-    def run(self, words, log=None, refused=0, text=b""):
-        """How a program ends, with an allocation refused where that is not 0."""
+    def fresh(self):
+        """The path of a file or folder that isn't there yet."""
+        return os.path.join(self.room, str(next(self.names)))
+
+    def run(self, words, text=b"", refused=0, log=None):
+        """How a program ends, with an allocation refused where that is not 0. Its input is a file, whose pieces are always
+        of the same lengths."""
         environment = {"PATH": "/bin", "LANG": "C", "LD_PRELOAD": self.library, "REFUSED": str(refused)}
         if log:
             environment["COUNTED"] = log
-        return subprocess.run(words, input=text, env=environment, capture_output=True, cwd=self.room, timeout=SECONDS)
+        with tempfile.TemporaryFile(dir=self.room) as given:
+            given.write(text)
+            given.seek(0)
+            return subprocess.run(words, stdin=given, env=environment, capture_output=True, cwd=self.room, timeout=SECONDS)
 
-    def calls(self, name, words, text=b""):
+    def calls(self, words, text=b""):
         """How a program ends, and its calls in order: the allocations before each, its word, its file and its text."""
-        log = os.path.join(self.room, f"{name}.log")
-        ended = self.run(words, log, 0, text)
+        log = self.fresh()
+        ended = self.run(words, text, 0, log)
         with open(log, encoding="utf-8", errors="replace") as file:
             lines = [line.rstrip("\n").split(" ", 3) for line in file]
         os.remove(log)
@@ -97,14 +118,14 @@ def looked_at(counting, crate, test):
     """How many allocations a test makes, how many calls without memory it marks, and what differs."""
     words = [program_of(crate), test]
     name = test.rsplit("::", 1)[-1]
-    ended, calls = counting.calls(f"{crate}.{name}", words)
+    ended, calls = counting.calls(words)
     if ended.returncode:
         return 0, 0, [f"{crate} {name}: fails by itself: {ended.stderr[-200:]!r}"]
     marked = list(taken_between_marks(calls))
     differ = [f"{crate} {name}: {call} took memory {taken} times" for call, taken in marked if taken]
     count = calls[-1][0]
     for number in numbers(count):
-        ended = counting.run(words, None, number)
+        ended = counting.run(words, b"", number)
         text = (ended.stdout + ended.stderr).decode(errors="replace")
         found = ENDED.findall(text)
         if ended.returncode == 0 or not found or (found[-1] not in REFUSED):
@@ -114,7 +135,7 @@ def looked_at(counting, crate, test):
 
 def tests_of(counting, crate):
     listed = counting.run([program_of(crate), "--list"])
-    return listed.stdout.decode().split()
+    return [line[: -len(": test")] for line in listed.stdout.decode().splitlines() if line.endswith(": test")]
 
 
 def crate_counts(counting, crate, pool):
@@ -128,3 +149,174 @@ def crate_counts(counting, crate, pool):
     if crate == "memory_tests" and not marks:
         differ.append(f"{crate}: no call is marked")
     return lines, differ
+
+
+def serve(counting, name, text, root, refused=0):
+    """How the shell ends that serves a text as the script of this name in a fresh folder."""
+    ended = counting.run([SHELL, *scripts.words_of(name, root)], text, refused)
+    shutil.rmtree(root)
+    return ended
+
+
+def form(reply):
+    """A reply without what differs from one to the next: its first word, and those behind it that aren't numbers or names."""
+    words = reply.split()
+    return " ".join(word for word in words[:4] if word in ("ok", "job", "bytes", "type", "stages", "unprintable"))
+
+
+def taken_by_events(calls, costs):
+    """What differs in the calls of a run: what was taken between the first write of an event and its last sync. What is taken
+    from there to the reply is added to the costs, by the reply's form."""
+    disk = []
+    begun = False
+    for count, word, file, text in calls:
+        if word == "write" and file == "1":
+            # What a start does lies before the first event.
+            disk = disk if begun else disk[-4:]
+            begun = True
+            counts = {before for before, _ in disk}
+            is_event = [kind for _, kind in disk[-4:]] == ["write", "sync", "write", "sync"]
+            if is_event and text.startswith("ok") and not re.match(r"ok (started|rounds)", text):
+                if len(counts) > 1:
+                    yield f"{text}: between the writes and syncs of its event memory was taken"
+                costs.setdefault(form(text), set()).add(count - disk[-1][0])
+            disk = []
+        elif word in ("write", "sync") and file not in ("1", "2"):
+            disk.append((count, word))
+
+
+def script_counted(counting, name):
+    """How many allocations a script makes, what its replies cost, and what differs."""
+    root = counting.fresh()
+    words = [SHELL, *scripts.words_of(name, root)]
+    count, costs, differ, got = 0, {}, [], b""
+    for part in scripts.parts(scripts.stored_file(name, "script")):
+        ended, calls = counting.calls(words, part)
+        got += ended.stdout
+        count += calls[-1][0]
+        differ += [f"{SHELL_NAME} {name}: {fault}" for fault in taken_by_events(calls, costs)]
+    shutil.rmtree(root)
+    if got != scripts.stored_file(name, "replies"):
+        differ.append(f"{SHELL_NAME} {name}: other replies")
+    return count, costs, differ
+
+
+class Commands:
+    """A script up to its first opening, each command with its replies."""
+
+    def __init__(self, name):
+        self.name = name
+        stored = scripts.lines_of(scripts.stored_file(name, "replies"))
+        self.commands, self.replies = [], []
+        for text, is_answered, command in scripts.commands(next(scripts.parts(scripts.stored_file(name, "script")))):
+            number = scripts.replies_to(command, stored) if is_answered else 0
+            self.commands.append(text)
+            self.replies.append(b"".join(stored[:number]))
+            stored = stored[number:]
+        self.text = b"".join(self.commands)
+
+    def without(self, number):
+        return b"".join(self.commands[:number] + self.commands[number + 1 :])
+
+    def before(self, number):
+        return b"".join(self.replies[:number])
+
+    def beginnings(self):
+        return {self.before(number) for number in range(len(self.commands) + 1)}
+
+
+MEMORY = b"error memory\n"
+
+
+def refused_reply(counting, script, number, others):
+    """What differs where an allocation of a script is refused. The replies to the script without a command are kept."""
+    ended = serve(counting, script.name, script.text, counting.fresh(), number)
+    if ended.returncode:
+        if ended.stderr != b"spool: memory\n" or ended.stdout not in script.beginnings():
+            return f"status {ended.returncode}, {ended.stderr[-100:]!r}, and then {ended.stdout[-100:]!r}"
+        return None
+    at = next((at for at in range(len(script.commands)) if ended.stdout[: len(script.before(at + 1))] != script.before(at + 1)), None)
+    if at is None:
+        return "it is told nowhere"
+    if at not in others:
+        others[at] = serve(counting, script.name, script.without(at), counting.fresh()).stdout
+    wanted = script.before(at) + MEMORY + others[at][len(script.before(at)) :]
+    return None if ended.stdout == wanted else f"not {wanted[len(script.before(at)) :][:100]!r}, but {ended.stdout[len(script.before(at)) :][:100]!r}"
+
+
+def script_refused(counting, name):
+    """What differs where the allocations of a script are refused in turn."""
+    script = Commands(name)
+    root = counting.fresh()
+    _, calls = counting.calls([SHELL, *scripts.words_of(name, root)], script.text)
+    shutil.rmtree(root)
+    others = {}
+    faults = ((number, refused_reply(counting, script, number, others)) for number in numbers(calls[-1][0]))
+    return [f"{SHELL_NAME} {name}: allocation {number} refused: {fault}" for number, fault in faults if fault]
+
+
+def shell_counts(counting, pool):
+    """The lines of the shell for the stored file, and what differs."""
+    names = scripts.names()
+    lines, differ, costs = [], [], {}
+    for name, (count, taken, faults) in zip(names, pool.map(lambda name: script_counted(counting, name), names)):
+        lines.append(f"{SHELL_NAME} {name} {count}")
+        differ += faults
+        for kind, counts in taken.items():
+            costs.setdefault(kind, set()).update(counts)
+    lines += [f"{SHELL_NAME} reply:{kind.replace(' ', '_')} {max(counts)}" for kind, counts in sorted(costs.items())]
+    if len(costs.get("ok", ())) != 1:
+        differ.append(f"{SHELL_NAME}: the reply `ok` to an event takes memory {sorted(costs.get('ok', ()))} times")
+    for faults in pool.map(lambda name: script_refused(counting, name), REFUSED_SCRIPTS):
+        differ += faults
+    return lines, differ
+
+
+def unbuilt(names):
+    """The programs that are missing, each with the command that makes it."""
+    for name in names:
+        program = SHELL if name == SHELL_NAME else program_of(name)
+        if name != SHELL_NAME and not os.path.isdir(os.path.dirname(os.path.dirname(program))):
+            yield f"crates/{name} isn't there any more: take it out of CRATES of tests/allocations.py"
+        elif not os.path.exists(program):
+            crate = "spool_shell" if name == SHELL_NAME else name
+            yield f"crates/{crate}/out has no program: run `rt {'run' if name == SHELL_NAME else 'test'}` in crates/{crate} first"
+
+
+def compared(lines, names):
+    """The lines that differ from the stored ones."""
+    with open(STORED, encoding="utf-8") as file:
+        stored = [line for line in file.read().splitlines() if line.split()[0] in names]
+    return [f"only now: {line}" for line in sorted(set(lines) - set(stored))] + [
+        f"only stored: {line}" for line in sorted(set(stored) - set(lines))
+    ]
+
+
+def main():
+    words = [word for word in sys.argv[1:] if not word.startswith("--")]
+    names = words or [SHELL_NAME, *CRATES]
+    missing = list(unbuilt(names))
+    if missing or "--programs" in sys.argv[1:]:
+        print("\n".join(missing) or "none")
+        sys.exit(2 if missing else 0)
+    lines, differ = [], []
+    # In memory, where a sync takes no time.
+    folder = "/dev/shm" if os.path.isdir("/dev/shm") else None
+    with tempfile.TemporaryDirectory(dir=folder) as room, concurrent.futures.ThreadPoolExecutor(AT_ONCE) as pool:
+        counting = Counting(room)
+        for name in names:
+            of_name, faults = shell_counts(counting, pool) if name == SHELL_NAME else crate_counts(counting, name, pool)
+            lines += of_name
+            differ += faults
+    if "--write" in sys.argv[1:]:
+        with open(STORED, "w", encoding="utf-8") as file:
+            file.write("".join(line + "\n" for line in lines))
+    else:
+        differ += compared(lines, names)
+    for line in differ:
+        print(line)
+    print(f"{len(differ)} differ" if differ else "none")
+    sys.exit(1 if differ else 0)
+
+
+main()
