@@ -22,7 +22,7 @@ top = os.path.join(os.path.dirname(os.path.abspath(__file__)), "..")
 OF_TESTS = {"disk_images", "sample_rows", "spool_rows", "spool_scripts"}
 
 # A program whose library is another crate. Both are looked up in the tables under the library's name.
-LIBRARIES = {"spool_shell": "spool_host", "spool_tools": "tool_parts"}
+LIBRARIES = {"spool_shell": "spool_host", "spool_tools": "stage_tools"}
 
 # The functions with an arm, an `else` or a `map_err` for a call whose only fault is out of memory, and how many of these
 # they have. Whoever adds one here has looked at that call.
@@ -103,8 +103,8 @@ NUMBERS = {
     ("spool_host", "next_call"): ["u64::MAX"],
     ("spool_host", "read_at_most"): ["u64::MAX"],
     ("spool_host", "shell_command"): ["4194304"],
-    ("tool_parts", "turns_of"): ["u32::MAX"],
-    ("tool_parts", "write_result"): ["u64::MAX"],
+    ("stage_tools", "turns_of"): ["u32::MAX"],
+    ("stage_tools", "write_result"): ["u64::MAX"],
     ("whole_writes", "write_whole"): ["u64::MAX"],
 }
 

@@ -20,6 +20,8 @@ mod decisions;
 #[cfg(test)]
 mod engines;
 #[cfg(test)]
+mod events;
+#[cfg(test)]
 mod journals;
 #[cfg(test)]
 mod runners;

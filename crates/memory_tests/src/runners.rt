@@ -1,6 +1,9 @@
+ghost use Rattle.std.specs.Prelude.{IsTrue};
+ghost use Rattle.child_pipeline.specs.Slots.{IsFirstStage};
+
+use crate::events::{EVENTS, STARTED, table_of};
 use child_pipeline::{Content, Finish, MemChildren, Runner};
 use filter_args::Place;
-use sample_rows::{sample_job, sample_queue};
 use spool_types::{Exit, Phase};
 use std::alloc::Global;
 use std::test::*;
@@ -25,24 +28,34 @@ fn place(alloc: Global) -> Place {
     }
 }
 
+// Whether a job is in the first stage of an attempt.
+fn is_first_stage(phase: Phase) -> bool
+    ensures { IsTrue result → IsFirstStage phase }
+{
+    match phase {
+        Phase::Processing { attempt, stage, .. } => 1 <= attempt && stage == 1,
+        _ => false,
+    }
+}
+
 #[test]
 fn a_slot_goes_on_and_is_freed(rt: HostRuntime) -> Result<(), Fail> {
     let alloc = rt.alloc();
+    let table = table_of(&rt, alloc, &EVENTS[..STARTED])?;
     let mut children = children(alloc)?;
     let place = place(alloc);
-    let phase = Phase::Processing {
-        attempt: 1,
-        stage: 1,
-        stages: 1,
+    let [row] = table.jobs() else {
+        return Err(Fail::from("one job"));
     };
-    let row = sample_job(alloc, phase)?;
-    let queue = sample_queue(alloc, "socket://printer")?;
+    let [queue] = table.queues() else {
+        return Err(Fail::from("one queue"));
+    };
     let mut runner = without_memory!(rt, "Runner::new", Runner::new(alloc));
-    if !runner.is_running(row.id) {
-        runner.begin(&row)?;
+    if is_first_stage(row.phase) && !runner.is_running(row.id) {
+        runner.begin(row)?;
     }
-    if runner.is_due(&row) {
-        runner.start_stage(&mut children, &place, &row, &queue, Content::empty(alloc))?;
+    if runner.is_due(row) {
+        runner.start_stage(&mut children, &place, row, queue, Content::empty(alloc))?;
     }
     if runner.is_reporting(row.id) {
         runner.finish_stage(&mut children, row.id)?;

@@ -1,58 +1,14 @@
-use event_codec::decode;
-use job_table::Table;
+use crate::events::{EVENTS, table_of};
+use job_table::{Table, document_len};
 use queue_sched::{beats, next_job};
-use spool_types::QueueName;
+use spool_types::{JobId, QueueName};
 use std::test::*;
-
-// Events of the queue `q` in turn, as they are spelled: each kind is there.
-const EVENTS: [&[u8]; 32] = [
-    b"\x01\0\x01q\0\x03s:/\0\x03a/b\0\0\0\0\x1E\0\x05",
-    b"\x02\0\x01q\0\x01i\0\x01l",
-    b"\x03\0\x01q\x01",
-    b"\x04\0\x01q\0",
-    b"\x0B\0\0\0\0\0\0\x03\xE8",
-    b"\x05\0\x01q\0\0\0\x01\0\x01u\0\0\0\x01\x32\0\0",
-    b"\x06\0\0\0\x01\0\0\0\x02ab",
-    b"\x06\0\0\0\x01\0\0\0\x03cde",
-    b"\x07\0\0\0\x01\0\x03a/b\x01\x00",
-    b"\x0C\0\0\0\x01",
-    b"\x0D\0\0\0\x01\0\0\0\x01\x01\0\0\0\0\0\0\0\x06\x02\0\0\0\x09\x03\0\x01\0\x03b.c\x04\0\x01\0\x01a\x05\0\x01\0\x03b.c\x06\0\x03a-1\0\x03x y\x07\x03\0\x02m\x7E",
-    b"\x05\0\x01q\0\0\0\x02\0\x01u\0\0\0\x01\x32\0\0",
-    b"\x08\0\0\0\x02\x02\0\0\0\0\0\0\x07\xD0",
-    b"\x08\0\0\0\x02\x01",
-    b"\x07\0\0\0\x02\0\x03a/b\x01\x00",
-    b"\x09\0\0\0\x02",
-    b"\x0C\0\0\0\x02",
-    b"\x0F",
-    b"\x05\0\x01q\0\0\0\x03\0\x01u\0\0\0\x01\x32\0\0",
-    b"\x07\0\0\0\x03\0\x03a/b\x01\x00",
-    b"\x0C\0\0\0\x03",
-    b"\x0E\0\0\0\x03",
-    b"\x05\0\x01q\0\0\0\x04\0\x01u\0\0\0\x01\x32\0\0",
-    b"\x0A\0\0\0\x04",
-    b"\x05\0\x01q\0\0\0\x05\0\x01u\0\0\0\x01\x32\0\0",
-    b"\x06\0\0\0\x05\0\0\0\x02ab",
-    b"\x07\0\0\0\x05\0\x03a/b\x01\x00",
-    b"\x05\0\x01q\0\0\0\x06\0\x01u\0\0\0\x01\x32\0\0",
-    b"\x06\0\0\0\x06\0\0\0\x02ab",
-    b"\x07\0\0\0\x06\0\x03a/b\x01\x00",
-    b"\x0B\0\0\0\0\0\0\x07\xD0",
-    b"\x03\0\x01q\x00",
-];
 
 #[test]
 fn a_commit_and_a_choice(rt: HostRuntime) -> Result<(), Fail> {
-    let mut table = Table::new(rt.alloc());
-    for bytes in EVENTS {
-        let event = decode(rt.alloc(), bytes).ok().ok_or("no event")?;
-        match table.prepare(&event) {
-            Ok(()) => {
-                without_memory!(rt, "commit", table.commit(event, 0));
-            }
-            Err(_) => return Err(Fail::from("an event is refused")),
-        }
-    }
-    let name = QueueName::read(rt.alloc(), "q")?;
+    let alloc = rt.alloc();
+    let table = table_of(&rt, alloc, &EVENTS)?;
+    let name = QueueName::read(alloc, "q")?;
     let found = without_memory!(rt, "Table::next", table.next(&name));
     assert_eq!(rt; found.is_some(), true);
     let [queue] = table.queues() else {
@@ -66,5 +22,23 @@ fn a_commit_and_a_choice(rt: HostRuntime) -> Result<(), Fail> {
     };
     let wins = without_memory!(rt, "beats", beats(first, second));
     assert_eq!(rt; wins, true);
+    Ok(())
+}
+
+// A checkpoint notes the new places of documents, and takes them all at once. Of no jobs there are none to note.
+#[test]
+fn a_move(rt: HostRuntime) -> Result<(), Fail> {
+    let alloc = rt.alloc();
+    let mut table = table_of(&rt, alloc, &EVENTS)?;
+    let job = JobId::new(6).ok_or("no number of a job")?;
+    let row = table.job(job).ok_or("no job")?;
+    if document_len(row.phase, row.size) == 0 {
+        return Err(Fail::from("no document"));
+    }
+    table.prepare_moves()?;
+    without_memory!(rt, "push_move", table.push_move(job, 100, 2));
+    let mut table = Table::new(alloc);
+    table.prepare_moves()?;
+    without_memory!(rt, "commit_moves", table.commit_moves());
     Ok(())
 }
