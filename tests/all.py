@@ -5,9 +5,9 @@
 that on the built programs. This runs each of them, several side by side, each in folders of its own, and prints a line for
 each as it ends: its name, its seconds, and how it ended. With names it runs these alone, as `all.py syncs killed`.
 
-The programs have to be built before, by these commands in their folders: `rt run` in crates/spool_shell and
-crates/spool_tools, and `rt test` in the folder of each crate that tests/allocations.py names. Which of them is missing is
-told first, with status 2.
+The programs have to be built before, by these commands in their folders: `rt run` in crates/spool_shell, crates/spool_tools
+and crates/error_report, and `rt test` in the folder of each crate that tests/allocations.py names. Which of them is missing
+is told first, with status 2.
 
 A part that wants what isn't installed, or another user, is left out, and told as `skipped`. Each file of this folder has to
 be in one of the tables below. The last line is `all N passed`, with how much was skipped, and status 0; or `N failed`, with
@@ -16,6 +16,7 @@ status 1. It takes some ten minutes on four processors.
 import concurrent.futures
 import os
 import shutil
+import signal
 import subprocess
 import sys
 import tempfile
@@ -34,7 +35,6 @@ CUPS_TYPES = "/usr/share/cups/mime/mime.types"
 
 # The scripts, longest first, each with the words that it is given.
 SCRIPTS = {
-    "large.py": [],
     "killed.py": [],
     "first_start.py": [],
     "syncs.py": [],
@@ -46,7 +46,11 @@ SCRIPTS = {
     "office.py": [],
     "stock.py": [],
     "cups_types.py": [CUPS_TYPES],
+    "large.py": [],
 }
+
+# Those that run when the others have ended: they compare times.
+ALONE = ["large.py"]
 
 # Scripts that the gate runs (`.ci/run`), the scripts that take hours and are run on demand, and what the scripts are made of.
 IN_GATE = ["out_of_memory.py", "unused_lemmas.py", "edits_apply.py"]
@@ -59,14 +63,17 @@ PARTS = [
     "large_children.py",
     "large_disks.py",
     "large_files.py",
+    "large_growth.py",
     "large_limits.py",
+    "large_memory.py",
+    "large_pieces.py",
     "large_run.py",
     "large_spelling.py",
     "large_tables.py",
     "stored_scripts.py",
 ]
 
-PROGRAMS = ["spool_shell", "spool_tools"]
+PROGRAMS = ["error_report", "spool_shell", "spool_tools"]
 
 
 def installed(path):
@@ -119,12 +126,31 @@ def run(name, room):
     environment = {**os.environ, "TMPDIR": folder, "PYTHONDONTWRITEBYTECODE": "1"}
     begun = time.monotonic()
     pipes = {"stdin": subprocess.DEVNULL, "stdout": subprocess.PIPE, "stderr": subprocess.STDOUT}
+    script = subprocess.Popen(words, cwd=folder, env=environment, start_new_session=True, errors="replace", **pipes)
     try:
-        ended = subprocess.run(words, cwd=folder, env=environment, timeout=SECONDS, errors="replace", **pipes)
-        status, text = ended.returncode, ended.stdout
-    except subprocess.TimeoutExpired as error:
-        status, text = "too long", (error.stdout or b"").decode(errors="replace")
+        text, _ = script.communicate(timeout=SECONDS)
+        status = script.returncode
+    except subprocess.TimeoutExpired:
+        # With the programs that it runs.
+        os.killpg(script.pid, signal.SIGKILL)
+        text, _ = script.communicate()
+        status = "no end"
     return time.monotonic() - begun, status, text
+
+
+def run_all(names, at_once, room):
+    """Runs scripts, so many at once, with a line for each as it ends. What the others wrote that failed is given."""
+    failures = []
+    with concurrent.futures.ThreadPoolExecutor(at_once) as pool:
+        tasks = {pool.submit(run, name, room): name for name in names}
+        for task in concurrent.futures.as_completed(tasks):
+            name = tasks[task]
+            seconds, status, text = task.result()
+            last = text.strip().split("\n")[-1]
+            print(f"{name:18} {seconds:6.1f} s  {'passed' if status == 0 else 'FAILED'}: {last}", flush=True)
+            if status:
+                failures.append(f"{name} ended with {status}:\n{text[-3000:]}")
+    return failures
 
 
 def main():
@@ -144,15 +170,8 @@ def main():
     names = [name for name in names if not missing.get(name, (False,))[0]]
     begun = time.monotonic()
     room = tempfile.mkdtemp(prefix="tests-all-")
-    with concurrent.futures.ThreadPoolExecutor(AT_ONCE) as pool:
-        tasks = {pool.submit(run, name, room): name for name in names}
-        for task in concurrent.futures.as_completed(tasks):
-            name = tasks[task]
-            seconds, status, text = task.result()
-            last = text.strip().split("\n")[-1]
-            print(f"{name:18} {seconds:6.1f} s  {'passed' if status == 0 else 'FAILED'}: {last}", flush=True)
-            if status:
-                failures.append(f"{name} ended with {status}:\n{text[-3000:]}")
+    failures += run_all([name for name in names if name not in ALONE], AT_ONCE, room)
+    failures += run_all([name for name in names if name in ALONE], 1, room)
     for failure in failures:
         print(failure)
     if not failures:
