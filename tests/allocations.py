@@ -1,86 +1,318 @@
 #!/usr/bin/env python3
-"""Refuses each allocation of small tests in turn, and counts them: allocations.py [CRATE..]
+"""Counts the allocations of the built programs, and refuses each in turn: allocations.py [--write | --programs] [NAME..]
 
-No clause can say that a call takes no memory that it doesn't need, nor what a call does after an allocation that was
-refused in its midst. This script runs the tests of the crates that are named, or of CRATES, with their first allocation
-refused, then with their second, up to MOST. A test whose allocation is refused has to end with that very fault: any other
-end is an answer that changed in the place of the fault.
+No clause can say that a call takes no memory, nor what a call does after an allocation that was refused in its midst. This
+script runs programs over the library of tests/count_allocations.c, which it compiles with gcc, and looks at these:
 
-The allocations that a test makes are counted so: it passes once the refused one comes after its last. The counts are
-compared with those in tests/allocations.txt, a line `CRATE TEST COUNT` for each test with at most MOST of them, where that
-file is there. A call that begins to take memory, or takes more of it, shows as a greater count. With `--write` the file is
-written anew.
+- A call that takes no memory. The tests of crates/memory_tests print a line before such a call and one behind it, and no
+  allocation may come between the two.
+- The tests of CRATES, with their first allocation refused, then with their second, and so on. Each has to end with that very
+  fault: any other end is an answer that changed in the place of the fault.
+- The stored scripts of crates/spool_scripts/data that need no made up children, disk or limits, served by the shell. Between
+  the first write of an event and its last sync nothing is taken, and from there to the reply no more than the reply takes.
+- Some of these scripts with each allocation refused in turn. A command that finds no memory is answered `error memory`, and
+  all other replies are those to the script without it; or the program ends with `spool: memory`, having answered all before.
 
-The last line is `none`, with status 0, or `N differ`, with status 1. A crate takes some nine minutes of a processor.
+How many allocations each test and each script makes is compared with tests/allocations.txt, a line `NAME PART COUNT` for
+each. A call that begins to take memory, or takes more of it, shows as a greater count. With `--write` the file is written
+anew. With names only these crates are looked at, or `shell`.
+
+The programs are crates/NAME/out/NAME_tests, made by `rt test`, and crates/spool_shell/out/spool_shell, made by `rt run` in
+that folder. With `--programs` nothing is run, and those that are missing are told. The last line is `none`, with status 0, or
+`N differ`, with status 1. It takes some two minutes.
 """
 import concurrent.futures
+import itertools
 import os
 import re
+import shutil
 import subprocess
 import sys
+import tempfile
 
-top = os.path.join(os.path.dirname(os.path.abspath(__file__)), "..")
-stored = os.path.join(top, "tests", "allocations.txt")
+import stored_scripts as scripts
 
-CRATES = ["filter_args_tests", "decision_tests", "stderr_lines_tests"]
-MOST = 32
+HERE = os.path.dirname(os.path.realpath(__file__))
+CRATES_FOLDER = os.path.join(HERE, "..", "crates")
+STORED = os.path.join(HERE, "allocations.txt")
+SOURCE = os.path.join(HERE, "count_allocations.c")
+SHELL = os.path.join(CRATES_FOLDER, "spool_shell", "out", "spool_shell")
+
+# The crates whose tests are counted and refused their allocations. In those of memory_tests calls are marked.
+CRATES = ["memory_tests", "filter_args_tests", "decision_tests", "stderr_lines_tests"]
+SHELL_NAME = "shell"
+
+# The scripts whose allocations are refused, up to their first opening.
+REFUSED_SCRIPTS = [
+    "conversions_with_faults",
+    "documents_over_checkpoints",
+    "held_jobs",
+    "queues_listed",
+    "quotes_and_backslashes",
+    "typed_by_bytes",
+]
+
+# The allocations that are refused of a test or a script: the first so many, and then one in so many.
+FIRST = 200
+STEP = 17
 AT_ONCE = 4
+SECONDS = 60
 
-RESULT = re.compile(r"^test (?:\w+::)*(\w+) \.\.\. (ok|FAILED)$")
 # What a test ends with whose allocation was refused: the error of std, with the value given back or without it, that of a
 # crate, or the word of a test that tells faults apart.
-REFUSED = {"error: AllocError", "error: AllocFailed { .. }", "error: Memory", 'error: "no memory"'}
+REFUSED = {"AllocError", "AllocFailed { .. }", "Memory", '"no memory"'}
+ENDED = re.compile(r"^error: (.*)$", re.M)
 
 
-def run(crate, number):
-    """Each test of a crate with its allocation of this number refused: whether it passed, and else how it ended."""
-    words = ["rt", "try", "--test", "--fail-alloc", str(number)]
-    folder = os.path.join(top, "crates", crate)
-    text = subprocess.run(words, cwd=folder, capture_output=True, text=True).stdout
-    results = {}
-    test = None
-    for line in text.splitlines():
-        found = RESULT.match(line)
-        if found:
-            test = found.group(1)
-            results[test] = None if found.group(2) == "ok" else "no error"
-        elif test and results[test] == "no error" and line.strip().startswith("error:"):
-            results[test] = line.strip()
-    if not results:
-        raise SystemExit(f"{crate}: no test ran: {text[-500:]}")
-    return results
+def program_of(crate):
+    return os.path.join(CRATES_FOLDER, crate, "out", f"{crate}_tests")
 
 
-def counted(crate, pool):
-    """The tests of a crate, each with its allocations, or None above MOST, and the ends that aren't a refusal."""
-    last, faults = {}, []
-    numbers = range(1, MOST + 2)
-    for number, results in zip(numbers, pool.map(lambda n: run(crate, n), numbers)):
-        for test, end in results.items():
-            last.setdefault(test, 0)
-            if end is not None:
-                last[test] = number
-                if end not in REFUSED:
-                    faults.append(f"{crate} {test}: allocation {number}: {end}")
-    return {test: count if count <= MOST else None for test, count in last.items()}, faults
+class Counting:
+    """Runs programs over the counting library, in a folder of its own."""
+
+    def __init__(self, room):
+        self.room = room
+        self.names = itertools.count()
+        self.library = os.path.join(room, "count_allocations.so")
+        subprocess.run(["gcc", "-shared", "-fPIC", "-O1", "-o", self.library, SOURCE], check=True)
+
+    def fresh(self):
+        """The path of a file or folder that isn't there yet."""
+        return os.path.join(self.room, str(next(self.names)))
+
+    def run(self, words, text=b"", refused=0, log=None):
+        """How a program ends, with an allocation refused where that is not 0. Its input is a file, whose pieces are always
+        of the same lengths."""
+        environment = {"PATH": "/bin", "LANG": "C", "LD_PRELOAD": self.library, "REFUSED": str(refused)}
+        if log:
+            environment["COUNTED"] = log
+        with tempfile.TemporaryFile(dir=self.room) as given:
+            given.write(text)
+            given.seek(0)
+            return subprocess.run(words, stdin=given, env=environment, capture_output=True, cwd=self.room, timeout=SECONDS)
+
+    def calls(self, words, text=b""):
+        """How a program ends, and its calls in order: the allocations before each, its word, its file and its text."""
+        log = self.fresh()
+        ended = self.run(words, text, 0, log)
+        with open(log, encoding="utf-8", errors="replace") as file:
+            lines = [line.rstrip("\n").split(" ", 3) for line in file]
+        os.remove(log)
+        return ended, [(int(count), word, file, text) for count, word, file, text in lines]
+
+
+def numbers(count):
+    """Which of so many allocations are refused."""
+    return [*range(1, min(count, FIRST) + 1), *range(FIRST + 1, count + 1, STEP)]
+
+
+def taken_between_marks(calls):
+    """What the calls between two marks took, each with its name."""
+    for (before, _, _, begin), (after, _, _, end) in zip(calls, calls[1:]):
+        if begin.startswith("begin ") and end == f"end {begin[6:]}":
+            yield begin[6:], after - before
+
+
+def looked_at(counting, crate, test):
+    """How many allocations a test makes, how many calls without memory it marks, and what differs."""
+    words = [program_of(crate), test]
+    name = test.rsplit("::", 1)[-1]
+    ended, calls = counting.calls(words)
+    if ended.returncode:
+        return 0, 0, [f"{crate} {name}: fails by itself: {ended.stderr[-200:]!r}"]
+    marked = list(taken_between_marks(calls))
+    differ = [f"{crate} {name}: {call} took memory {taken} times" for call, taken in marked if taken]
+    count = calls[-1][0]
+    for number in numbers(count):
+        ended = counting.run(words, b"", number)
+        text = (ended.stdout + ended.stderr).decode(errors="replace")
+        found = ENDED.findall(text)
+        if ended.returncode == 0 or not found or (found[-1] not in REFUSED):
+            differ.append(f"{crate} {name}: allocation {number} refused: status {ended.returncode} {text[-200:]!r}")
+    return count, len(marked), differ
+
+
+def tests_of(counting, crate):
+    listed = counting.run([program_of(crate), "--list"])
+    return [line[: -len(": test")] for line in listed.stdout.decode().splitlines() if line.endswith(": test")]
+
+
+def crate_counts(counting, crate, pool):
+    """The lines of a crate for the stored file, and what differs."""
+    tests = tests_of(counting, crate)
+    lines, differ, marks = [], [], 0
+    for test, (count, marked, faults) in zip(tests, pool.map(lambda test: looked_at(counting, crate, test), tests)):
+        lines.append(f"{crate} {test.rsplit('::', 1)[-1]} {count}")
+        differ += faults
+        marks += marked
+    if crate == "memory_tests" and not marks:
+        differ.append(f"{crate}: no call is marked")
+    return lines, differ
+
+
+def serve(counting, name, text, root, refused=0):
+    """How the shell ends that serves a text as the script of this name in a fresh folder."""
+    ended = counting.run([SHELL, *scripts.words_of(name, root)], text, refused)
+    shutil.rmtree(root)
+    return ended
+
+
+def form(reply):
+    """A reply without what differs from one to the next: its first word, and those behind it that aren't numbers or names."""
+    words = reply.split()
+    return " ".join(word for word in words[:4] if word in ("ok", "job", "bytes", "type", "stages", "unprintable"))
+
+
+def taken_by_events(calls, costs):
+    """What differs in the calls of a run: what was taken between the first write of an event and its last sync. What is taken
+    from there to the reply is added to the costs, by the reply's form."""
+    disk = []
+    begun = False
+    for count, word, file, text in calls:
+        if word == "write" and file == "1":
+            # What a start does lies before the first event.
+            disk = disk if begun else disk[-4:]
+            begun = True
+            counts = {before for before, _ in disk}
+            is_event = [kind for _, kind in disk[-4:]] == ["write", "sync", "write", "sync"]
+            if is_event and text.startswith("ok") and not re.match(r"ok (started|rounds)", text):
+                if len(counts) > 1:
+                    yield f"{text}: between the writes and syncs of its event memory was taken"
+                costs.setdefault(form(text), set()).add(count - disk[-1][0])
+            disk = []
+        elif word in ("write", "sync") and file not in ("1", "2"):
+            disk.append((count, word))
+
+
+def script_counted(counting, name):
+    """How many allocations a script makes, what its replies cost, and what differs."""
+    root = counting.fresh()
+    words = [SHELL, *scripts.words_of(name, root)]
+    count, costs, differ, got = 0, {}, [], b""
+    for part in scripts.parts(scripts.stored_file(name, "script")):
+        ended, calls = counting.calls(words, part)
+        got += ended.stdout
+        count += calls[-1][0]
+        differ += [f"{SHELL_NAME} {name}: {fault}" for fault in taken_by_events(calls, costs)]
+    shutil.rmtree(root)
+    if got != scripts.stored_file(name, "replies"):
+        differ.append(f"{SHELL_NAME} {name}: other replies")
+    return count, costs, differ
+
+
+class Commands:
+    """A script up to its first opening, each command with its replies."""
+
+    def __init__(self, name):
+        self.name = name
+        stored = scripts.lines_of(scripts.stored_file(name, "replies"))
+        self.commands, self.replies = [], []
+        for text, is_answered, command in scripts.commands(next(scripts.parts(scripts.stored_file(name, "script")))):
+            number = scripts.replies_to(command, stored) if is_answered else 0
+            self.commands.append(text)
+            self.replies.append(b"".join(stored[:number]))
+            stored = stored[number:]
+        self.text = b"".join(self.commands)
+
+    def without(self, number):
+        return b"".join(self.commands[:number] + self.commands[number + 1 :])
+
+    def before(self, number):
+        return b"".join(self.replies[:number])
+
+    def beginnings(self):
+        return {self.before(number) for number in range(len(self.commands) + 1)}
+
+
+MEMORY = b"error memory\n"
+
+
+def refused_reply(counting, script, number, others):
+    """What differs where an allocation of a script is refused. The replies to the script without a command are kept."""
+    ended = serve(counting, script.name, script.text, counting.fresh(), number)
+    if ended.returncode:
+        if ended.stderr != b"spool: memory\n" or ended.stdout not in script.beginnings():
+            return f"status {ended.returncode}, {ended.stderr[-100:]!r}, and then {ended.stdout[-100:]!r}"
+        return None
+    at = next((at for at in range(len(script.commands)) if ended.stdout[: len(script.before(at + 1))] != script.before(at + 1)), None)
+    if at is None:
+        return "it is told nowhere"
+    if at not in others:
+        others[at] = serve(counting, script.name, script.without(at), counting.fresh()).stdout
+    wanted = script.before(at) + MEMORY + others[at][len(script.before(at)) :]
+    return None if ended.stdout == wanted else f"not {wanted[len(script.before(at)) :][:100]!r}, but {ended.stdout[len(script.before(at)) :][:100]!r}"
+
+
+def script_refused(counting, name):
+    """What differs where the allocations of a script are refused in turn."""
+    script = Commands(name)
+    root = counting.fresh()
+    _, calls = counting.calls([SHELL, *scripts.words_of(name, root)], script.text)
+    shutil.rmtree(root)
+    others = {}
+    faults = ((number, refused_reply(counting, script, number, others)) for number in numbers(calls[-1][0]))
+    return [f"{SHELL_NAME} {name}: allocation {number} refused: {fault}" for number, fault in faults if fault]
+
+
+def shell_counts(counting, pool):
+    """The lines of the shell for the stored file, and what differs."""
+    names = scripts.names()
+    lines, differ, costs = [], [], {}
+    for name, (count, taken, faults) in zip(names, pool.map(lambda name: script_counted(counting, name), names)):
+        lines.append(f"{SHELL_NAME} {name} {count}")
+        differ += faults
+        for kind, counts in taken.items():
+            costs.setdefault(kind, set()).update(counts)
+    lines += [f"{SHELL_NAME} reply:{kind.replace(' ', '_')} {max(counts)}" for kind, counts in sorted(costs.items())]
+    if len(costs.get("ok", ())) != 1:
+        differ.append(f"{SHELL_NAME}: the reply `ok` to an event takes memory {sorted(costs.get('ok', ()))} times")
+    for faults in pool.map(lambda name: script_refused(counting, name), REFUSED_SCRIPTS):
+        differ += faults
+    return lines, differ
+
+
+def unbuilt(names):
+    """The programs that are missing, each with the command that makes it."""
+    for name in names:
+        program = SHELL if name == SHELL_NAME else program_of(name)
+        if name != SHELL_NAME and not os.path.isdir(os.path.dirname(os.path.dirname(program))):
+            yield f"crates/{name} isn't there any more: take it out of CRATES of tests/allocations.py"
+        elif not os.path.exists(program):
+            crate = "spool_shell" if name == SHELL_NAME else name
+            yield f"crates/{crate}/out has no program: run `rt {'run' if name == SHELL_NAME else 'test'}` in crates/{crate} first"
+
+
+def compared(lines, names):
+    """The lines that differ from the stored ones."""
+    with open(STORED, encoding="utf-8") as file:
+        stored = [line for line in file.read().splitlines() if line.split()[0] in names]
+    return [f"only now: {line}" for line in sorted(set(lines) - set(stored))] + [
+        f"only stored: {line}" for line in sorted(set(stored) - set(lines))
+    ]
 
 
 def main():
-    names = [word for word in sys.argv[1:] if word != "--write"] or CRATES
+    words = [word for word in sys.argv[1:] if not word.startswith("--")]
+    names = words or [SHELL_NAME, *CRATES]
+    missing = list(unbuilt(names))
+    if missing or "--programs" in sys.argv[1:]:
+        print("\n".join(missing) or "none")
+        sys.exit(2 if missing else 0)
     lines, differ = [], []
-    with concurrent.futures.ThreadPoolExecutor(AT_ONCE) as pool:
-        for crate in names:
-            counts, faults = counted(crate, pool)
+    # In memory, where a sync takes no time.
+    folder = "/dev/shm" if os.path.isdir("/dev/shm") else None
+    with tempfile.TemporaryDirectory(dir=folder) as room, concurrent.futures.ThreadPoolExecutor(AT_ONCE) as pool:
+        counting = Counting(room)
+        for name in names:
+            of_name, faults = shell_counts(counting, pool) if name == SHELL_NAME else crate_counts(counting, name, pool)
+            lines += of_name
             differ += faults
-            few = {test: count for test, count in counts.items() if count is not None}
-            lines += [f"{crate} {test} {count}" for test, count in sorted(few.items())]
     if "--write" in sys.argv[1:]:
-        with open(stored, "w", encoding="utf-8") as file:
+        with open(STORED, "w", encoding="utf-8") as file:
             file.write("".join(line + "\n" for line in lines))
-    elif os.path.exists(stored):
-        with open(stored, encoding="utf-8") as file:
-            wanted = [line for line in file.read().splitlines() if line.split()[0] in names]
-        differ += [f"not as stored: {line}" for line in sorted(set(lines) ^ set(wanted))]
+    else:
+        differ += compared(lines, names)
     for line in differ:
         print(line)
     print(f"{len(differ)} differ" if differ else "none")

@@ -1,11 +1,16 @@
 #!/usr/bin/env python3
-"""Lists the places of the code that answer out of memory by themselves: out_of_memory.py
+"""Lists the places of the code that answer out of memory by themselves, or may ask for more than there is: out_of_memory.py
 
 No clause can see why memory was missing, so a body that answers out of memory where none was refused would be proved. The
 answer may therefore come only from a growth that was refused: through `?`, through a `From`, through an arm of a match whose
-pattern names out of memory, or from one of the calls below whose only fault it is (PASSED_ON: the function, and how often).
-This script looks for every other place in src/ that makes such an answer. The last line is `none`, with status 0, or `N
-places`, with status 1.
+pattern names out of memory, or from one of the calls of PASSED_ON, whose only fault it is. This script looks for every other
+place in src/ that makes such an answer.
+
+A growth can be refused by a body that asks for more than there can be, as `reserve(usize::MAX)`. So it looks at what is asked
+for too. A capacity or a count of items is what the input or the table has: one with a number, a constant or a sum in it
+stands in CAPACITIES. A great number that stands elsewhere in a body is in NUMBERS, and a great constant is in CONSTANTS.
+
+Crates of tests aren't looked at. The last line is `none`, with status 0, or `N places`, with status 1.
 """
 import os
 import re
@@ -13,11 +18,11 @@ import sys
 
 top = os.path.join(os.path.dirname(os.path.abspath(__file__)), "..")
 
-# What says out of memory, as a value.
-SAYS = re.compile(r"\b(?:\w+::(?:Memory|NoMemory|OutOfMemory)|AllocError)\b")
+# The crates that serve tests alone, and those whose names end in _tests.
+OF_TESTS = {"disk_images", "sample_rows", "spool_rows", "spool_scripts"}
 
-# A pattern that names it.
-NAMES = re.compile(r"Memory|AllocError")
+# A program whose library is another crate. Both are looked up in the tables under the library's name.
+LIBRARIES = {"spool_shell": "spool_host", "spool_tools": "stage_tools"}
 
 # The functions with an arm, an `else` or a `map_err` for a call whose only fault is out of memory, and how many of these
 # they have. Whoever adds one here has looked at that call.
@@ -29,63 +34,161 @@ PASSED_ON = {
     ("command_lines", "push_rules"): 1,
     ("command_lines", "push_sizes"): 1,
     ("device_uri", "options"): 1,
-    ("print_rounds", "end_stage"): 1,
-    ("print_rounds", "launch"): 2,
+    # A count of jobs that are held past the greatest usize: no memory holds so many.
+    ("job_table", "reserve"): 1,
+    ("print_rounds", "launch"): 1,
+    ("print_rounds", "read_document"): 1,
     ("print_rounds", "round"): 1,
     ("print_rounds", "start"): 1,
+    ("print_rounds", "end_stage"): 1,
     ("spool_areas", "collect"): 1,
     ("spool_areas", "new_window"): 1,
+    ("spool_core", "change_areas"): 1,
     ("spool_core", "drive_all"): 1,
+    ("spool_core", "finish"): 1,
     ("spool_core", "journal"): 1,
     ("spool_core", "journal_reopening"): 1,
-    ("spool_core", "change_areas"): 1,
     ("spool_core", "read_payload"): 1,
-    ("spool_core", "take_row"): 1,
+    ("spool_core", "take_row"): 2,
     ("spool_engine", "answer"): 1,
-    ("spool_engine", "close"): 1,
-    ("spool_engine", "serve_whole"): 1,
+    ("spool_engine", "close_typed"): 1,
     ("spool_engine", "serve_end"): 1,
+    ("spool_engine", "serve_whole"): 1,
     ("spool_engine", "take_piece"): 1,
-    ("spool_shell", "long_root"): 1,
-    ("spool_shell", "no_words"): 1,
-    ("spool_shell", "read_words"): 1,
-    ("spool_shell", "words_fault"): 1,
+    ("spool_host", "long_root"): 1,
+    ("spool_host", "no_words"): 1,
+    ("spool_host", "read_words"): 1,
+    ("spool_host", "words_fault"): 1,
 }
 
-TESTS = re.compile(r"(^|_)tests\.rt$")
+# The capacities and counts with a number, a constant or a sum in them, of each function. Each asks for a few items, or for
+# no more than the input or the table has.
+CAPACITIES = {
+    ("child_pipeline", "insert"): ["1"],
+    ("command_lines", "words_of"): ["MOST_WORDS"],
+    ("event_codec", "encode_queue_onto"): ["1 + added_len(queue) + queue_state_len(queue)"],
+    ("event_codec", "listed_at"): ["(count as usize).min(bytes.len() / 3)"],
+    ("event_codec", "listed_attributes_at"): ["(count as usize).min(bytes.len() / 4)"],
+    ("event_codec", "listed_reasons_at"): ["(count as usize).min(bytes.len() / 2)"],
+    ("event_codec", "texts_at"): ["(count as usize).min(bytes.len() / 2)"],
+    ("filter_args", "environment_of_stage"): ["14"],
+    ("filter_args", "words"): ["6"],
+    # 64 KiB, for as long as a spool is opened.
+    ("gate_journal", "new"): ["BLOCK_LEN"],
+    ("job_table", "reserve_extent"): ["1"],
+    ("job_table", "reserve_job"): ["1"],
+    ("job_table", "reserve_queue"): ["1", "1"],
+    ("mime_costs", "cost_rows"): ["MOST_LINES"],
+    ("mime_costs", "walk_lines"): ["MOST_LINES"],
+    ("row_effects", "make_room"): ["MOST_KEPT"],
+    ("spool_core", "drive_all"): ["1"],
+    # 64 KiB, for as long as a checkpoint is prepared.
+    ("spool_core", "listing_frames"): ["LONGEST_SEND"],
+}
+
+# The great numbers in bodies: bounds of loops, of counts and of fields. None is a capacity.
+NUMBERS = {
+    ("backend_codes", "unless_spent"): ["u32::MAX"],
+    ("event_codec", "job_row_of"): ["1_048_576"],
+    ("job_table", "is_startable"): ["u32::MAX"],
+    ("job_table", "is_untyped"): ["u32::MAX"],
+    ("mime_rules", "int_bytes"): ["16_777_216"],
+    ("mime_rules", "most"): ["4_294_967_295"],
+    ("side_channel", "read"): ["u32::MAX"],
+    ("spool_disk", "counted"): ["u64::MAX"],
+    ("spool_disk", "read"): ["u64::MAX"],
+    ("spool_disk", "sync"): ["u64::MAX"],
+    ("spool_disk", "write"): ["u64::MAX"],
+    ("spool_engine", "serve"): ["u32::MAX"],
+    ("spool_host", "next_call"): ["u64::MAX"],
+    ("spool_host", "read_at_most"): ["u64::MAX"],
+    ("spool_host", "shell_command"): ["4194304"],
+    ("stage_tools", "turns_of"): ["u32::MAX"],
+    ("stage_tools", "write_result"): ["u64::MAX"],
+    ("whole_writes", "write_whole"): ["u64::MAX"],
+}
+
+# The great constants: limits of what is read, and the numbers of fields.
+CONSTANTS = {
+    ("child_pipeline", "MOST_ERRORS"): 1,
+    ("mime_lines", "TOO_GREAT"): 1,
+    ("mime_rules", "GREATEST"): 1,
+    ("side_channel", "SESSION_READS"): 1,
+    ("spool_areas", "LAST_EPOCH"): 1,
+    ("spool_host", "DEFAULT_SIZE"): 1,
+    ("spool_host", "GREATEST_SIZE"): 1,
+    ("spool_host", "MOST_ERRORS"): 1,
+    ("spool_host", "MOST_LINES"): 1,
+    ("spool_types", "GREATEST"): 2,
+    ("spool_types", "LONGEST_DOCUMENT"): 1,
+}
+
+# What says out of memory, as a value.
+SAYS = re.compile(r"\b(?:\w+::(?:Memory|NoMemory|OutOfMemory)|AllocError)\b")
+
+# A pattern that names it.
+NAMES = re.compile(r"Memory|AllocError")
+
+# A call that takes memory for a number of items, and which of its arguments is that number.
+TAKES = re.compile(r"\b(with_capacity|reserve|reserve_exact|try_reserve|from_elem|resize|repeat)\(|\bvec!(\[)")
+FIRST = ("resize", "reserve", "reserve_exact", "try_reserve")
+
+# What isn't a number of things that are there: a number, a constant, a sum or a product.
+MADE = re.compile(r"\b\d|\b[A-Z][A-Z0-9_]+\b|[*+]|<<|pow\(|mul\(|add\(|shl\(|sum\(|product\(")
+
+# A number above a million, or one that may be.
+GREAT = re.compile(r"\b[ui](?:8|16|32|64|128|size)::(?:MAX|MIN)\b|<<|\bpow\(|\bshl\(|!0\w*\b|\b0x[0-9A-Fa-f_]{6,}|\b\d[\d_]{6,}\w*")
+
+CONSTANT = re.compile(r"^\s*(?:pub(?:\([a-z]+\))? )?(?:const|static) (\w+): [^=]*=(.*)$")
 FUNCTION = re.compile(r"^\s*(?:pub(?:\([a-z]+\))? )?(?:const )?(?:unsafe )?fn (\w+)")
 CLAUSE = re.compile(r"^\s*(?:requires|ensures|ghost)\b")
+TESTS = re.compile(r"(^|_)tests\.rt$")
+
+
+class Function:
+    """The body of a function: its lines of code, with the number of the first."""
+
+    def __init__(self, crate, path, name, first):
+        self.crate, self.path, self.name, self.first, self.lines = LIBRARIES.get(crate, crate), path, name, first, []
+
+    def where(self, line):
+        return f"{os.path.relpath(self.path, top)}:{self.first + line} {self.name}"
+
+
+def crates():
+    folder = os.path.join(top, "crates")
+    return sorted(name for name in os.listdir(folder) if os.path.isdir(os.path.join(folder, name, "src")))
 
 
 def sources():
-    """The source files of every crate that aren't tests, as crate, path and lines."""
-    crates = os.path.join(top, "crates")
-    for crate in sorted(os.listdir(crates)):
-        for folder, _, names in os.walk(os.path.join(crates, crate, "src")):
+    """The source files that aren't tests, as crate, path and lines without remarks."""
+    for crate in crates():
+        if crate in OF_TESTS or crate.endswith("_tests"):
+            continue
+        for folder, _, names in os.walk(os.path.join(top, "crates", crate, "src")):
             for name in sorted(names):
                 if name.endswith(".rt") and not TESTS.search(name):
                     path = os.path.join(folder, name)
                     with open(path, encoding="utf-8") as file:
-                        yield crate, path, file.read().split("\n")
+                        yield crate, path, [line.split("//")[0] for line in file.read().split("\n")]
 
 
-def bodies(lines):
-    """The lines of code in bodies of functions, each with its number, its function and whether that is a `From`'s."""
-    function, is_from, in_body, depth = "", False, False, 0
+def bodies(crate, path, lines):
+    """The functions of a file that have a body of more than a line."""
+    name, depth, body = "", 0, None
     for number, line in enumerate(lines, 1):
-        code = line.split("//")[0]
-        begins = FUNCTION.match(code)
-        if begins and not in_body:
-            function, is_from = begins[1], begins[1] == "from"
-            depth = len(line) - len(line.lstrip())
         indent = len(line) - len(line.lstrip())
-        if in_body:
+        begins = FUNCTION.match(line)
+        if body is not None:
             if line.strip() == "}" and indent == depth:
-                in_body = False
+                yield body
+                name, body = "", None
             else:
-                yield number, code, function, is_from
-        elif function and code.rstrip().endswith("{") and indent == depth and not CLAUSE.match(code):
-            in_body = not code.rstrip().endswith("{}")
+                body.lines.append(line)
+        elif begins:
+            name, depth = begins[1], indent
+        if body is None and name and indent == depth and line.rstrip().endswith("{") and not CLAUSE.match(line):
+            body = Function(crate, path, name, number + 1)
 
 
 def passes_on(code):
@@ -93,26 +196,107 @@ def passes_on(code):
     pattern, arrow, _ = code.partition("=>")
     if arrow:
         return bool(NAMES.search(pattern))
-    tested = re.search(r"matches!\(|==|!=|\bif let\b", code)
-    return bool(tested)
+    return bool(re.search(r"matches!\(|==|!=|\bif let\b", code))
+
+
+def answers(function):
+    """The lines of a function that answer out of memory by themselves."""
+    if function.name == "from":
+        return []
+    return [
+        number
+        for number, code in enumerate(function.lines)
+        if SAYS.search(code) and "->" not in code and not passes_on(code)
+    ]
+
+
+def arguments(text, at):
+    """The arguments of a call behind its opening bracket, and whether they are parted by semicolons."""
+    depth, parts, semicolons = 0, [""], 0
+    for sign in text[at:]:
+        if sign in ")]}" and depth == 0:
+            break
+        depth += (sign in "([{") - (sign in ")]}")
+        if depth == 0 and sign in ",;":
+            semicolons += sign == ";"
+            parts.append("")
+        else:
+            parts[-1] += sign
+    return [" ".join(part.split()) for part in parts if part.strip()], semicolons
+
+
+def capacities(function):
+    """What a function asks memory for, where it isn't a number of things that are there: each with its line."""
+    text = "\n".join(function.lines)
+    for found in TAKES.finditer(text):
+        words, semicolons = arguments(text, found.end())
+        if not words or (found[2] and semicolons < 2):
+            continue
+        asked = words[0] if found[1] in FIRST else words[-1]
+        if MADE.search(asked):
+            yield text.count("\n", 0, found.start()), asked
+
+
+def great_numbers(function):
+    """The great numbers of a function that aren't in a capacity: each with its line."""
+    for number, code in enumerate(function.lines):
+        for found in GREAT.findall(code):
+            yield number, found
+
+
+def great_constants(crate, path, lines):
+    """The great constants of a file, as crate and name, each with its place."""
+    for number, line in enumerate(lines, 1):
+        found = CONSTANT.match(line)
+        if found and GREAT.search(found[2]):
+            yield (LIBRARIES.get(crate, crate), found[1]), f"{os.path.relpath(path, top)}:{number}: {line.strip()}"
+
+
+def compared(found, table, what):
+    """What the code has and a table hasn't, and the other way round, a line each. Both map a key to a list of texts; what is
+    found has a place before each text."""
+    for key, places in sorted(found.items()):
+        if sorted(text for _, text in places) != sorted(table.get(key, [])):
+            yield from (f"{place}: {what}: {text}" for place, text in places)
+    for key in sorted(set(table) - set(found)):
+        yield f"{key[0]} {key[1]}: {what}: the table has {', '.join(table[key])}, and the code none"
+
+
+def gone():
+    """The crates of the tables that aren't there: they are told once, and not row by row."""
+    there = {LIBRARIES.get(crate, crate) for crate in crates()}
+    return {crate for table in (PASSED_ON, CAPACITIES, NUMBERS, CONSTANTS) for crate, _ in table if crate not in there}
 
 
 def main():
-    found = {}
+    said, asked, great, constants = {}, {}, {}, {}
     for crate, path, lines in sources():
-        for number, code, function, is_from in bodies(lines):
-            if SAYS.search(code) and "->" not in code and not is_from and not passes_on(code):
-                found.setdefault((crate, function), []).append((path, number, code.strip()))
-    places = 0
-    for key, made in sorted(found.items()):
-        if len(made) != PASSED_ON.get(key, 0):
-            places += len(made)
-            for path, number, code in made:
-                print(f"{os.path.relpath(path, top)}:{number} {key[1]}: {code}")
-    for key in sorted(set(PASSED_ON) - set(found)):
-        places += 1
-        print(f"{key[0]} {key[1]}: has none any more")
-    print("none" if not places else f"{places} places")
+        for key, place in great_constants(crate, path, lines):
+            constants.setdefault(key, []).append((place, key[1]))
+        for function in bodies(crate, path, lines):
+            key = (function.crate, function.name)
+            for line in answers(function):
+                said.setdefault(key, []).append((function.where(line), function.lines[line].strip()))
+            for line, text in capacities(function):
+                asked.setdefault(key, []).append((function.where(line), text))
+            for line, text in great_numbers(function):
+                great.setdefault(key, []).append((function.where(line), text))
+    missing = gone()
+    places = [f"{crate}: in a table of this script, and no crate any more: take its rows out" for crate in sorted(missing)]
+    passed = {key: [text for _, text in said.get(key, [])] or ["an answer"] for key in PASSED_ON}
+    for key, count in PASSED_ON.items():
+        if key in said and len(said[key]) != count:
+            passed[key] = [f"{count} answers"]
+    for found, table, what in (
+        (said, passed, "out of memory"),
+        (asked, CAPACITIES, "capacity"),
+        (great, NUMBERS, "great number"),
+        (constants, {key: [key[1]] * count for key, count in CONSTANTS.items()}, "great constant"),
+    ):
+        places += compared(found, {key: texts for key, texts in table.items() if key[0] not in missing}, what)
+    for place in places:
+        print(place)
+    print("none" if not places else f"{len(places)} places")
     sys.exit(1 if places else 0)
 
 

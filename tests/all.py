@@ -1,0 +1,184 @@
+#!/usr/bin/env python3
+"""Runs all that stands beside the gate: all.py [NAME..]
+
+`rt ci` is the gate. It can't see what a file, a process, a kill or the want of memory does; the scripts of this folder try
+that on the built programs. This runs each of them, several side by side, each in folders of its own, and prints a line for
+each as it ends: its name, its seconds, and how it ended. With names it runs these alone, as `all.py syncs killed`.
+
+The programs have to be built before, by these commands in their folders: `rt run` in crates/spool_shell, crates/spool_tools
+and crates/error_report, and `rt test` in the folder of each crate that tests/allocations.py names. Which of them is missing
+is told first, with status 2.
+
+A part that wants what isn't installed, or another user, is left out, and told as `skipped`. Each file of this folder has to
+be in one of the tables below. The last line is `all N passed`, with how much was skipped, and status 0; or `N failed`, with
+status 1. It takes some ten minutes on four processors.
+"""
+import concurrent.futures
+import os
+import shutil
+import signal
+import subprocess
+import sys
+import tempfile
+import time
+
+HERE = os.path.dirname(os.path.realpath(__file__))
+ROOT = os.path.dirname(HERE)
+
+# How many scripts run at once: they wait more than they compute. And after how many seconds one of them hangs.
+AT_ONCE = 5
+SECONDS = 1_800
+
+FILTERS = "/usr/lib/cups/filter"
+BACKEND = "/usr/lib/cups/backend/socket"
+CUPS_TYPES = "/usr/share/cups/mime/mime.types"
+
+# The scripts, longest first, each with the words that it is given.
+SCRIPTS = {
+    "killed.py": [],
+    "first_start.py": [],
+    "syncs.py": [],
+    "replies.py": [],
+    "allocations.py": [],
+    "children.py": [],
+    "images.py": [],
+    "tools.py": [],
+    "office.py": [],
+    "stock.py": [],
+    "cups_types.py": [CUPS_TYPES],
+    "large.py": [],
+}
+
+# Those that run when the others have ended: they compare times.
+ALONE = ["large.py"]
+
+# Scripts that the gate runs (`.ci/run`), the scripts that take hours and are run on demand, and what the scripts are made of.
+IN_GATE = ["out_of_memory.py", "unused_lemmas.py", "edits_apply.py"]
+ON_DEMAND = ["more_edits.py"]
+PARTS = [
+    "all.py",
+    "allocations.txt",
+    "count_allocations.c",
+    "journal.py",
+    "large_children.py",
+    "large_disks.py",
+    "large_files.py",
+    "large_growth.py",
+    "large_limits.py",
+    "large_memory.py",
+    "large_pieces.py",
+    "large_run.py",
+    "large_spelling.py",
+    "large_tables.py",
+    "stored_scripts.py",
+]
+
+PROGRAMS = ["error_report", "spool_shell", "spool_tools"]
+
+
+def installed(path):
+    return os.path.exists(path)
+
+
+def wants():
+    """What isn't there, for each script: whether all of it is left out then, and why."""
+    missing = {}
+    if not installed(FILTERS):
+        missing["stock.py"] = (True, "stock filters (Debian's packages cups and cups-filters)")
+    if not installed(BACKEND):
+        missing["office.py"] = (False, "CUPS's own backend socket (Debian's package cups)")
+    if not installed(CUPS_TYPES):
+        missing["cups_types.py"] = (True, "the types of CUPS (Debian's package cups-daemon)")
+    if not shutil.which("strace"):
+        missing["syncs.py"] = (True, "strace (Debian's package strace)")
+        missing["children.py"] = (False, "what the system refuses (Debian's package strace)")
+    elif os.geteuid():
+        missing["children.py"] = (False, "a full folder (as root)")
+    if not shutil.which("gcc"):
+        missing["allocations.py"] = (True, "a C compiler (Debian's package gcc)")
+    return missing
+
+
+def unlisted():
+    """The files of this folder that no table has, and the names of the tables that aren't here."""
+    tables = {*SCRIPTS, *IN_GATE, *ON_DEMAND, *PARTS}
+    here = {name for name in os.listdir(HERE) if os.path.isfile(os.path.join(HERE, name))}
+    return [f"tests/{name} is in no table of tests/all.py" for name in sorted(here - tables)] + [
+        f"tests/{name} is in a table of tests/all.py, and isn't there" for name in sorted(tables - here)
+    ]
+
+
+def unbuilt(names):
+    """What says how to build the programs that are missing."""
+    missing = [name for name in PROGRAMS if not installed(os.path.join(ROOT, "crates", name, "out", name))]
+    lines = [f"crates/{name}/out has no program: run `rt run` in crates/{name} first" for name in missing]
+    if "allocations.py" in names:
+        told = subprocess.run([sys.executable, os.path.join(HERE, "allocations.py"), "--programs"], capture_output=True, text=True)
+        lines += told.stdout.splitlines() if told.returncode else []
+    return sorted(set(lines))
+
+
+def run(name, room):
+    """Runs a script: its seconds, its status, and all that it wrote."""
+    folder = os.path.join(room, name)
+    os.mkdir(folder)
+    words = [sys.executable, os.path.join(HERE, name), *SCRIPTS[name]]
+    environment = {**os.environ, "TMPDIR": folder, "PYTHONDONTWRITEBYTECODE": "1"}
+    begun = time.monotonic()
+    pipes = {"stdin": subprocess.DEVNULL, "stdout": subprocess.PIPE, "stderr": subprocess.STDOUT}
+    script = subprocess.Popen(words, cwd=folder, env=environment, start_new_session=True, errors="replace", **pipes)
+    try:
+        text, _ = script.communicate(timeout=SECONDS)
+        status = script.returncode
+    except subprocess.TimeoutExpired:
+        # With the programs that it runs.
+        os.killpg(script.pid, signal.SIGKILL)
+        text, _ = script.communicate()
+        status = "no end"
+    return time.monotonic() - begun, status, text
+
+
+def run_all(names, at_once, room):
+    """Runs scripts, so many at once, with a line for each as it ends. What the others wrote that failed is given."""
+    failures = []
+    with concurrent.futures.ThreadPoolExecutor(at_once) as pool:
+        tasks = {pool.submit(run, name, room): name for name in names}
+        for task in concurrent.futures.as_completed(tasks):
+            name = tasks[task]
+            seconds, status, text = task.result()
+            last = text.strip().split("\n")[-1]
+            print(f"{name:18} {seconds:6.1f} s  {'passed' if status == 0 else 'FAILED'}: {last}", flush=True)
+            if status:
+                failures.append(f"{name} ended with {status}:\n{text[-3000:]}")
+    return failures
+
+
+def main():
+    names = [word if word.endswith(".py") else f"{word}.py" for word in sys.argv[1:]] or list(SCRIPTS)
+    unknown = [name for name in names if name not in SCRIPTS]
+    if unknown:
+        raise SystemExit(f"no script of this folder that is run here: {' '.join(unknown)}")
+    missing = unbuilt(names)
+    if missing:
+        print("\n".join(missing))
+        sys.exit(2)
+    failures = unlisted()
+    missing = wants()
+    skipped = [name for name in names if name in missing]
+    for name in skipped:
+        print(f"{name:18} skipped: {missing[name][1]}", flush=True)
+    names = [name for name in names if not missing.get(name, (False,))[0]]
+    begun = time.monotonic()
+    room = tempfile.mkdtemp(prefix="tests-all-")
+    failures += run_all([name for name in names if name not in ALONE], AT_ONCE, room)
+    failures += run_all([name for name in names if name in ALONE], 1, room)
+    for failure in failures:
+        print(failure)
+    if not failures:
+        shutil.rmtree(room, ignore_errors=True)
+    part = f", with {len(skipped)} skipped in whole or in part ({', '.join(skipped)})" if skipped else ""
+    print(f"{len(failures)} failed{part}" if failures else f"all {len(names)} passed{part}, in {time.monotonic() - begun:.0f} s")
+    sys.exit(1 if failures else 0)
+
+
+main()

@@ -1,0 +1,136 @@
+/* Counts the allocations of the program that it is loaded into, and refuses one of them.
+ *
+ * LD_PRELOAD names the library that is made of this file. REFUSED is the number of the allocation that gets no memory, the
+ * first being 1. COUNTED is a file to which a line is added for each call that writes or syncs and for a refusal:
+ *
+ *     COUNT WORD FILE TEXT
+ *
+ * COUNT is how many allocations came before, WORD is write, sync, refused or end, FILE the number of the open file, and TEXT
+ * what was written, up to its first line feed. A change of a length in place counts too: it may move. A call that frees
+ * doesn't.
+ */
+#define _GNU_SOURCE
+#include <errno.h>
+#include <fcntl.h>
+#include <stdio.h>
+#include <stdlib.h>
+#include <string.h>
+#include <sys/syscall.h>
+#include <sys/uio.h>
+#include <unistd.h>
+
+enum { MOST_TEXT = 80 };
+
+extern void *__libc_malloc(size_t);
+extern void *__libc_calloc(size_t, size_t);
+extern void *__libc_realloc(void *, size_t);
+extern void *__libc_memalign(size_t, size_t);
+
+static unsigned long count;
+static unsigned long refused;
+static int counted = -1;
+
+/* Adds a line to the file. It takes no memory: stdio may. */
+static void tell(const char *word, int file, const char *text, size_t length)
+{
+    char line[MOST_TEXT + 80];
+    int shown = 0;
+    if (counted < 0)
+        return;
+    while (shown < MOST_TEXT && (size_t)shown < length && text[shown] != '\n')
+        shown++;
+    int used = snprintf(line, sizeof line, "%lu %s %d %.*s\n", count, word, file, shown, text);
+    syscall(SYS_write, counted, line, used);
+}
+
+__attribute__((constructor)) static void begin(void)
+{
+    const char *number = getenv("REFUSED");
+    const char *path = getenv("COUNTED");
+    refused = number ? strtoul(number, NULL, 10) : 0;
+    if (path)
+        counted = (int)syscall(SYS_openat, AT_FDCWD, path, O_WRONLY | O_CREAT | O_APPEND | O_CLOEXEC, 0666);
+    count = 0;
+}
+
+__attribute__((destructor)) static void end(void)
+{
+    tell("end", 0, "", 0);
+}
+
+/* Counts an allocation, and says whether it is the one to refuse. */
+static int is_refused(void)
+{
+    count++;
+    if (count != refused)
+        return 0;
+    tell("refused", 0, "", 0);
+    errno = ENOMEM;
+    return 1;
+}
+
+void *malloc(size_t length)
+{
+    return is_refused() ? NULL : __libc_malloc(length);
+}
+
+void *calloc(size_t items, size_t length)
+{
+    return is_refused() ? NULL : __libc_calloc(items, length);
+}
+
+void *realloc(void *old, size_t length)
+{
+    return is_refused() ? NULL : __libc_realloc(old, length);
+}
+
+void *aligned_alloc(size_t alignment, size_t length)
+{
+    return is_refused() ? NULL : __libc_memalign(alignment, length);
+}
+
+void *memalign(size_t alignment, size_t length)
+{
+    return aligned_alloc(alignment, length);
+}
+
+int posix_memalign(void **made, size_t alignment, size_t length)
+{
+    *made = aligned_alloc(alignment, length);
+    return *made ? 0 : ENOMEM;
+}
+
+ssize_t write(int file, const void *text, size_t length)
+{
+    tell("write", file, text, length);
+    return syscall(SYS_write, file, text, length);
+}
+
+ssize_t writev(int file, const struct iovec *parts, int number)
+{
+    tell("write", file, number ? parts[0].iov_base : "", number ? parts[0].iov_len : 0);
+    return syscall(SYS_writev, file, parts, number);
+}
+
+ssize_t pwrite(int file, const void *text, size_t length, off_t at)
+{
+    tell("write", file, "", 0);
+    return syscall(SYS_pwrite64, file, text, length, at);
+}
+
+ssize_t pwrite64(int file, const void *text, size_t length, off64_t at)
+{
+    return pwrite(file, text, length, at);
+}
+
+int fsync(int file)
+{
+    tell("sync", file, "", 0);
+    return syscall(SYS_fsync, file);
+}
+
+int fdatasync(int file)
+{
+    tell("sync", file, "", 0);
+    return syscall(SYS_fdatasync, file);
+}

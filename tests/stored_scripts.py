@@ -1,0 +1,111 @@
+"""The stored scripts of crates/spool_scripts/data, as one who waits for replies has to read them."""
+import os
+import re
+
+DATA = os.path.join(os.path.dirname(os.path.realpath(__file__)), "..", "crates", "spool_scripts", "data")
+
+# What the built program has no word for.
+MADE_UP = ("children", "fuse", "limits")
+
+# Sends that have a whole line; greater counts and numbers are no commands.
+SEND = re.compile(rb'[ \t]*("?)send\1[ \t]+("?)([0-9]+)\2[ \t]+("?)([0-9]+)\4[ \t]*')
+LEAST_SIZE = 4_096
+# An area of epoch 1 that is open, without records.
+HEADER = b"\xa5\x01" + (1).to_bytes(8, "big") + bytes(6)
+LONGEST_LINE = 4_096
+GREATEST_JOB = 2_147_483_647
+GREATEST_COUNT = 4_294_967_295
+LISTS = (b"jobs", b"queues")
+
+
+def lines_of(text):
+    """The lines of a text, each with its line feed if it has one."""
+    return re.findall(rb"[^\n]*\n|[^\n]+", text)
+
+
+def stored_file(name, ending):
+    path = os.path.join(DATA, f"{name}.{ending}")
+    if not os.path.exists(path):
+        return None
+    with open(path, "rb") as file:
+        return file.read()
+
+
+def names():
+    """The scripts that the built program can serve."""
+    files = os.listdir(DATA)
+    scripts = sorted(file[: -len(".script")] for file in files if file.endswith(".script"))
+    if not scripts:
+        raise SystemExit(f"no script in {DATA}")
+    return [name for name in scripts if not any(f"{name}.{ending}" in files for ending in MADE_UP)]
+
+
+def words_of(name, root):
+    """The words behind the program's name that serve a script in a folder, which is made. A spool that is shorter than the
+    program makes one is written there."""
+    os.mkdir(root)
+    words = ["--root", root]
+    for ending in ("types", "convs"):
+        if stored_file(name, ending) is not None:
+            words += [f"--{ending}", os.path.join(DATA, f"{name}.{ending}")]
+    size = int(stored_file(name, "size") or 0)
+    if size >= LEAST_SIZE:
+        words += ["--size", str(size)]
+    elif size:
+        with open(os.path.join(root, "spool.disk"), "wb") as file:
+            file.write(HEADER.ljust(size, b"\0"))
+    return words
+
+
+def parts(script):
+    """The parts of a script between its openings."""
+    part = b""
+    for line in lines_of(script):
+        if line == b"# reopen\n":
+            yield part
+            part = b""
+        else:
+            part += line
+    yield part
+
+
+def payload(line):
+    """How many bytes follow a line as those of a send, with the line feed behind them."""
+    found = SEND.fullmatch(line)
+    if not found or len(line) > LONGEST_LINE or not 1 <= int(found[3]) <= GREATEST_JOB or int(found[5]) > GREATEST_COUNT:
+        return 0
+    return int(found[5]) + 1
+
+
+def line_end(text, at):
+    """Where the line ends that begins here, behind its line feed, or 0 where it has none."""
+    return text.find(b"\n", at) + 1
+
+
+def commands(part):
+    """What is given at once, and whether it has a reply, and what the command is. The last is what has no line feed."""
+    at = 0
+    while line_end(part, at):
+        end = line_end(part, at)
+        line = part[at : end - 1]
+        sent = payload(line)
+        if end + sent > len(part):
+            break
+        if sent and part[end + sent - 1 : end + sent] != b"\n":
+            # The bytes are no send: its reply comes, and then the line that they are in ends.
+            yield part[at : end + sent], True, line
+            at, end = end + sent, line_end(part, end + sent) or len(part)
+            yield part[at:end], False, b""
+        else:
+            end += sent
+            yield part[at:end], line[:1] not in (b"", b"#"), line
+        at = end
+    if part[at:]:
+        yield part[at:], None, b""
+
+
+def replies_to(command, stored):
+    """How many of the stored lines are the reply to a command."""
+    if len(command) > LONGEST_LINE or command.strip(b" \t") not in LISTS:
+        return 1
+    return next((at for at, line in enumerate(stored, 1) if line.startswith(b"ok ")), len(stored))
