@@ -30,7 +30,7 @@ import large_limits
 import large_memory
 import large_pieces
 import large_tables
-from large_run import Difference, Place, Programs, adopt
+from large_run import LONGEST, LONGEST_CHECKED, Difference, Place, Programs, adopt
 
 HERE = os.path.dirname(os.path.abspath(__file__))
 CRATES = os.path.join(HERE, "..", "crates")
@@ -46,6 +46,7 @@ NEEDS = [
     (large_children.long_outputs, 0),
     (large_children.effects_at_their_limits, 0),
     (large_children.loud_children, 0),
+    (large_disks.gibibyte_made, 0),
     (large_disks.gibibyte_file, 0),
     (large_disks.gibibyte_in_memory, 0),
     (large_limits.commands_at_their_limits, 0),
@@ -96,7 +97,8 @@ def run_part(part, programs, limit):
 
 def main():
     words = words_given()
-    programs = Programs(*(os.path.abspath(path) for path in (words.shell, words.tools, words.report)))
+    paths = (os.path.abspath(path) for path in (words.shell, words.tools, words.report))
+    programs = Programs(*paths, LONGEST_CHECKED if words.free else LONGEST)
     for program in (programs.shell, programs.tools, programs.report):
         if not os.path.exists(program):
             sys.exit(f"no program {program}: run `rt run` in its crate's folder first")

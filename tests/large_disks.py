@@ -7,7 +7,24 @@ import os
 
 from large_children import DONE, ask_jobs, bytes_of, listed, same_file
 from large_run import SEND, Script, same
-from large_spelling import FRAME, HEADER, TYPE, add_queue, cancel, close, create, head_row, header, queue_fields, queue_row, record, send, send_head
+from large_spelling import (
+    FRAME,
+    HEADER,
+    TYPE,
+    add_queue,
+    cancel,
+    close,
+    create,
+    current_area,
+    head_row,
+    header,
+    payloads,
+    queue_fields,
+    queue_row,
+    record,
+    send,
+    send_head,
+)
 
 SIZE = 1 << 30
 HALF = SIZE // 2
@@ -189,6 +206,25 @@ def look_again(place, jobs, document):
     script = Script()
     ask_jobs(script, listing(jobs))
     place.print_all(script)
+
+
+def gibibyte_made(place):
+    """The program makes a spool of 1 GiB, and goes on in its second area. A byte more, and one below 4,096, is refused."""
+    for size in ("4095", str(SIZE + 1)):
+        ran = place.run([place.programs.shell, "--root", "spool", "--size", size])
+        same(f"the status of --size {size}", (ran.status, ran.output), (2, b""))
+    same("what was made", os.listdir(place.at("spool")), [])
+    script = Script()
+    script.ask(f"queue lab spoolfile:/out {TYPE} abort-job", "ok")
+    script.ask("checkpoint", "ok")
+    script.ask('create lab ann "" 1 50 ""', "ok job 1")
+    place.serve(script, "--size", str(SIZE))
+    name = place.at("spool", "spool.disk")
+    same("the length of the file", os.path.getsize(name), SIZE)
+    wanted = [head_row(0, 0), queue_row(queue_fields("lab", "spoolfile:/out")), create("lab", 1)]
+    with open(name, "rb") as file:
+        same("the current area", current_area(file, SIZE), HALF)
+        same("its payloads", payloads(file, HALF), wanted)
 
 
 def gibibyte_file(place):

@@ -1,6 +1,6 @@
 """Parts of tests/large.py: each value of a command at its limit, one below and one above."""
 from large_run import Script, quoted, same
-from large_spelling import TYPE, create, job_fields, queue_fields
+from large_spelling import TYPE, create, queue_fields
 
 # How many bytes a line may have before its line feed.
 LINE = 4_096

@@ -42,59 +42,63 @@ class Reader:
 class Table:
     """The jobs that were answered."""
 
-    def __init__(self):
-        self.shown = []
+    def __init__(self, shown=()):
+        self.shown = list(shown)
 
     def listed(self):
         lines = [f'job {number} lab {shown} "ann" 0 0 {quoted(TITLE)}' for number, shown in enumerate(self.shown, 1)]
         return [*lines, f"ok {len(lines)}"]
 
+    def may_be(self):
+        """What may be listed after a run that ended early: the last command may have been served without its reply."""
+        yield self.listed()
+        yield Table([*self.shown, "4 job-incoming"]).listed()
+        for number in CANCELED:
+            if number <= len(self.shown):
+                yield Table([*self.shown[: number - 1], "7 canceled", *self.shown[number:]]).listed()
 
-def create_all(table, reader):
-    for _ in range(JOBS):
-        if reader.ended():
-            return
-        if reader.is_served(f"ok job {len(table.shown) + 1}"):
-            table.shown.append("4 job-incoming")
+
+# What is canceled: a job before the listings and the checkpoint, and one after them.
+CANCELED = (1, 2)
 
 
-def serve_scarce(place, limit):
-    """Makes jobs with so little memory, and gives the table of what was answered, and whether memory was missing."""
+def script_of_jobs():
     script = Script()
     script.ask(f"queue lab spoolfile:/out {TYPE} abort-job")
     for _ in range(JOBS):
         script.ask(f'create lab ann {TITLE} 1 50 "{OPTIONS}"')
     for command in ("cancel 1", "jobs", "queues", "checkpoint", "cancel 2"):
         script.ask(command)
-    ran = scarce_run(place, script, limit)
-    reader, table = Reader(ran), Table()
-    if reader.ended() or not reader.is_served("ok"):
-        return table, ran, True
-    create_all(table, reader)
-    cancel(table, reader, 1)
-    if not reader.ended():
-        reader.is_served(*table.listed())
-    if not reader.ended():
-        reader.is_served(f'queue lab 3 accepting {TYPE} abort-job 30 5 none ""', "ok 1")
-    if not reader.ended():
-        reader.is_served("ok")
-    cancel(table, reader, 2)
-    same("the replies that are left", reader.lines[reader.at :], [])
-    return table, ran, reader.met or ran.status != 0
+    return script
 
 
-def cancel(table, reader, number):
-    if reader.ended():
-        return
+def replies_of_jobs(reader, table):
+    """Reads the replies to that script as far as they go, and keeps what was answered."""
+    yield reader.is_served("ok")
+    for _ in range(JOBS):
+        served = reader.is_served(f"ok job {len(table.shown) + 1}")
+        if served:
+            table.shown.append("4 job-incoming")
+        yield served
+    yield cancel(reader, table, 1)
+    yield reader.is_served(*table.listed())
+    yield reader.is_served(f'queue lab 3 accepting {TYPE} abort-job 30 5 none ""', "ok 1")
+    yield reader.is_served("ok")
+    yield cancel(reader, table, 2)
+
+
+def cancel(reader, table, number):
     there = number <= len(table.shown)
-    if reader.is_served("ok" if there else "error 5 NoJob") and there:
+    served = reader.is_served("ok" if there else "error 5 NoJob")
+    if served and there:
         table.shown[number - 1] = "7 canceled"
+    return served
 
 
-def scarce_run(place, script, limit):
+def scarce_run(place, script, limit, *words):
     """A run in so many KiB, which may end with `spool: memory`."""
     enough, place.limit = place.limit, limit
-    ran = place.run([place.programs.shell, "--root", "spool", "--size", str(1 << 26)], script.pieces())
+    ran = place.run([place.programs.shell, "--root", "spool", *words], script.pieces())
     place.limit = enough
     if (ran.status, ran.errors) not in ((0, b""), (1, b"spool: memory\n")):
         same("the end", (ran.status, ran.errors), (0, b""))
@@ -117,23 +121,31 @@ def opened_scarcely(place, limit, wanted):
         same("what is listed", ran.output.decode().splitlines(), wanted)
 
 
+def served_scarcely(place, limit):
+    """Makes jobs with so little memory, and looks at what is there afterwards. Answers whether memory was missing."""
+    ran = scarce_run(place, script_of_jobs(), limit, "--size", str(1 << 26))
+    reader, table = Reader(ran), Table()
+    replies = replies_of_jobs(reader, table)
+    while not reader.ended() and next(replies, None) is not None:
+        pass
+    same("the replies that are left", reader.lines[reader.at :], [])
+    found = found_afterwards(place)
+    wanted = table.listed()
+    if ran.status:
+        wanted = found if found in table.may_be() else wanted
+    same(f"what is there after a run in {limit} KiB", found, wanted)
+    opened_scarcely(place, limit, wanted)
+    same("what is there still", found_afterwards(place), wanted)
+    return reader.met or ran.status != 0
+
+
 def too_little_memory(place):
     """4,000 long jobs in address spaces that are too small for them."""
-    met = False
+    met = []
     for limit in SCARCE:
         place.fresh_spool()
-        table, ran, missing = serve_scarce(place, limit)
-        met |= missing
-        wanted = table.listed()
-        found = found_afterwards(place) if ran.status == 0 or table.shown else wanted
-        if ran.status and found != wanted:
-            # The last command may have been served without its reply.
-            table.shown.append("4 job-incoming")
-            wanted = table.listed()
-        same(f"what is there after a run in {limit} KiB", found, wanted)
-        opened_scarcely(place, limit, wanted)
-        same("what is there still", found_afterwards(place), wanted)
-    if not met:
+        met.append(served_scarcely(place, limit))
+    if not any(met):
         raise Difference(f"memory was never missing, not even in {SCARCE[-1]} KiB")
 
 
@@ -164,13 +176,7 @@ def scarce_rounds(place):
 
 def close_and_print(place, script, limit):
     """Which jobs were closed, by what was answered."""
-    script.given.insert(0, b"")
-    words = ["--programs", "programs"]
-    enough, place.limit = place.limit, limit
-    ran = place.run([place.programs.shell, "--root", "spool", *words], script.pieces())
-    place.limit = enough
-    if (ran.status, ran.errors) not in ((0, b""), (1, b"spool: memory\n")):
-        same("the end", (ran.status, ran.errors), (0, b""))
+    ran = scarce_run(place, script, limit, "--programs", "programs")
     replies = ran.output.split(b"\n")[:-1]
     closed = {}
     for number, reply in enumerate(replies[:MANY], 1):

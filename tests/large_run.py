@@ -12,8 +12,9 @@ import subprocess
 import tempfile
 import threading
 
-# How many seconds a run of a program may take.
+# How many seconds a run of a program may take, and one that was built with checks.
 LONGEST = 120
+LONGEST_CHECKED = 3_600
 
 # The files of a part lie in memory where so many bytes are free there: each event is synced twice, which takes a disk
 # some milliseconds.
@@ -98,7 +99,7 @@ def read_into(file, found):
             found.append(piece)
 
 
-def run(words, folder, pieces=(), limit=None):
+def run(words, folder, pieces=(), limit=None, longest=LONGEST):
     """Runs a program in a folder, on these pieces of standard input, in an address space of so many KiB."""
     told = os.path.join(folder, "started")
     most = "unlimited" if limit is None else str(limit)
@@ -109,7 +110,7 @@ def run(words, folder, pieces=(), limit=None):
     same("the start of a program", starter.wait(), 0)
     with open(told) as file:
         number = int(file.read())
-    too_long = threading.Timer(LONGEST, os.kill, (number, signal.SIGKILL))
+    too_long = threading.Timer(longest, os.kill, (number, signal.SIGKILL))
     too_long.start()
     output, errors = [], []
     writing = threading.Thread(target=write_pieces, args=(starter.stdin, pieces))
@@ -159,12 +160,13 @@ class Script:
 
 
 class Programs:
-    """The built programs."""
+    """The built programs, and how many seconds they may run."""
 
-    def __init__(self, shell, tools, report):
+    def __init__(self, shell, tools, report, longest=LONGEST):
         self.shell = shell
         self.tools = tools
         self.report = report
+        self.longest = longest
 
 
 class Place:
@@ -211,7 +213,7 @@ class Place:
         self.write("programs", "".join(line + "\n" for line in self.lines).encode())
 
     def run(self, words, pieces=()):
-        ran = run(words, self.folder, pieces, self.limit)
+        ran = run(words, self.folder, pieces, self.limit, self.programs.longest)
         self.memory = max(self.memory, ran.memory)
         return ran
 
@@ -232,6 +234,9 @@ class Place:
 def roomy_folder():
     """A folder in memory, where there is room, or none."""
     try:
-        return MEMORY if shutil.disk_usage(MEMORY).free >= ROOMY and os.access(MEMORY, os.W_OK) else None
-    except OSError:
+        with open("/proc/meminfo") as lines:
+            available = next(1024 * int(line.split()[1]) for line in lines if line.startswith("MemAvailable:"))
+        room = min(available, shutil.disk_usage(MEMORY).free)
+        return MEMORY if room >= ROOMY and os.access(MEMORY, os.W_OK) else None
+    except (OSError, StopIteration):
         return None

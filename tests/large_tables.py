@@ -3,7 +3,7 @@
 The table is told by this module's own rules, and so are the rows of a checkpoint, which are read from the file: a listing
 shows no options, copies or priorities.
 """
-from large_run import Script, quoted, same, same_lines
+from large_run import Script, pieces_of, quoted, same
 from large_spelling import (
     CANCELED,
     FREE,
@@ -22,7 +22,6 @@ from large_spelling import (
     until,
     waiting,
 )
-from large_run import pieces_of
 
 QUEUES = 64
 JOBS = 10_000
