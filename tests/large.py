@@ -1,0 +1,122 @@
+#!/usr/bin/env python3
+"""Runs everything in the large over the built programs: large.py [--shell PROGRAM] [--tools PROGRAM] [--report PROGRAM]
+[--free] [PART..]
+
+A body that says that there is no memory, that takes some, loses something or takes a time that grows with the square, from
+some size on, meets any contract. So here is all that there may be much of: 10,000 jobs, 64 queues at once, 16 stages, 200
+attempts, documents, outputs and standard error at their limits and beyond, a spool of 1 GiB up to its end, each value of a
+command at its limit, files of thousands of lines, input in the smallest and in large pieces, twice the size in twice the
+time, and too little memory. What is wanted is computed here, from the formats.
+
+It runs crates/spool_shell/out/spool_shell, crates/spool_tools/out/spool_tools and crates/error_report/out/error_report (made
+by `rt run` in these folders), or the programs that the words name. Each PART is one of those below; without one all are run.
+A part is run with as much memory as it likes, and then in an address space of twice what it is known to need (NEEDS), where it
+has to work too. With `--free` the latter is left out, as for a program that was built with checks, which wants terabytes.
+
+A line for each part has its seconds and the greatest memory of a program in it. The last line is `none`, with status 0, or
+`N failed`, with status 1. It takes some minutes and 1 GiB of disk or memory: its files lie in a new folder of /dev/shm where
+that has 4 GiB free, and else where temporary files do, where it takes far longer. They are removed.
+"""
+import argparse
+import os
+import sys
+import time
+
+import large_children
+import large_disks
+import large_files
+import large_growth
+import large_limits
+import large_memory
+import large_pieces
+import large_tables
+from large_run import LONGEST, LONGEST_CHECKED, Difference, Place, Programs, adopt
+
+HERE = os.path.dirname(os.path.abspath(__file__))
+CRATES = os.path.join(HERE, "..", "crates")
+
+# Each part, and the KiB of address space that its programs need. Those without a number limit the memory themselves, or look
+# at the time alone.
+NEEDS = [
+    (large_tables.jobs_and_queues, 0),
+    (large_children.queues_at_once, 0),
+    (large_children.stages_and_attempts, 0),
+    (large_children.many_attempts, 0),
+    (large_children.long_documents, 0),
+    (large_children.long_outputs, 0),
+    (large_children.effects_at_their_limits, 0),
+    (large_children.loud_children, 0),
+    (large_disks.gibibyte_made, 0),
+    (large_disks.gibibyte_file, 0),
+    (large_disks.gibibyte_in_memory, 0),
+    (large_limits.commands_at_their_limits, 0),
+    (large_files.long_files, 0),
+    (large_files.long_queries, 0),
+    (large_pieces.input_in_pieces, 0),
+    (large_pieces.long_reports, 0),
+    (large_growth.openings_grow, None),
+    (large_growth.listings_grow, None),
+    (large_growth.commands_grow, None),
+    (large_growth.files_grow, None),
+    (large_growth.reports_grow, None),
+    (large_memory.too_little_memory, None),
+    (large_memory.scarce_rounds, None),
+]
+
+
+def built(name):
+    return os.path.join(CRATES, name, "out", name)
+
+
+def words_given():
+    words = argparse.ArgumentParser(description=__doc__, formatter_class=argparse.RawDescriptionHelpFormatter)
+    words.add_argument("--shell", default=built("spool_shell"))
+    words.add_argument("--tools", default=built("spool_tools"))
+    words.add_argument("--report", default=built("error_report"))
+    words.add_argument("--free", action="store_true")
+    words.add_argument("parts", nargs="*", metavar="PART")
+    return words.parse_args()
+
+
+def run_part(part, programs, limit):
+    """Runs a part in a place of its own, and tells how it went. Answers whether nothing differed."""
+    begun = time.monotonic()
+    place = Place(programs, limit)
+    name = part.__name__ if limit is None else f"{part.__name__} in {limit:,} KiB"
+    try:
+        part(place)
+        fault = None
+    except (Difference, OSError) as difference:
+        fault = difference
+    finally:
+        place.remove()
+    told = f"{name}: {time.monotonic() - begun:.1f} s, {place.memory:,} KiB"
+    print(told if fault is None else f"{told}: FAILED: {fault}", flush=True)
+    return fault is None
+
+
+def main():
+    words = words_given()
+    paths = (os.path.abspath(path) for path in (words.shell, words.tools, words.report))
+    programs = Programs(*paths, LONGEST_CHECKED if words.free else LONGEST)
+    for program in (programs.shell, programs.tools, programs.report):
+        if not os.path.exists(program):
+            sys.exit(f"no program {program}: run `rt run` in its crate's folder first")
+    known = [part.__name__ for part, _ in NEEDS]
+    for name in words.parts:
+        if name not in known:
+            sys.exit(f"no part {name}: they are {', '.join(known)}")
+    adopt()
+    failed = 0
+    for part, need in NEEDS:
+        if words.parts and part.__name__ not in words.parts:
+            continue
+        failed += not run_part(part, programs, None)
+        if need and not words.free:
+            failed += not run_part(part, programs, 2 * need)
+    print(f"{failed} failed" if failed else "none")
+    return 1 if failed else 0
+
+
+if __name__ == "__main__":
+    sys.exit(main())

@@ -1,0 +1,268 @@
+"""Parts of tests/large.py: a spool of a gibibyte, used up to the end of each of its areas.
+
+Its journal is written by this module, with holes in the place of most bytes, so that the file takes some mebibytes. The
+jobs in it have ended, but for a few that lie all over it and are printed.
+"""
+import os
+
+from large_children import DONE, ask_jobs, bytes_of, listed, same_file
+from large_run import SEND, Script, same
+from large_spelling import (
+    FRAME,
+    HEADER,
+    TYPE,
+    add_queue,
+    cancel,
+    close,
+    create,
+    current_area,
+    head_row,
+    header,
+    payloads,
+    queue_fields,
+    queue_row,
+    record,
+    send,
+    send_head,
+)
+
+SIZE = 1 << 30
+HALF = SIZE // 2
+SENDS = 16
+
+# So many bytes are left at the area's end for the commands.
+LEFT = 150_000
+
+# The jobs that haven't ended, each on a queue of its own, and the bytes of their documents.
+ALIVE = 8
+LENGTH = 70_000
+
+# The payload of the end of a stage that told no effects, and of a start.
+START = 5
+STAGE = 18
+
+
+class Area:
+    """An area that is written from its header on: where its next record goes."""
+
+    def __init__(self, file, base, epoch):
+        self.file = file
+        self.at = base + HEADER
+        self.end = base + HALF
+        self.put(base, header(epoch))
+
+    def put(self, at, data):
+        self.file.seek(at)
+        self.file.write(data)
+
+    def add(self, payload):
+        self.put(self.at, record(payload))
+        self.at += FRAME + len(payload)
+
+    def add_holes(self, job):
+        """A send whose bytes are zeros that nobody writes."""
+        head = send_head(job, SEND)
+        self.put(self.at, record(head + bytes(SEND))[: FRAME + len(head)])
+        self.at += FRAME + len(head) + SEND
+
+
+def queue_name(turn):
+    return f"alive{turn}"
+
+
+def fill(area, place):
+    """Fills an area with jobs up to its end, and gives what `jobs` lists of them."""
+    jobs, turn = [], 0
+    while area.end - area.at > LEFT + 2 * (SEND + 100):
+        number = len(jobs) + 1
+        if area.at - (area.end - HALF) >= turn * (HALF // ALIVE) and turn < ALIVE:
+            area.add(create(queue_name(turn), number))
+            document = bytes_of(turn, LENGTH)
+            area.add(send(number, document[:SEND]))
+            area.add(send(number, document[SEND:]))
+            area.add(close(number))
+            jobs.append((queue_name(turn), LENGTH, "3 none"))
+            turn += 1
+            continue
+        area.add(create("lab", number))
+        sends = min(SENDS, (area.end - area.at - LEFT - 1_000) // (SEND + 100))
+        for _ in range(sends):
+            area.add_holes(number)
+        area.add(cancel(number))
+        jobs.append(("lab", sends * SEND, "7 canceled"))
+    return jobs
+
+
+def uri_of(place, name):
+    return f"spoolfile:{place.at('printed')}-{name}"
+
+
+def make_spool(place, base):
+    """Makes the spool with the area at `base` filled; its listing of the queues is there in the second area alone."""
+    names = ["lab", *map(queue_name, range(ALIVE))]
+    with open(place.at("spool", "spool.disk"), "wb") as file:
+        file.truncate(SIZE)
+        area = Area(file, base, 1 if base == 0 else 2)
+        if base == 0:
+            for name in names:
+                area.add(add_queue(name, uri_of(place, name)))
+        else:
+            file.seek(0)
+            file.write(header(1))
+            area.add(head_row(0, 0))
+            for name in sorted(names):
+                area.add(queue_row(queue_fields(name, uri_of(place, name))))
+        jobs = fill(area, place)
+    return area, jobs
+
+
+def listing(jobs):
+    return [listed(number, queue, shown, size) for number, (queue, size, shown) in enumerate(jobs, 1)]
+
+
+def print_the_living(script, area, jobs):
+    """One round prints all that haven't ended, from all over the area."""
+    script.ask("round", f"ok started {ALIVE} finished {ALIVE}")
+    area.at += ALIVE * (FRAME + START + FRAME + STAGE)
+    for turn, (queue, size, shown) in enumerate(jobs):
+        jobs[turn] = (queue, size, DONE if shown == "3 none" else shown)
+
+
+def fill_to_the_last_byte(script, area, jobs):
+    """A job whose document ends just where the area has room for a record of seven bytes, which no event gets."""
+    number = len(jobs) + 1
+    script.ask('create alive0 ann "" 1 50 ""', f"ok job {number}")
+    area.at += FRAME + len(create("alive0", number))
+    document = b""
+    while (room := area.end - area.at - FRAME - 9 - 7) > SEND:
+        piece = bytes_of(number, SEND)
+        document += piece
+        script.send(number, piece, f"ok bytes {len(document)}")
+        area.at += FRAME + 9 + SEND
+    last = bytes_of(number + 1, room)
+    script.send(number, last + b"x", "error full")
+    script.send(number, last, f"ok bytes {len(document) + room}")
+    script.ask(f"cancel {number}", "error full")
+    script.ask('create lab ann "" 1 50 ""', "error full")
+    jobs.append(("alive0", len(document) + room, "4 job-incoming"))
+    return document + last
+
+
+def used_to_the_end(place, base):
+    """Uses a spool whose area at `base` is all but full up to its end, then changes areas, and opens it again each time."""
+    place.fresh_spool()
+    area, jobs = make_spool(place, base)
+    script = Script()
+    ask_jobs(script, listing(jobs))
+    print_the_living(script, area, jobs)
+    document = fill_to_the_last_byte(script, area, jobs)
+    ask_jobs(script, listing(jobs))
+    place.print_all(script)
+    for turn in range(ALIVE):
+        same_file(place, f"printed-{queue_name(turn)}", bytes_of(turn, LENGTH))
+    script = Script()
+    ask_jobs(script, listing(jobs))
+    script.ask("queues", *listed_queues(), f"ok {ALIVE + 1}")
+    script.ask(f"cancel {len(jobs)}", "error full")
+    script.ask("checkpoint", "ok")
+    change_areas(script, jobs)
+    place.print_all(script)
+    look_again(place, jobs, document)
+    same("the length of the file", os.path.getsize(place.at("spool", "spool.disk")), SIZE)
+
+
+def listed_queues():
+    return [f'queue {name} 3 accepting {TYPE} abort-job 30 5 none ""' for name in sorted(["lab", *map(queue_name, range(ALIVE))])]
+
+
+def change_areas(script, jobs):
+    """In the other area: the document that was begun is closed, and a job is made."""
+    number = len(jobs)
+    script.ask(f"close {number} page", f"ok type {TYPE} stages 1")
+    jobs[-1] = (*jobs[-1][:2], "3 none")
+    script.ask('create alive1 ann "" 1 50 ""', f"ok job {number + 1}")
+    script.document(number + 1, bytes_of(9, LENGTH))
+    script.ask(f"close {number + 1} page", f"ok type {TYPE} stages 1")
+    jobs.append(("alive1", LENGTH, "3 none"))
+    ask_jobs(script, listing(jobs))
+
+
+def look_again(place, jobs, document):
+    """What was answered is there, and is printed."""
+    script = Script()
+    ask_jobs(script, listing(jobs))
+    script.ask("round", "ok started 2 finished 2")
+    for turn in (-1, -2):
+        jobs[turn] = (*jobs[turn][:2], DONE)
+    ask_jobs(script, listing(jobs))
+    place.print_all(script)
+    same_file(place, "printed-alive0", document)
+    same_file(place, "printed-alive1", bytes_of(9, LENGTH))
+    script = Script()
+    ask_jobs(script, listing(jobs))
+    script.ask("queues", *listed_queues(), f"ok {ALIVE + 1}")
+    script.ask("checkpoint", "ok")
+    place.print_all(script)
+    script = Script()
+    ask_jobs(script, listing(jobs))
+    place.print_all(script)
+
+
+def gibibyte_made(place):
+    """The program makes a spool of 1 GiB, and goes on in its second area. A byte more, and one below 4,096, is refused."""
+    for size in ("4095", str(SIZE + 1)):
+        ran = place.run([place.programs.shell, "--root", "spool", "--size", size])
+        same(f"the status of --size {size}", (ran.status, ran.output), (2, b""))
+    same("what was made", os.listdir(place.at("spool")), [])
+    script = Script()
+    script.ask(f"queue lab spoolfile:/out {TYPE} abort-job", "ok")
+    script.ask("checkpoint", "ok")
+    script.ask('create lab ann "" 1 50 ""', "ok job 1")
+    place.serve(script, "--size", str(SIZE))
+    name = place.at("spool", "spool.disk")
+    same("the length of the file", os.path.getsize(name), SIZE)
+    wanted = [head_row(0, 0), queue_row(queue_fields("lab", "spoolfile:/out")), create("lab", 1)]
+    with open(name, "rb") as file:
+        same("the current area", current_area(file, SIZE), HALF)
+        same("its payloads", payloads(file, HALF), wanted)
+
+
+def gibibyte_file(place):
+    """A spool of 1 GiB in a file, with the first area full up to its end, and then with the second one."""
+    place.tool("backend", "spoolfile")
+    place.list_programs()
+    for base in (0, HALF):
+        used_to_the_end(place, base)
+
+
+def gibibyte_in_memory(place):
+    """A spool of 1 GiB in memory takes sends until its first area is full, and goes on in the second one."""
+    script = Script()
+    script.ask(f"queue lab spoolfile:/out {TYPE} abort-job", "ok")
+    at = HEADER + FRAME + len(add_queue("lab", "spoolfile:/out"))
+    piece = bytes_of(1, SEND)
+    jobs = []
+    while True:
+        number, size = len(jobs) + 1, 0
+        script.ask('create lab ann "" 1 50 ""', f"ok job {number}")
+        at += FRAME + len(create("lab", number))
+        while size < SENDS * SEND and at + FRAME + 9 + SEND + 7 <= HALF:
+            size += SEND
+            script.send(number, piece, f"ok bytes {size}")
+            at += FRAME + 9 + SEND
+        jobs.append(("lab", size, "7 canceled"))
+        if size < SENDS * SEND:
+            break
+        script.ask(f"cancel {number}", "ok")
+        at += FRAME + len(cancel(number))
+    script.send(number, piece, "error full")
+    script.ask(f"cancel {number}", "ok")
+    ask_jobs(script, listing(jobs))
+    script.ask("checkpoint", "ok")
+    ask_jobs(script, listing(jobs))
+    script.ask('create lab ann "" 1 50 ""', f"ok job {number + 1}")
+    script.document(number + 1, piece * SENDS)
+    script.ask(f"close {number + 1} page", f"ok type {TYPE} stages 1")
+    jobs.append(("lab", SENDS * SEND, "3 none"))
+    ask_jobs(script, listing(jobs))
+    place.serve(script, "--size", str(SIZE), root=False)

@@ -1,0 +1,152 @@
+"""Parts of tests/large.py: twice as much takes at most twice the time. Only ratios are looked at, of the best of three runs, in
+seconds of the processor, so that what else runs on the machine counts little.
+
+The spools are made by bench/opening.py, byte by byte.
+"""
+import os
+import sys
+
+from large_run import Difference, Script, same_lines
+from large_spelling import TYPE
+
+sys.path.insert(0, os.path.join(os.path.dirname(os.path.abspath(__file__)), "..", "bench"))
+import opening
+
+HALF = 10_000
+RUNS = 3
+
+# How often the three runs may be made again, where something else slowed one of them.
+AGAIN = 3
+
+# Seconds that don't count: the start of a program, and what a clock of the processor leaves out. A scan over 20,000 rows
+# for each of them takes some 0.2 seconds at least.
+FLOOR = 0.04
+
+
+def keeps_pace(what, seconds):
+    """Whether twice as much takes at most twice the time: `seconds` runs a size and tells the time."""
+    best = {HALF: [], 2 * HALF: []}
+    for _ in range(AGAIN):
+        for size, times in best.items():
+            times += [seconds(size) for _ in range(RUNS)]
+        once, twice = (min(times) for times in best.values())
+        if twice <= 2 * once + FLOOR:
+            return
+    raise Difference(f"{what}: {twice:.3f} s for {2 * HALF}, and {once:.3f} s for {HALF}")
+
+
+def over_spool(place, payloads, script=None):
+    """The seconds of a script on a spool of these payloads."""
+    script = script or Script()
+
+    def run(size):
+        place.write("spool/spool.disk", opening.spool(payloads(size)))
+        return place.serve(script if isinstance(script, Script) else script(size)).seconds
+
+    return run
+
+
+def rows(size):
+    """A listing of a head, a queue and waiting jobs."""
+    return opening.rows(size)
+
+
+def listed_rows(size):
+    """What `jobs` shows of these rows."""
+    return [f'job {number} lab 3 none "ann" 0 0 "A title"' for number in range(1, size - 1)]
+
+
+def openings_grow(place):
+    """An opening of 20,000 rows, or of 20,000 events of three kinds."""
+    for kind in (opening.rows, opening.clocks, opening.jobs, opening.sends):
+        keeps_pace(f"an opening of {kind.__name__}", over_spool(place, kind))
+
+
+def listings_grow(place):
+    """`jobs`, `queues` and a checkpoint of 20,000 jobs, each three times."""
+
+    def jobs(size):
+        script = Script()
+        for _ in range(3):
+            script.ask("jobs", *listed_rows(size), f"ok {size - 2}")
+        return script
+
+    def queues(_):
+        script = Script()
+        for _ in range(3):
+            script.ask("queues", f'queue lab 3 accepting {TYPE} abort-job 30 5 none ""', "ok 1")
+        return script
+
+    def checkpoints(size):
+        script = Script()
+        for _ in range(3):
+            script.ask("checkpoint", "ok")
+        script.ask("jobs", *listed_rows(size), f"ok {size - 2}")
+        return script
+
+    for name, ask in (("jobs", jobs), ("queues", queues), ("checkpoint", checkpoints)):
+        keeps_pace(name, over_spool(place, rows, ask))
+
+
+def commands_grow(place):
+    """Commands about 20,000 jobs: made, sent, closed, held, released and canceled, in memory."""
+
+    def script_of(size, *commands):
+        script = Script()
+        script.ask(f"queue lab spoolfile:/out {TYPE} abort-job", "ok")
+        for number in range(1, size + 1):
+            script.ask('create lab ann "A title" 1 50 ""', f"ok job {number}")
+            for command in commands:
+                if command == "send":
+                    script.send(number, b"hello", "ok bytes 5")
+                elif command == "close":
+                    script.ask(f"close {number} page", f"ok type {TYPE} stages 1")
+                else:
+                    script.ask(command.format(number), "ok")
+        return script
+
+    for commands in ((), ("send",), ("close",), ("hold {} indefinite", "release {}"), ("close", "hold {} 100", "cancel {}")):
+        keeps_pace(
+            "create" + "".join(f", {command}" for command in commands),
+            lambda size, chosen=commands: place.serve(script_of(size, *chosen), "--size", str(1 << 25), root=False).seconds,
+        )
+
+
+def files_grow(place):
+    """A file of 20,000 types, and one of 20,000 conversions, with a document that the last of them is for."""
+
+    def types(size):
+        place.write("types", "".join(f"t/t{number} s{number}\n" for number in range(size)).encode())
+        return typed(size, "unprintable")
+
+    def convs(size):
+        place.write("types", f"t/t{size - 1} s{size - 1}\n".encode())
+        place.write("convs", "".join(f"t/t{number} t/target 10 f{number}\n" for number in range(size)).encode())
+        return typed(size, "stages 2")
+
+    def typed(size, way):
+        place.fresh_spool()
+        script = Script()
+        script.ask("queue lab spoolfile:/out t/target abort-job", "ok")
+        script.ask('create lab ann "" 1 50 ""', "ok job 1")
+        script.ask(f"close 1 page.s{size - 1}", f"ok type t/t{size - 1} {way}")
+        return place.print_all(script, root=False).seconds
+
+    keeps_pace("types", types)
+    keeps_pace("conversions", convs)
+
+
+def reports_grow(place):
+    """Standard error of 20,000 lines, of each kind, in small pieces and in one."""
+    kinds = [b"PAGE: 1 2\n", b"STATE: +media-empty,toner-low\n", b"DEBUG: " + 60 * b"x" + b"\n", b"y\n"]
+
+    def read(size, piece, line):
+        ran = place.run([place.programs.report, str(piece)], [line * size])
+        effects = {kinds[0]: 1_820, kinds[1]: 16_384 // 27}.get(line, 0)
+        told = b"%d effects, %d left out\n" % (effects, size - effects if effects else 0)
+        same_lines("the count", ran.output[ran.output.rfind(b"\n", 0, -1) + 1 :], told)
+        return ran.seconds
+
+    for line in kinds:
+        for piece in (64, 1 << 20):
+            keeps_pace(f"lines {line[:12]!r} in pieces of {piece}", lambda size, l=line, p=piece: read(size, p, l))

@@ -1,0 +1,183 @@
+"""Parts of tests/large.py: each value of a command at its limit, one below and one above."""
+from large_run import Script, quoted, same
+from large_spelling import TYPE, create, queue_fields
+
+# How many bytes a line may have before its line feed.
+LINE = 4_096
+
+
+class Asked(Script):
+    """Commands that make queues and jobs, and count them."""
+
+    def __init__(self):
+        super().__init__()
+        self.jobs = []
+        self.queues = []
+        self.ask(f"queue lab spoolfile:/out {TYPE} abort-job", "ok")
+        self.keep_queue("lab")
+
+    def keep_queue(self, name, target=TYPE, interval=30, limit=5):
+        self.queues.append((name, f'queue {name} 3 accepting {target} abort-job {interval} {limit} none ""'))
+
+    def queue(self, taken, name, uri="spoolfile:/out", target=TYPE, interval="30", limit="5"):
+        """A queue that is taken, or its words aren't a command."""
+        self.ask(f"queue {name} {uri} {target} abort-job {interval} {limit}", "ok" if taken else "error syntax")
+        if taken:
+            self.keep_queue(name, target, int(interval), int(limit))
+
+    def job(self, reply="ok", user="ann", title="", copies="1", priority="50", options=""):
+        """A job that is taken, or answered otherwise."""
+        number = len(self.jobs) + 1
+        words = f"lab {user} {quoted(title)} {copies} {priority} {quoted(options)}"
+        self.ask(f"create {words}", f"ok job {number}" if reply == "ok" else reply)
+        if reply == "ok":
+            self.jobs.append(f'job {number} lab 4 job-incoming "{user}" 0 0 {quoted(title)}')
+
+    def look(self):
+        self.ask("jobs", *self.jobs, f"ok {len(self.jobs)}")
+        self.ask("queues", *(line for _, line in sorted(self.queues)), f"ok {len(self.queues)}")
+
+
+def uri_of(length):
+    return "s:" + "/" * (length - 2)
+
+
+def media_type(length):
+    return "a/" + "b" * (length - 2)
+
+
+def ask_queues(script):
+    for length in (126, 127, 128):
+        script.queue(length <= 127, "n" * length)
+    for number, length in enumerate((1_022, 1_023, 1_024)):
+        script.queue(length <= 1_023, f"uri{number}", uri_of(length))
+    # The query of a URI at its limit.
+    script.queue(True, "query", "s:?" + "&".join(f"o{n}=v" for n in range(200))[:1_020])
+    for number, length in enumerate((254, 255, 256)):
+        script.queue(length <= 255, f"type{number}", target=media_type(length))
+    for number, interval in enumerate(("0", "86399", "86400", "86401", "0000000086400", "00000000086400")):
+        script.queue(interval in ("0", "86399", "86400", "0000000086400"), f"interval{number}", interval=interval)
+    for number, limit in enumerate(("0", "65534", "65535", "65536")):
+        script.queue(limit != "65536", f"limit{number}", limit=limit)
+
+
+def ask_notes(script):
+    for length in (126, 127, 128):
+        reply = "ok" if length <= 127 else "error syntax"
+        script.ask(f'info lab {"i" * length} ""', reply)
+        script.ask(f'info lab "" {"l" * length}', reply)
+    # Lengths are those of UTF-8, and of a text without its quotes and backslashes.
+    quotes, umlauts = quoted('"' * 127), quoted("ä" * 63 + "x")
+    script.ask(f"info lab {umlauts} {quotes}", "ok")
+    script.ask(f"info lab {quoted('ä' * 64)} x", "error syntax")
+    script.ask("info lab x " + quoted('"' * 128), "error syntax")
+
+
+def ask_jobs(script):
+    for length in (254, 255, 256):
+        reply = "ok" if length <= 255 else "error syntax"
+        script.job(reply, user="u" * length)
+        script.job(reply, title="t" * length)
+    script.job(title="ä" * 127 + "x")
+    script.job("error syntax", title="ä" * 128)
+    script.job(title='"' * 255)
+    script.job("error syntax", title="\\" * 256)
+    for copies in ("0", "1", "9998", "9999", "10000"):
+        script.job("ok" if copies in ("1", "9998", "9999") else "error syntax", copies=copies)
+    for priority in ("0", "1", "99", "100", "101"):
+        script.job("ok" if priority in ("1", "99", "100") else "error syntax", priority=priority)
+    ask_options(script)
+
+
+def ask_options(script):
+    """Options at their limit, as they are given and as they are printed."""
+    for length in (2_047, 2_048):
+        script.job(options="o=" + "v" * (length - 2))
+    script.job("error syntax", options="o=" + "v" * 2_047)
+    script.job(options=" ".join(f"o{n:03}=v" for n in range(292)))
+    # A blank is printed with a backslash: with the name 1,022 of them are 2,046 bytes then.
+    script.job(options="o='x" + " " * 1_022 + "'")
+    script.job(options="o='xy" + " " * 1_022 + "'")
+    script.job("error options", options="o='xyz" + " " * 1_022 + "'")
+    script.job("error options", options="o='" + " " * 2_000 + "'")
+    # A bare name is printed with `=true`.
+    script.job(options="n" * 2_043)
+    script.job("error options", options="n" * 2_044)
+    script.job(options="no" + "n" * 2_042)
+    script.job("error options", options="no" + "n" * 2_043)
+
+
+def ask_moments(script):
+    script.job()
+    number = len(script.jobs)
+    script.ask(f"hold {number} 4000000000000", "ok")
+    script.ask(f"hold {number} 4000000000001", "error syntax")
+    script.ask(f"hold {number} 3999999999999", "ok")
+    script.ask("cancel 2147483647", "error 5 NoJob")
+    script.ask("cancel 2147483648", "error syntax")
+    script.ask("cancel 0", "error syntax")
+    for drains in ("0", "1001"):
+        script.ask(f"drain {drains}", "error syntax")
+    for drains in ("1", "1000"):
+        script.ask(f"drain {drains}", "ok rounds 1")
+    script.ask("clock 4000000000001", "error syntax")
+    script.ask("clock 4000000000000", "ok")
+
+
+def ask_lines(script):
+    """Lines of 4,095 to 4,097 bytes: of blanks behind a command, of a name, and remarks of any length."""
+    for length in (LINE - 1, LINE, LINE + 1):
+        reply = "ok rounds 1" if length <= LINE else "error syntax"
+        script.ask("drain 1".ljust(length), reply)
+        script.ask("drain 1".rjust(length), reply)
+        script.ask("#".ljust(length, "x"))
+        script.ask("x" * length, "error syntax")
+    script.ask("#" * 1_000_000)
+    script.ask("x" * 1_000_000, "error syntax")
+    script.job()
+    number = len(script.jobs)
+    head = f"close {number} "
+    script.ask(head + "n" * (LINE + 1 - len(head)), "error syntax")
+    script.ask(head + "n" * (LINE - len(head)), f"ok type {TYPE} stages 1")
+    script.jobs[-1] = script.jobs[-1].replace("4 job-incoming", "3 none")
+    # A send's line may be as long, and its bytes aren't part of it.
+    script.job()
+    number = len(script.jobs)
+    script.given += [f"send {number} 3".ljust(LINE).encode() + b"\nabc\n", f"send {number} 3".ljust(LINE + 1).encode() + b"\nabc\n"]
+    script.wanted += [b"ok bytes 3\n", b"error syntax\n", b"error syntax\n"]
+    script.jobs[-1] = script.jobs[-1].replace('"ann" 0 0', '"ann" 3 0')
+
+
+def commands_at_their_limits(place):
+    """Names, URIs, types, numbers, titles, options, notes and lines at their limits: each taken or refused by its rule."""
+    script = Asked()
+    ask_queues(script)
+    ask_notes(script)
+    ask_jobs(script)
+    ask_lines(script)
+    script.look()
+    place.serve(script)
+    again = Script()
+    again.wanted = script.wanted[-len(script.jobs) - len(script.queues) - 2 :]
+    again.given = [b"jobs\n", b"queues\n"]
+    place.serve(again)
+    moments = Asked()
+    ask_moments(moments)
+    place.fresh_spool()
+    place.serve(moments)
+    look_for_what_is_not_listed(place)
+
+
+def look_for_what_is_not_listed(place):
+    """Whether the longest values are in the journal as they were given, which is all that shows copies and options."""
+    place.fresh_spool()
+    options = "o=" + "v" * 2_046
+    script = Script()
+    script.ask(f"queue {'q' * 127} {uri_of(1_023)} {media_type(255)} stop-printer 86400 65535", "ok")
+    script.ask(f"create {'q' * 127} {'u' * 255} {'t' * 255} 9999 100 {options}", "ok job 1")
+    place.serve(script)
+    journal = place.read("spool/spool.disk")
+    queue = b"\x01" + queue_fields("q" * 127, uri_of(1_023), media_type(255), "stop-printer", 86_400, 65_535)
+    job = create("q" * 127, 1, "u" * 255, "t" * 255, 9_999, 100, options)
+    same("the longest queue is in the journal", queue in journal, True)
+    same("the longest job is in the journal", job in journal, True)

@@ -1,0 +1,208 @@
+"""Parts of tests/large.py: too little memory. Each command works, or is answered `error memory` and changes nothing; or the program
+ends with `spool: memory`. What was acknowledged is there when the spool is opened with enough of it.
+"""
+from large_children import DONE, ask_jobs, bytes_of, listed, same_file
+from large_run import Difference, Script, quoted, same
+from large_spelling import TYPE
+
+JOBS = 4_000
+TITLE = "t" * 255
+OPTIONS = "o=" + "v" * 2_046
+
+# So many KiB of address space are too few for the jobs. With the last of them the program has hardly begun.
+SCARCE = (24_000, 16_000, 10_000, 6_000)
+
+REFUSED = b"error memory"
+
+
+class Reader:
+    """The replies of a run that had too little memory, one command at a time."""
+
+    def __init__(self, ran):
+        self.lines = ran.output.split(b"\n")[:-1]
+        self.at = 0
+        # Whether a command had no memory.
+        self.met = False
+
+    def ended(self):
+        return self.at == len(self.lines)
+
+    def is_served(self, *wanted):
+        """Whether the next command has these replies. Else it was refused for want of memory, and has changed nothing."""
+        if self.lines[self.at] == REFUSED:
+            self.at += 1
+            self.met = True
+            return False
+        found = self.lines[self.at : self.at + len(wanted)]
+        same("the replies", found, [line.encode() for line in wanted])
+        self.at += len(wanted)
+        return True
+
+
+class Table:
+    """The jobs that were answered."""
+
+    def __init__(self, shown=()):
+        self.shown = list(shown)
+
+    def listed(self):
+        lines = [f'job {number} lab {shown} "ann" 0 0 {quoted(TITLE)}' for number, shown in enumerate(self.shown, 1)]
+        return [*lines, f"ok {len(lines)}"]
+
+    def may_be(self):
+        """What may be listed after a run that ended early: the last command may have been served without its reply."""
+        yield self.listed()
+        yield Table([*self.shown, "4 job-incoming"]).listed()
+        for number in CANCELED:
+            if number <= len(self.shown):
+                yield Table([*self.shown[: number - 1], "7 canceled", *self.shown[number:]]).listed()
+
+
+# What is canceled: a job before the listings and the checkpoint, and one after them.
+CANCELED = (1, 2)
+
+
+def script_of_jobs():
+    script = Script()
+    script.ask(f"queue lab spoolfile:/out {TYPE} abort-job")
+    for _ in range(JOBS):
+        script.ask(f'create lab ann {TITLE} 1 50 "{OPTIONS}"')
+    for command in ("cancel 1", "jobs", "queues", "checkpoint", "cancel 2"):
+        script.ask(command)
+    return script
+
+
+def replies_of_jobs(reader, table):
+    """Reads the replies to that script as far as they go, and keeps what was answered."""
+    yield reader.is_served("ok")
+    for _ in range(JOBS):
+        served = reader.is_served(f"ok job {len(table.shown) + 1}")
+        if served:
+            table.shown.append("4 job-incoming")
+        yield served
+    yield cancel(reader, table, 1)
+    yield reader.is_served(*table.listed())
+    yield reader.is_served(f'queue lab 3 accepting {TYPE} abort-job 30 5 none ""', "ok 1")
+    yield reader.is_served("ok")
+    yield cancel(reader, table, 2)
+
+
+def cancel(reader, table, number):
+    there = number <= len(table.shown)
+    served = reader.is_served("ok" if there else "error 5 NoJob")
+    if served and there:
+        table.shown[number - 1] = "7 canceled"
+    return served
+
+
+def scarce_run(place, script, limit, *words):
+    """A run in so many KiB, which may end with `spool: memory`."""
+    enough, place.limit = place.limit, limit
+    ran = place.run([place.programs.shell, "--root", "spool", *words], script.pieces())
+    place.limit = enough
+    if (ran.status, ran.errors) not in ((0, b""), (1, b"spool: memory\n")):
+        same("the end", (ran.status, ran.errors), (0, b""))
+    return ran
+
+
+def found_afterwards(place):
+    """What `jobs` lists with enough memory."""
+    ran = place.run([place.programs.shell, "--root", "spool"], [b"jobs\n"])
+    same("the end", (ran.status, ran.errors), (0, b""))
+    return ran.output.decode().splitlines()
+
+
+def opened_scarcely(place, limit, wanted):
+    """An opening with as little memory shows all, or ends with `spool: memory`, or answers so."""
+    script = Script()
+    script.ask("jobs")
+    ran = scarce_run(place, script, limit)
+    if ran.status == 0 and ran.output != REFUSED + b"\n":
+        same("what is listed", ran.output.decode().splitlines(), wanted)
+
+
+def served_scarcely(place, limit):
+    """Makes jobs with so little memory, and looks at what is there afterwards. Answers whether memory was missing."""
+    ran = scarce_run(place, script_of_jobs(), limit, "--size", str(1 << 26))
+    reader, table = Reader(ran), Table()
+    replies = replies_of_jobs(reader, table)
+    while not reader.ended() and next(replies, None) is not None:
+        pass
+    same("the replies that are left", reader.lines[reader.at :], [])
+    found = found_afterwards(place)
+    wanted = table.listed()
+    if ran.status:
+        wanted = found if found in table.may_be() else wanted
+    same(f"what is there after a run in {limit} KiB", found, wanted)
+    opened_scarcely(place, limit, wanted)
+    same("what is there still", found_afterwards(place), wanted)
+    return reader.met or ran.status != 0
+
+
+def too_little_memory(place):
+    """4,000 long jobs in address spaces that are too small for them."""
+    met = []
+    for limit in SCARCE:
+        place.fresh_spool()
+        met.append(served_scarcely(place, limit))
+    if not any(met):
+        raise Difference(f"memory was never missing, not even in {SCARCE[-1]} KiB")
+
+
+MANY = 8
+LENGTH = 1_048_576
+
+
+def scarce_rounds(place):
+    """Eight long documents are printed with too little memory, and then with enough: each is printed whole in the end."""
+    place.tool("backend", "spoolfile")
+    place.list_programs()
+    for limit in SCARCE:
+        place.fresh_spool()
+        script = Script()
+        for number in range(1, MANY + 1):
+            script.ask(f"queue q{number} spoolfile:{place.at('printed')}-{number} {TYPE} retry-current-job 0 0", "ok")
+            script.ask(f'create q{number} ann "" 1 50 ""', f"ok job {number}")
+            script.document(number, bytes_of(number, LENGTH))
+        place.print_all(script, "--size", str(1 << 26))
+        script = Script()
+        for number in range(1, MANY + 1):
+            script.ask(f"close {number} page")
+        for _ in range(3):
+            script.ask("round")
+        closed = close_and_print(place, script, limit)
+        finish_printing(place, closed)
+
+
+def close_and_print(place, script, limit):
+    """Which jobs were closed, by what was answered."""
+    ran = scarce_run(place, script, limit, "--programs", "programs")
+    replies = ran.output.split(b"\n")[:-1]
+    closed = {}
+    for number, reply in enumerate(replies[:MANY], 1):
+        if reply not in (REFUSED, f"ok type {TYPE} stages 1".encode()):
+            same(f"close {number}", reply, REFUSED)
+        closed[number] = reply != REFUSED
+    for reply in replies[MANY:]:
+        if reply != REFUSED and not reply.startswith(b"ok started "):
+            same("round", reply, REFUSED)
+    return closed
+
+
+def finish_printing(place, closed):
+    """With enough memory the others are closed too, and all are printed."""
+    found = [line.split(" ")[3] for line in found_afterwards(place)[:-1]]
+    script = Script()
+    for number in range(1, MANY + 1):
+        if closed.get(number) and found[number - 1] == "4":
+            raise Difference(f"job {number} was closed, and is incoming")
+        if found[number - 1] == "4":
+            script.ask(f"close {number} page", f"ok type {TYPE} stages 1")
+    place.print_all(script)
+    # What was printed already starts nothing more, so how many start is no matter.
+    place.run([place.programs.shell, "--root", "spool", "--programs", "programs"], [b"drain 9\n"])
+    script = Script()
+    ask_jobs(script, [listed(number, f"q{number}", DONE, LENGTH) for number in range(1, MANY + 1)])
+    place.print_all(script)
+    for number in range(1, MANY + 1):
+        same_file(place, f"printed-{number}", bytes_of(number, LENGTH))

@@ -1,0 +1,242 @@
+"""Runs the built programs for tests/large.py: a place for each part, and scripts with the replies that they have to get.
+
+The greatest memory of a program is the `ru_maxrss` that its end tells (getrusage(2)). The kernel counts the pages of
+whoever starts a program as its own, so each is started by a small shell, which ends at once; this script is made its
+parent then (PR_SET_CHILD_SUBREAPER of prctl(2)) and waits for it.
+"""
+import ctypes
+import os
+import shutil
+import signal
+import subprocess
+import tempfile
+import threading
+
+# How many seconds a run of a program may take, and one that was built with checks.
+LONGEST = 120
+LONGEST_CHECKED = 3_600
+
+# The files of a part lie in memory where so many bytes are free there: each event is synced twice, which takes a disk
+# some milliseconds.
+MEMORY = "/dev/shm"
+ROOMY = 4 << 30
+
+# Starts a program with at most so many KiB of address space, and tells its number in a file.
+START = 'ulimit -v "$1"; told=$2; shift 2; exec 3<&0; "$@" <&3 3<&- & echo $! >"$told"'
+
+SUBREAPER = 36
+
+SEND = 65_536
+
+
+class Difference(Exception):
+    """A program did something else than it had to."""
+
+
+def same(what, found, wanted):
+    if found != wanted:
+        raise Difference(f"{what}: {shown(found)}, and not {shown(wanted)}")
+
+
+def shown(value):
+    """A value, or what is left of it where it is long."""
+    text = repr(value)
+    return text if len(text) <= 300 else f"{text[:200]} .. {text[-60:]} ({len(text)} characters)"
+
+
+def same_lines(what, found, wanted):
+    """Compares bytes, and tells the first line that differs."""
+    if found == wanted:
+        return
+    ours, theirs = wanted.split(b"\n"), found.split(b"\n")
+    for number, (want, have) in enumerate(zip(ours, theirs), 1):
+        same(f"{what}, line {number}", have, want)
+    raise Difference(f"{what}: {len(theirs) - 1} lines, and not {len(ours) - 1}")
+
+
+def quoted(text):
+    """A word in quotes, as commands and listings have it."""
+    return '"' + text.replace("\\", "\\\\").replace('"', '\\"') + '"'
+
+
+def pieces_of(document):
+    """The pieces in which a document is sent."""
+    return [document[at : at + SEND] for at in range(0, len(document), SEND)]
+
+
+def adopt():
+    """Makes this script the parent of what its children leave behind."""
+    if ctypes.CDLL(None).prctl(SUBREAPER, 1, 0, 0, 0):
+        raise OSError("prctl refuses PR_SET_CHILD_SUBREAPER")
+
+
+class Ran:
+    """A run that has ended: what it wrote, its status, the seconds of the processor, and its greatest memory in KiB."""
+
+    def __init__(self, output, errors, status, usage):
+        self.output = output
+        self.errors = errors
+        self.status = status
+        self.seconds = usage.ru_utime + usage.ru_stime
+        self.memory = usage.ru_maxrss
+
+
+def write_pieces(file, pieces):
+    """Writes each piece by calls of its own, until nobody reads any more."""
+    try:
+        with file:
+            for piece in pieces:
+                left = memoryview(piece)
+                while left:
+                    left = left[file.write(left) :]
+    except BrokenPipeError:
+        pass
+
+
+def read_into(file, found):
+    with file:
+        while piece := file.read(1 << 20):
+            found.append(piece)
+
+
+def run(words, folder, pieces=(), limit=None, longest=LONGEST):
+    """Runs a program in a folder, on these pieces of standard input, in an address space of so many KiB."""
+    told = os.path.join(folder, "started")
+    most = "unlimited" if limit is None else str(limit)
+    pipe = subprocess.PIPE
+    starter = subprocess.Popen(
+        ["/bin/sh", "-c", START, "sh", most, told, *words], cwd=folder, stdin=pipe, stdout=pipe, stderr=pipe, bufsize=0
+    )
+    same("the start of a program", starter.wait(), 0)
+    with open(told) as file:
+        number = int(file.read())
+    too_long = threading.Timer(longest, os.kill, (number, signal.SIGKILL))
+    too_long.start()
+    output, errors = [], []
+    writing = threading.Thread(target=write_pieces, args=(starter.stdin, pieces))
+    listening = threading.Thread(target=read_into, args=(starter.stderr, errors))
+    writing.start()
+    listening.start()
+    read_into(starter.stdout, output)
+    _, status, usage = os.wait4(number, 0)
+    too_long.cancel()
+    writing.join()
+    listening.join()
+    return Ran(b"".join(output), b"".join(errors), os.waitstatus_to_exitcode(status), usage)
+
+
+class Script:
+    """Commands, and the replies that they have to get."""
+
+    def __init__(self):
+        self.given = []
+        self.wanted = []
+
+    def ask(self, command, *replies):
+        self.given.append(command.encode() + b"\n")
+        self.wanted += [reply.encode() + b"\n" for reply in replies]
+
+    def send(self, number, piece, reply):
+        self.given += [b"send %d %d\n" % (number, len(piece)), piece, b"\n"]
+        self.wanted.append(reply.encode() + b"\n")
+
+    def pieces(self):
+        """The text of the commands, in pieces of a mebibyte or so."""
+        held, length = [], 0
+        for piece in self.given:
+            held.append(piece)
+            length += len(piece)
+            if length >= 1 << 20:
+                yield b"".join(held)
+                held, length = [], 0
+        yield b"".join(held)
+
+    def document(self, number, document):
+        """Sends a document, in as many pieces as it takes."""
+        size = 0
+        for piece in pieces_of(document):
+            size += len(piece)
+            self.send(number, piece, f"ok bytes {size}")
+
+
+class Programs:
+    """The built programs, and how many seconds they may run."""
+
+    def __init__(self, shell, tools, report, longest=LONGEST):
+        self.shell = shell
+        self.tools = tools
+        self.report = report
+        self.longest = longest
+
+
+class Place:
+    """The folder of a part, in which its programs run, in an address space of so many KiB."""
+
+    def __init__(self, programs, limit=None):
+        self.programs = programs
+        self.limit = limit
+        # The greatest memory of a program so far, in KiB.
+        self.memory = 0
+        self.folder = tempfile.mkdtemp(prefix="spool-large-", dir=roomy_folder())
+        os.mkdir(self.at("spool"))
+        self.lines = []
+
+    def at(self, *names):
+        return os.path.join(self.folder, *names)
+
+    def write(self, name, data):
+        with open(self.at(name), "wb") as file:
+            file.write(data)
+
+    def read(self, name):
+        with open(self.at(name), "rb") as file:
+            return file.read()
+
+    def remove(self):
+        shutil.rmtree(self.folder)
+
+    def fresh_spool(self):
+        """Takes the spool away."""
+        shutil.rmtree(self.at("spool"))
+        os.mkdir(self.at("spool"))
+
+    def tool(self, kind, name):
+        """Lists one of the small tools as a program."""
+        self.lines.append(f"{kind} {name} {self.programs.tools} {name}")
+
+    def script(self, kind, name, text):
+        """Lists a program of `sh`. It need not be one that can be run: files in memory mostly may not."""
+        self.write(f"{kind}-{name}", text.encode())
+        self.lines.append(f"{kind} {name} /bin/sh {self.at(f'{kind}-{name}')}")
+
+    def list_programs(self):
+        self.write("programs", "".join(line + "\n" for line in self.lines).encode())
+
+    def run(self, words, pieces=()):
+        ran = run(words, self.folder, pieces, self.limit, self.programs.longest)
+        self.memory = max(self.memory, ran.memory)
+        return ran
+
+    def serve(self, script, *words, root=True, status=0, errors=b""):
+        """Serves a script over the spool of this place, or over one in memory, and compares the replies."""
+        folder = ["--root", "spool"] if root else []
+        ran = self.run([self.programs.shell, *folder, *words], script.pieces())
+        same_lines("replies", ran.output, b"".join(script.wanted))
+        same("the end", (ran.status, ran.errors), (status, errors))
+        return ran
+
+    def print_all(self, script, *words, **how):
+        """Serves a script with the programs and files of this place."""
+        files = [word for name in ("types", "convs", "programs") if os.path.exists(self.at(name)) for word in (f"--{name}", name)]
+        return self.serve(script, *files, *words, **how)
+
+
+def roomy_folder():
+    """A folder in memory, where there is room, or none."""
+    try:
+        with open("/proc/meminfo") as lines:
+            available = next(1024 * int(line.split()[1]) for line in lines if line.startswith("MemAvailable:"))
+        room = min(available, shutil.disk_usage(MEMORY).free)
+        return MEMORY if room >= ROOMY and os.access(MEMORY, os.W_OK) else None
+    except (OSError, StopIteration):
+        return None

@@ -1,0 +1,194 @@
+"""Parts of tests/large.py: tables with as many queues and jobs as an office ever has, listed, checkpointed and opened again.
+
+The table is told by this module's own rules, and so are the rows of a checkpoint, which are read from the file: a listing
+shows no options, copies or priorities.
+"""
+from large_run import Script, pieces_of, quoted, same
+from large_spelling import (
+    CANCELED,
+    FREE,
+    NO_FILTER,
+    TYPE,
+    UNTIL_RELEASED,
+    current_area,
+    head_row,
+    incoming,
+    job_fields,
+    job_row,
+    payloads,
+    piece_row,
+    queue_fields,
+    queue_row,
+    until,
+    waiting,
+)
+
+QUEUES = 64
+JOBS = 10_000
+NOW = 1_000_000
+SIZE = 1 << 27
+
+# A type that no filter leads to.
+ELSEWHERE = "application/x-elsewhere"
+
+
+class Queue:
+    """A queue as it is asked for."""
+
+    def __init__(self, turn):
+        self.name = f"q{turn:02}" + "-" * (turn * 2 - 4 if turn > 2 else 0)
+        self.uri = f"spoolfile:/out/{turn}"
+        self.target = ELSEWHERE if turn % 7 == 6 else TYPE
+        self.policy = ["abort-job", "retry-job", "retry-current-job", "stop-printer"][turn % 4]
+        self.interval = turn * 1_350
+        self.limit = turn * 1_023
+        self.info = "i" * (turn * 2)
+        self.location = "Room " + "x" * turn
+        self.stopped = turn % 5 == 4
+
+    def ask(self, script):
+        script.ask(f"queue {self.name} {self.uri} {self.target} {self.policy} {self.interval} {self.limit}", "ok")
+        script.ask(f"info {self.name} {quoted(self.info)} {quoted(self.location)}", "ok")
+        if self.stopped:
+            script.ask(f"disable {self.name}", "ok")
+
+    def listed(self):
+        state = 5 if self.stopped else 3
+        return f'queue {self.name} {state} accepting {self.target} {self.policy} {self.interval} {self.limit} none ""'
+
+    def row(self):
+        fields = queue_fields(self.name, self.uri, self.target, self.policy, self.interval, self.limit)
+        return queue_row(fields, self.info, self.location, stopped=self.stopped)
+
+
+def title_of(number):
+    """A title of 0 to 255 bytes, with all that has to be escaped."""
+    return ('"\\ä' * 63)[: number % 189] + "t" * (number % 4)
+
+
+def options_of(number):
+    """Options of 0 to 2,048 bytes, as they are printed."""
+    if number % 256 == 0:
+        return ""
+    value = f"o{number}="
+    return value + "v" * max(0, number % 256 * 8 + 8 - len(value))
+
+
+def document_of(number):
+    """A document: mostly a short one, and now and then one of more than a piece."""
+    if number % 4:
+        return b""
+    length = {0: 65_536, 1: 65_537, 2: 131_073}.get(number // 4 % 500, number % 50)
+    return (b"%d " % number * (length // 2 + 1))[:length]
+
+
+class Job:
+    """A job as it is asked for, and what becomes of it."""
+
+    def __init__(self, number, queues):
+        self.number = number
+        self.queue = queues[number % len(queues)]
+        self.user = "u" * (number % 255 + 1)
+        self.title = title_of(number)
+        self.copies = number % 9_999 + 1
+        self.priority = number % 100 + 1
+        self.options = options_of(number)
+        self.document = document_of(number)
+        # Incoming, closed, held, held until a moment that is over or isn't, canceled before or after it was closed.
+        self.kind = number // 64 % 7
+
+    def ask(self, script):
+        words = f"{self.queue.name} {self.user} {quoted(self.title)} {self.copies} {self.priority} {quoted(self.options)}"
+        script.ask(f"create {words}", f"ok job {self.number}")
+        script.document(self.number, self.document)
+        if self.kind not in (0, 5):
+            self.ask_close(script)
+        if self.unprintable():
+            return
+        if self.kind in (2, 3, 4):
+            script.ask(f"hold {self.number} {self.held_until() or 'indefinite'}", "ok")
+        if self.kind in (5, 6):
+            script.ask(f"cancel {self.number}", "ok")
+
+    def ask_close(self, script):
+        way = "unprintable" if self.unprintable() else "stages 1"
+        script.ask(f"close {self.number} page-{self.number}", f"ok type {TYPE} {way}")
+
+    def unprintable(self):
+        return self.kind not in (0, 5) and self.queue.target != TYPE
+
+    def held_until(self):
+        return {2: None, 3: NOW + self.number, 4: NOW}[self.kind]
+
+    def shown(self):
+        if self.unprintable():
+            return "8 no-filter"
+        if self.kind in (2, 3):
+            return "4 job-hold-until-specified"
+        return {0: "4 job-incoming", 1: "3 none", 4: "3 none", 5: "7 canceled", 6: "7 canceled"}[self.kind]
+
+    def listed(self):
+        return f'job {self.number} {self.queue.name} {self.shown()} "{self.user}" {len(self.document)} 0 {quoted(self.title)}'
+
+    def phase(self):
+        if self.unprintable():
+            return NO_FILTER
+        if self.kind == 0:
+            return incoming()
+        if self.kind in (5, 6):
+            return CANCELED
+        return waiting({1: FREE, 2: UNTIL_RELEASED, 3: until(NOW + self.number), 4: until(NOW)}[self.kind])
+
+    def rows(self):
+        """Its row, and the pieces of its document where it hasn't ended."""
+        fields = job_fields(self.queue.name, self.number, self.user, self.title, self.copies, self.priority, self.options)
+        media = None if self.kind in (0, 5) else TYPE
+        yield job_row(fields, media, (), 0, 0, len(self.document), self.phase())
+        if self.shown()[0] in "34":
+            for piece in pieces_of(self.document):
+                yield piece_row(self.number, piece)
+
+
+def ask_jobs(script, jobs):
+    script.ask("jobs", *(job.listed() for job in jobs), f"ok {len(jobs)}")
+
+
+def ask_queues(script, queues):
+    script.ask("queues", *(queue.listed() for queue in queues), f"ok {len(queues)}")
+
+
+def look_at_rows(place, queues, jobs):
+    """Whether the file's current area has exactly the rows of the table."""
+    wanted = [head_row(len(jobs), NOW)] + [queue.row() for queue in queues] + [row for job in jobs for row in job.rows()]
+    with open(place.at("spool", "spool.disk"), "rb") as file:
+        found = payloads(file, current_area(file, SIZE))
+    for number, (row, want) in enumerate(zip(found, wanted), 1):
+        same(f"row {number} of the checkpoint", row, want)
+    same("rows of the checkpoint", len(found), len(wanted))
+
+
+def jobs_and_queues(place):
+    """10,000 jobs of 64 queues, with titles, options and documents of all lengths: listed, checkpointed, opened again."""
+    queues = [Queue(turn) for turn in range(QUEUES)]
+    jobs = [Job(number, queues) for number in range(1, JOBS + 1)]
+    script = Script()
+    script.ask(f"clock {NOW}", "ok")
+    for asked in queues + jobs:
+        asked.ask(script)
+    script.ask("queue more spoolfile:/out a/b abort-job", "error 3 TooManyQueues")
+    size = ("--size", str(SIZE))
+    ask_jobs(script, jobs)
+    place.serve(script, *size)
+    # From the journal, then from a listing in the other area, and then from one in the first again.
+    for _ in range(3):
+        script = Script()
+        ask_jobs(script, jobs)
+        ask_queues(script, queues)
+        script.ask("checkpoint", "ok")
+        ask_jobs(script, jobs)
+        place.serve(script)
+        look_at_rows(place, queues, jobs)
+    script = Script()
+    script.ask('create q00 ann "" 1 50 ""', f"ok job {JOBS + 1}")
+    script.ask("cancel 10000", "error 10 JobEnded" if jobs[-1].shown()[0] in "78" else "ok")
+    place.serve(script)
