@@ -20,6 +20,10 @@ of_run run.Read = Read
 of_run run.Write = Write
 of_run run.Memory = Memory
 
+-- the folder or its file can't be had, or there was no memory
+abbrev pub IsOfFolder : ShellFault → Type 0
+IsOfFolder fault = (fault ≡ Disk) ⊎ (fault ≡ Memory)
+
 -- the file of this name can't be read as what it is, and this is told, or there was no memory
 abbrev pub IsOfFile : Option (List ℕ) → ShellFault → Type 0
 IsOfFile name Memory = ⊤

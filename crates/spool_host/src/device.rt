@@ -19,8 +19,10 @@
 //!
 //! `memory`, or else `disk`: the folder can't be opened or locked, another program owns it or its file, or the file
 //! can't be looked at, opened, made or synced. What the file holds is looked at later, by `Spool::open`.
-ghost use Rattle.std.specs.Prelude.{OnOk, replicate};
+ghost use Rattle.std.specs.Prelude.{◌≡◌, ◌≢◌, IfErr, OnOk, replicate};
+ghost use Rattle.std.specs.IoError.{error_kind};
 ghost use Rattle.std.specs.Io.KnownBytes.{Appends};
+ghost use Rattle.spool_host.specs.Faults.{IsOfFolder};
 
 use crate::fault::ShellFault;
 use spool_core::make;
@@ -51,7 +53,9 @@ impl<'a> SpoolFolder<'a> {
     pub fn own<R: Files<File = File> + AllocGlobal>(
         rt: &R,
         dir: &'a str,
-    ) -> Result<SpoolFolder<'a>, ShellFault> {
+    ) -> Result<SpoolFolder<'a>, ShellFault>
+        ensures { IfErr result IsOfFolder }
+    {
         let path = Path::new(dir);
         // By this name nothing but a folder opens. By its own a pipe would wait for whoever writes to it.
         let itself = path.join(rt.alloc(), ".")?;
@@ -64,7 +68,9 @@ impl<'a> SpoolFolder<'a> {
         &self,
         rt: &R,
         size: u64,
-    ) -> Result<FileDisk, ShellFault> {
+    ) -> Result<FileDisk, ShellFault>
+        ensures { IfErr result IsOfFolder }
+    {
         let path = self.path.join(rt.alloc(), NAME)?;
         let disk = if is_absent(rt, path.as_path())? {
             self.make_device(rt, path.as_path(), size)?
@@ -83,7 +89,9 @@ impl<'a> SpoolFolder<'a> {
         rt: &R,
         path: Path<'_>,
         size: u64,
-    ) -> Result<FileDisk, ShellFault> {
+    ) -> Result<FileDisk, ShellFault>
+        ensures { IfErr result IsOfFolder }
+    {
         let unfinished = self.path.join(rt.alloc(), UNFINISHED)?;
         remove_if_there(rt, unfinished.as_path())?;
         let made = finish_device(rt, unfinished.as_path(), path, size);
@@ -103,8 +111,10 @@ fn is_absent<R: Files>(rt: &R, path: Path<'_>) -> io::Result<bool> {
     }
 }
 
-// Removes the file, or the link, of this name.
-pub fn remove_if_there<R: Files>(rt: &R, path: Path<'_>) -> io::Result<()> {
+/// Removes the file, or the link, of this name. It is no fault that nothing has this name.
+pub fn remove_if_there<R: Files>(rt: &R, path: Path<'_>) -> io::Result<()>
+    ensures { IfErr result (λ error. error_kind error ≢ ErrorKind.NotFound) }
+{
     match fs::remove_file(rt, path) {
         Err(error) if error.kind() != ErrorKind::NotFound => Err(error),
         _ => Ok(()),
@@ -112,7 +122,9 @@ pub fn remove_if_there<R: Files>(rt: &R, path: Path<'_>) -> io::Result<()> {
 }
 
 // Opens the file that is there.
-fn open_device<R: Files<File = File>>(rt: &R, path: Path<'_>) -> Result<FileDisk, ShellFault> {
+fn open_device<R: Files<File = File>>(rt: &R, path: Path<'_>) -> Result<FileDisk, ShellFault>
+    ensures { IfErr result IsOfFolder }
+{
     let file = OpenOptions::new().read(true).write(true).open(rt, path)?;
     Ok(FileDisk::new(locked(file)?)?)
 }
@@ -123,7 +135,9 @@ fn finish_device<R: Files<File = File>>(
     unfinished: Path<'_>,
     path: Path<'_>,
     size: u64,
-) -> Result<FileDisk, ShellFault> {
+) -> Result<FileDisk, ShellFault>
+    ensures { IfErr result IsOfFolder }
+{
     let mut file = locked(new_file(rt, unfinished)?)?;
     write_zeros(&mut file, size)?;
     file.sync_all()?;
@@ -158,7 +172,9 @@ fn write_zeros<W: Write>(writer: &mut W, count: u64) -> io::Result<()>
 }
 
 // The file, or the folder, which no other program gets until this one lets it go.
-fn locked(file: File) -> Result<File, ShellFault> {
+fn locked(file: File) -> Result<File, ShellFault>
+    ensures { IfErr result (λ fault. fault ≡ ShellFault.Disk) }
+{
     match file.try_lock() {
         Ok(()) => Ok(file),
         Err(_) => Err(ShellFault::Disk),

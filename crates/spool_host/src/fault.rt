@@ -2,7 +2,7 @@
 ghost use Rattle.std.specs.Prelude.{◌≡◌, ◌≢◌};
 ghost use Rattle.std.specs.declared.io.ErrorKind.TheVariants.{OutOfMemory};
 ghost use Rattle.std.specs.IoError.{error_kind};
-ghost use Rattle.spool_host.specs.Faults.{of_opening, of_run};
+ghost use Rattle.spool_host.specs.Faults.{IsOfFolder, of_opening, of_run};
 ghost use Rattle.spool_host.specs.declared.fault.ShellFault.TheVariants.{Disk, Memory};
 
 use spool_core::OpenFault;
@@ -49,7 +49,7 @@ impl From<AllocError> for ShellFault {
 /// A fault of the spool's folder or of its file.
 impl From<io::Error> for ShellFault {
     ghost from_gives = { λ error fault. (error_kind error ≡ OutOfMemory → fault ≡ Memory)
-        × (error_kind error ≢ OutOfMemory → fault ≡ Disk) };
+        × (error_kind error ≢ OutOfMemory → fault ≡ Disk) × IsOfFolder fault };
 
     fn from(error: io::Error) -> ShellFault {
         if error.kind() == ErrorKind::OutOfMemory {

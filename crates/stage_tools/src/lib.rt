@@ -1,4 +1,4 @@
-//! The program: small filters and backends to try a spool with, and the end of a side-channel session.
+//! Small filters and backends to try a spool with, and the end of a side-channel session: what `spool_tools` runs.
 //!
 //! Words: `TOOL ..`, the first word naming the tool ([`words`]). A spool gives a filter or a backend five or six words more,
 //! those of filter(7) and backend(7): the job's number, user, title, copies and options, and perhaps the name of its
@@ -25,15 +25,15 @@
 //!   its result and told their pages (`Filtered`, `Copied`); a device's line is written whole where the status is 0; a
 //!   backend writes nothing on standard output. All other words end with 1, and nothing is written.
 //! - [`words::read_words`] carries what words mean (`asked_of`).
-//! - [`results::write_copies`] writes the results of a document that tells its bytes, and counts the form feeds written of
+//! - [`write_copies`] writes the results of a document that tells its bytes, and counts the form feeds written of
 //!   any (`Copied`): no byte is lost where two pieces meet.
-//! - The status is 0 after a tool's work and 1 after a fault ([`tell_end`], [`end_silently`]). That of `spoolfile` is its
+//! - The status is 0 after a tool's work and 1 after a fault ([`ends`]). That of `spoolfile` is its
 //!   option, or 0 without one (`exit_of`), and each option has its default (`turns_of`). Of options with one name the last
 //!   counts (`last_value` of `device_options`).
 //! - A device has the path and the options of its URI, and is refused only where that is no URI or its path no text
-//!   ([`device::read_device`]).
-//! - [`side::ask_id`] writes 04 00 00 00 and gives the packet that comes first, and only an answer that is OK and holds its
-//!   data has an id ([`side::id_in`]). [`side::end_session`] writes FF 00 00 00.
+//!   ([`read_device`]).
+//! - [`ask_id`] writes 04 00 00 00 and gives the packet that comes first, and only an answer that is OK and holds its
+//!   data has an id ([`id_in`]). [`end_session`] writes FF 00 00 00.
 //!
 //! What real files and sockets hold, and how long a second takes, no clause can say: tests/tools.py does.
 //!
