@@ -7,6 +7,7 @@ use Rattle.filter_args.specs.declared.place.Place.{Place}
 use Rattle.print_rounds.specs.Courses.{Course, course}
 use Rattle.spool_disk.specs.Disk.{DiskView}
 use Rattle.spool_core.specs.Image.{IsFaultOf, IsReopenedFrom}
+use Rattle.spool_core.specs.Standing.{Standing}
 use Rattle.spool_core.specs.declared.OpenFault.{OpenFault}
 use Rattle.spool_engine.specs.EventTurns.{setting}
 use Rattle.spool_engine.specs.Mime.{Mime}
@@ -25,14 +26,15 @@ pub record IsPlace (root : List ℕ) (side : Bool) (place : Place) : Type 0 wher
 
 -- ---- opening a disk
 
--- The engine has the table of the disk's bytes after the policy, no slot is held, and it goes on with these rules, in this place, with children
--- that tell this.
+-- The engine has a spool with the table of the disk's bytes after the policy, and holds no slot. It goes on with these
+-- rules, and in this place with children that tell this.
 pub record IsOpened {D : Type 0} (device : DiskView D) (mime : Mime) (place : Place) (told : Option Told) (disk : D) (engine : Engine D) : Type 0 where
-  pub table : (r : List ℕ) → device.bytes disk ≡ Some r → IsReopenedFrom engine.course.spool.state r
-  pub alive : engine.course.spool.dead ≡ false
-  pub idle : engine.course ≡ course engine.course.spool finite.empty told
-  pub rules : engine.mime ≡ mime
-  pub where_is : engine.place ≡ place
+  pub spool : Standing D
+  pub table : (r : List ℕ) → device.bytes disk ≡ Some r → IsReopenedFrom spool.state r
+  pub alive : spool.dead ≡ false
+  pub course_is : engine.course ≡ course spool finite.empty told
+  pub rules_are : engine.mime ≡ mime
+  pub place_is : engine.place ≡ place
 
 -- the disk wasn't opened, for a fault that its bytes have, if it is one of bytes
 pub record IsUnread {D : Type 0} (device : DiskView D) (disk : D) (told : ShellFault) : Type 0 where

@@ -1,4 +1,7 @@
 //! What the words ask for is done.
+ghost use Rattle.std.specs.Prelude.{◌≡◌, IfSome, None, [], true, false, ⊤};
+ghost use Rattle.spool_host.specs.Running.{AreRules, IsNewSpool, ServesOrNot};
+
 use crate::device::SpoolFolder;
 use crate::devices::{ChildDiscovery, print_devices};
 use crate::fault::ShellFault;
@@ -11,6 +14,7 @@ use log::Log;
 use mime_costs::Convs;
 use mime_rules::Types;
 use program_lists::ProgramList;
+use spool_disk::{FileDisk, MemDisk};
 use std::alloc::Global;
 use std::fs::{File, Files};
 use std::io::{Read, Write};
@@ -28,6 +32,14 @@ pub fn run<L, H, R: Read, W: Write>(
 where
     L: Files<File = File> + AllocGlobal + Log,
     H: Files<File = File> + Net + Processes + AllocGlobal,
+    // Without a folder the spool is a new one in memory, of the size that the words say.
+    ensures memory { words.entry.devices ≡ false → words.entry.root ≡ None →
+        ServesOrNot MemDisk.device (IsNewSpool words.entry.size) (AreRules words.entry.types words.entry.convs) []
+        (R.remaining reader.old) (R.remaining reader.new) result (W.contents writer.old) (W.contents writer.new) }
+    ensures folder { words.entry.devices ≡ false → IfSome words.entry.root (λ dir.
+        ServesOrNot FileDisk.device (λ disk. ⊤) (AreRules words.entry.types words.entry.convs) dir.now
+        (R.remaining reader.old) (R.remaining reader.new) result (W.contents writer.old) (W.contents writer.new)) }
+    ensures devices { words.entry.devices ≡ true → R.remaining reader.new ≡ R.remaining reader.old }
 {
     let (types, convs, programs) = read_rules(logged, words.types, words.convs, words.programs)?;
     if words.devices {
@@ -47,7 +59,10 @@ fn serve_memory<R: Read, W: Write>(
     rules: (Types, Convs),
     reader: &mut R,
     writer: &mut W,
-) -> Result<(), ShellFault> {
+) -> Result<(), ShellFault>
+    ensures { ServesOrNot MemDisk.device (IsNewSpool size) (λ mime. mime ≡ record { types = rules.0; convs = rules.1 }) []
+        (R.remaining reader.old) (R.remaining reader.new) result (W.contents writer.old) (W.contents writer.new) }
+{
     let disk = memory_device(alloc, size)?;
     let place = place_in(alloc, "", false)?;
     serve(alloc, disk, (NoChildren, place), rules, reader, writer)
@@ -65,6 +80,8 @@ fn serve_folder<H, R: Read, W: Write>(
 ) -> Result<(), ShellFault>
 where
     H: Files<File = File> + Net + Processes + AllocGlobal,
+    ensures { ServesOrNot FileDisk.device (λ disk. ⊤) (λ mime. mime ≡ record { types = rules.0; convs = rules.1 }) dir.entry.now
+        (R.remaining reader.old) (R.remaining reader.new) result (W.contents writer.old) (W.contents writer.new) }
 {
     // The folder is this program's until all commands have been served.
     let folder = SpoolFolder::own(rt, dir)?;

@@ -22,6 +22,7 @@ pub fn ask_id<R: Read, W: Write>(
 ) -> Result<Packet, ToolFault>
     ensures asked { OnOk result (Appends (W.contents writer.old) (W.contents writer.new) (4 ∷ 0 ∷ 0 ∷ 0 ∷ [])) }
     ensures read { IfOk result (ReadWhole (R.remaining reader.old) (R.remaining reader.new)) }
+    ensures fault { IfErr result (λ fault. fault ≡ ToolFault.Side) }
 {
     write_empty(alloc, Command::GetDeviceId.byte(), writer)?;
     match Packet::read(alloc, reader) {
