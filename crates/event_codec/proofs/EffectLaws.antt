@@ -12,8 +12,8 @@ use Rattle.spool_types.specs.declared.effect.Effect.{Effect}
 use Rattle.spool_types.specs.declared.effect.Effect.TheVariants.{Pages, TotalPages, SetReasons, AddReasons, DropReasons, Attribute, Message}
 use Rattle.spool_types.specs.Values.{is_reason, is_attribute_name, is_message}
 use Rattle.spool_types.specs.Effects.{is_some_word, names_enough, effect_size, effects_size, most_effect_bytes, room_left, AreEffects}
-use Rattle.event_codec.specs.declared.fault.CodecFault.{CodecFault}
-use Rattle.event_codec.specs.declared.fault.CodecFault.TheVariants.{Range}
+use Rattle.field_codec.specs.declared.fault.CodecFault.{CodecFault}
+use Rattle.field_codec.specs.declared.fault.CodecFault.TheVariants.{Range}
 use Rattle.event_codec.specs.Spelling.{text_code, pages_code, words_code, attribute_code, level_number, message_code, effect_code, effects_code, IsIn, IsText, IsPages, AreWords, IsEffect}
 use Rattle.event_codec.specs.Reading.{Field, ◌>>=◌, number_at, ranged_at, text_at, list_at, pages_at, total_at, words_at, worded_at, attribute_at, level_of, level_at, message_at, kind_of_effect, effect_at, some_room, effect_within, listed_at, effects_at}
 use Rattle.event_codec.proofs.FieldLaws.{IsBytes, bind_ok, ok_is, Takes, Takes-then, Reads, got, again-step, again-last, wide16, wide32, reads_number, reads_ranged}

@@ -4,7 +4,7 @@ use Rattle.std.specs.Int.{w8, to_be_bytes}
 use Rattle.std.proofs.lemmas.Bool.{eqb-true}
 use Rattle.spool_types.specs.declared.effect.Exit.{Exit}
 use Rattle.spool_types.specs.declared.effect.Exit.TheVariants.{Code, Signal, NoStart, Lost}
-use Rattle.event_codec.specs.declared.fault.CodecFault.TheVariants.{Range}
+use Rattle.field_codec.specs.declared.fault.CodecFault.TheVariants.{Range}
 use Rattle.event_codec.specs.Spelling.{exit_code, IsIn, IsExit}
 use Rattle.event_codec.specs.Reading.{number_at, status_at, kind_of_exit, exit_at}
 use Rattle.event_codec.proofs.FieldLaws.{IsBytes, done, ok_is, Takes, Takes-then, Reads, got, again-then, again-last}

@@ -1,8 +1,8 @@
 -- Reading values one after the other, as a loop does.
 use Rattle.std.proofs.Common.{◌≡◌, ℕ, suc, ◌-◌, ◌+◌, ◌≤◌, ◌<◌, List, [], ◌∷◌, ◌++◌, length, Result, Ok, Err, refl, sym, ap, ◌∙◌, append_assoc, arith}
 use Rattle.std.proofs.lemmas.List.{append-nil}
-use Rattle.event_codec.specs.declared.fault.CodecFault.{CodecFault}
-use Rattle.event_codec.specs.declared.fault.CodecFault.TheVariants.{Kind, Length, Range, Utf8, Memory}
+use Rattle.field_codec.specs.declared.fault.CodecFault.{CodecFault}
+use Rattle.field_codec.specs.declared.fault.CodecFault.TheVariants.{Kind, Length, Range, Utf8, Memory}
 use Rattle.event_codec.specs.Reading.{◌>>=◌, Fails, list_at}
 
 -- values, and what they were read from after that

@@ -7,7 +7,7 @@ use Rattle.std.proofs.lemmas.Option.{slice_get-get_or}
 use Rattle.std.proofs.lemmas.List.Concat.{flat_map-cons}
 use Rattle.spool_types.specs.declared.effect.Attribute.{Attribute}
 use Rattle.spool_types.specs.Values.{is_reason, is_attribute_name, is_message}
-use Rattle.event_codec.specs.declared.fault.CodecFault.TheVariants.{Range}
+use Rattle.field_codec.specs.declared.fault.CodecFault.TheVariants.{Range}
 use Rattle.event_codec.specs.Spelling.{text_code, counted_code, attribute_code, IsIn, IsText, IsAttribute}
 use Rattle.event_codec.specs.RowSpelling.{attributes_code, name_of, Ascend}
 use Rattle.event_codec.specs.Reading.{◌>>=◌, checked, ranged_at, text_at, list_at}

@@ -11,7 +11,7 @@ use Rattle.spool_types.specs.declared.phase.AbortReason.TheVariants.{FilterFaile
 use Rattle.spool_types.specs.declared.phase.Phase.{Phase}
 use Rattle.spool_types.specs.declared.phase.Phase.TheVariants.{Incoming, Waiting, Processing, Completed, Canceled, Aborted}
 use Rattle.spool_types.specs.Limits.{greatest_moment}
-use Rattle.event_codec.specs.declared.fault.CodecFault.TheVariants.{Range}
+use Rattle.field_codec.specs.declared.fault.CodecFault.TheVariants.{Range}
 use Rattle.event_codec.specs.Spelling.{flag_code, IsIn}
 use Rattle.event_codec.specs.RowSpelling.{hold_reason_number, holding_code, abort_reason_number, waiting_code, phase_code, IsHolding, IsWaitingFor}
 use Rattle.event_codec.specs.Reading.{◌>>=◌, number_at, ranged_at, flag_at}

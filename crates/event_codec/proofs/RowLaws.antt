@@ -17,8 +17,8 @@ use Rattle.spool_types.specs.declared.listing.Row.{Row}
 use Rattle.spool_types.specs.declared.listing.Row.TheVariants.{Head, Queue, Job, Piece}
 use Rattle.spool_types.specs.Limits.{greatest_number, greatest_moment, longest_document}
 use Rattle.spool_types.specs.Values.{is_queue_name, is_media_type, is_user_name, is_title, is_options, is_note, is_message}
-use Rattle.event_codec.specs.declared.fault.CodecFault.{CodecFault}
-use Rattle.event_codec.specs.declared.fault.CodecFault.TheVariants.{Kind, Length, Range}
+use Rattle.field_codec.specs.declared.fault.CodecFault.{CodecFault}
+use Rattle.field_codec.specs.declared.fault.CodecFault.TheVariants.{Kind, Length, Range}
 use Rattle.event_codec.specs.Spelling.{text_code, counted_code, flag_code, queue_code, send_code, spelling, IsIn, IsJobNumber, IsText, IsQueue, IsJob}
 use Rattle.event_codec.specs.RowSpelling.{phase_code, typed_code, attributes_code, head_code, new_queue_of, queue_state_code, queue_row_code, new_job_of, created_code, job_state_code, job_row_code, row_spelling, IsTyped, IsQueueState, IsOrderedQueue, HasMoments, IsPhaseOf, IsRowSpellable}
 use Rattle.event_codec.specs.Reading.{Field, Gives, number_at, ranged_at, text_at, flag_at, filters_at, new_queue_at, piece_at, whole}

@@ -1,22 +1,8 @@
--- A text is read where its bytes are UTF-8.
-use Rattle.std.proofs.Common.{◌≡◌, ℕ, Bool, true, false, List, Ok, Err, refl, sym, ap, ◌∙◌}
+-- A text is UTF-8.
+use Rattle.std.proofs.Common.{◌≡◌, ℕ, Bool, true, List, sym, ap, ◌∙◌}
 use Rattle.std.specs.Str.{IsUtf8, is_utf8}
-use Rattle.std.proofs.lemmas.Str.{is_utf8-from_IsUtf8, IsUtf8-from_is_utf8}
-use Rattle.event_codec.specs.declared.fault.CodecFault.TheVariants.{Utf8}
+use Rattle.std.proofs.lemmas.Str.{is_utf8-from_IsUtf8}
 use Rattle.event_codec.specs.Spelling.{IsText}
-use Rattle.event_codec.specs.Reading.{utf8_of}
-
-pub utf8_read : (bytes text : List ℕ) → text ≡ bytes → IsUtf8 bytes → utf8_of bytes ≡ Ok text
-unfolding utf8_of
-utf8_read bytes text same utf8 = rw (is_utf8-from_IsUtf8 bytes utf8, same) refl
-
-tested : (bytes : List ℕ) (b : Bool) → is_utf8 bytes ≡ b → (IsUtf8 bytes → ⊥) → is_utf8 bytes ≡ false
-tested bytes true is refused = absurd (refused (IsUtf8-from_is_utf8 bytes is))
-tested bytes false is refused = is
-
-pub utf8_refused : (bytes : List ℕ) → (IsUtf8 bytes → ⊥) → utf8_of bytes ≡ Err Utf8
-unfolding utf8_of
-utf8_refused bytes refused = rw (tested bytes (is_utf8 bytes) refl refused) refl
 
 -- a text as its accessor shows it
 pub text_is : (allowed : List ℕ → Bool) (seen text : List ℕ) → seen ≡ text → IsUtf8 seen → allowed text ≡ true → IsText allowed text

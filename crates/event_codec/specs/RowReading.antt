@@ -18,8 +18,8 @@ use Rattle.spool_types.specs.declared.listing.Row.{Row}
 use Rattle.spool_types.specs.declared.listing.Row.TheVariants.{Head, Queue, Job, Piece}
 use Rattle.spool_types.specs.Limits.{greatest_number, greatest_moment, longest_document}
 use Rattle.spool_types.specs.Values.{is_queue_name, is_media_type, is_user_name, is_title, is_options, is_note, is_reason, is_attribute_name, is_message}
-use Rattle.event_codec.specs.declared.fault.CodecFault.{CodecFault}
-use Rattle.event_codec.specs.declared.fault.CodecFault.TheVariants.{Kind, Length, Range}
+use Rattle.field_codec.specs.declared.fault.CodecFault.{CodecFault}
+use Rattle.field_codec.specs.declared.fault.CodecFault.TheVariants.{Kind, Length, Range}
 use Rattle.event_codec.specs.Reading.{Field, ◌>>=◌, number_at, checked, ranged_at, text_at, flag_at, list_at, filters_at, new_queue_at, piece_at, whole}
 
 -- ---- phases

@@ -5,8 +5,8 @@ ghost use Rattle.spool_types.specs.declared.effect.Effect.TheVariants as Change;
 ghost use Rattle.spool_types.specs.Effects.{most_effect_bytes};
 ghost use Rattle.event_codec.specs.Reading.{Gives, MemoryOnly, list_at, pages_at, total_at, words_at, worded_at, attribute_at, level_at, message_at, effect_at, effect_within, listed_at, effects_at, effects_copy};
 
-use crate::fault::CodecFault;
-use crate::fields::{text_at, texts_at, u8_at, u16_at, u32_at};
+use crate::fields::texts_at;
+use field_codec::{CodecFault, text_at, u8_at, u16_at, u32_at};
 use spool_types::{Attribute, Effect, Effects, Level, Words};
 use std::alloc::Global;
 
@@ -28,7 +28,7 @@ fn total_at(bytes: &[u8]) -> Result<(Effect, &[u8]), CodecFault>
 }
 
 /// So many words at least.
-#[tactic(auto, unfolding(crate::specs::Reading::words_at, crate::specs::Reading::ranged_at, crate::specs::Reading::ranged, crate::specs::Reading::checked))]
+#[tactic(auto, unfolding(crate::specs::Reading::words_at, field_codec::specs::Fields::ranged_at, field_codec::specs::Fields::ranged, field_codec::specs::Fields::checked))]
 fn words_at(alloc: Global, least: u16, bytes: &[u8]) -> Result<(Words, &[u8]), CodecFault>
     ensures { Gives (λ x. (x.0, x.1.now)) result (words_at least bytes.now) }
 {
@@ -154,7 +154,7 @@ fn listed_at(alloc: Global, count: u16, bytes: &[u8]) -> Result<(Vec<Effect>, &[
 }
 
 /// How many effects there are, and each of them.
-#[tactic(auto, unfolding(crate::specs::Reading::effects_at, crate::specs::Reading::effects_copy, crate::specs::Reading::some_effects_at, crate::specs::Reading::checked))]
+#[tactic(auto, unfolding(crate::specs::Reading::effects_at, crate::specs::Reading::effects_copy, crate::specs::Reading::some_effects_at, field_codec::specs::Fields::checked))]
 pub(crate) fn effects_at(alloc: Global, bytes: &[u8]) -> Result<(Effects, &[u8]), CodecFault>
     ensures read { Gives (λ x. (x.0, x.1.now)) result (effects_at bytes.now) }
     ensures memory { IfErr result (MemoryOnly (effects_copy bytes.now)) }

@@ -87,7 +87,6 @@
 
 mod effect_reading;
 mod effect_writing;
-mod fault;
 mod field_writing;
 mod fields;
 mod laws;
@@ -97,7 +96,7 @@ mod row_reading;
 mod row_writing;
 mod writing;
 
-pub use fault::CodecFault;
+pub use field_codec::CodecFault;
 pub use laws::{
     effects_have_their_size, no_proper_prefix, no_proper_prefix_of_rows, one_event, one_row,
     rows_are_no_events,

@@ -3,9 +3,8 @@ ghost use Rattle.std.specs.Prelude.{◌≡◌, false, IfErr};
 ghost use Rattle.event_codec.specs.Reading.{Gives, MemoryOnly};
 ghost use Rattle.event_codec.specs.RowReading.{hold_reason_of, holding_at, abort_reason_of, incoming_at, waiting_at, processing_at, aborted_at, phase_at};
 
-use crate::fault::CodecFault;
-use crate::fields::{moment, ranged, u8_at, u64_at};
 use crate::reading::flag_at;
+use field_codec::{CodecFault, moment, ranged, u8_at, u64_at};
 use spool_types::{AbortReason, Hold, HoldReason, Phase, StageNumber};
 
 #[tactic(auto, unfolding(crate::specs::RowReading::hold_reason_of))]
@@ -22,7 +21,7 @@ fn hold_reason_of(number: u8) -> Result<HoldReason, CodecFault>
 }
 
 /// What holds a job.
-#[tactic(auto, unfolding(crate::specs::RowReading::holding_at, crate::specs::RowReading::kind_of_holding, crate::specs::RowReading::indefinite_at, crate::specs::RowReading::until_moment_at, crate::specs::Reading::ranged_at))]
+#[tactic(auto, unfolding(crate::specs::RowReading::holding_at, crate::specs::RowReading::kind_of_holding, crate::specs::RowReading::indefinite_at, crate::specs::RowReading::until_moment_at, field_codec::specs::Fields::ranged_at))]
 fn holding_at(bytes: &[u8]) -> Result<(Hold, &[u8]), CodecFault>
     ensures read { Gives (λ x. (x.0, x.1.now)) result (holding_at bytes.now) }
     ensures memory { IfErr result (MemoryOnly false) }
@@ -70,7 +69,7 @@ fn incoming_at(bytes: &[u8]) -> Result<(Phase, &[u8]), CodecFault>
     }
 }
 
-#[tactic(auto, unfolding(crate::specs::RowReading::waiting_at, crate::specs::Reading::ranged_at))]
+#[tactic(auto, unfolding(crate::specs::RowReading::waiting_at, field_codec::specs::Fields::ranged_at))]
 fn waiting_at(bytes: &[u8]) -> Result<(Phase, &[u8]), CodecFault>
     ensures read { Gives (λ x. (x.0, x.1.now)) result (waiting_at bytes.now) }
     ensures memory { IfErr result (MemoryOnly false) }
@@ -92,7 +91,7 @@ fn waiting_at(bytes: &[u8]) -> Result<(Phase, &[u8]), CodecFault>
     }
 }
 
-#[tactic(auto, unfolding(crate::specs::RowReading::processing_at, crate::specs::Reading::ranged_at))]
+#[tactic(auto, unfolding(crate::specs::RowReading::processing_at, field_codec::specs::Fields::ranged_at))]
 fn processing_at(attempt: u32, stages: u8, bytes: &[u8]) -> Result<(Phase, &[u8]), CodecFault>
     ensures read { Gives (λ x. (x.0, x.1.now)) result (processing_at attempt stages bytes.now) }
     ensures memory { IfErr result (MemoryOnly false) }

@@ -7,9 +7,9 @@ ghost use Rattle.event_codec.specs.Spelling.{IsSpellable, spelling};
 ghost use Rattle.event_codec.specs.Reading.{Gives, MemoryOnly, text_at, flag_at, until_at, exit_at, policy_at, filters_at, maybe_filters_at, piece_at, new_queue_at, queue_at, notes_at, accept_at, stop_at, job_at, send_at, closing_at, hold_at, numbered_at, clock_at, stage_at, closing_copies, stage_copies, reaches_copy, whole, reading};
 
 use crate::effect_reading::effects_at;
-use crate::fault::CodecFault;
-use crate::fields::{
-    job_id, moment, part_at, ranged, text_at, texts_at, u8_at, u16_at, u32_at, u64_at,
+use crate::fields::texts_at;
+use field_codec::{
+    CodecFault, ended, job_id, moment, part_at, ranged, text_at, u8_at, u16_at, u32_at, u64_at,
 };
 use spool_types::{
     Closing, Event, Exit, Filters, JobId, LONGEST_SEND, MediaType, MediaTypeKind, Moment, NewJob,
@@ -31,7 +31,7 @@ pub(crate) fn flag_at(bytes: &[u8]) -> Result<(bool, &[u8]), CodecFault>
 }
 
 /// Until when a job is held: a moment, or none where it is held until it is released.
-#[tactic(auto, unfolding(crate::specs::Reading::until_at, crate::specs::Reading::flagged_until_at, crate::specs::Reading::moment_at, crate::specs::Reading::ranged_at))]
+#[tactic(auto, unfolding(crate::specs::Reading::until_at, crate::specs::Reading::flagged_until_at, crate::specs::Reading::moment_at, field_codec::specs::Fields::ranged_at))]
 fn until_at(bytes: &[u8]) -> Result<(Option<Moment>, &[u8]), CodecFault>
     ensures read { Gives (λ x. (x.0, x.1.now)) result (until_at bytes.now) }
     ensures memory { IfErr result (MemoryOnly false) }
@@ -91,7 +91,7 @@ pub(crate) fn media_at(alloc: Global, bytes: &[u8]) -> Result<(MediaType, &[u8])
 }
 
 /// How many filters there are, and each of them.
-#[tactic(auto, unfolding(crate::specs::Reading::filters_at, crate::specs::Reading::ranged_at, crate::specs::Reading::ranged, crate::specs::Reading::checked))]
+#[tactic(auto, unfolding(crate::specs::Reading::filters_at, field_codec::specs::Fields::ranged_at, field_codec::specs::Fields::ranged, field_codec::specs::Fields::checked))]
 pub(crate) fn filters_at(alloc: Global, bytes: &[u8]) -> Result<(Filters, &[u8]), CodecFault>
     ensures read { Gives (λ x. (x.0, x.1.now)) result (filters_at bytes.now) }
     ensures few { IfOk result (λ x. length x.0 ≤ 15) }
@@ -123,7 +123,7 @@ fn maybe_filters_at(alloc: Global, bytes: &[u8]) -> Result<(Option<Filters>, &[u
 }
 
 /// The bytes of a send: so many at least.
-#[tactic(auto, unfolding(crate::specs::Reading::piece_at, crate::specs::Reading::ranged_at, crate::specs::Reading::ranged, crate::specs::Reading::checked))]
+#[tactic(auto, unfolding(crate::specs::Reading::piece_at, field_codec::specs::Fields::ranged_at, field_codec::specs::Fields::ranged, field_codec::specs::Fields::checked))]
 pub(crate) fn piece_at(
     alloc: Global,
     least: u32,
@@ -143,20 +143,8 @@ pub(crate) fn piece_at(
     }
 }
 
-/// Nothing stands after the last field.
-pub(crate) fn ended(rest: &[u8]) -> Result<(), CodecFault>
-    ensures ok { IsOk result ↔ (length rest.now ≡ 0) }
-    ensures fault { IfErr result (λ e. e ≡ CodecFault.Length) }
-{
-    if rest.is_empty() {
-        Ok(())
-    } else {
-        Err(CodecFault::Length)
-    }
-}
-
 /// A queue as it is added.
-#[tactic(auto, unfolding(crate::specs::Reading::new_queue_at, crate::specs::Reading::ranged_at))]
+#[tactic(auto, unfolding(crate::specs::Reading::new_queue_at, field_codec::specs::Fields::ranged_at))]
 pub(crate) fn new_queue_at(alloc: Global, bytes: &[u8]) -> Result<(NewQueue, &[u8]), CodecFault>
     ensures read { Gives (λ x. (x.0, x.1.now)) result (new_queue_at bytes.now) }
     ensures copied { OnOk result (IsTrue (is_ok (text_at is_queue_name bytes.now))) }
@@ -180,7 +168,7 @@ pub(crate) fn new_queue_at(alloc: Global, bytes: &[u8]) -> Result<(NewQueue, &[u
     Ok((queue, rest))
 }
 
-#[tactic(auto, unfolding(crate::specs::Reading::queue_at, crate::specs::Reading::whole))]
+#[tactic(auto, unfolding(crate::specs::Reading::queue_at, field_codec::specs::Fields::whole))]
 fn new_queue_of(alloc: Global, fields: &[u8]) -> Result<Event, CodecFault>
     ensures read { Gives (λ e. e) result (whole (queue_at fields.now)) }
     ensures memory { IfErr result (MemoryOnly (is_ok (text_at is_queue_name fields.now))) }
@@ -190,7 +178,7 @@ fn new_queue_of(alloc: Global, fields: &[u8]) -> Result<Event, CodecFault>
     Ok(Event::AddQueue(queue))
 }
 
-#[tactic(auto, unfolding(crate::specs::Reading::notes_at, crate::specs::Reading::whole))]
+#[tactic(auto, unfolding(crate::specs::Reading::notes_at, field_codec::specs::Fields::whole))]
 fn notes_of(alloc: Global, fields: &[u8]) -> Result<Event, CodecFault>
     ensures read { Gives (λ e. e) result (whole (notes_at fields.now)) }
     ensures memory { IfErr result (MemoryOnly (is_ok (text_at is_queue_name fields.now))) }
@@ -206,7 +194,7 @@ fn notes_of(alloc: Global, fields: &[u8]) -> Result<Event, CodecFault>
     }))
 }
 
-#[tactic(auto, unfolding(crate::specs::Reading::accept_at, crate::specs::Reading::whole))]
+#[tactic(auto, unfolding(crate::specs::Reading::accept_at, field_codec::specs::Fields::whole))]
 fn accept_of(alloc: Global, fields: &[u8]) -> Result<Event, CodecFault>
     ensures read { Gives (λ e. e) result (whole (accept_at fields.now)) }
     ensures memory { IfErr result (MemoryOnly (is_ok (text_at is_queue_name fields.now))) }
@@ -217,7 +205,7 @@ fn accept_of(alloc: Global, fields: &[u8]) -> Result<Event, CodecFault>
     Ok(Event::SetAccept { queue, accepting })
 }
 
-#[tactic(auto, unfolding(crate::specs::Reading::stop_at, crate::specs::Reading::whole))]
+#[tactic(auto, unfolding(crate::specs::Reading::stop_at, field_codec::specs::Fields::whole))]
 fn stop_of(alloc: Global, fields: &[u8]) -> Result<Event, CodecFault>
     ensures read { Gives (λ e. e) result (whole (stop_at fields.now)) }
     ensures memory { IfErr result (MemoryOnly (is_ok (text_at is_queue_name fields.now))) }
@@ -228,7 +216,7 @@ fn stop_of(alloc: Global, fields: &[u8]) -> Result<Event, CodecFault>
     Ok(Event::SetStop { queue, stopped })
 }
 
-#[tactic(auto, unfolding(crate::specs::Reading::job_at, crate::specs::Reading::ranged_at, crate::specs::Reading::whole))]
+#[tactic(auto, unfolding(crate::specs::Reading::job_at, field_codec::specs::Fields::ranged_at, field_codec::specs::Fields::whole))]
 fn job_of(alloc: Global, fields: &[u8]) -> Result<Event, CodecFault>
     ensures read { Gives (λ e. e) result (whole (job_at fields.now)) }
     ensures memory { IfErr result (MemoryOnly (is_ok (text_at is_queue_name fields.now))) }
@@ -255,7 +243,7 @@ fn job_of(alloc: Global, fields: &[u8]) -> Result<Event, CodecFault>
     }))
 }
 
-#[tactic(auto, unfolding(crate::specs::Reading::send_at, crate::specs::Reading::ranged_at, crate::specs::Reading::whole))]
+#[tactic(auto, unfolding(crate::specs::Reading::send_at, field_codec::specs::Fields::ranged_at, field_codec::specs::Fields::whole))]
 fn send_of(alloc: Global, fields: &[u8]) -> Result<Event, CodecFault>
     ensures read { Gives (λ e. e) result (whole (send_at fields.now)) }
     ensures memory { IfErr result (MemoryOnly (is_ok (send_at fields.now))) }
@@ -267,7 +255,7 @@ fn send_of(alloc: Global, fields: &[u8]) -> Result<Event, CodecFault>
     Ok(Event::Send { job, bytes })
 }
 
-#[tactic(auto, unfolding(crate::specs::Reading::closing_at, crate::specs::Reading::closing_copies, crate::specs::Reading::ranged_at, crate::specs::Reading::whole))]
+#[tactic(auto, unfolding(crate::specs::Reading::closing_at, crate::specs::Reading::closing_copies, field_codec::specs::Fields::ranged_at, field_codec::specs::Fields::whole))]
 fn closing_of(alloc: Global, fields: &[u8]) -> Result<Event, CodecFault>
     ensures read { Gives (λ e. e) result (whole (closing_at fields.now)) }
     ensures memory { IfErr result (MemoryOnly (closing_copies fields.now)) }
@@ -284,7 +272,7 @@ fn closing_of(alloc: Global, fields: &[u8]) -> Result<Event, CodecFault>
     }))
 }
 
-#[tactic(auto, unfolding(crate::specs::Reading::hold_at, crate::specs::Reading::ranged_at, crate::specs::Reading::whole))]
+#[tactic(auto, unfolding(crate::specs::Reading::hold_at, field_codec::specs::Fields::ranged_at, field_codec::specs::Fields::whole))]
 fn hold_of(fields: &[u8]) -> Result<Event, CodecFault>
     ensures read { Gives (λ e. e) result (whole (hold_at fields.now)) }
     ensures memory { IfErr result (MemoryOnly false) }
@@ -302,7 +290,7 @@ fn hold_of(fields: &[u8]) -> Result<Event, CodecFault>
 }
 
 // A job's number, and nothing after it.
-#[tactic(auto, unfolding(crate::specs::Reading::numbered_at, crate::specs::Reading::ranged_at, crate::specs::Reading::whole))]
+#[tactic(auto, unfolding(crate::specs::Reading::numbered_at, field_codec::specs::Fields::ranged_at, field_codec::specs::Fields::whole))]
 fn only_job(fields: &[u8]) -> Result<JobId, CodecFault>
     ensures read { (event : ℕ → Event) → Gives event result (whole (numbered_at event fields.now)) }
     ensures memory { IfErr result (MemoryOnly false) }
@@ -313,7 +301,7 @@ fn only_job(fields: &[u8]) -> Result<JobId, CodecFault>
     Ok(job)
 }
 
-#[tactic(auto, unfolding(crate::specs::Reading::clock_at, crate::specs::Reading::ranged_at, crate::specs::Reading::whole))]
+#[tactic(auto, unfolding(crate::specs::Reading::clock_at, field_codec::specs::Fields::ranged_at, field_codec::specs::Fields::whole))]
 fn clock_of(fields: &[u8]) -> Result<Event, CodecFault>
     ensures read { Gives (λ e. e) result (whole (clock_at fields.now)) }
     ensures memory { IfErr result (MemoryOnly false) }
@@ -324,7 +312,7 @@ fn clock_of(fields: &[u8]) -> Result<Event, CodecFault>
     Ok(Event::Clock(moment))
 }
 
-#[tactic(auto, unfolding(crate::specs::Reading::stage_at, crate::specs::Reading::stage_copies, crate::specs::Reading::effects_copy, crate::specs::Reading::ranged_at, crate::specs::Reading::whole))]
+#[tactic(auto, unfolding(crate::specs::Reading::stage_at, crate::specs::Reading::stage_copies, crate::specs::Reading::effects_copy, field_codec::specs::Fields::ranged_at, field_codec::specs::Fields::whole))]
 fn stage_of(alloc: Global, fields: &[u8]) -> Result<Event, CodecFault>
     ensures read { Gives (λ e. e) result (whole (stage_at fields.now)) }
     ensures memory { IfErr result (MemoryOnly (stage_copies fields.now)) }
@@ -349,7 +337,7 @@ fn stage_of(alloc: Global, fields: &[u8]) -> Result<Event, CodecFault>
     }))
 }
 
-#[tactic(auto, unfolding(crate::specs::Reading::whole))]
+#[tactic(auto, unfolding(field_codec::specs::Fields::whole))]
 fn reopen_of(fields: &[u8]) -> Result<Event, CodecFault>
     ensures read { Gives (λ e. e) result (whole (Ok (Event.Reopen, fields.now))) }
     ensures memory { IfErr result (MemoryOnly false) }
@@ -358,7 +346,7 @@ fn reopen_of(fields: &[u8]) -> Result<Event, CodecFault>
     Ok(Event::Reopen)
 }
 
-#[tactic(auto, unfolding(crate::specs::Reading::event_at, crate::specs::Reading::fields_at, crate::specs::Reading::whole, crate::specs::Reading::reaches_copy, crate::specs::Reading::fields_copy))]
+#[tactic(auto, unfolding(crate::specs::Reading::event_at, crate::specs::Reading::fields_at, field_codec::specs::Fields::whole, crate::specs::Reading::reaches_copy, crate::specs::Reading::fields_copy))]
 fn event_of(alloc: Global, payload: &[u8]) -> Result<Event, CodecFault>
     ensures read { Gives (λ e. e) result (reading payload.now) }
     ensures memory { IfErr result (MemoryOnly (reaches_copy payload.now)) }

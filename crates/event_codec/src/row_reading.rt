@@ -6,10 +6,11 @@ ghost use Rattle.event_codec.specs.Reading.{Gives, MemoryOnly, text_at, list_at,
 ghost use Rattle.event_codec.specs.RowSpelling.{name_of, row_spelling, IsRowSpellable};
 ghost use Rattle.event_codec.specs.RowReading.{is_above, typed_at, reason_after, attribute_after, reasons_at, attributes_at, head_at, queue_row_at, created_at, job_row_at, piece_row_at, job_row_copies, row_reading, reaches_row_copy, last_of};
 
-use crate::fault::CodecFault;
-use crate::fields::{job_id, moment, ranged, text_at, u8_at, u16_at, u32_at, u64_at};
 use crate::phase_reading::phase_at;
-use crate::reading::{ended, filters_at, flag_at, media_at, new_queue_at, piece_at};
+use crate::reading::{filters_at, flag_at, media_at, new_queue_at, piece_at};
+use field_codec::{
+    CodecFault, ended, job_id, moment, ranged, text_at, u8_at, u16_at, u32_at, u64_at,
+};
 use spool_types::{
     Attribute, AttributeName, Attributes, Head, JobId, ListedJob, MOST_KEPT, MediaType, NewJob,
     QueueRow, Ranged, Reason, Reasons, Row,
@@ -42,7 +43,7 @@ fn is_next_reason(read: &[Reason], reason: &Reason) -> bool
     }
 }
 
-#[tactic(auto, unfolding(crate::specs::RowReading::reason_after, crate::specs::Reading::checked))]
+#[tactic(auto, unfolding(crate::specs::RowReading::reason_after, field_codec::specs::Fields::checked))]
 fn reason_after<'a>(
     alloc: Global,
     read: &[Reason],
@@ -76,7 +77,7 @@ fn listed_reasons_at(
     Ok((reasons, rest))
 }
 
-#[tactic(auto, unfolding(crate::specs::RowReading::reasons_at, crate::specs::RowReading::ascending_at, crate::specs::Reading::ranged_at, crate::specs::Reading::ranged, crate::specs::Reading::checked))]
+#[tactic(auto, unfolding(crate::specs::RowReading::reasons_at, crate::specs::RowReading::ascending_at, field_codec::specs::Fields::ranged_at, field_codec::specs::Fields::ranged, field_codec::specs::Fields::checked))]
 fn reasons_at(alloc: Global, bytes: &[u8]) -> Result<(Reasons, &[u8]), CodecFault>
     ensures { Gives (λ x. (x.0, x.1.now)) result (reasons_at bytes.now) }
 {
@@ -101,7 +102,7 @@ fn is_next_name(read: &[Attribute], name: &AttributeName) -> bool
     }
 }
 
-#[tactic(auto, unfolding(crate::specs::RowReading::attribute_after, crate::specs::Reading::checked))]
+#[tactic(auto, unfolding(crate::specs::RowReading::attribute_after, field_codec::specs::Fields::checked))]
 fn attribute_after<'a>(
     alloc: Global,
     read: &[Attribute],
@@ -136,7 +137,7 @@ fn listed_attributes_at(
     Ok((attributes, rest))
 }
 
-#[tactic(auto, unfolding(crate::specs::RowReading::attributes_at, crate::specs::RowReading::ascending_at, crate::specs::Reading::ranged_at, crate::specs::Reading::ranged, crate::specs::Reading::checked))]
+#[tactic(auto, unfolding(crate::specs::RowReading::attributes_at, crate::specs::RowReading::ascending_at, field_codec::specs::Fields::ranged_at, field_codec::specs::Fields::ranged, field_codec::specs::Fields::checked))]
 fn attributes_at(alloc: Global, bytes: &[u8]) -> Result<(Attributes, &[u8]), CodecFault>
     ensures { Gives (λ x. (x.0, x.1.now)) result (attributes_at bytes.now) }
 {
@@ -151,7 +152,7 @@ fn attributes_at(alloc: Global, bytes: &[u8]) -> Result<(Attributes, &[u8]), Cod
     }
 }
 
-#[tactic(auto, unfolding(crate::specs::RowReading::head_at, crate::specs::Reading::ranged_at, crate::specs::Reading::whole))]
+#[tactic(auto, unfolding(crate::specs::RowReading::head_at, field_codec::specs::Fields::ranged_at, field_codec::specs::Fields::whole))]
 fn head_of(fields: &[u8]) -> Result<Row, CodecFault>
     ensures read { Gives (λ row. row) result (whole (head_at fields.now)) }
     ensures memory { IfErr result (MemoryOnly false) }
@@ -167,7 +168,7 @@ fn head_of(fields: &[u8]) -> Result<Row, CodecFault>
     }))
 }
 
-#[tactic(auto, unfolding(crate::specs::RowReading::queue_row_at, crate::specs::RowReading::queue_state_at, crate::specs::Reading::whole))]
+#[tactic(auto, unfolding(crate::specs::RowReading::queue_row_at, crate::specs::RowReading::queue_state_at, field_codec::specs::Fields::whole))]
 fn queue_row_of(alloc: Global, fields: &[u8]) -> Result<Row, CodecFault>
     ensures read { Gives (λ row. row) result (whole (queue_row_at fields.now)) }
     ensures memory { IfErr result (MemoryOnly (is_ok (text_at is_queue_name fields.now))) }
@@ -199,7 +200,7 @@ fn queue_row_of(alloc: Global, fields: &[u8]) -> Result<Row, CodecFault>
 }
 
 /// A job as it was created.
-#[tactic(auto, unfolding(crate::specs::RowReading::created_at, crate::specs::RowReading::job_row_copies, crate::specs::Reading::ranged_at))]
+#[tactic(auto, unfolding(crate::specs::RowReading::created_at, crate::specs::RowReading::job_row_copies, field_codec::specs::Fields::ranged_at))]
 fn created_at(alloc: Global, bytes: &[u8]) -> Result<(NewJob, &[u8]), CodecFault>
     ensures read { Gives (λ x. (x.0, x.1.now)) result (created_at bytes.now) }
     ensures copied { OnOk result (IsTrue (job_row_copies bytes.now)) }
@@ -227,7 +228,7 @@ fn created_at(alloc: Global, bytes: &[u8]) -> Result<(NewJob, &[u8]), CodecFault
     Ok((created, rest))
 }
 
-#[tactic(auto, unfolding(crate::specs::RowReading::job_row_at, crate::specs::Reading::ranged_at, crate::specs::Reading::whole))]
+#[tactic(auto, unfolding(crate::specs::RowReading::job_row_at, field_codec::specs::Fields::ranged_at, field_codec::specs::Fields::whole))]
 fn job_row_of(alloc: Global, fields: &[u8]) -> Result<Row, CodecFault>
     ensures read { Gives (λ row. row) result (whole (job_row_at fields.now)) }
     ensures memory { IfErr result (MemoryOnly (job_row_copies fields.now)) }
@@ -264,7 +265,7 @@ fn job_row_of(alloc: Global, fields: &[u8]) -> Result<Row, CodecFault>
     }
 }
 
-#[tactic(auto, unfolding(crate::specs::RowReading::piece_row_at, crate::specs::Reading::ranged_at, crate::specs::Reading::whole))]
+#[tactic(auto, unfolding(crate::specs::RowReading::piece_row_at, field_codec::specs::Fields::ranged_at, field_codec::specs::Fields::whole))]
 fn piece_of(alloc: Global, fields: &[u8]) -> Result<Row, CodecFault>
     ensures read { Gives (λ row. row) result (whole (piece_row_at fields.now)) }
     ensures memory { IfErr result (MemoryOnly (is_ok (piece_row_at fields.now))) }
@@ -276,7 +277,7 @@ fn piece_of(alloc: Global, fields: &[u8]) -> Result<Row, CodecFault>
     Ok(Row::Piece { job, bytes })
 }
 
-#[tactic(auto, unfolding(crate::specs::RowReading::row_at, crate::specs::RowReading::row_fields_at, crate::specs::Reading::whole, crate::specs::RowReading::reaches_row_copy, crate::specs::RowReading::row_fields_copy))]
+#[tactic(auto, unfolding(crate::specs::RowReading::row_at, crate::specs::RowReading::row_fields_at, field_codec::specs::Fields::whole, crate::specs::RowReading::reaches_row_copy, crate::specs::RowReading::row_fields_copy))]
 fn row_of(alloc: Global, payload: &[u8]) -> Result<Row, CodecFault>
     ensures read { Gives (λ row. row) result (row_reading payload.now) }
     ensures memory { IfErr result (MemoryOnly (reaches_row_copy payload.now)) }

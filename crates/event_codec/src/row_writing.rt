@@ -402,6 +402,13 @@ pub fn encode_row_onto(row: &Row, out: &mut Vec<u8>) -> Result<(), AllocError>
 /// As `encode_row_onto`, the row of a queue, which is only looked at.
 pub fn encode_queue_onto(queue: &QueueRow, out: &mut Vec<u8>) -> Result<(), AllocError>
     ensures spelled { OnOk result (out.new.items ≡ out.old.items ++ row_spelling (Queue queue.now)) }
+    ensures spellable { OnOk result (IsLegalRow (Queue queue.now) → IsRowSpellable (Queue queue.now)) }
+    ensures short { OnOk result (length (row_spelling (Queue queue.now)) < 2 ^ 19) }
+
+    // It fails only where the room was missing, and then the bytes are those that were there.
+    ensures fits { vec_len out.old + length (row_spelling (Queue queue.now)) ≤ vec_capacity out.old → IsOk result }
+    ensures kept { OnErr result (out.new.items ≡ out.old.items) }
+    ensures grown { vec_capacity out.old ≤ vec_capacity out.new }
 {
     out.reserve(1 + added_len(queue) + queue_state_len(queue))?;
     put(out, &0x41u8.to_be_bytes());

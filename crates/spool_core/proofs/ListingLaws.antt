@@ -156,9 +156,6 @@ queue_more qs i d x old mid new lt is first more =
     (sym (ap (map row) (take_more qs i d lt) ∙ map-append row (take i qs) (get_or qs i d ∷ []) ∙ ap (λ (q : QueueRow). map row (take i qs) ++ row q ∷ []) (sym is)))
     (added_then (map row (take i qs)) (row x ∷ []) old mid new first more)
 
-pub same_attribute : (a b : Attribute) → (b.name ≡ a.name) × (b.value ≡ a.value) → b ≡ a
-same_attribute a b is = λ i. record { name = is.0 i; value = is.1 i }
-
 -- ## The pieces of a document
 
 less_count : (n : ℕ) → 0 < n → n ≤ 65536 → (n + 65535) / 65536 ≡ 1

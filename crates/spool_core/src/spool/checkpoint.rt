@@ -142,7 +142,7 @@ fn listing_frames(alloc: Global, table: &Table) -> Result<Vec<Vec<u8>>, AllocErr
     let _highest = table.highest();
     let zeros = vec![in alloc; 0; LONGEST_SEND]?;
     let mut frames = Vec::new(alloc);
-    add_frame(alloc, &mut frames, &Row::Head(table.head()))?;
+    add_owned(alloc, &mut frames, Row::Head(table.head()))?;
     add_queues(alloc, &mut frames, queues)?;
     add_jobs(alloc, &mut frames, &zeros, jobs)?;
     Ok(frames)
@@ -205,7 +205,7 @@ fn add_job(
 {
     // There are at most 15, so that a row can tell the stage.
     let _filters = job.filters.as_slice();
-    add_frame(alloc, frames, &Row::Job(listed(job)?))?;
+    add_owned(alloc, frames, Row::Job(listed(job)?))?;
     add_pieces(alloc, frames, zeros, job.id, document_len(job))
 }
 
@@ -248,9 +248,19 @@ fn add_piece(
     ensures { OnOk result (AreAdded (RowOf.Piece job bytes.now ∷ []) frames.old.items frames.new.items) }
 {
     match Piece::new(Vec::from_slice(alloc, bytes)?) {
-        Ok(bytes) => add_frame(alloc, frames, &Row::Piece { job, bytes }),
+        Ok(bytes) => add_owned(alloc, frames, Row::Piece { job, bytes }),
         Err(_) => unreachable!(),
     }
+}
+
+// Adds the frame of a row, which is let go by one call, and not kind by kind at each way out.
+fn add_owned(alloc: Global, frames: &mut Vec<Vec<u8>>, row: Row) -> Result<(), AllocError>
+    requires { IsLegalRow row }
+    ensures { OnOk result (AreAdded (row ∷ []) frames.old.items frames.new.items) }
+{
+    let added = add_frame(alloc, frames, &row);
+    drop(row);
+    added
 }
 
 // Adds the frame of a row: four free bytes, its spelling and one free byte.

@@ -115,11 +115,15 @@ pub(super) fn journal_reopening<D: Disk>(
     ended_jobs_stay();
     reopening();
     let event = Event::Reopen;
-    match table.prepare(&event) {
+    let prepared = table.prepare(&event);
+    let filled = fill_frame(frame, &event);
+    // Let go by a call: at the end of its scope each of its kinds would be a case of each way out.
+    drop(event);
+    match prepared {
         Ok(()) => {}
         Err(_) => unreachable!(),
     }
-    match fill_frame(frame, &event) {
+    match filled {
         Ok(()) => {}
         Err(_) => return Err(OpenFault::Memory),
     }

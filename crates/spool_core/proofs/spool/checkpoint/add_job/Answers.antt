@@ -9,17 +9,17 @@ use Rattle.spool_core.specs.Checkpointing.{AreAdded}
 use Rattle.spool_core.proofs.ListingLaws.{added_then, legal_job, on_ok}
 use Rattle.spool_core.proofs.spool.checkpoint.add_job.Goals as goal
 
-pub add_frame-requires : goal.add_frame-requires
-add_frame-requires c =
+pub add_owned-requires : goal.add_owned-requires
+add_owned-requires c =
     subst (λ (r : ListedJob). IsLegalRow (Job r)) (sym c.in_ok-listed.ensures) (legal_job (job_of c.args.job.now) c.requires.may c.as_slice-filters.ensures.short)
 
 pub returns : goal.returns
 returns c =
     let r = job_of c.args.job.now in
     let start = c.args.frames.now.items in
-    let mid = c.add_frame.new.frames.items in
+    let mid = c.add_owned.new.frames.items in
     on_ok c.add_pieces.result c.add_pieces.ensures
     (λ more.
     added_then (Job (listed r) ∷ []) (map (λ bytes. Piece r.id bytes) (pieces (replicate (document_len r) 0))) start mid c.add_pieces.new.frames.items
-    (subst (λ (row : ListedJob). AreAdded (Job row ∷ []) start mid) c.in_ok-listed.ensures c.in_ok-add_frame.ensures)
+    (subst (λ (row : ListedJob). AreAdded (Job row ∷ []) start mid) c.in_ok-listed.ensures c.in_ok-add_owned.ensures)
     (subst (λ (n : ℕ). AreAdded (map (λ part. Piece r.id part) (pieces (replicate n 0))) mid c.add_pieces.new.frames.items) c.document_len.ensures more))

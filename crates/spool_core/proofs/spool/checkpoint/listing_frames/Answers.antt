@@ -39,11 +39,11 @@ returns-clause-frames c =
     let s = c.args.table.now.state in
     let queues : List Row = map (λ (q : QueueRow). Queue q) c.queues-queues.result.now in
     let jobs : List Row = flat_map blank_rows (map job_of c.jobs-jobs.result.now) in
-    let first = c.add_frame.new.frames.items in
+    let first = c.add_owned.new.frames.items in
     let second = c.add_queues.new.frames.items in
     let third = c.add_jobs.new.frames.items in
     let added =
-    added_then (Head c.head.result ∷ []) (queues ++ jobs) c.new-frames.result.items first third c.in_ok-add_frame.ensures
+    added_then (Head c.head.result ∷ []) (queues ++ jobs) c.new-frames.result.items first third c.in_ok-add_owned.ensures
     (added_then queues jobs first second third c.in_ok-add_queues.ensures c.in_ok-add_jobs.ensures) in
     subst (λ (rows : List Row). AreFramesOf rows third)
     ((λ i. Head (c.head.ensures i) ∷ (map (λ (q : QueueRow). Queue q) (c.queues-queues.ensures.rows i) ++ flat_map blank_rows (c.jobs-jobs.ensures.rows i)))

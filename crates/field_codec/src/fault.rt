@@ -1,7 +1,7 @@
 //! Why bytes are no event, or no row.
 ghost use Rattle.std.specs.Prelude.{◌≡◌};
-ghost use Rattle.event_codec.specs.declared.fault.CodecFault.TheVariants.{Range, Memory};
-ghost use Rattle.event_codec.specs.Reading.{codec_fault};
+ghost use Rattle.field_codec.specs.declared.fault.CodecFault.TheVariants.{Range, Memory};
+ghost use Rattle.field_codec.specs.Fields.{codec_fault};
 
 use spool_types::TextFault;
 use std::alloc::{AllocError, AllocFailed};
