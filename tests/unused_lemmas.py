@@ -53,7 +53,7 @@ def definitions(text):
 def words(text):
     counts = {}
     for word in WORD.findall(text):
-        for part in {word, word.strip("'?"), *word.split("◌")}:
+        for part in {word, word.strip("'?"), *word.split("◌"), *word.split("::")}:
             counts[part] = counts.get(part, 0) + 1
     return counts
 
