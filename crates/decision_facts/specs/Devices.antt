@@ -16,8 +16,8 @@ abbrev pub two_entries : List ℕ
 two_entries = hex (codes "A5 00 00 00 05 0A 00 00 00 01 A5 00 00 00 01 0F 00 00 00 00")
 
 -- an area of twenty bytes: its entries, and a record behind them that leaves it
-abbrev pub EntryRows : Type 0
-EntryRows = map (entry_at two_entries 20) (0 ∷ 10 ∷ 16 ∷ []) ≡ Entry 5 5 ∷ Entry 15 1 ∷ End ∷ []
+abbrev pub JournalRows : Type 0
+JournalRows = map (entry_at two_entries 20) (0 ∷ 10 ∷ 16 ∷ []) ≡ Entry 5 5 ∷ Entry 15 1 ∷ End ∷ []
 
 abbrev pub DamagedRows : Type 0
 DamagedRows = entry_at (overwritten 16 (165 ∷ []) two_entries) 20 16 ≡ Damaged

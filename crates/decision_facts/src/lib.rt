@@ -29,7 +29,7 @@ ghost use Rattle.decision_facts.specs.ListedRows.{ListedRows, LeastRows, PhaseRo
 ghost use Rattle.decision_facts.specs.ListedFaults.{ListedFaultRows, QueueFaultRows, PhaseFaultRows};
 ghost use Rattle.decision_facts.specs.Options.{OptionRows, OptionFaultRows, LastValueRows};
 ghost use Rattle.decision_facts.specs.Children.{FileRows, ArgumentRows};
-ghost use Rattle.decision_facts.specs.Devices.{EntryRows, DamagedRows, ClosedRows, LeastAreaRows, MadeRows, MadeAnewRows, AreaRows, HeaderFaultRows, PlanRows};
+ghost use Rattle.decision_facts.specs.Devices.{JournalRows, DamagedRows, ClosedRows, LeastAreaRows, MadeRows, MadeAnewRows, AreaRows, HeaderFaultRows, PlanRows};
 
 /// Limits, texts, media types and the size of effects.
 pub fn values()
@@ -119,6 +119,7 @@ pub fn options()
 {}
 
 /// What a child is run with.
+#[tactic(auto, unfolding(crate::proofs::Computing::printing_numbers))]
 pub fn children()
     ensures files { FileRows }
     ensures arguments { ArgumentRows }
@@ -126,7 +127,7 @@ pub fn children()
 
 /// What bytes of a device are.
 pub fn devices()
-    ensures entries { EntryRows }
+    ensures entries { JournalRows }
     ensures damaged { DamagedRows }
     ensures closed { ClosedRows }
     ensures least { LeastAreaRows }

@@ -1,8 +1,6 @@
 //! Effects that are folded into a queue.
-ghost use Rattle.std.specs.Prelude.{IfOk};
-
-use crate::samples::sample_queue;
 use row_effects::{Spare, fold_queue, queues_stay_in_order};
+use sample_rows::sample_queue;
 use spool_types::{
     Attribute, AttributeName, Effect, Items, Level, Message, QueueRow, Reason, Words,
 };
@@ -18,17 +16,20 @@ fn words(alloc: Global, text: &str) -> Result<Words, Fail> {
     Ok(Items::new(words).ok().ok_or("too many words")?)
 }
 
-fn attribute(alloc: Global, name: &str, value: &str) -> Result<Effect, Fail> {
-    Ok(Effect::Attribute(Attribute {
-        name: AttributeName::read(alloc, name)?,
-        value: Message::read(alloc, value)?,
-    }))
-}
-
-fn message(alloc: Global, text: &str) -> Result<Effect, Fail> {
-    Ok(Effect::Message {
-        level: Level::Error,
-        text: Message::read(alloc, text)?,
+// The effect of a kind: `=`, `+` or `-` and words, `!` and a text, or the name of an attribute and its value.
+fn effect(alloc: Global, kind: &str, text: &str) -> Result<Effect, Fail> {
+    Ok(match kind {
+        "=" => Effect::SetReasons(words(alloc, text)?),
+        "+" => Effect::AddReasons(words(alloc, text)?),
+        "-" => Effect::DropReasons(words(alloc, text)?),
+        "!" => Effect::Message {
+            level: Level::Error,
+            text: Message::read(alloc, text)?,
+        },
+        name => Effect::Attribute(Attribute {
+            name: AttributeName::read(alloc, name)?,
+            value: Message::read(alloc, text)?,
+        }),
     })
 }
 
@@ -47,22 +48,32 @@ fn shown(alloc: Global, row: &QueueRow) -> Result<String, Fail> {
     Ok(text)
 }
 
+const ROWS: [(&str, &str); 7] = [
+    ("=", "b a b"),
+    ("+", "d c a"),
+    ("-", "d x a"),
+    ("size", "a4"),
+    ("colour", "no"),
+    ("size", "a3"),
+    ("!", "jam"),
+];
+
+fn effects(alloc: Global) -> Result<Vec<Effect>, Fail> {
+    let mut effects = Vec::new(alloc);
+    for (kind, text) in ROWS {
+        effects.push(effect(alloc, kind, text)?)?;
+    }
+    Ok(effects)
+}
+
 // By memory that is set aside before.
 #[test]
 fn each_effect_has_its_rule(rt: HostRuntime) -> Result<(), Fail> {
     let alloc = rt.alloc();
     queues_stay_in_order();
-    let mut row = sample_queue(alloc)?;
+    let mut row = sample_queue(alloc, "socket://printer")?;
     let mut spare = Spare::new(alloc);
-    let effects = vec![in alloc;
-        Effect::SetReasons(words(alloc, "b a b")?),
-        Effect::AddReasons(words(alloc, "d c a")?),
-        Effect::DropReasons(words(alloc, "d x a")?),
-        attribute(alloc, "size", "a4")?,
-        attribute(alloc, "colour", "no")?,
-        attribute(alloc, "size", "a3")?,
-        message(alloc, "jam")?,
-    ]?;
+    let effects = effects(alloc)?;
     spare.reserve(&effects)?;
     fold_queue(&mut row, &mut spare, effects);
     assert_eq!(rt; shown(alloc, &row)?.as_str(), "b c colour=no size=a3 jam");

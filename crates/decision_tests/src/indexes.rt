@@ -2,10 +2,11 @@
 ghost use Rattle.std.specs.Prelude.{IfOk};
 ghost use Rattle.queue_sched.specs.Index.{HasEachOnce};
 
-use crate::samples::{Held, Waiting, entry, moment, sample_queue, waiting_row};
+use crate::samples::{Held, Waiting, entry, moment, waiting_row};
 use Change::{Add, Bring, Take};
 use Held::{ForGood, Free, Until};
 use queue_sched::{Entry, Index, beats, next_job};
+use sample_rows::sample_queue;
 use spool_types::{JobId, JobRow, Phase};
 use std::alloc::Global;
 use std::test::Fail;
@@ -220,7 +221,7 @@ fn end(index: &mut Index, rows: &mut Vec<JobRow>, id: JobId) -> Result<(), Fail>
 
 #[test]
 fn the_next_job_is_that_of_the_scan(rt: HostRuntime) -> Result<(), Fail> {
-    let queue = sample_queue(rt.alloc())?;
+    let queue = sample_queue(rt.alloc(), "socket://printer")?;
     let mut rows = many_rows(rt.alloc())?;
     let mut index = index_of(rt.alloc(), &rows)?;
     for turn in 0..99u64 {

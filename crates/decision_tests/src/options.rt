@@ -1,7 +1,7 @@
 //! Options, and what a child is run with.
-use crate::samples::{sample_job, sample_queue};
 use filter_args::{ChildFile, Options, Place, environment, words};
-use spool_types::{JobRow, Phase};
+use sample_rows::{sample_job, sample_queue};
+use spool_types::{JobRow, Note, Phase, QueueRow};
 use std::alloc::Global;
 use std::test::Fail;
 
@@ -63,11 +63,17 @@ fn the_arguments_are_in_their_order(rt: HostRuntime) -> Result<(), Fail> {
     Ok(())
 }
 
+fn queue(alloc: Global) -> Result<QueueRow, Fail> {
+    let mut queue = sample_queue(alloc, "spoolfile:/out")?;
+    queue.info = Note::read(alloc, "Front")?;
+    Ok(queue)
+}
+
 fn environment_lines(alloc: Global, job: &JobRow, side: bool) -> Result<String, Fail> {
     if !job.phase.is_processing() {
         return Err("not processing")?;
     }
-    let variables = environment(alloc, job, &sample_queue(alloc)?, &place(alloc, side)?)?;
+    let variables = environment(alloc, job, &queue(alloc)?, &place(alloc, side)?)?;
     lines(alloc, &variables)
 }
 

@@ -1,11 +1,9 @@
-//! Jobs, queues and entries of tests.
-ghost use Rattle.std.specs.Prelude.{◌≡◌, [], IfOk};
+//! Waiting jobs of tests, as plain numbers.
+ghost use Rattle.std.specs.Prelude.{◌≡◌, IfOk};
 
 use queue_sched::Entry;
-use spool_types::{
-    Copies, Hold, HoldReason, Interval, Items, JobId, JobRow, MediaType, Message, Moment, Note,
-    OptionText, Phase, Policy, Priority, QueueName, QueueRow, Title, Uri, UserName,
-};
+use sample_rows::sample_job;
+use spool_types::{Hold, HoldReason, JobId, JobRow, Moment, Phase, Priority};
 use std::alloc::Global;
 use std::test::Fail;
 
@@ -54,49 +52,5 @@ pub(crate) fn waiting_row(alloc: Global, entry: &Entry) -> Result<JobRow, Fail> 
         id: entry.id,
         priority: entry.priority,
         ..sample_job(alloc, phase)?
-    })
-}
-
-/// Job 7 of the queue `lab`, in this phase, with no filter and no document.
-pub(crate) fn sample_job(alloc: Global, phase: Phase) -> Result<JobRow, Fail>
-    ensures phase { IfOk result (λ row. row.phase ≡ phase) }
-{
-    Ok(JobRow {
-        id: JobId::new(7).ok_or("no number of a job")?,
-        queue: QueueName::read(alloc, "lab")?,
-        user: UserName::read(alloc, "ann")?,
-        title: Title::read(alloc, "P 1")?,
-        copies: Copies::new(2).ok_or("no copies")?,
-        priority: Priority::new(50).ok_or("no priority")?,
-        options: OptionText::read(alloc, "media=A4")?,
-        media: Some(MediaType::read(alloc, "text/plain")?),
-        filters: Items::empty(alloc),
-        attempts: 1,
-        pages: 0,
-        size: 3,
-        phase,
-        document: Vec::new(alloc),
-    })
-}
-
-/// The queue `lab`, with no message, reasons or attributes.
-pub(crate) fn sample_queue(alloc: Global) -> Result<QueueRow, Fail>
-    ensures reasons { IfOk result (λ row. row.reasons ≡ []) }
-    ensures attributes { IfOk result (λ row. row.attributes ≡ []) }
-{
-    Ok(QueueRow {
-        name: QueueName::read(alloc, "lab")?,
-        uri: Uri::read(alloc, "spoolfile:/out")?,
-        target: MediaType::read(alloc, "application/x-prn")?,
-        policy: Policy::AbortJob,
-        interval: Interval::new(30).ok_or("no interval")?,
-        limit: 5,
-        info: Note::read(alloc, "Front")?,
-        location: Note::empty(alloc),
-        accepting: true,
-        stopped: false,
-        message: Message::empty(alloc),
-        reasons: Items::empty(alloc),
-        attributes: Items::empty(alloc),
     })
 }

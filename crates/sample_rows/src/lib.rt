@@ -34,7 +34,10 @@ pub fn sample_job(alloc: Global, phase: Phase) -> Result<JobRow, TextFault>
 }
 
 /// The queue `lab` of a device at this URI, with no message, reasons or attributes.
-pub fn sample_queue(alloc: Global, uri: &str) -> Result<QueueRow, TextFault> {
+pub fn sample_queue(alloc: Global, uri: &str) -> Result<QueueRow, TextFault>
+    ensures reasons { IfOk result (λ row. row.reasons ≡ []) }
+    ensures attributes { IfOk result (λ row. row.attributes ≡ []) }
+{
     Ok(QueueRow {
         name: QueueName::read(alloc, "lab")?,
         uri: Uri::read(alloc, uri)?,
