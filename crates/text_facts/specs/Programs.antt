@@ -17,19 +17,19 @@ worded path word = record { path = text path; word = Some (text word) }
 abbrev pub named : {K : Type 0} → String → ListedProgram → Listed K
 named name program = record { name = text name; program = program }
 
--- these filters, these backends, this end of the side channel
+-- a list of these filters alone, and one of these backends alone
 abbrev pub filters : List (String × ListedProgram) → Programs
-filters list = record no_programs { filters = map (λ p. named p.0 p.1) list }
+filters list = record no_programs { filters = map (λ (p : String × ListedProgram). named p.0 p.1) list }
 
 abbrev pub backends : List (String × ListedProgram) → Programs
-backends list = record no_programs { backends = map (λ p. named p.0 p.1) list }
+backends list = record no_programs { backends = map (λ (p : String × ListedProgram). named p.0 p.1) list }
 
 -- a text that is read, and what it names
 abbrev pub AreRead : List (String × Programs) → Type 0
 AreRead rows = map (λ (p : String × Programs). (reads (text p.0), programs_in (text p.0))) rows ≡ map (λ (p : String × Programs). (true, p.1)) rows
 
 abbrev pub AreRefused : List String → Type 0
-AreRefused rows = map (λ written. reads (text written)) rows ≡ map (λ _. false) rows
+AreRefused rows = map (λ (written : String). reads (text written)) rows ≡ map (λ (written : String). false) rows
 
 -- blanks, empty lines and remarks
 abbrev pub SilentRows : Type 0

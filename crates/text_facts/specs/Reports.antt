@@ -20,7 +20,7 @@ abbrev pub AreReported : List Line → Type 0
 AreReported rows = map (λ (l : Line). report_of l.said) rows ≡ map (λ (l : Line). record { effects = l.effects; dropped = 0 }) rows
 
 abbrev pub AreSilent : List String → Type 0
-AreSilent rows = AreReported (map (λ said. line said []) rows)
+AreSilent rows = AreReported (map (λ (said : String). line said []) rows)
 
 -- the lines of a text in their order
 abbrev pub TextRows : Type 0
