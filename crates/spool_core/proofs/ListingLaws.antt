@@ -14,7 +14,6 @@ use Rattle.spool_types.specs.Limits.{longest_send}
 use Rattle.spool_types.specs.State.{Job}
 use Rattle.spool_types.specs.declared.phase.Phase.{Phase}
 use Rattle.spool_types.specs.declared.phase.Phase.TheVariants.{Incoming, Waiting, Processing, Completed, Canceled, Aborted}
-use Rattle.spool_types.specs.declared.effect.Attribute.{Attribute}
 use Rattle.spool_types.specs.declared.rows.QueueRow.{QueueRow}
 use Rattle.spool_types.specs.declared.listing.Row.{Row}
 use Rattle.spool_types.specs.declared.listing.Row.TheVariants.{Queue, Job as JobRow, Piece}
@@ -155,9 +154,6 @@ queue_more qs i d x old mid new lt is first more =
     subst (λ (rows : List Row). AreAdded rows old new)
     (sym (ap (map row) (take_more qs i d lt) ∙ map-append row (take i qs) (get_or qs i d ∷ []) ∙ ap (λ (q : QueueRow). map row (take i qs) ++ row q ∷ []) (sym is)))
     (added_then (map row (take i qs)) (row x ∷ []) old mid new first more)
-
-pub same_attribute : (a b : Attribute) → (b.name ≡ a.name) × (b.value ≡ a.value) → b ≡ a
-same_attribute a b is = λ i. record { name = is.0 i; value = is.1 i }
 
 -- ## The pieces of a document
 
