@@ -14,7 +14,6 @@ use Rattle.spool_types.specs.Limits.{longest_send}
 use Rattle.spool_types.specs.State.{Job}
 use Rattle.spool_types.specs.declared.phase.Phase.{Phase}
 use Rattle.spool_types.specs.declared.phase.Phase.TheVariants.{Incoming, Waiting, Processing, Completed, Canceled, Aborted}
-use Rattle.spool_types.specs.declared.effect.Attribute.{Attribute}
 use Rattle.spool_types.specs.declared.rows.QueueRow.{QueueRow}
 use Rattle.spool_types.specs.declared.listing.Row.{Row}
 use Rattle.spool_types.specs.declared.listing.Row.TheVariants.{Queue, Job as JobRow, Piece}
