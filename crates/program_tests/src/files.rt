@@ -1,0 +1,200 @@
+use log::{Level, Logged};
+use spool_disk::Disk;
+use spool_host::{ShellWords, WarningLines, memory_device, run, tell_end};
+use std::cell::RefCell;
+use std::fmt::Display;
+use std::io::Write;
+use std::test::Fail;
+use std::{fs, io};
+
+// Standard error, kept.
+#[derive(Drop)]
+struct Kept {
+    text: RefCell<Vec<u8>>,
+}
+
+impl Eprint for Kept {
+    fn eprint<D: Display + Drop>(&self, value: D) -> io::Result<()> {
+        match self.text.try_borrow_mut() {
+            Ok(mut text) => write!(text, "{value}"),
+            Err(_) => Ok(()),
+        }
+    }
+
+    fn eprintln<D: Display + Drop>(&self, value: D) -> io::Result<()> {
+        match self.text.try_borrow_mut() {
+            Ok(mut text) => text.writeln(value),
+            Err(_) => Ok(()),
+        }
+    }
+}
+
+// The folder, and the files of types, conversions and programs.
+type Named = [Option<&'static str>; 4];
+
+// What a run over the command `queues` tells: its reply, and then what stands on standard error.
+fn told(rt: HostRuntime, named: Named) -> Result<Vec<u8>, Fail> {
+    let [root, types, convs, programs] = named;
+    let words = ShellWords {
+        root,
+        types,
+        convs,
+        programs,
+        size: 4_096,
+        devices: false,
+    };
+    let errors = Kept {
+        text: RefCell::new(Vec::new(rt.alloc())),
+    };
+    let mut told = Vec::new(rt.alloc());
+    let logged = Logged::new(rt, Level::Warn, WarningLines(&errors));
+    let ended = run(&logged, &rt, words, &mut b"queues\n".as_slice(), &mut told);
+    let _ = tell_end(&errors, ended);
+    let Kept { text } = errors;
+    told.extend_from_slice(text.into_inner().as_slice())?;
+    Ok(told)
+}
+
+const TYPES: &str = "program_tests.files/a.types";
+
+const CONVS: &str = "program_tests.files/a.convs";
+
+const PROGRAMS: &str = "program_tests.files/a.programs";
+
+const ABSENT: &str = "program_tests.files/absent";
+
+// No line can be read, and the third goes on in the fourth.
+const BAD_TYPES: &[u8] =
+    b"a/a regex(0,\"x\")\nimage gif\na/b \\\npriority(201)\na/c string(0,<F>)\na/d (x\n";
+
+// No line can be read.
+const BAD_CONVS: &[u8] = b"a/a b/b 10001 f\na/a b/b 10\na/a b/* 10 f\n";
+
+// What is told of both.
+const WARNINGS: &str = concat!(
+    "ok 0\n",
+    "spool: warning 1 UnknownRule\n",
+    "spool: warning 2 BadType\n",
+    "spool: warning 3 BadNumber\n",
+    "spool: warning 5 BadText\n",
+    "spool: warning 6 BadRule\n",
+    "spool: warning 1 BadNumber\n",
+    "spool: warning 2 BadLine\n",
+    "spool: warning 3 BadType\n",
+);
+
+const ALL: Named = [Some(ABSENT), Some(TYPES), Some(CONVS), Some(PROGRAMS)];
+
+// A file that is written first, what is named then, and what is told.
+const RUNS: [(&str, &[u8], Named, &str); 10] = [
+    // They are looked for in their order, before the folder is.
+    (
+        "program_tests.files/other",
+        b"",
+        ALL,
+        "spool: file program_tests.files/a.types\n",
+    ),
+    (
+        TYPES,
+        BAD_TYPES,
+        ALL,
+        "spool: file program_tests.files/a.convs\n",
+    ),
+    (
+        CONVS,
+        BAD_CONVS,
+        ALL,
+        "spool: file program_tests.files/a.programs\n",
+    ),
+    (
+        PROGRAMS,
+        b"filter f /f\nfilter f\n",
+        ALL,
+        "spool: file program_tests.files/a.programs\n",
+    ),
+    (
+        PROGRAMS,
+        b"filter f /f\n",
+        [None, None, None, Some(PROGRAMS)],
+        "ok 0\n",
+    ),
+    // Lines that don't read are warned of, before the folder is looked for.
+    (
+        PROGRAMS,
+        b"",
+        [None, Some(TYPES), Some(CONVS), None],
+        WARNINGS,
+    ),
+    (
+        CONVS,
+        b"# none\na/a b/b 10\n",
+        [Some(ABSENT), None, Some(CONVS), None],
+        "spool: warning 2 BadLine\nspool: disk\n",
+    ),
+    // They are text.
+    (
+        TYPES,
+        b"text/plain txt\n",
+        [None, Some(TYPES), None, None],
+        "ok 0\n",
+    ),
+    (
+        CONVS,
+        b"a/a b/b 10 \xff\n",
+        [None, Some(TYPES), Some(CONVS), None],
+        "spool: file program_tests.files/a.convs\n",
+    ),
+    (
+        PROGRAMS,
+        b"",
+        [None, Some(CONVS), Some(TYPES), None],
+        "spool: file program_tests.files/a.convs\n",
+    ),
+];
+
+#[test]
+fn files_are_read_in_their_order(rt: HostRuntime) -> Result<(), Fail> {
+    fs::create_dir(&rt, "program_tests.files")?;
+    for (name, text, named, wanted) in RUNS {
+        fs::write(&rt, name, text)?;
+        let got = told(rt, named)?;
+        assert_eq!(rt; got.as_slice(), wanted.as_bytes(), "{name}");
+    }
+    fs::remove_dir_all(&rt, "program_tests.files")?;
+    Ok(())
+}
+
+// What is told of a spool file with these bytes, which stay as they are.
+fn told_of(rt: HostRuntime, bytes: &[u8]) -> Result<Vec<u8>, Fail> {
+    let file = "program_tests.held/spool.disk";
+    fs::create_dir(&rt, "program_tests.held")?;
+    fs::write(&rt, file, bytes)?;
+    let told = told(rt, [Some("program_tests.held"), None, None, None])?;
+    if fs::read(&rt, file)?.as_slice() != bytes {
+        return Err(Fail::from("the file has changed"));
+    }
+    fs::remove_dir_all(&rt, "program_tests.held")?;
+    Ok(told)
+}
+
+#[test]
+fn a_file_that_is_no_whole_spool_stays(rt: HostRuntime) -> Result<(), Fail> {
+    let no_spool = b"spool: not-a-spool\n".as_slice();
+    for zeros in [0, 45, 4_096] {
+        let bytes = vec![in rt.alloc(); 0; zeros]?;
+        assert_eq!(rt;
+            told_of(rt, bytes.as_slice())?.as_slice(),
+            no_spool,
+            "{zeros} zeros"
+        );
+    }
+    let mut disk = memory_device(rt.alloc(), 4_096)?;
+    assert_eq!(rt; told_of(rt, disk.bytes())?.as_slice(), b"ok 0\n".as_slice());
+    // The record of an event that there isn't, and then the next closed gate.
+    assert!(rt; disk.write(16, &[0xA5, 0, 0, 0, 1, 0x7F, 0]).is_ok());
+    assert_eq!(rt;
+        told_of(rt, disk.bytes())?.as_slice(),
+        b"spool: damaged 16\n".as_slice()
+    );
+    Ok(())
+}

@@ -1,0 +1,13 @@
+//! The tests of the two programs' libraries: words, faults, folders, files and runs of the spooler, and the small tools.
+#![tactic(auto)]
+
+#[cfg(test)]
+mod files;
+#[cfg(test)]
+mod folders;
+#[cfg(test)]
+mod runs;
+#[cfg(test)]
+mod tools;
+#[cfg(test)]
+mod words;

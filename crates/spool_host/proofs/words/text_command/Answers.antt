@@ -1,0 +1,13 @@
+use Rattle.std.proofs.Common.{rules, ap, ap₂, codes, ◌≡◌, ◌∙◌}
+use Rattle.std.proofs.lemmas.Result.{IfOk-weaker}
+use Rattle.clap.specs.Words.{new_app, with_rule}
+use Rattle.clap.specs.Simple.{app_of, app_of_fields}
+use Rattle.spool_host.proofs.words.text_command.Goals as goal
+
+pub returns : goal.returns
+returns c =
+    let about_is : app_of c.about.result ≡ new_app (codes "spool_shell") = ap app_of_fields c.about.ensures ∙ c.new.ensures.app in
+    IfOk-weaker c.arg-4.result _ _ (λ command added. added.shape (search rules)
+    ∙ ap₂ with_rule (c.in_ok-arg-3.ensures.shape (search rules) ∙ ap₂ with_rule (c.in_ok-arg-2.ensures.shape (search rules)
+    ∙ ap₂ with_rule (c.in_ok-arg.ensures.shape (search rules) ∙ ap₂ with_rule about_is c.text_arg-root.ensures.rule)
+    c.text_arg-types.ensures.rule) c.text_arg-convs.ensures.rule) c.text_arg-programs.ensures.rule) c.arg-4.ensures

@@ -1,0 +1,10 @@
+pub mod ChildFiles
+pub mod DeviceLines
+pub mod Ending
+pub mod Faults
+pub mod Launching
+pub mod Running
+pub mod Script
+pub mod Serving
+pub mod SideDevice
+pub mod Words

@@ -1,0 +1,64 @@
+-- How a spool is opened and served.
+use Rattle.std.specs.Prelude.{◌≡◌, ◌⊎◌, ℕ, List, Bool, false, Option, Some, Result, Err, codes}
+use Rattle.std.specs.FinMap as finite
+use Rattle.std.specs.String.{string_bytes}
+use Rattle.child_pipeline.specs.Told.{Told}
+use Rattle.filter_args.specs.declared.place.Place.{Place}
+use Rattle.print_rounds.specs.Courses.{Course, course}
+use Rattle.spool_disk.specs.Disk.{DiskView}
+use Rattle.spool_core.specs.Image.{IsFaultOf, IsReopenedFrom}
+use Rattle.spool_core.specs.Standing.{Standing}
+use Rattle.spool_core.specs.declared.OpenFault.{OpenFault}
+use Rattle.spool_engine.specs.EventTurns.{setting}
+use Rattle.spool_engine.specs.Mime.{Mime}
+use Rattle.spool_engine.specs.Runs.{Engine, IsRun, Turn}
+use Rattle.spool_engine.specs.declared.fault.RunFault.{RunFault}
+use Rattle.spool_host.specs.Ending.{ending_of}
+use Rattle.spool_host.specs.Faults.{of_opening}
+use Rattle.spool_host.specs.declared.fault.ShellFault.{ShellFault}
+
+-- the place of the children of a spool in the folder `root`
+pub record IsPlace (root : List ℕ) (side : Bool) (place : Place) : Type 0 where
+  pub folder : string_bytes place.root ≡ root
+  pub locale : string_bytes place.lang ≡ codes "C"
+  pub programs : string_bytes place.path ≡ codes "/usr/bin:/bin"
+  pub channel : place.side ≡ side
+
+-- ---- opening a disk
+
+-- The engine has a spool with the table of the disk's bytes after the policy, and holds no slot. It goes on with these
+-- rules, and in this place with children that tell this.
+pub record IsOpened {D : Type 0} (device : DiskView D) (mime : Mime) (place : Place) (told : Option Told) (disk : D) (engine : Engine D) : Type 0 where
+  pub spool : Standing D
+  pub table : (r : List ℕ) → device.bytes disk ≡ Some r → IsReopenedFrom spool.state r
+  pub alive : spool.dead ≡ false
+  pub course_is : engine.course ≡ course spool finite.empty told
+  pub rules_are : engine.mime ≡ mime
+  pub place_is : engine.place ≡ place
+
+-- the disk wasn't opened, for a fault that its bytes have, if it is one of bytes
+pub record IsUnread {D : Type 0} (device : DiskView D) (disk : D) (told : ShellFault) : Type 0 where
+  pub fault : OpenFault
+  pub cause : (r : List ℕ) → device.bytes disk ≡ Some r → IsFaultOf r fault
+  pub tells : told ≡ of_opening fault
+
+-- ---- serving it
+
+-- a run over the opened disk ended so
+pub record HasRun {D : Type 0} (device : DiskView D) (mime : Mime) (place : Place) (told : Option Told) (disk : D) (known : Option (List ℕ)) (result : Result (Unit {0}) ShellFault) (old new : Option (List ℕ)) : Type 0 where
+  pub engine : Engine D
+  pub after : Course D
+  pub text : List ℕ
+  pub turns : List (Turn D)
+  pub ran : Result (Unit {0}) RunFault
+  pub opened : IsOpened device mime place told disk engine
+  pub run : IsRun (setting device mime place) known engine.course text turns after ran old new
+  pub ends : result ≡ ending_of ran after.spool.dead
+
+-- it wasn't opened, and nothing was read or written
+pub record IsUnopened {D : Type 0} (device : DiskView D) (disk : D) (known left : Option (List ℕ)) (result : Result (Unit {0}) ShellFault) (old new : Option (List ℕ)) : Type 0 where
+  pub fault : ShellFault
+  pub cause : IsUnread device disk fault
+  pub ends : result ≡ Err fault
+  pub unread : left ≡ known
+  pub unwritten : new ≡ old

@@ -1,0 +1,182 @@
+//! The folder of a spool, and the file in it that is the spool's disk.
+//!
+//! # One owner
+//!
+//! The program owns the folder itself, by a lock that it takes before it looks at any name in it and keeps until it ends
+//! ([`SpoolFolder`]). So of two programs that start together on a fresh folder one makes the file, and the other one
+//! ends without a change. The file is locked too: another folder may lead to it, by a link.
+//!
+//! # A file is whole or absent
+//!
+//! The file is made under another name: written with zeros to its last byte, so that a full file system is found now,
+//! made a spool and synced. Only then it gets its own name. A crash leaves at most the unfinished file, which the next
+//! start removes. Where a step fails it is removed at once. It is made only where the name itself is absent: a file that
+//! can't be opened, a folder or a link that leads nowhere stays as it is.
+//!
+//! At every start the folder is synced before the first command is read.
+//!
+//! # Faults
+//!
+//! `memory`, or else `disk`: the folder can't be opened or locked, another program owns it or its file, or the file
+//! can't be looked at, opened, made or synced. What the file holds is looked at later, by `Spool::open`.
+ghost use Rattle.std.specs.Prelude.{◌≡◌, ◌≢◌, IfErr, OnOk, replicate};
+ghost use Rattle.std.specs.IoError.{error_kind};
+ghost use Rattle.std.specs.Io.KnownBytes.{Appends};
+ghost use Rattle.spool_host.specs.Faults.{IsOfFolder};
+
+use crate::fault::ShellFault;
+use spool_core::make;
+use spool_disk::FileDisk;
+use std::fs::{File, Files, OpenOptions};
+use std::io::{ErrorKind, Write};
+use std::os::unix::fs::OpenOptionsExt;
+use std::path::Path;
+use std::{fs, io};
+
+// The file's name in its folder, and its name until it is a whole spool.
+const NAME: &str = "spool.disk";
+
+const UNFINISHED: &str = "spool.disk.new";
+
+// How many zeros are written at once.
+const BLOCK: usize = 65_536;
+
+/// The folder of a spool. No other program has one of the same folder while this value lives.
+#[derive(Drop)]
+pub struct SpoolFolder<'a> {
+    path: Path<'a>,
+    folder: File,
+}
+
+impl<'a> SpoolFolder<'a> {
+    /// Takes the folder, which is there. Where another program owns it this is `Disk`, and nothing has changed.
+    pub fn own<R: Files<File = File> + AllocGlobal>(
+        rt: &R,
+        dir: &'a str,
+    ) -> Result<SpoolFolder<'a>, ShellFault>
+        ensures { IfErr result IsOfFolder }
+    {
+        let path = Path::new(dir);
+        // By this name nothing but a folder opens. By its own a pipe would wait for whoever writes to it.
+        let itself = path.join(rt.alloc(), ".")?;
+        let folder = locked(File::open(rt, itself.as_path())?)?;
+        Ok(SpoolFolder { path, folder })
+    }
+
+    /// The spool's file. Where the name isn't there it is made, with `size` bytes; one that is there stays as it is.
+    pub fn device<R: Files<File = File> + AllocGlobal>(
+        &self,
+        rt: &R,
+        size: u64,
+    ) -> Result<FileDisk, ShellFault>
+        ensures { IfErr result IsOfFolder }
+    {
+        let path = self.path.join(rt.alloc(), NAME)?;
+        let disk = if is_absent(rt, path.as_path())? {
+            self.make_device(rt, path.as_path(), size)?
+        } else {
+            open_device(rt, path.as_path())?
+        };
+        // At every start: a program that was killed before this left a name that a power cut may still take away, and
+        // with it all jobs that this one acknowledges.
+        self.folder.sync_all()?;
+        Ok(disk)
+    }
+
+    // Makes the file. What an earlier start left unfinished goes first, and what this one can't finish goes too.
+    fn make_device<R: Files<File = File> + AllocGlobal>(
+        &self,
+        rt: &R,
+        path: Path<'_>,
+        size: u64,
+    ) -> Result<FileDisk, ShellFault>
+        ensures { IfErr result IsOfFolder }
+    {
+        let unfinished = self.path.join(rt.alloc(), UNFINISHED)?;
+        remove_if_there(rt, unfinished.as_path())?;
+        let made = finish_device(rt, unfinished.as_path(), path, size);
+        if made.is_err() {
+            let _ = fs::remove_file(rt, unfinished.as_path());
+        }
+        made
+    }
+}
+
+// Whether nothing has this name, not even a link that leads nowhere.
+fn is_absent<R: Files>(rt: &R, path: Path<'_>) -> io::Result<bool> {
+    match fs::symlink_metadata(rt, path) {
+        Ok(_) => Ok(false),
+        Err(error) if error.kind() == ErrorKind::NotFound => Ok(true),
+        Err(error) => Err(error),
+    }
+}
+
+/// Removes the file, or the link, of this name. It is no fault that nothing has this name.
+pub fn remove_if_there<R: Files>(rt: &R, path: Path<'_>) -> io::Result<()>
+    ensures { IfErr result (λ error. error_kind error ≢ ErrorKind.NotFound) }
+{
+    match fs::remove_file(rt, path) {
+        Err(error) if error.kind() != ErrorKind::NotFound => Err(error),
+        _ => Ok(()),
+    }
+}
+
+// Opens the file that is there.
+fn open_device<R: Files<File = File>>(rt: &R, path: Path<'_>) -> Result<FileDisk, ShellFault>
+    ensures { IfErr result IsOfFolder }
+{
+    let file = OpenOptions::new().read(true).write(true).open(rt, path)?;
+    Ok(FileDisk::new(locked(file)?)?)
+}
+
+// Makes a whole spool, and then gives it its name.
+fn finish_device<R: Files<File = File>>(
+    rt: &R,
+    unfinished: Path<'_>,
+    path: Path<'_>,
+    size: u64,
+) -> Result<FileDisk, ShellFault>
+    ensures { IfErr result IsOfFolder }
+{
+    let mut file = locked(new_file(rt, unfinished)?)?;
+    write_zeros(&mut file, size)?;
+    file.sync_all()?;
+    let mut disk = FileDisk::new(file)?;
+    if make(&mut disk).is_err() {
+        return Err(ShellFault::Disk);
+    }
+    fs::rename(rt, unfinished, path)?;
+    Ok(disk)
+}
+
+// A file without bytes, which its owner alone may read.
+pub(crate) fn new_file<R: Files<File = File>>(rt: &R, path: Path<'_>) -> io::Result<File> {
+    OpenOptions::new()
+        .read(true)
+        .write(true)
+        .create_new(true)
+        .mode(0o600)
+        .open(rt, path)
+}
+
+// Writes so many zeros.
+fn write_zeros<W: Write>(writer: &mut W, count: u64) -> io::Result<()>
+    ensures { OnOk result (Appends (W.contents writer.old) (W.contents writer.new) (replicate count 0)) }
+{
+    let zeros = [0u8; BLOCK];
+    let block = BLOCK as u64;
+    for _ in 0..count / block {
+        writer.write_all(&zeros)?;
+    }
+    writer.write_all(&zeros[..(count % block) as usize])
+}
+
+// The file, or the folder, which no other program gets until this one lets it go.
+fn locked(file: File) -> Result<File, ShellFault>
+    ensures { IfErr result (λ fault. fault ≡ ShellFault.Disk) }
+{
+    match file.try_lock() {
+        Ok(()) => Ok(file),
+        Err(_) => Err(ShellFault::Disk),
+    }
+}

@@ -1,0 +1,91 @@
+//! What the words ask for is done.
+ghost use Rattle.std.specs.Prelude.{◌≡◌, IfSome, None, [], true, false, ⊤};
+ghost use Rattle.spool_host.specs.Running.{AreRules, IsNewSpool, ServesOrNot};
+
+use crate::device::SpoolFolder;
+use crate::devices::{ChildDiscovery, print_devices};
+use crate::fault::ShellFault;
+use crate::files::read_rules;
+use crate::launcher::launcher_in;
+use crate::serving::{memory_device, place_in, serve};
+use crate::words::ShellWords;
+use child_pipeline::NoChildren;
+use log::Log;
+use mime_costs::Convs;
+use mime_rules::Types;
+use program_lists::ProgramList;
+use spool_disk::{FileDisk, MemDisk};
+use std::alloc::Global;
+use std::fs::{File, Files};
+use std::io::{Read, Write};
+use std::net::Net;
+use std::process::Processes;
+
+/// Does what the words ask for: it prints the devices, or serves the commands over a spool.
+pub fn run<L, H, R: Read, W: Write>(
+    logged: &L,
+    rt: &H,
+    words: ShellWords<'_>,
+    reader: &mut R,
+    writer: &mut W,
+) -> Result<(), ShellFault>
+where
+    L: Files<File = File> + AllocGlobal + Log,
+    H: Files<File = File> + Net + Processes + AllocGlobal,
+    // Without a folder the spool is a new one in memory, of the size that the words say.
+    ensures memory { words.entry.devices ≡ false → words.entry.root ≡ None →
+        ServesOrNot MemDisk.device (IsNewSpool words.entry.size) (AreRules words.entry.types words.entry.convs) []
+        (R.remaining reader.old) (R.remaining reader.new) result (W.contents writer.old) (W.contents writer.new) }
+    ensures folder { words.entry.devices ≡ false → IfSome words.entry.root (λ dir.
+        ServesOrNot FileDisk.device (λ disk. ⊤) (AreRules words.entry.types words.entry.convs) dir.now
+        (R.remaining reader.old) (R.remaining reader.new) result (W.contents writer.old) (W.contents writer.new)) }
+    ensures devices { words.entry.devices ≡ true → R.remaining reader.new ≡ R.remaining reader.old }
+{
+    let (types, convs, programs) = read_rules(logged, words.types, words.convs, words.programs)?;
+    if words.devices {
+        return print_devices(rt.alloc(), &ChildDiscovery { rt }, &programs, writer);
+    }
+    let rules = (types, convs);
+    match words.root {
+        Some(dir) => serve_folder(rt, dir, words.size, programs, rules, reader, writer),
+        None => serve_memory(rt.alloc(), words.size, rules, reader, writer),
+    }
+}
+
+// Serves the commands over a new spool in memory, which starts no children.
+fn serve_memory<R: Read, W: Write>(
+    alloc: Global,
+    size: u64,
+    rules: (Types, Convs),
+    reader: &mut R,
+    writer: &mut W,
+) -> Result<(), ShellFault>
+    ensures { ServesOrNot MemDisk.device (IsNewSpool size) (λ mime. mime ≡ record { types = rules.0; convs = rules.1 }) []
+        (R.remaining reader.old) (R.remaining reader.new) result (W.contents writer.old) (W.contents writer.new) }
+{
+    let disk = memory_device(alloc, size)?;
+    let place = place_in(alloc, "", false)?;
+    serve(alloc, disk, (NoChildren, place), rules, reader, writer)
+}
+
+// Serves the commands over the spool of a folder, with the programs of the list as children.
+fn serve_folder<H, R: Read, W: Write>(
+    rt: &H,
+    dir: &str,
+    size: u64,
+    programs: ProgramList,
+    rules: (Types, Convs),
+    reader: &mut R,
+    writer: &mut W,
+) -> Result<(), ShellFault>
+where
+    H: Files<File = File> + Net + Processes + AllocGlobal,
+    ensures { ServesOrNot FileDisk.device (λ disk. ⊤) (λ mime. mime ≡ record { types = rules.0; convs = rules.1 }) dir.entry.now
+        (R.remaining reader.old) (R.remaining reader.new) result (W.contents writer.old) (W.contents writer.new) }
+{
+    // The folder is this program's until all commands have been served.
+    let folder = SpoolFolder::own(rt, dir)?;
+    let disk = folder.device(rt, size)?;
+    let children = launcher_in(rt, dir, programs)?;
+    serve(rt.alloc(), disk, children, rules, reader, writer)
+}

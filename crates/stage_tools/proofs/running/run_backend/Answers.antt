@@ -1,0 +1,19 @@
+use Rattle.std.proofs.Common.{◌≡◌, ℕ, List, Option, Result, Ok, Err, IfErr, OnOk, inl, inr, subst}
+use Rattle.std.specs.Io.KnownBytes.{Keeps}
+use Rattle.stage_tools.specs.Ending.{BackendEnds, Tells, status_of}
+use Rattle.stage_tools.specs.declared.fault.ToolFault.{ToolFault}
+use Rattle.stage_tools.specs.declared.fault.ToolFault.TheVariants.{Write}
+use Rattle.stage_tools.specs.declared.words.Backend.TheVariants.{SpoolFile}
+use Rattle.stage_tools.proofs.running.run_backend.Goals as goal
+
+-- the end of `spoolfile`, which has only one fault
+spooled : (ended : Result ℕ ToolFault) (status : ℕ) (old new : Option (List ℕ))
+    → IfErr ended (λ fault. fault ≡ Write) → status ≡ status_of ended → OnOk ended (Keeps old new) → IfErr ended (λ fault. Tells fault old new)
+    → BackendEnds SpoolFile old new status
+spooled (Ok given) status old new only is quiet told = inl quiet
+spooled (Err fault) status old new only is quiet told = inr (is, subst (λ f. Tells f old new) only told)
+
+pub returns-in-SpoolFile : goal.returns-in-SpoolFile
+returns-in-SpoolFile g c =
+    let told = c.tell_end.ensures in
+    rw c.in-SpoolFile.is (spooled c.spool-ended.result _ _ _ c.spool-ended.ensures told.status told.ok told.fault)

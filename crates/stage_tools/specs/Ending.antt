@@ -1,0 +1,68 @@
+-- How the tools end.
+use Rattle.std.specs.Prelude.{◌≡◌, ℕ, ◌⊎◌, ◌≤◌, List, [], ◌∷◌, ◌++◌, codes, Option, None, Some, Result, Ok, Err}
+use Rattle.std.specs.Io.KnownBytes.{Appends, Keeps}
+use Rattle.whole_writes.specs.Writes.{WroteSome}
+use Rattle.stage_tools.specs.Backends as backends
+use Rattle.stage_tools.specs.Filters.{Filtered}
+use Rattle.stage_tools.specs.Words.{Printed, Request, filter, backend, device_line, side_end}
+use Rattle.stage_tools.specs.declared.fault.ToolFault.{ToolFault}
+use Rattle.stage_tools.specs.declared.fault.ToolFault.TheVariants.{Device, Memory, Partner, Read, Side, Write}
+use Rattle.stage_tools.specs.declared.words.Backend.{Backend}
+use Rattle.stage_tools.specs.declared.words.Backend.TheVariants.{SpoolFile}
+use Rattle.stage_tools.specs.declared.words.Filter.{Filter}
+
+-- ---- faults
+
+abbrev pub message : ToolFault → List ℕ
+message Read = codes "cannot read"
+message Write = codes "cannot write"
+message Device = codes "no device"
+message Side = codes "no answer"
+message Partner = codes "no partner"
+message Memory = codes "out of memory"
+
+-- the line that tells a fault on standard error (filter(7))
+abbrev pub error_line : ToolFault → List ℕ
+error_line fault = codes "ERROR: " ++ message fault ++ 10 ∷ []
+
+-- this line was written, or as much of it as the writer took
+abbrev pub Tells : ToolFault → Option (List ℕ) → Option (List ℕ) → Type 0
+Tells fault old new = Appends old new (error_line fault) ⊎ WroteSome old new (error_line fault)
+
+-- the status that was asked for, and 1 after a fault
+abbrev pub status_of : Result ℕ ToolFault → ℕ
+status_of (Ok status) = status
+status_of (Err fault) = 1
+
+-- ---- the end of the program, by what its words ask for
+
+-- what is known of the document: nothing of a file
+abbrev pub known_of : {A : Type 0} → Option A → Option (List ℕ) → Option (List ℕ)
+known_of None input = input
+known_of (Some name) input = None
+
+-- all copies are written and their pages told, or it is 1
+abbrev pub FilterEnds : Filter → Printed → Option (List ℕ) → Option (List ℕ) → Option (List ℕ) → Option (List ℕ) → Option (List ℕ) → ℕ → Type 0
+FilterEnds tool d input out_old out_new err_old err_new status =
+    ((status ≡ 0) × Filtered tool d.copies (known_of d.file input) out_old out_new err_old err_new) ⊎ (status ≡ 1)
+
+-- Nothing is written on standard output. `spoolfile` tells its fault, and the others tell none.
+abbrev pub BackendEnds : Backend → Option (List ℕ) → Option (List ℕ) → ℕ → Type 0
+BackendEnds SpoolFile err_old err_new status = Keeps err_old err_new ⊎ ((status ≡ 1) × Tells Write err_old err_new)
+BackendEnds _ err_old err_new status = (status ≤ 1) × Keeps err_old err_new
+
+-- the whole line is written, or it is 1 and the line is cut
+abbrev pub LineEnds : List ℕ → Option (List ℕ) → Option (List ℕ) → ℕ → Type 0
+LineEnds line old new status = ((status ≡ 0) × Appends old new line) ⊎ ((status ≡ 1) × WroteSome old new line)
+
+abbrev pub Ends : Option Request → Option (List ℕ) → Option (List ℕ) → Option (List ℕ) → Option (List ℕ) → Option (List ℕ) → ℕ → Type 0
+Ends None input out_old out_new err_old err_new status =
+    (status ≡ 1) × Keeps out_old out_new × Keeps err_old err_new
+Ends (Some (filter tool d)) input out_old out_new err_old err_new status =
+    FilterEnds tool d input out_old out_new err_old err_new status
+Ends (Some (backend tool d)) input out_old out_new err_old err_new status =
+    Keeps out_old out_new × BackendEnds tool err_old err_new status
+Ends (Some (device_line tool)) input out_old out_new err_old err_new status =
+    LineEnds (backends.device_line tool) out_old out_new status × Keeps err_old err_new
+Ends (Some (side_end socket)) input out_old out_new err_old err_new status =
+    (status ≤ 1) × Keeps out_old out_new × Keeps err_old err_new

@@ -1,0 +1,20 @@
+-- The options of a device's URI that the backends know: of two with one name the last counts.
+use Rattle.std.specs.Prelude.{ℕ, codes, List, Option, None, Some, unwrap_or}
+use Rattle.device_options.specs.Options.{last_value}
+use Rattle.stage_tools.specs.Numbers.{ranged}
+
+-- the number that is given, or else the default
+abbrev pub number_in : ℕ → ℕ → Option (List ℕ) → ℕ
+number_in most default None = default
+number_in most default (Some value) = unwrap_or (ranged 0 most value) default
+
+abbrev pub number_of : List ℕ → ℕ → ℕ → List (List ℕ × List ℕ) → ℕ
+number_of name most default pairs = number_in most default (last_value name pairs)
+
+-- the status that `spoolfile` ends with
+abbrev pub exit_of : List (List ℕ × List ℕ) → ℕ
+exit_of pairs = number_of (codes "exit") 255 0 pairs
+
+-- how many times `meet` looks for its partner
+abbrev pub turns_of : List (List ℕ × List ℕ) → ℕ
+turns_of pairs = number_of (codes "turns") 4294967295 20 pairs
