@@ -3,7 +3,7 @@
 use crate::spelled::{bytes_of, events, listing};
 use event_codec::{decode_row, encode_queue_onto};
 use extents::Extent;
-use job_table::{LoadFault, Loading, Table, listed};
+use job_table::{LoadFault, Loading, Table, document_len, listed};
 use spool_core::replay;
 use spool_types::{
     Attribute, AttributeName, Attributes, Head, JobId, JobRow, Message, Moment, Phase, Piece,
@@ -51,11 +51,7 @@ fn queue_row(alloc: Global, queue: &QueueRow) -> Result<Row, Fail> {
 // The row of a job, and then its document as zeros, since a table has no bytes.
 fn take_job(alloc: Global, loading: &mut Loading, job: &JobRow) -> Result<(), Fail> {
     take(loading, Row::Job(listed(job)?))?;
-    let len = job
-        .document
-        .iter()
-        .map(|extent| extent.len as usize)
-        .sum::<usize>();
+    let len = document_len(job.phase, job.size);
     if 0 < len {
         let bytes = Piece::new(vec![in alloc; 0; len]?)
             .ok()
