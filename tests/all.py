@@ -42,6 +42,7 @@ SCRIPTS = {
     "allocations.py": [],
     "children.py": [],
     "images.py": [],
+    "events.py": [],
     "tools.py": [],
     "office.py": [],
     "stock.py": [],
@@ -54,7 +55,7 @@ ALONE = ["large.py"]
 
 # Scripts that the gate runs (`.ci/run`), the scripts that take hours and are run on demand, and what the scripts are made of.
 IN_GATE = ["out_of_memory.py", "unused_lemmas.py", "edits_apply.py"]
-ON_DEMAND = ["more_edits.py"]
+ON_DEMAND = ["gate_minutes.py", "more_edits.py"]
 PARTS = [
     "all.py",
     "allocations.txt",
@@ -71,6 +72,7 @@ PARTS = [
     "large_spelling.py",
     "large_tables.py",
     "stored_scripts.py",
+    "stories.py",
 ]
 
 PROGRAMS = ["error_report", "spool_shell", "spool_tools"]
