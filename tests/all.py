@@ -168,7 +168,7 @@ def main():
     missing = wants()
     skipped = [name for name in names if name in missing]
     for name in skipped:
-        print(f"{name:18} skipped: {missing[name][1]}", flush=True)
+        print(f"{name:18} skipped{'' if missing[name][0] else ' in part'}: {missing[name][1]}", flush=True)
     names = [name for name in names if not missing.get(name, (False,))[0]]
     begun = time.monotonic()
     room = tempfile.mkdtemp(prefix="tests-all-")
