@@ -45,6 +45,7 @@ SHELL_NAME = "shell"
 
 # The scripts whose allocations are refused, up to their first opening.
 REFUSED_SCRIPTS = [
+    "checkpoints_over_openings",
     "conversions_with_faults",
     "documents_over_checkpoints",
     "held_jobs",
@@ -53,11 +54,11 @@ REFUSED_SCRIPTS = [
     "typed_by_bytes",
 ]
 
-# The allocations that are refused of a test or a script: the first so many, and then one in so many, for about so many
-# seconds.
+# The allocations that are refused of a test: the first so many, and then one in so many. Of a script all are. Where that
+# takes more than so many seconds, every second one is, or every third.
 FIRST = 100
 STEP = 17
-BUDGET = 20
+BUDGET = 30
 AT_ONCE = 4
 SECONDS = 60
 
@@ -105,9 +106,8 @@ class Counting:
         return ended, [(int(count), word, file, text) for count, word, file, text in lines]
 
 
-def numbers(count, seconds):
-    """Which of so many allocations are refused, where a run takes so many seconds."""
-    chosen = [*range(1, min(count, FIRST) + 1), *range(FIRST + 1, count + 1, STEP)]
+def in_time(chosen, seconds):
+    """Those of the chosen allocations that are refused, where a run takes so many seconds."""
     most = max(8, int(BUDGET / max(seconds, 0.001)))
     return chosen[:: 1 + len(chosen) // most]
 
@@ -131,7 +131,7 @@ def looked_at(counting, crate, test):
     marked = list(taken_between_marks(calls))
     differ = [f"{crate} {name}: {call} took memory {taken} times" for call, taken in marked if taken]
     count = calls[-1][0]
-    for number in numbers(count, seconds):
+    for number in in_time([*range(1, min(count, FIRST) + 1), *range(FIRST + 1, count + 1, STEP)], seconds):
         ended = counting.run(words, b"", number)
         text = (ended.stdout + ended.stderr).decode(errors="replace")
         if ended.returncode == 0 or not REFUSED.search(text):
@@ -259,7 +259,8 @@ def script_refused(counting, name):
     seconds = time.monotonic() - begun
     shutil.rmtree(root)
     others = {}
-    faults = ((number, refused_reply(counting, script, number, others)) for number in numbers(calls[-1][0], seconds))
+    chosen = in_time(range(1, calls[-1][0] + 1), seconds)
+    faults = ((number, refused_reply(counting, script, number, others)) for number in chosen)
     return [f"{SHELL_NAME} {name}: allocation {number} refused: {fault}" for number, fault in faults if fault]
 
 
