@@ -42,6 +42,7 @@ SCRIPTS = {
     "allocations.py": [],
     "children.py": [],
     "images.py": [],
+    "events.py": [],
     "tools.py": [],
     "office.py": [],
     "stock.py": [],
@@ -54,7 +55,7 @@ ALONE = ["large.py"]
 
 # Scripts that the gate runs (`.ci/run`), the scripts that take hours and are run on demand, and what the scripts are made of.
 IN_GATE = ["out_of_memory.py", "unused_lemmas.py", "edits_apply.py"]
-ON_DEMAND = ["more_edits.py"]
+ON_DEMAND = ["gate_minutes.py", "more_edits.py"]
 PARTS = [
     "all.py",
     "allocations.txt",
@@ -71,6 +72,7 @@ PARTS = [
     "large_spelling.py",
     "large_tables.py",
     "stored_scripts.py",
+    "stories.py",
 ]
 
 PROGRAMS = ["error_report", "spool_shell", "spool_tools"]
@@ -166,7 +168,7 @@ def main():
     missing = wants()
     skipped = [name for name in names if name in missing]
     for name in skipped:
-        print(f"{name:18} skipped: {missing[name][1]}", flush=True)
+        print(f"{name:18} skipped{'' if missing[name][0] else ' in part'}: {missing[name][1]}", flush=True)
     names = [name for name in names if not missing.get(name, (False,))[0]]
     begun = time.monotonic()
     room = tempfile.mkdtemp(prefix="tests-all-")

@@ -29,6 +29,7 @@ import shutil
 import subprocess
 import sys
 import tempfile
+import time
 
 import stored_scripts as scripts
 
@@ -39,11 +40,12 @@ SOURCE = os.path.join(HERE, "count_allocations.c")
 SHELL = os.path.join(CRATES_FOLDER, "spool_shell", "out", "spool_shell")
 
 # The crates whose tests are counted and refused their allocations. In those of memory_tests calls are marked.
-CRATES = ["memory_tests", "filter_args_tests", "decision_tests", "stderr_lines_tests"]
+CRATES = ["memory_tests", "decision_tests", "disk_tests", "spool_core_tests", "text_tests"]
 SHELL_NAME = "shell"
 
 # The scripts whose allocations are refused, up to their first opening.
 REFUSED_SCRIPTS = [
+    "checkpoints_over_openings",
     "conversions_with_faults",
     "documents_over_checkpoints",
     "held_jobs",
@@ -52,16 +54,18 @@ REFUSED_SCRIPTS = [
     "typed_by_bytes",
 ]
 
-# The allocations that are refused of a test or a script: the first so many, and then one in so many.
-FIRST = 200
+# The allocations that are refused of a test: the first so many, and then one in so many. Of a script all are. Where that
+# takes more than so many seconds, every second one is, or every third.
+FIRST = 100
 STEP = 17
+BUDGET = 30
 AT_ONCE = 4
 SECONDS = 60
 
 # What a test ends with whose allocation was refused: the error of std, with the value given back or without it, that of a
-# crate, or the word of a test that tells faults apart.
-REFUSED = {"AllocError", "AllocFailed { .. }", "Memory", '"no memory"'}
-ENDED = re.compile(r"^error: (.*)$", re.M)
+# crate, or the test's own word for the call that failed. Another fault, an assertion that fails, or no fault at all is an
+# answer that changed.
+REFUSED = re.compile(r'^error: (?:AllocError|AllocFailed \{ \.\. \}|(?:\w+\()*Memory\)*|".*")$', re.M)
 
 
 def program_of(crate):
@@ -102,9 +106,10 @@ class Counting:
         return ended, [(int(count), word, file, text) for count, word, file, text in lines]
 
 
-def numbers(count):
-    """Which of so many allocations are refused."""
-    return [*range(1, min(count, FIRST) + 1), *range(FIRST + 1, count + 1, STEP)]
+def in_time(chosen, seconds):
+    """Those of the chosen allocations that are refused, where a run takes so many seconds."""
+    most = max(8, int(BUDGET / max(seconds, 0.001)))
+    return chosen[:: 1 + len(chosen) // most]
 
 
 def taken_between_marks(calls):
@@ -118,17 +123,18 @@ def looked_at(counting, crate, test):
     """How many allocations a test makes, how many calls without memory it marks, and what differs."""
     words = [program_of(crate), test]
     name = test.rsplit("::", 1)[-1]
+    begun = time.monotonic()
     ended, calls = counting.calls(words)
+    seconds = time.monotonic() - begun
     if ended.returncode:
         return 0, 0, [f"{crate} {name}: fails by itself: {ended.stderr[-200:]!r}"]
     marked = list(taken_between_marks(calls))
     differ = [f"{crate} {name}: {call} took memory {taken} times" for call, taken in marked if taken]
     count = calls[-1][0]
-    for number in numbers(count):
+    for number in in_time([*range(1, min(count, FIRST) + 1), *range(FIRST + 1, count + 1, STEP)], seconds):
         ended = counting.run(words, b"", number)
         text = (ended.stdout + ended.stderr).decode(errors="replace")
-        found = ENDED.findall(text)
-        if ended.returncode == 0 or not found or (found[-1] not in REFUSED):
+        if ended.returncode == 0 or not REFUSED.search(text):
             differ.append(f"{crate} {name}: allocation {number} refused: status {ended.returncode} {text[-200:]!r}")
     return count, len(marked), differ
 
@@ -248,10 +254,13 @@ def script_refused(counting, name):
     """What differs where the allocations of a script are refused in turn."""
     script = Commands(name)
     root = counting.fresh()
+    begun = time.monotonic()
     _, calls = counting.calls([SHELL, *scripts.words_of(name, root)], script.text)
+    seconds = time.monotonic() - begun
     shutil.rmtree(root)
     others = {}
-    faults = ((number, refused_reply(counting, script, number, others)) for number in numbers(calls[-1][0]))
+    chosen = in_time(range(1, calls[-1][0] + 1), seconds)
+    faults = ((number, refused_reply(counting, script, number, others)) for number in chosen)
     return [f"{SHELL_NAME} {name}: allocation {number} refused: {fault}" for number, fault in faults if fault]
 
 

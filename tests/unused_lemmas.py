@@ -2,7 +2,7 @@
 """Lists the lemmas and definitions of proofs/ and specs/ that nothing names: unused_lemmas.py
 
 A name counts as used where it is named outside its own definition: in another definition of its crate or of any other, in
-an answer or an invariant, or in a contract. Lemmas of nested modules aren't looked at. The last line is `none`, with status 0, or `N that nothing names`, with status 1.
+an answer or an invariant, in a contract, or by its path in the tactic of a function. Lemmas of nested modules aren't looked at. The last line is `none`, with status 0, or `N that nothing names`, with status 1.
 """
 import os
 import re
