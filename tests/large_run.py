@@ -5,6 +5,7 @@ whoever starts a program as its own, so each is started by a small shell, which 
 parent then (PR_SET_CHILD_SUBREAPER of prctl(2)) and waits for it.
 """
 import ctypes
+import itertools
 import os
 import shutil
 import signal
@@ -21,8 +22,9 @@ LONGEST_CHECKED = 3_600
 MEMORY = "/dev/shm"
 ROOMY = 4 << 30
 
-# Starts a program with at most so many KiB of address space, and tells its number in a file.
-START = 'ulimit -v "$1"; told=$2; shift 2; exec 3<&0; "$@" <&3 3<&- & echo $! >"$told"'
+# Starts a program with at most so many KiB of address space, and tells its number in a file. The program waits for a line on its
+# standard input, which comes when this shell is gone: else the shell might be told of its end.
+START = 'ulimit -v "$1"; told=$2; shift 2; exec 3<&0; { read -r go <&3; exec "$@" <&3 3<&-; } & echo $! >"$told"'
 
 SUBREAPER = 36
 
@@ -113,7 +115,7 @@ def run(words, folder, pieces=(), limit=None, longest=LONGEST):
     too_long = threading.Timer(longest, os.kill, (number, signal.SIGKILL))
     too_long.start()
     output, errors = [], []
-    writing = threading.Thread(target=write_pieces, args=(starter.stdin, pieces))
+    writing = threading.Thread(target=write_pieces, args=(starter.stdin, itertools.chain([b"\n"], pieces)))
     listening = threading.Thread(target=read_into, args=(starter.stderr, errors))
     writing.start()
     listening.start()
