@@ -4,7 +4,7 @@ ghost use Rattle.std.specs.Int.{w8, w16, w32, w64, to_be_bytes};
 ghost use Rattle.std.specs.List.{flat_map, AllByRecursion};
 ghost use Rattle.spool_types.specs.Limits.{greatest_moment};
 ghost use Rattle.event_codec.specs.Spelling.{attribute_code, queue_code, IsIn, IsQueue, IsJob, IsAttribute};
-ghost use Rattle.event_codec.specs.RowSpelling.{hold_reason_number, holding_code, abort_reason_number, waiting_code, phase_code, typed_code, attributes_code, head_code, new_queue_of, queue_state_code, queue_row_code, new_job_of, created_code, job_state_code, job_row_code, row_spelling, IsHolding, IsWaitingFor, HasMoments, IsTyped, IsQueueState, HasQueueFields, IsJobState, HasJobFields, HasFields, IsLegalRow, IsRowSpellable};
+ghost use Rattle.event_codec.specs.RowSpelling.{hold_reason_number, holding_code, abort_reason_number, waiting_code, phase_code, typed_code, attributes_code, head_code, new_queue_of, queue_state_code, queue_row_code, new_job_of, created_code, job_state_code, job_row_code, row_spelling, IsHolding, IsWaitingFor, HasMoments, IsTyped, IsQueueState, HasQueueFields, IsJobState, HasJobFields, HasFields, IsLegalRow, IsOrderedQueue, IsRowSpellable};
 ghost use Rattle.spool_types.specs.declared.listing.Row.TheVariants.{Queue};
 
 use crate::effect_writing::put_attribute;
@@ -402,7 +402,7 @@ pub fn encode_row_onto(row: &Row, out: &mut Vec<u8>) -> Result<(), AllocError>
 /// As `encode_row_onto`, the row of a queue, which is only looked at.
 pub fn encode_queue_onto(queue: &QueueRow, out: &mut Vec<u8>) -> Result<(), AllocError>
     ensures spelled { OnOk result (out.new.items ≡ out.old.items ++ row_spelling (Queue queue.now)) }
-    ensures spellable { OnOk result (IsLegalRow (Queue queue.now) → IsRowSpellable (Queue queue.now)) }
+    ensures spellable { OnOk result (IsOrderedQueue queue.now → IsRowSpellable (Queue queue.now)) }
     ensures short { OnOk result (length (row_spelling (Queue queue.now)) < 2 ^ 19) }
 
     // It fails only where the room was missing, and then the bytes are those that were there.

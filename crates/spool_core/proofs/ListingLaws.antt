@@ -1,5 +1,5 @@
 -- The rows of a table's listing, and their frames.
-use Rattle.std.proofs.Common.{◌≡◌, ⊎_elim, ℕ, zero, suc, ◌+◌, ◌-◌, ◌*◌, ◌/◌, ◌%◌, ◌<◌, ◌≤◌, true, List, [], ◌∷◌, ◌++◌, length, get_or, take, drop, map, min, replicate, refl, sym, subst, ap, ◌∙◌, arith, append_assoc, length-drop}
+use Rattle.std.proofs.Common.{◌≡◌, ⊎_elim, ℕ, zero, suc, ◌+◌, ◌-◌, ◌*◌, ◌/◌, ◌%◌, ◌^◌, ◌<◌, ◌≤◌, true, List, [], ◌∷◌, ◌++◌, length, get_or, take, drop, map, min, replicate, refl, sym, subst, ap, ◌∙◌, arith, append_assoc, length-drop}
 use Rattle.std.specs.Prelude.{Result, Ok, Err, OnOk}
 use Rattle.std.specs.List.{flat_map, list_all, AllByRecursion}
 use Rattle.std.specs.Ordering.{nat_cmp, is_lt}
@@ -7,6 +7,7 @@ use Rattle.std.specs.Cmp.Lexicographic.{slice_cmp}
 use Rattle.std.specs.declared.alloc.Global.{Global}
 use Rattle.std.specs.declared.vec.Vec.{Vec}
 use Rattle.std.proofs.lemmas.Bool.{and_parts, cases_lt}
+use Rattle.std.proofs.lemmas.Grind.{common_steps}
 use Rattle.std.proofs.lemmas.List.{map-append, append-nil, take_more, take_all, take-replicate, drop-replicate, length-replicate}
 use Rattle.std.proofs.lemmas.Nat.{div-mul-add, div-add-mod'}
 use Rattle.std.proofs.Math.Nat.{mod-lt}
@@ -24,7 +25,7 @@ use Rattle.row_effects.specs.Attributes.{name_of}
 use Rattle.job_table.specs.Legal.{Fits}
 use Rattle.job_table.specs.Listing.{listed, parts, pieces, job_rows}
 use Rattle.job_table.specs.Loading.{Progress, ArePlaced, loaded, loaded_all, unlisted}
-use Rattle.event_codec.specs.RowSpelling.{Ascend, IsOrderedQueue, IsPhaseOf, IsLegalRow}
+use Rattle.event_codec.specs.RowSpelling.{Ascend, IsOrderedQueue, IsPhaseOf, IsLegalRow, IsRowSpellable, row_spelling}
 use Rattle.spool_core.specs.Checkpointing.{AreFramesOf, AreAdded, MayBeListed}
 
 -- ## A row can tell what a legal table has
@@ -133,6 +134,11 @@ no_frames frames is = subst (AreFramesOf []) (sym is) (record { framed = tt; pay
 pub added_then : (front back : List Row) (old mid new : List (Vec ℕ Global)) → AreAdded front old mid → AreAdded back mid new → AreAdded (front ++ back) old new
 added_then front back old mid new first more others are =
     subst (λ (rows : List Row). AreFramesOf rows new) (append_assoc others front back) (more (others ++ front) (first others are))
+
+-- four free bytes, the spelling of a row and one free byte
+pub framed_more : (row : Row) (old new : List (Vec ℕ Global)) (start spelled whole : Vec ℕ Global) → start.items ≡ 0 ∷ 0 ∷ 0 ∷ 0 ∷ [] → spelled.items ≡ start.items ++ row_spelling row → whole.items ≡ spelled.items ++ 0 ∷ []
+    → new ≡ old ++ whole ∷ [] → length (row_spelling row) < 2 ^ 19 → IsRowSpellable row → AreAdded (row ∷ []) old new
+framed_more row old new start spelled whole begins then ends last short is = λ others are. grind (arith, common_steps)
 
 -- ## Rows in turn
 

@@ -84,28 +84,28 @@ module _ {D : Type 0} (v : DiskView D) (lawful : IsLawful v) (areas : Current D)
       shows_documents v lawful areas t stands.area.end_is stands.roomy (stands.table alive (is_told (v.bytes areas.disk) r tells)) r documents tells has c
       (lawful.only_now areas.disk c left))
 
-pub returns-in-Err-fill_frame-clause-any_moment : goal.returns-in-Err-fill_frame-clause-any_moment
-returns-in-Err-fill_frame-clause-any_moment g c = still g.D.Disk.device g.met.D.Disk.lawful c.args.areas.now c.args.table.now c.requires.standing c.requires.alive
+pub returns-in-Err-filled-clause-any_moment : goal.returns-in-Err-filled-clause-any_moment
+returns-in-Err-filled-clause-any_moment g c = still g.D.Disk.device g.met.D.Disk.lawful c.args.areas.now c.args.table.now c.requires.standing c.requires.alive
 
-pub returns-in-Err-fill_frame-clause-documents : goal.returns-in-Err-fill_frame-clause-documents
-returns-in-Err-fill_frame-clause-documents g c = still_documents g.D.Disk.device g.met.D.Disk.lawful c.args.areas.now c.args.table.now c.requires.standing c.requires.alive
+pub returns-in-Err-filled-clause-documents : goal.returns-in-Err-filled-clause-documents
+returns-in-Err-filled-clause-documents g c = still_documents g.D.Disk.device g.met.D.Disk.lawful c.args.areas.now c.args.table.now c.requires.standing c.requires.alive
 
-pub returns-in-Err-fill_frame-clause-kept : goal.returns-in-Err-fill_frame-clause-kept
-returns-in-Err-fill_frame-clause-kept g c =
+pub returns-in-Err-filled-clause-kept : goal.returns-in-Err-filled-clause-kept
+returns-in-Err-filled-clause-kept g c =
     let v = g.D.Disk.device in
     let a = c.args.areas.now in
-    stands_on v a a c.args.table.now c.prepare.new.self (go_on v a) c.prepare.ensures.same c.prepare.ensures.places c.requires.standing
+    stands_on v a a c.args.table.now c.prepare-prepared.new.self (go_on v a) c.prepare-prepared.ensures.same c.prepare-prepared.ensures.places c.requires.standing
 
 pub returns-in-Ok-append_kept-clause-any_moment : goal.returns-in-Ok-append_kept-clause-any_moment
 returns-in-Ok-append_kept-clause-any_moment g c =
     let s = c.args.table.now.state in
-    let payload = framed_payload c.prepare.new.self s Reopen c.fill_frame.new.frame.items c.deref_mut.result.now c.in-Ok.ensures.ok c.prepare.ensures.same c.in-Ok-fill_frame.ensures c.deref_mut.ensures.value in
+    let payload = framed_payload c.prepare-prepared.new.self s Reopen c.fill_frame-filled.new.frame.items c.deref_mut.result.now c.in-Ok.ensures.ok c.prepare-prepared.ensures.same c.in-Ok-filled.ensures c.deref_mut.ensures.value in
     tables g.D.Disk.device g.met.D.Disk.lawful c.args.areas.now c.append_kept.new.self c.args.table.now _ _ c.append_kept.result c.requires.standing c.requires.alive payload c.append_kept.ensures
     (c.reopening.ensures.none s c.requires.legal)
 
 pub returns-in-Ok-append_kept-clause-documents : goal.returns-in-Ok-append_kept-clause-documents
 returns-in-Ok-append_kept-clause-documents g c =
-    let payload = framed_payload c.prepare.new.self c.args.table.now.state Reopen c.fill_frame.new.frame.items c.deref_mut.result.now c.in-Ok.ensures.ok c.prepare.ensures.same c.in-Ok-fill_frame.ensures c.deref_mut.ensures.value in
+    let payload = framed_payload c.prepare-prepared.new.self c.args.table.now.state Reopen c.fill_frame-filled.new.frame.items c.deref_mut.result.now c.in-Ok.ensures.ok c.prepare-prepared.ensures.same c.in-Ok-filled.ensures c.deref_mut.ensures.value in
     documents g.D.Disk.device g.met.D.Disk.lawful c.args.areas.now c.append_kept.new.self c.args.table.now _ _ c.append_kept.result c.requires.standing c.requires.alive payload c.append_kept.ensures
 
 pub returns-in-Ok-append_kept-clause-added : goal.returns-in-Ok-append_kept-clause-added
@@ -114,11 +114,11 @@ returns-in-Ok-append_kept-clause-added g c = λ d next keeps.
     let a = c.args.areas.now in
     let t = c.args.table.now in
     let stands = c.requires.standing in
-    let payload = framed_payload c.prepare.new.self t.state Reopen c.fill_frame.new.frame.items c.deref_mut.result.now c.in-Ok.ensures.ok c.prepare.ensures.same c.in-Ok-fill_frame.ensures c.deref_mut.ensures.value in
-    let len : length c.deref_mut.result.now ≡ record_len Reopen = ap length c.deref_mut.ensures.value ∙ c.in-Ok-fill_frame.ensures.len in
+    let payload = framed_payload c.prepare-prepared.new.self t.state Reopen c.fill_frame-filled.new.frame.items c.deref_mut.result.now c.in-Ok.ensures.ok c.prepare-prepared.ensures.same c.in-Ok-filled.ensures c.deref_mut.ensures.value in
+    let len : length c.deref_mut.result.now ≡ record_len Reopen = ap length c.deref_mut.ensures.value ∙ c.in-Ok-filled.ensures.len in
     let idle : HasNoProcessing (reopened t.state) = c.reopening.ensures.none t.state c.requires.legal in
     stands_next v a c.append_kept.new.self t d Reopen _ _ payload next c.in-Ok-append_kept.ensures.appends.answer
-    (λ j lives. keeps j lives ∙ ap (λ ps. places_of ps j) c.prepare.ensures.places)
+    (λ j lives. keeps j lives ∙ ap (λ ps. places_of ps j) c.prepare-prepared.ensures.places)
     (subst (StayOver t.state) (sym next) (over_after t.state Reopen c.requires.legal payload.accepted c.ended_jobs_stay.ensures.unchanged))
     stands c.requires.alive (told_before _ _ _ c.append_kept.ensures.appends.changes.bytes) c.append_kept.ensures.same.0 c.append_kept.ensures.same.1 c.append_kept.ensures.appends.changes.size
     (omega (arith, c.in-Ok-append_kept.ensures.appends.place, len, ap length payload.payload_is))
@@ -132,23 +132,23 @@ returns-in-Err-Disk-clause-told g c = (told_before _ _ _ c.append_kept.ensures.a
 pub returns-in-Err-Disk-clause-any_moment : goal.returns-in-Err-Disk-clause-any_moment
 returns-in-Err-Disk-clause-any_moment g c =
     let s = c.args.table.now.state in
-    let payload = framed_payload c.prepare.new.self s Reopen c.fill_frame.new.frame.items c.deref_mut.result.now c.in-Ok.ensures.ok c.prepare.ensures.same c.in-Ok-fill_frame.ensures c.deref_mut.ensures.value in
+    let payload = framed_payload c.prepare-prepared.new.self s Reopen c.fill_frame-filled.new.frame.items c.deref_mut.result.now c.in-Ok.ensures.ok c.prepare-prepared.ensures.same c.in-Ok-filled.ensures c.deref_mut.ensures.value in
     tables g.D.Disk.device g.met.D.Disk.lawful c.args.areas.now c.append_kept.new.self c.args.table.now _ _ c.append_kept.result c.requires.standing c.requires.alive payload c.append_kept.ensures
     (c.reopening.ensures.none s c.requires.legal)
 
 pub returns-in-Err-Disk-clause-documents : goal.returns-in-Err-Disk-clause-documents
 returns-in-Err-Disk-clause-documents g c =
-    let payload = framed_payload c.prepare.new.self c.args.table.now.state Reopen c.fill_frame.new.frame.items c.deref_mut.result.now c.in-Ok.ensures.ok c.prepare.ensures.same c.in-Ok-fill_frame.ensures c.deref_mut.ensures.value in
+    let payload = framed_payload c.prepare-prepared.new.self c.args.table.now.state Reopen c.fill_frame-filled.new.frame.items c.deref_mut.result.now c.in-Ok.ensures.ok c.prepare-prepared.ensures.same c.in-Ok-filled.ensures c.deref_mut.ensures.value in
     documents g.D.Disk.device g.met.D.Disk.lawful c.args.areas.now c.append_kept.new.self c.args.table.now _ _ c.append_kept.result c.requires.standing c.requires.alive payload c.append_kept.ensures
 
 pub returns-in-Ok-append_kept-clause-alive : goal.returns-in-Ok-append_kept-clause-alive
 returns-in-Ok-append_kept-clause-alive g c =
-    let payload = framed_payload c.prepare.new.self c.args.table.now.state Reopen c.fill_frame.new.frame.items c.deref_mut.result.now c.in-Ok.ensures.ok c.prepare.ensures.same c.in-Ok-fill_frame.ensures c.deref_mut.ensures.value in
+    let payload = framed_payload c.prepare-prepared.new.self c.args.table.now.state Reopen c.fill_frame-filled.new.frame.items c.deref_mut.result.now c.in-Ok.ensures.ok c.prepare-prepared.ensures.same c.in-Ok-filled.ensures c.deref_mut.ensures.value in
     lives g.D.Disk.device g.met.D.Disk.lawful c.args.areas.now c.append_kept.new.self c.args.table.now _ _ c.append_kept.result c.requires.standing c.requires.alive payload c.append_kept.ensures _ c.in-Ok-append_kept.is
 
 pub returns-in-Ok-append_kept-clause-blames : goal.returns-in-Ok-append_kept-clause-blames
 returns-in-Ok-append_kept-clause-blames g c =
-    let payload = framed_payload c.prepare.new.self c.args.table.now.state Reopen c.fill_frame.new.frame.items c.deref_mut.result.now c.in-Ok.ensures.ok c.prepare.ensures.same c.in-Ok-fill_frame.ensures c.deref_mut.ensures.value in
+    let payload = framed_payload c.prepare-prepared.new.self c.args.table.now.state Reopen c.fill_frame-filled.new.frame.items c.deref_mut.result.now c.in-Ok.ensures.ok c.prepare-prepared.ensures.same c.in-Ok-filled.ensures c.deref_mut.ensures.value in
     blames_none g.D.Disk.device g.met.D.Disk.lawful c.args.areas.now c.append_kept.new.self c.args.table.now _ _ c.append_kept.result c.requires.standing c.requires.alive payload c.append_kept.ensures _ c.in-Ok-append_kept.is _ (λ fault. absurd (cc))
 
 pub returns-in-Ok-append_kept-clause-told : goal.returns-in-Ok-append_kept-clause-told
@@ -156,12 +156,12 @@ returns-in-Ok-append_kept-clause-told g c = (told_before _ _ _ c.append_kept.ens
 
 pub returns-in-Err-Disk-clause-blames : goal.returns-in-Err-Disk-clause-blames
 returns-in-Err-Disk-clause-blames g c =
-    let payload = framed_payload c.prepare.new.self c.args.table.now.state Reopen c.fill_frame.new.frame.items c.deref_mut.result.now c.in-Ok.ensures.ok c.prepare.ensures.same c.in-Ok-fill_frame.ensures c.deref_mut.ensures.value in
+    let payload = framed_payload c.prepare-prepared.new.self c.args.table.now.state Reopen c.fill_frame-filled.new.frame.items c.deref_mut.result.now c.in-Ok.ensures.ok c.prepare-prepared.ensures.same c.in-Ok-filled.ensures c.deref_mut.ensures.value in
     blames_it g.D.Disk.device g.met.D.Disk.lawful c.args.areas.now c.append_kept.new.self c.args.table.now _ _ c.append_kept.result c.requires.standing c.requires.alive payload c.append_kept.ensures (c.in-Err-Disk.is ∙ ap (λ (f : JournalFault). Err f) c.in-Err-Disk.field-0-is) _ refl
 
 pub returns-in-Err-Disk-clause-kept : goal.returns-in-Err-Disk-clause-kept
 returns-in-Err-Disk-clause-kept g c =
-    let payload = framed_payload c.prepare.new.self c.args.table.now.state Reopen c.fill_frame.new.frame.items c.deref_mut.result.now c.in-Ok.ensures.ok c.prepare.ensures.same c.in-Ok-fill_frame.ensures c.deref_mut.ensures.value in
-    stands_on g.D.Disk.device c.args.areas.now c.append_kept.new.self c.args.table.now c.prepare.new.self
+    let payload = framed_payload c.prepare-prepared.new.self c.args.table.now.state Reopen c.fill_frame-filled.new.frame.items c.deref_mut.result.now c.in-Ok.ensures.ok c.prepare-prepared.ensures.same c.in-Ok-filled.ensures c.deref_mut.ensures.value in
+    stands_on g.D.Disk.device c.args.areas.now c.append_kept.new.self c.args.table.now c.prepare-prepared.new.self
     (goes_on g.D.Disk.device g.met.D.Disk.lawful c.args.areas.now c.append_kept.new.self c.args.table.now _ _ c.append_kept.result c.requires.standing c.requires.alive payload c.append_kept.ensures (c.in-Err-Disk.is ∙ ap (λ (f : JournalFault). Err f) c.in-Err-Disk.field-0-is) c.in-Err-Disk.ensures.appends.held)
-    c.prepare.ensures.same c.prepare.ensures.places c.requires.standing
+    c.prepare-prepared.ensures.same c.prepare-prepared.ensures.places c.requires.standing
