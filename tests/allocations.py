@@ -293,9 +293,9 @@ def unbuilt(names):
 
 
 def compared(lines, names):
-    """The lines that differ from the stored ones."""
+    """The lines that differ from the stored ones, of these names, or of all where none are given."""
     with open(STORED, encoding="utf-8") as file:
-        stored = [line for line in file.read().splitlines() if line.split()[0] in names]
+        stored = [line for line in file.read().splitlines() if not names or line.split()[0] in names]
     return [f"only now: {line}" for line in sorted(set(lines) - set(stored))] + [
         f"only stored: {line}" for line in sorted(set(stored) - set(lines))
     ]
@@ -321,7 +321,7 @@ def main():
         with open(STORED, "w", encoding="utf-8") as file:
             file.write("".join(line + "\n" for line in lines))
     else:
-        differ += compared(lines, names)
+        differ += compared(lines, words)
     for line in differ:
         print(line)
     print(f"{len(differ)} differ" if differ else "none")
