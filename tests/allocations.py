@@ -292,13 +292,24 @@ def unbuilt(names):
             yield f"crates/{crate}/out has no program: run `rt {'run' if name == SHELL_NAME else 'test'}` in crates/{crate} first"
 
 
-def compared(lines, names):
-    """The lines that differ from the stored ones."""
+def stored_lines():
     with open(STORED, encoding="utf-8") as file:
-        stored = [line for line in file.read().splitlines() if line.split()[0] in names]
+        return file.read().splitlines()
+
+
+def compared(lines, names):
+    """The lines that differ from the stored ones, of these names, or of all where none are given."""
+    stored = [line for line in stored_lines() if not names or line.split()[0] in names]
     return [f"only now: {line}" for line in sorted(set(lines) - set(stored))] + [
         f"only stored: {line}" for line in sorted(set(stored) - set(lines))
     ]
+
+
+def write(lines, names):
+    """Stores the lines. Where names are given, the others stay."""
+    kept = [line for line in stored_lines() if names and line.split()[0] not in names]
+    with open(STORED, "w", encoding="utf-8") as file:
+        file.write("".join(line + "\n" for line in [*kept, *lines]))
 
 
 def main():
@@ -318,10 +329,9 @@ def main():
             lines += of_name
             differ += faults
     if "--write" in sys.argv[1:]:
-        with open(STORED, "w", encoding="utf-8") as file:
-            file.write("".join(line + "\n" for line in lines))
+        write(lines, words)
     else:
-        differ += compared(lines, names)
+        differ += compared(lines, words)
     for line in differ:
         print(line)
     print(f"{len(differ)} differ" if differ else "none")

@@ -2,7 +2,7 @@
 """Lists the places of the code that answer out of memory by themselves, or may ask for more than there is: out_of_memory.py
 
 No clause can see why memory was missing, so a body that answers out of memory where none was refused would be proved. The
-answer may therefore come only from a growth that was refused: through `?`, through a `From`, through an arm of a match whose
+answer may therefore come only from a growth that was refused: through `?`, through a `From` of that error, through an arm of a match whose
 pattern names out of memory, or from one of the calls of PASSED_ON, whose only fault it is. This script looks for every other
 place in src/ that makes such an answer.
 
@@ -55,6 +55,8 @@ PASSED_ON = {
     ("spool_engine", "serve_end"): 1,
     ("spool_engine", "serve_whole"): 1,
     ("spool_engine", "take_piece"): 1,
+    # An error of the system whose kind says so.
+    ("spool_host", "from"): 1,
     ("spool_host", "long_root"): 1,
     ("spool_host", "no_words"): 1,
     ("spool_host", "read_words"): 1,
@@ -124,7 +126,7 @@ CONSTANTS = {
 }
 
 # What says out of memory, as a value.
-SAYS = re.compile(r"\b(?:\w+::(?:Memory|NoMemory|OutOfMemory)|AllocError)\b")
+SAYS = re.compile(r"\b(?:Memory|NoMemory|OutOfMemory|AllocError|AllocFailed)\b")
 
 # A pattern that names it.
 NAMES = re.compile(r"Memory|AllocError")
@@ -146,10 +148,11 @@ TESTS = re.compile(r"(^|_)tests\.rt$")
 
 
 class Function:
-    """The body of a function: its lines of code, with the number of the first."""
+    """The body of a function: its first line, and its lines of code with the number of the first."""
 
-    def __init__(self, crate, path, name, first):
-        self.crate, self.path, self.name, self.first, self.lines = LIBRARIES.get(crate, crate), path, name, first, []
+    def __init__(self, crate, path, name, head, first):
+        self.crate, self.path, self.name, self.head = LIBRARIES.get(crate, crate), path, name, head
+        self.first, self.lines = first, []
 
     def where(self, line):
         return f"{os.path.relpath(self.path, top)}:{self.first + line} {self.name}"
@@ -175,7 +178,7 @@ def sources():
 
 def bodies(crate, path, lines):
     """The functions of a file that have a body of more than a line."""
-    name, depth, body = "", 0, None
+    name, head, depth, body = "", "", 0, None
     for number, line in enumerate(lines, 1):
         indent = len(line) - len(line.lstrip())
         begins = FUNCTION.match(line)
@@ -186,9 +189,9 @@ def bodies(crate, path, lines):
             else:
                 body.lines.append(line)
         elif begins:
-            name, depth = begins[1], indent
+            name, head, depth = begins[1], line, indent
         if body is None and name and indent == depth and line.rstrip().endswith("{") and not CLAUSE.match(line):
-            body = Function(crate, path, name, number + 1)
+            body = Function(crate, path, name, head, number + 1)
 
 
 def passes_on(code):
@@ -201,7 +204,7 @@ def passes_on(code):
 
 def answers(function):
     """The lines of a function that answer out of memory by themselves."""
-    if function.name == "from":
+    if function.name == "from" and SAYS.search(function.head):
         return []
     return [
         number
