@@ -1,5 +1,5 @@
-"""Parts of tests/large.py: too little memory. Each command works, or is answered `error memory` and changes nothing; or the program
-ends with `spool: memory`. What was acknowledged is there when the spool is opened with enough of it.
+"""Parts of tests/large.py: too little memory. Each command works, or is answered `error memory` and changes nothing; or the
+program ends with `spool: memory`. What was acknowledged is there when the spool is opened with enough of it.
 """
 from large_children import DONE, ask_jobs, bytes_of, listed, same_file
 from large_run import Difference, Script, quoted, same
