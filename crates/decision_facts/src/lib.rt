@@ -14,7 +14,7 @@
 //! - [`turns`]: which job is next, and which of two goes first (`queue_sched`). A fact about `next_in` is one about
 //!   `next_job` by the clauses `tested` and `only` of `order_law`.
 //! - [`events`], [`full_stages`] and [`listings`]: which bytes spell which event and which row, and the first fault of others
-//!   (`event_codec`).
+//!   (`event_codec`, over the fields of `field_codec`).
 //! - [`options`] and [`children`]: what options say, and what a child is run with (`filter_args`).
 //! - [`devices`]: what bytes of a device are, as entries of a journal and as areas of a spool (`gate_journal`, `spool_areas`).
 #![tactic(auto)]
