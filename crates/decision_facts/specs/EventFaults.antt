@@ -3,8 +3,8 @@ use Rattle.std.specs.Prelude.{◌≡◌, ℕ, ◌+◌, ◌-◌, List, [], ◌∷
 use Rattle.std.specs.Int.{w16, to_be_bytes}
 use Rattle.std.specs.List.{flat_map}
 use Rattle.std.specs.Result.{result_err}
-use Rattle.event_codec.specs.declared.fault.CodecFault.{CodecFault}
-use Rattle.event_codec.specs.declared.fault.CodecFault.TheVariants.{Kind, Length, Range, Utf8}
+use Rattle.field_codec.specs.declared.fault.CodecFault.{CodecFault}
+use Rattle.field_codec.specs.declared.fault.CodecFault.TheVariants.{Kind, Length, Range, Utf8}
 use Rattle.event_codec.specs.Reading.{reading}
 use Rattle.decision_facts.specs.Bytes.{hex, times}
 

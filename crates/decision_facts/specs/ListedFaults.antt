@@ -1,7 +1,7 @@
 -- Examples of bytes that are no row of a listing, each beside its first fault.
 use Rattle.std.specs.Prelude.{◌≡◌, ℕ, List, [], ◌∷◌, ◌++◌, map, codes, Err}
-use Rattle.event_codec.specs.declared.fault.CodecFault.{CodecFault}
-use Rattle.event_codec.specs.declared.fault.CodecFault.TheVariants.{Kind, Length, Range, Utf8}
+use Rattle.field_codec.specs.declared.fault.CodecFault.{CodecFault}
+use Rattle.field_codec.specs.declared.fault.CodecFault.TheVariants.{Kind, Length, Range, Utf8}
 use Rattle.event_codec.specs.RowReading.{row_reading}
 use Rattle.decision_facts.specs.Bytes.{hex}
 use Rattle.decision_facts.specs.ListedRows.{before_phase}

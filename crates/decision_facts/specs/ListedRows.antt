@@ -34,16 +34,60 @@ abbrev pub ListedRows : Type 0
 ListedRows = AreSpelled [] (
     (empty_head, rows.Head (record { highest = 0; moment = 0 }))
     ∷ (codes "40 7F FF FF FF 00 00 03 A3 52 94 40 00", rows.Head (record { highest = 2147483647; moment = 4000000000000 }))
-    ∷ (least_queue, rows.Queue (record {
-        name = codes "q"; uri = codes "s:/"; target = codes "a/b"; policy = AbortJob; interval = 30; limit = 5; info = []; location = [];
-        accepting = true; stopped = false; message = []; reasons = []; attributes = [] }))
-    ∷ (codes "41 00 01 71 00 03 73 3A 2F 00 03 61 2F 62 03 00 00 00 00 00 00 00 01 61 00 01 62 00 01 00 01 6D 02 00 01 61 00 03 62 2E 63 02 00 03 61 2D 31 00 03 78 20 79 00 01 62 00 00", rows.Queue (record {
-        name = codes "q"; uri = codes "s:/"; target = codes "a/b"; policy = StopPrinter; interval = 0; limit = 0; info = codes "a"; location = codes "b";
-        accepting = false; stopped = true; message = codes "m"; reasons = codes "a" ∷ codes "b.c" ∷ [];
-        attributes = record { name = codes "a-1"; value = codes "x y" } ∷ record { name = codes "b"; value = [] } ∷ [] }))
-    ∷ (least_job, rows.Job (record {
-        id = 1; queue = codes "q"; user = codes "u"; title = []; copies = 1; priority = 50; options = []; media = Some (codes "a/b"); filters = [];
-        attempts = 0; pages = 0; size = 0; phase = Waiting Free 0 false }))
+    ∷ (
+      least_queue,
+      rows.Queue (record {
+        name = codes "q";
+        uri = codes "s:/";
+        target = codes "a/b";
+        policy = AbortJob;
+        interval = 30;
+        limit = 5;
+        info = [];
+        location = [];
+        accepting = true;
+        stopped = false;
+        message = [];
+        reasons = [];
+        attributes = [];
+      }),
+    )
+    ∷ (
+      codes "41 00 01 71 00 03 73 3A 2F 00 03 61 2F 62 03 00 00 00 00 00 00 00 01 61 00 01 62 00 01 00 01 6D 02 00 01 61 00 03 62 2E 63 02 00 03 61 2D 31 00 03 78 20 79 00 01 62 00 00",
+      rows.Queue (record {
+        name = codes "q";
+        uri = codes "s:/";
+        target = codes "a/b";
+        policy = StopPrinter;
+        interval = 0;
+        limit = 0;
+        info = codes "a";
+        location = codes "b";
+        accepting = false;
+        stopped = true;
+        message = codes "m";
+        reasons = codes "a" ∷ codes "b.c" ∷ [];
+        attributes = record { name = codes "a-1"; value = codes "x y" } ∷ record { name = codes "b"; value = [] } ∷ [];
+      }),
+    )
+    ∷ (
+      least_job,
+      rows.Job (record {
+        id = 1;
+        queue = codes "q";
+        user = codes "u";
+        title = [];
+        copies = 1;
+        priority = 50;
+        options = [];
+        media = Some (codes "a/b");
+        filters = [];
+        attempts = 0;
+        pages = 0;
+        size = 0;
+        phase = Waiting Free 0 false;
+      }),
+    )
     ∷ (codes "43 00 00 00 01 00 00 00 02 61 62", rows.Piece 1 (codes "ab"))
     ∷ [])
 
@@ -57,9 +101,24 @@ before_phase = hex (codes "42 00 00 00 01 00 01 71 00 01 75 00 00 00 01 32 00 00
 
 -- this job in a phase
 abbrev pub in_phase : List ℕ × Phase → List ℕ × Row
-in_phase row = (row.0, rows.Job (record {
-    id = 1; queue = codes "q"; user = codes "u"; title = []; copies = 1; priority = 50; options = []; media = None; filters = codes "f" ∷ [];
-    attempts = 2; pages = 3; size = 1048576; phase = row.1 }))
+in_phase row = (
+  row.0,
+  rows.Job (record {
+    id = 1;
+    queue = codes "q";
+    user = codes "u";
+    title = [];
+    copies = 1;
+    priority = 50;
+    options = [];
+    media = None;
+    filters = codes "f" ∷ [];
+    attempts = 2;
+    pages = 3;
+    size = 1048576;
+    phase = row.1;
+  }),
+)
 
 abbrev pub PhaseRows : Type 0
 PhaseRows = AreSpelled before_phase (map in_phase (

@@ -13,7 +13,8 @@
 //! - [`effects`]: what effects make of a job's pages and of its queue (`row_effects`).
 //! - [`turns`]: which job is next, and which of two goes first (`queue_sched`). A fact about `next_in` is one about
 //!   `next_job` by the clauses `tested` and `only` of `order_law`.
-//! - [`events`] and [`listings`]: which bytes spell which event and which row, and the first fault of others (`event_codec`).
+//! - [`events`], [`full_stages`] and [`listings`]: which bytes spell which event and which row, and the first fault of others
+//!   (`event_codec`, over the fields of `field_codec`).
 //! - [`options`] and [`children`]: what options say, and what a child is run with (`filter_args`).
 //! - [`devices`]: what bytes of a device are, as entries of a journal and as areas of a spool (`gate_journal`, `spool_areas`).
 #![tactic(auto)]
@@ -92,12 +93,17 @@ pub fn events()
     ensures effects { EffectRows }
     ensures faults { FaultRows }
     ensures effect_faults { EffectFaultRows }
-    ensures full_stage { FullStageRows }
     ensures long_type { LongTypeRows }
     ensures cut_text { CutTextRows }
     ensures ranges { RangeRows }
     ensures interval { IntervalRows }
     ensures send { SendRows }
+{}
+
+/// What may stand behind effects that leave four bytes of a stage's room.
+#[tactic(auto, unfolding(crate::proofs::Computing::reading_events))]
+pub fn full_stages()
+    ensures full_stage { FullStageRows }
 {}
 
 /// How the rows of a listing are spelled, and which bytes are none.
