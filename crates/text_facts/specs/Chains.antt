@@ -1,9 +1,8 @@
 -- Examples of mime.convs(5): what its lines say, and the cheapest chains.
 use Prim.Native.String.{String}
-use Rattle.std.specs.Prelude.{◌≡◌, ℕ, zero, suc, ◌+◌, List, [], ◌∷◌, ◌++◌, map, codes, Option, None, Some}
+use Rattle.std.specs.Prelude.{◌≡◌, ℕ, zero, suc, ◌+◌, List, [], ◌∷◌, ◌++◌, codes, Option, None, Some}
 use Rattle.std.specs.Fmt.{decimal}
 use Rattle.std.specs.Option.{option_map}
-use Rattle.spool_types.specs.declared.warning.Warning.{Warning}
 use Rattle.spool_types.specs.declared.warning.WarningKind.TheVariants.{BadType, BadNumber, BadLine}
 use Rattle.mime_costs.specs.Walks.{Worth, worth_of}
 use Rattle.mime_costs.specs.LeastWalk.{least_walk, filters_between}

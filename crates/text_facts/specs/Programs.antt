@@ -25,8 +25,14 @@ abbrev pub backends : List (String × ListedProgram) → Programs
 backends list = record no_programs { backends = map (λ (p : String × ListedProgram). named p.0 p.1) list }
 
 -- a text that is read, and what it names
+abbrev pub found : String × Programs → Bool × Programs
+found row = (reads (text row.0), programs_in (text row.0))
+
+abbrev pub wanted : String × Programs → Bool × Programs
+wanted row = (true, row.1)
+
 abbrev pub AreRead : List (String × Programs) → Type 0
-AreRead rows = map (λ (p : String × Programs). (reads (text p.0), programs_in (text p.0))) rows ≡ map (λ (p : String × Programs). (true, p.1)) rows
+AreRead rows = map found rows ≡ map wanted rows
 
 abbrev pub AreRefused : List String → Type 0
 AreRefused rows = map (λ (written : String). reads (text written)) rows ≡ map (λ (written : String). false) rows

@@ -1,6 +1,5 @@
 -- Examples of replies.
-use Prim.Native.String.{String}
-use Rattle.std.specs.Prelude.{◌≡◌, ℕ, Bool, true, false, List, [], ◌∷◌, map, codes, None, Some}
+use Rattle.std.specs.Prelude.{◌≡◌, true, false, [], ◌∷◌, map, codes, Some}
 use Rattle.spool_types.specs.State.{Job}
 use Rattle.spool_types.specs.declared.phase.Policy.TheVariants.{AbortJob}
 use Rattle.spool_types.specs.declared.phase.Phase.TheVariants.{Processing}

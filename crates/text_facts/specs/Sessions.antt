@@ -1,7 +1,7 @@
 -- Examples of sessions on the side channel.
-use Rattle.std.specs.Prelude.{◌≡◌, ℕ, zero, suc, ◌+◌, true, false, List, [], ◌∷◌, ◌++◌, map, codes, replicate, Option, None, Some, Result, Ok, Err}
+use Rattle.std.specs.Prelude.{◌≡◌, ℕ, zero, suc, ◌+◌, true, false, List, [], ◌∷◌, ◌++◌, map, codes, replicate, None, Some, Result, Ok, Err}
 use Rattle.side_channel.specs.Answers.{command_of, status_byte}
-use Rattle.side_channel.specs.Sessions.{Session, session}
+use Rattle.side_channel.specs.Sessions.{session}
 use Rattle.side_channel.specs.declared.codes.Command.TheVariants as commands
 use Rattle.side_channel.specs.declared.codes.Status.TheVariants as statuses
 use Rattle.side_channel.specs.declared.devices.Device.{Device}

@@ -1,4 +1,4 @@
-use Rattle.std.proofs.Common.{◌≡◌, refl}
+use Rattle.std.proofs.Common.{refl}
 use Rattle.side_channel.specs.Sessions.{session, session_within}
 use Rattle.text_facts.proofs.session_examples.Goals as goal
 
