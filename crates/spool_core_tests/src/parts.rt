@@ -1,5 +1,5 @@
 //! Bytes of a document, read from a spool.
-ghost use Rattle.std.specs.Prelude.{◌≡◌, IfOk, IsSome};
+ghost use Rattle.std.specs.Prelude.{◌≡◌, ◌≤◌, IfOk, IsSome};
 ghost use Rattle.spool_types.specs.State.{job_at};
 ghost use Rattle.spool_core.specs.Standing.{len_at};
 
