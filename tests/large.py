@@ -10,8 +10,8 @@ time, and too little memory. What is wanted is computed here, from the formats.
 
 It runs crates/spool_shell/out/spool_shell, crates/spool_tools/out/spool_tools and crates/error_report/out/error_report (made
 by `rt run` in these folders), or the programs that the words name. Each PART is one of those below; without one all are run.
-A part is run with as much memory as it likes, and then in an address space of twice what it is known to need (NEEDS), where it
-has to work too. With `--free` the latter is left out, as for a program that was built with checks, which wants terabytes.
+A part is run with as much memory as it likes, and then in an address space of twice what it is known to need (NEEDS), where
+it has to work too. With `--free` the latter is left out, as for a program that was built with checks, which wants terabytes.
 
 A line for each part has its seconds and the greatest memory of a program in it. The last line is `none`, with status 0, or
 `N failed`, with status 1. It takes some minutes and 1 GiB of disk or memory: its files lie in a new folder of /dev/shm where

@@ -4,7 +4,18 @@ that a child may say on standard error.
 import os
 
 from large_run import SEND, Script, quoted, same
-from large_spelling import COMPLETED, RETRY_LIMIT, TYPE, current_area, head_row, job_fields, job_row, payloads, queue_fields, queue_row
+from large_spelling import (
+    COMPLETED,
+    RETRY_LIMIT,
+    TYPE,
+    current_area,
+    head_row,
+    job_fields,
+    job_row,
+    payloads,
+    queue_fields,
+    queue_row,
+)
 
 QUEUES = 64
 DOCUMENT = 1_048_576
@@ -147,7 +158,8 @@ def many_attempts(place):
     script.ask("checkpoint", "ok")
     place.print_all(script)
     for name in ("fails", "prints"):
-        same(f"attempts of {name}", place.read(f"backend-{name}.ran").split(), [b"%d" % turn for turn in range(1, TURNS + 1)])
+        turns = [b"%d" % turn for turn in range(1, TURNS + 1)]
+        same(f"attempts of {name}", place.read(f"backend-{name}.ran").split(), turns)
     fields = [job_fields(queue, number, "ann", "", 1, 50, "") for number, queue in enumerate("ab", 1)]
     wanted = [job_row(fields[0], TYPE, (), TURNS, 0, 0, RETRY_LIMIT), job_row(fields[1], TYPE, (), TURNS, 0, 0, COMPLETED)]
     same("the rows of the jobs", rows_of(place)[3:], wanted)

@@ -70,7 +70,7 @@ def queue_name(turn):
     return f"alive{turn}"
 
 
-def fill(area, place):
+def fill(area):
     """Fills an area with jobs up to its end, and gives what `jobs` lists of them."""
     jobs, turn = [], 0
     while area.end - area.at > LEFT + 2 * (SEND + 100):
@@ -112,7 +112,7 @@ def make_spool(place, base):
             area.add(head_row(0, 0))
             for name in sorted(names):
                 area.add(queue_row(queue_fields(name, uri_of(place, name))))
-        jobs = fill(area, place)
+        jobs = fill(area)
     return area, jobs
 
 
@@ -172,7 +172,8 @@ def used_to_the_end(place, base):
 
 
 def listed_queues():
-    return [f'queue {name} 3 accepting {TYPE} abort-job 30 5 none ""' for name in sorted(["lab", *map(queue_name, range(ALIVE))])]
+    names = sorted(["lab", *map(queue_name, range(ALIVE))])
+    return [f'queue {name} 3 accepting {TYPE} abort-job 30 5 none ""' for name in names]
 
 
 def change_areas(script, jobs):

@@ -73,7 +73,8 @@ def long_files(place):
     place.print_all(script, errors=warnings())
     for job in range(1, last):
         same_file(place, f"printed-{job}", bytes_of(job, 1_000))
-    wanted = [f"q{job} t/t{number} {stage + 1}" for job, number in enumerate(chosen, 1) for stage in range(len(filters_of(number)))]
+    ran = [(job, number, stage) for job, number in enumerate(chosen, 1) for stage in range(len(filters_of(number)))]
+    wanted = [f"q{job} t/t{number} {stage + 1}" for job, number, stage in ran]
     found = place.read("filter-inward.ran").decode().splitlines()
     same("what the programs were given", sorted(found), sorted([*wanted, "last t/t0 1"]))
 

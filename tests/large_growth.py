@@ -1,5 +1,5 @@
-"""Parts of tests/large.py: twice as much takes at most twice the time. Only ratios are looked at, of the best of three runs, in
-seconds of the processor, so that what else runs on the machine counts little.
+"""Parts of tests/large.py: twice as much takes at most twice the time. Only ratios are looked at, of the best of three runs,
+in seconds of the processor, so that what else runs on the machine counts little.
 
 The spools are made by bench/opening.py, byte by byte.
 """
@@ -12,27 +12,33 @@ from large_spelling import TYPE
 sys.path.insert(0, os.path.join(os.path.dirname(os.path.abspath(__file__)), "..", "bench"))
 import opening
 
-HALF = 10_000
+# Half as many as there are: of what is listed or made, and of what is opened, which takes far less time.
+HALF = 20_000
+HALF_OPENED = 50_000
+
 RUNS = 3
 
-# How often the three runs may be made again, where something else slowed one of them.
+# How often the three runs are made at most: again where something else may have slowed one of them, so up to three times
+# as long.
 AGAIN = 3
 
-# Seconds that don't count: the start of a program, and what a clock of the processor leaves out. A scan over 20,000 rows
-# for each of them takes some 0.2 seconds at least.
+# Seconds that don't count: the start of a program, and what a clock of the processor leaves out. A scan over 40,000 rows
+# for each of them takes half a second and more.
 FLOOR = 0.04
 
 
-def keeps_pace(what, seconds):
+def keeps_pace(what, seconds, half=HALF):
     """Whether twice as much takes at most twice the time: `seconds` runs a size and tells the time."""
-    best = {HALF: [], 2 * HALF: []}
+    best = {half: [], 2 * half: []}
     for _ in range(AGAIN):
         for size, times in best.items():
             times += [seconds(size) for _ in range(RUNS)]
         once, twice = (min(times) for times in best.values())
         if twice <= 2 * once + FLOOR:
             return
-    raise Difference(f"{what}: {twice:.3f} s for {2 * HALF}, and {once:.3f} s for {HALF}")
+        if twice > 3 * once + FLOOR:
+            break
+    raise Difference(f"{what}: {twice:.3f} s for {2 * half}, and {once:.3f} s for {half}")
 
 
 def over_spool(place, payloads, script=None):
@@ -57,13 +63,13 @@ def listed_rows(size):
 
 
 def openings_grow(place):
-    """An opening of 20,000 rows, or of 20,000 events of three kinds."""
+    """An opening of 100,000 rows, or of 100,000 events of three kinds."""
     for kind in (opening.rows, opening.clocks, opening.jobs, opening.sends):
-        keeps_pace(f"an opening of {kind.__name__}", over_spool(place, kind))
+        keeps_pace(f"an opening of {kind.__name__}", over_spool(place, kind), HALF_OPENED)
 
 
 def listings_grow(place):
-    """`jobs`, `queues` and a checkpoint of 20,000 jobs, each three times."""
+    """`jobs`, `queues` and a checkpoint of 40,000 jobs, each three times."""
 
     def jobs(size):
         script = Script()
@@ -89,7 +95,7 @@ def listings_grow(place):
 
 
 def commands_grow(place):
-    """Commands about 20,000 jobs: made, sent, closed, held, released and canceled, in memory."""
+    """Commands about 40,000 jobs: made, sent, closed, held, released and canceled, in memory."""
 
     def script_of(size, *commands):
         script = Script()
@@ -105,7 +111,7 @@ def commands_grow(place):
                     script.ask(command.format(number), "ok")
         return script
 
-    for commands in ((), ("send",), ("close",), ("hold {} indefinite", "release {}"), ("close", "hold {} 100", "cancel {}")):
+    for commands in (("send", "close"), ("hold {} indefinite", "release {}"), ("close", "hold {} 100", "cancel {}")):
         keeps_pace(
             "create" + "".join(f", {command}" for command in commands),
             lambda size, chosen=commands: place.serve(script_of(size, *chosen), "--size", str(1 << 25), root=False).seconds,
@@ -113,7 +119,7 @@ def commands_grow(place):
 
 
 def files_grow(place):
-    """A file of 20,000 types, and one of 20,000 conversions, with a document that the last of them is for."""
+    """A file of 40,000 types, and one of 40,000 conversions, with a document that the last of them is for."""
 
     def types(size):
         place.write("types", "".join(f"t/t{number} s{number}\n" for number in range(size)).encode())
@@ -137,7 +143,7 @@ def files_grow(place):
 
 
 def reports_grow(place):
-    """Standard error of 20,000 lines, of each kind, in small pieces and in one."""
+    """Standard error of 40,000 lines, of each kind, in small pieces and in one."""
     kinds = [b"PAGE: 1 2\n", b"STATE: +media-empty,toner-low\n", b"DEBUG: " + 60 * b"x" + b"\n", b"y\n"]
 
     def read(size, piece, line):

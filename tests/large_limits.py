@@ -143,7 +143,8 @@ def ask_lines(script):
     # A send's line may be as long, and its bytes aren't part of it.
     script.job()
     number = len(script.jobs)
-    script.given += [f"send {number} 3".ljust(LINE).encode() + b"\nabc\n", f"send {number} 3".ljust(LINE + 1).encode() + b"\nabc\n"]
+    for length in (LINE, LINE + 1):
+        script.given.append(f"send {number} 3".ljust(length).encode() + b"\nabc\n")
     script.wanted += [b"ok bytes 3\n", b"error syntax\n", b"error syntax\n"]
     script.jobs[-1] = script.jobs[-1].replace('"ann" 0 0', '"ann" 3 0')
 

@@ -1,5 +1,5 @@
-"""Parts of tests/large.py: too little memory. Each command works, or is answered `error memory` and changes nothing; or the program
-ends with `spool: memory`. What was acknowledged is there when the spool is opened with enough of it.
+"""Parts of tests/large.py: too little memory. Each command works, or is answered `error memory` and changes nothing; or the
+program ends with `spool: memory`. What was acknowledged is there when the spool is opened with enough of it.
 """
 from large_children import DONE, ask_jobs, bytes_of, listed, same_file
 from large_run import Difference, Script, quoted, same
@@ -152,21 +152,29 @@ def too_little_memory(place):
 MANY = 8
 LENGTH = 1_048_576
 
+# Those that are closed with too little memory.
+LATER = range(5, MANY + 1)
+
+# So many KiB are too few to hold a document twice. With the last of them no child can be started.
+SCARCE_ROUNDS = (6_000, 5_200, 5_000, 4_600, 4_200)
+
 
 def scarce_rounds(place):
-    """Eight long documents are printed with too little memory, and then with enough: each is printed whole in the end."""
+    """Eight long documents are closed and printed with too little memory, and then with enough: each is whole in the end."""
     place.tool("backend", "spoolfile")
     place.list_programs()
-    for limit in SCARCE:
+    for limit in SCARCE_ROUNDS:
         place.fresh_spool()
         script = Script()
         for number in range(1, MANY + 1):
             script.ask(f"queue q{number} spoolfile:{place.at('printed')}-{number} {TYPE} retry-current-job 0 0", "ok")
             script.ask(f'create q{number} ann "" 1 50 ""', f"ok job {number}")
             script.document(number, bytes_of(number, LENGTH))
+            if number not in LATER:
+                script.ask(f"close {number} page", f"ok type {TYPE} stages 1")
         place.print_all(script, "--size", str(1 << 26))
         script = Script()
-        for number in range(1, MANY + 1):
+        for number in LATER:
             script.ask(f"close {number} page")
         for _ in range(3):
             script.ask("round")
@@ -175,15 +183,15 @@ def scarce_rounds(place):
 
 
 def close_and_print(place, script, limit):
-    """Which jobs were closed, by what was answered."""
+    """Which of the jobs were closed, by what was answered."""
     ran = scarce_run(place, script, limit, "--programs", "programs")
     replies = ran.output.split(b"\n")[:-1]
     closed = {}
-    for number, reply in enumerate(replies[:MANY], 1):
+    for number, reply in zip(LATER, replies):
         if reply not in (REFUSED, f"ok type {TYPE} stages 1".encode()):
             same(f"close {number}", reply, REFUSED)
         closed[number] = reply != REFUSED
-    for reply in replies[MANY:]:
+    for reply in replies[len(LATER) :]:
         if reply != REFUSED and not reply.startswith(b"ok started "):
             same("round", reply, REFUSED)
     return closed

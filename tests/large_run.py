@@ -22,8 +22,8 @@ LONGEST_CHECKED = 3_600
 MEMORY = "/dev/shm"
 ROOMY = 4 << 30
 
-# Starts a program with at most so many KiB of address space, and tells its number in a file. The program waits for a line on its
-# standard input, which comes when this shell is gone: else the shell might be told of its end.
+# Starts a program with at most so many KiB of address space, and tells its number in a file. The program waits for a line on
+# its standard input, which comes when this shell is gone: else the shell might be told of its end.
 START = 'ulimit -v "$1"; told=$2; shift 2; exec 3<&0; { read -r go <&3; exec "$@" <&3 3<&-; } & echo $! >"$told"'
 
 SUBREAPER = 36
@@ -229,7 +229,8 @@ class Place:
 
     def print_all(self, script, *words, **how):
         """Serves a script with the programs and files of this place."""
-        files = [word for name in ("types", "convs", "programs") if os.path.exists(self.at(name)) for word in (f"--{name}", name)]
+        there = [name for name in ("types", "convs", "programs") if os.path.exists(self.at(name))]
+        files = [word for name in there for word in (f"--{name}", name)]
         return self.serve(script, *files, *words, **how)
 
 

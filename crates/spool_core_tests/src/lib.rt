@@ -3,11 +3,11 @@
 #![tactic(auto)]
 
 #[cfg(test)]
-mod documents;
-#[cfg(test)]
 mod indexes;
 #[cfg(test)]
 mod listings;
+#[cfg(test)]
+mod parts;
 #[cfg(test)]
 mod runs;
 #[cfg(test)]
