@@ -19,6 +19,7 @@ that has 4 GiB free, and else where temporary files do, where it takes far longe
 """
 import argparse
 import os
+import signal
 import sys
 import time
 
@@ -108,6 +109,8 @@ def main():
         if name not in known:
             sys.exit(f"no part {name}: they are {', '.join(known)}")
     adopt()
+    # A part that is ended early removes its folder too.
+    signal.signal(signal.SIGTERM, lambda *_: sys.exit(143))
     failed = 0
     for part, need in NEEDS:
         if words.parts and part.__name__ not in words.parts:

@@ -119,9 +119,15 @@ def run(words, folder, pieces=(), limit=None, longest=LONGEST):
     listening = threading.Thread(target=read_into, args=(starter.stderr, errors))
     writing.start()
     listening.start()
-    read_into(starter.stdout, output)
-    _, status, usage = os.wait4(number, 0)
-    too_long.cancel()
+    try:
+        read_into(starter.stdout, output)
+        _, status, usage = os.wait4(number, 0)
+    except BaseException:
+        # Nobody reads its output any more.
+        os.kill(number, signal.SIGKILL)
+        raise
+    finally:
+        too_long.cancel()
     writing.join()
     listening.join()
     return Ran(b"".join(output), b"".join(errors), os.waitstatus_to_exitcode(status), usage)
