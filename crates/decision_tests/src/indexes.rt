@@ -1,13 +1,12 @@
-//! The index of waiting jobs, beside the choice among all rows.
+//! The index of waiting jobs. That its next job is that of the choice among all rows is its law.
 ghost use Rattle.std.specs.Prelude.{IfOk};
 ghost use Rattle.queue_sched.specs.Index.{HasEachOnce};
 
-use crate::samples::{Held, Waiting, entry, moment, waiting_row};
+use crate::samples::{Held, Waiting, entry, moment};
 use Change::{Add, Bring, Take};
 use Held::{ForGood, Free, Until};
-use queue_sched::{Entry, Index, beats, next_job};
-use sample_rows::sample_queue;
-use spool_types::{JobId, JobRow, Phase};
+use queue_sched::{Entry, Index};
+use spool_types::JobId;
 use std::alloc::Global;
 use std::test::Fail;
 
@@ -163,74 +162,5 @@ fn an_index_of_a_list_is_that_of_its_jobs(rt: HostRuntime) -> Result<(), Fail> {
         (Bring(60), &[3, 4], 4),
     ];
     assert_eq!(rt; first_failure(&mut index, &rows)?, 0);
-    Ok(())
-}
-
-// Each is held for good, until a moment or not at all, tried from a moment on, or marked first.
-fn one_of_many(number: u32) -> Result<Entry, Fail> {
-    let later = u64::from(number % 11) * 10;
-    let held = match number % 5 {
-        0 => ForGood,
-        1 => Until(later),
-        _ => Free,
-    };
-    let from = if number % 3 == 0 { later } else { 0 };
-    entry((number, 1 + number % 7, held, from, number % 41 == 0))
-}
-
-fn many_rows(alloc: Global) -> Result<Vec<JobRow>, Fail> {
-    let mut rows = Vec::new(alloc);
-    for number in 1..300 {
-        rows.push(waiting_row(alloc, &one_of_many(number)?)?)?;
-    }
-    Ok(rows)
-}
-
-fn index_of(alloc: Global, rows: &[JobRow]) -> Result<Index, Fail> {
-    let mut index = Index::new(alloc);
-    for row in rows {
-        let entry = Entry::of_row(row).ok_or("the job isn't waiting")?;
-        add(&mut index, entry)?;
-    }
-    Ok(index)
-}
-
-fn row_of(rows: &[JobRow], id: JobId) -> Result<&JobRow, Fail> {
-    Ok(rows.iter().find(|row| row.id == id).ok_or("no row")?)
-}
-
-#[test]
-fn many_jobs_stand_in_their_order(rt: HostRuntime) -> Result<(), Fail> {
-    let rows = many_rows(rt.alloc())?;
-    let index = index_of(rt.alloc(), &rows)?;
-    let jobs = index.jobs();
-    assert_eq!(rt; jobs.len(), 299);
-    for (earlier, later) in jobs.iter().zip(&jobs[1..]) {
-        assert!(rt; beats(row_of(&rows, *earlier)?, row_of(&rows, *later)?));
-    }
-    Ok(())
-}
-
-// Ends a job of an index and of the rows.
-fn end(index: &mut Index, rows: &mut Vec<JobRow>, id: JobId) -> Result<(), Fail> {
-    take(index, id)?;
-    let row = rows.iter_mut().find(|row| row.id == id).ok_or("no row")?;
-    row.phase = Phase::Completed;
-    Ok(())
-}
-
-#[test]
-fn the_next_job_is_that_of_the_scan(rt: HostRuntime) -> Result<(), Fail> {
-    let queue = sample_queue(rt.alloc(), "socket://printer")?;
-    let mut rows = many_rows(rt.alloc())?;
-    let mut index = index_of(rt.alloc(), &rows)?;
-    for turn in 0..99u64 {
-        assert!(rt; makes(&mut index, Bring(turn / 9 * 10))?);
-        let chosen = next_job(&rows, &queue, index.moment());
-        assert_eq!(rt; index.next(), chosen, "in turn {turn}");
-        if let Some(id) = chosen {
-            end(&mut index, &mut rows, id)?;
-        }
-    }
     Ok(())
 }

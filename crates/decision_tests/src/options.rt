@@ -1,5 +1,5 @@
 //! Options, and what a child is run with.
-use filter_args::{ChildFile, Options, Place, environment, words};
+use filter_args::{Options, Place, environment};
 use sample_rows::{sample_job, sample_queue};
 use spool_types::{JobRow, Note, Phase, QueueRow};
 use std::alloc::Global;
@@ -26,12 +26,13 @@ const PHASE: Phase = Phase::Processing {
     stages: 1,
 };
 
-fn place(alloc: Global, side: bool) -> Result<Place, Fail> {
+// With a side channel. Stored scripts have children without one.
+fn place(alloc: Global) -> Result<Place, Fail> {
     Ok(Place {
         root: String::from_str(alloc, "/r")?,
         lang: String::from_str(alloc, "C")?,
         path: String::from_str(alloc, "/usr/bin:/bin")?,
-        side,
+        side: true,
     })
 }
 
@@ -45,35 +46,22 @@ fn lines(alloc: Global, texts: &[String]) -> Result<String, Fail> {
     Ok(lines)
 }
 
-#[test]
-fn the_arguments_are_in_their_order(rt: HostRuntime) -> Result<(), Fail> {
-    let alloc = rt.alloc();
-    let job = sample_job(alloc, PHASE)?;
-    let document = ChildFile::Input.path(alloc, &place(alloc, true)?, job.id, 1, 1)?;
-    for (file, wanted) in [
-        (
-            Some(document.as_str()),
-            "7\nann\nP 1\n2\nmedia=A4\n/r/in-7-1-1\n",
-        ),
-        (None, "7\nann\nP 1\n2\nmedia=A4\n"),
-    ] {
-        let words = words(alloc, &job, file)?;
-        assert_eq!(rt; lines(alloc, &words)?.as_str(), wanted);
-    }
-    Ok(())
-}
-
 fn queue(alloc: Global) -> Result<QueueRow, Fail> {
     let mut queue = sample_queue(alloc, "spoolfile:/out")?;
     queue.info = Note::read(alloc, "Front")?;
     Ok(queue)
 }
 
-fn environment_lines(alloc: Global, job: &JobRow, side: bool) -> Result<String, Fail> {
+fn environment_lines(
+    alloc: Global,
+    job: &JobRow,
+    queue: &QueueRow,
+    place: &Place,
+) -> Result<String, Fail> {
     if !job.phase.is_processing() {
         return Err("not processing")?;
     }
-    let variables = environment(alloc, job, &queue(alloc)?, &place(alloc, side)?)?;
+    let variables = environment(alloc, job, queue, place)?;
     lines(alloc, &variables)
 }
 
@@ -81,12 +69,12 @@ fn environment_lines(alloc: Global, job: &JobRow, side: bool) -> Result<String, 
 fn the_environment_is_in_its_order(rt: HostRuntime) -> Result<(), Fail> {
     let alloc = rt.alloc();
     let job = sample_job(alloc, PHASE)?;
-    let with_side = environment_lines(alloc, &job, true)?;
+    let queue = queue(alloc)?;
+    let place = place(alloc)?;
+    let text = environment_lines(alloc, &job, &queue, &place)?;
     assert_eq!(rt;
-        with_side.as_str(),
+        text.as_str(),
         "CHARSET=utf-8\nCONTENT_TYPE=text/plain\nCUPS_FILETYPE=document\nDEVICE_URI=spoolfile:/out\nFINAL_CONTENT_TYPE=application/x-prn\nLANG=C\nPATH=/usr/bin:/bin\nPRINTER=lab\nPRINTER_INFO=Front\nPRINTER_LOCATION=\nTMPDIR=/r\nSPOOL_ATTEMPT=1\nSPOOL_SIDE=/r/side-7-1-1\nSPOOL_STAGE=1\n"
     );
-    let without = environment_lines(alloc, &job, false)?;
-    assert!(rt; without.as_str().contains("\nSPOOL_SIDE=\n"));
     Ok(())
 }

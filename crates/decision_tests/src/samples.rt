@@ -2,9 +2,7 @@
 ghost use Rattle.std.specs.Prelude.{◌≡◌, IfOk};
 
 use queue_sched::Entry;
-use sample_rows::sample_job;
-use spool_types::{Hold, HoldReason, JobId, JobRow, Moment, Phase, Priority};
-use std::alloc::Global;
+use spool_types::{Hold, HoldReason, JobId, Moment, Priority};
 use std::test::Fail;
 
 /// What holds a job.
@@ -38,19 +36,5 @@ pub(crate) fn entry(waiting: Waiting) -> Result<Entry, Fail>
         priority: Priority::new(priority).ok_or("no priority")?,
         hold,
         not_before: moment(seconds)?,
-    })
-}
-
-/// The row of that job, in the queue `lab`.
-pub(crate) fn waiting_row(alloc: Global, entry: &Entry) -> Result<JobRow, Fail> {
-    let phase = Phase::Waiting {
-        hold: entry.hold,
-        not_before: entry.not_before,
-        first: entry.first,
-    };
-    Ok(JobRow {
-        id: entry.id,
-        priority: entry.priority,
-        ..sample_job(alloc, phase)?
     })
 }
