@@ -1,5 +1,5 @@
 -- What is done for the words.
-use Rattle.std.specs.Prelude.{◌≡◌, ◌⊎◌, ℕ, List, [], Bool, Option, None, Result, Err, length}
+use Rattle.std.specs.Prelude.{◌≡◌, ◌⊎◌, ℕ, List, [], Bool, Option, None, Some, Result, Err, length}
 use Rattle.mime_costs.specs.Reading.{conversions_of}
 use Rattle.mime_rules.specs.Lines.{alternatives_of}
 use Rattle.mime_rules.specs.Seen.{types_of}
@@ -12,6 +12,17 @@ use Rattle.spool_core.specs.Image.{HasTable}
 use Rattle.spool_engine.specs.Mime.{Mime}
 use Rattle.spool_host.specs.Serving.{HasRun, IsPlace, IsUnopened}
 use Rattle.spool_host.specs.declared.fault.ShellFault.{ShellFault}
+
+-- a disk in memory, as `MemDisk` says that it is seen
+abbrev pub seen_of_memory : DiskView MemDisk
+seen_of_memory = record {
+  bytes = λ d. Some (mem_bytes d);
+  size = λ d. length (mem_bytes d);
+  image = λ d c. c ≡ mem_bytes d;
+  moment = λ d. 0;
+  image_since = λ d t c. c ≡ mem_bytes d;
+  failures = λ d. 0;
+}
 
 -- a new spool in memory, of so many bytes
 abbrev pub IsNewSpool : ℕ → MemDisk → Type 0

@@ -1,6 +1,7 @@
 //! What the words ask for is done.
 ghost use Rattle.std.specs.Prelude.{◌≡◌, IfSome, None, [], true, false, ⊤};
-ghost use Rattle.spool_host.specs.Running.{AreRules, IsNewSpool, ServesOrNot};
+ghost use Rattle.spool_disk.specs.File.{seen_of_file};
+ghost use Rattle.spool_host.specs.Running.{AreRules, IsNewSpool, ServesOrNot, seen_of_memory};
 
 use crate::device::SpoolFolder;
 use crate::devices::{ChildDiscovery, print_devices};
@@ -14,7 +15,6 @@ use log::Log;
 use mime_costs::Convs;
 use mime_rules::Types;
 use program_lists::ProgramList;
-use spool_disk::{FileDisk, MemDisk};
 use std::alloc::Global;
 use std::fs::{File, Files};
 use std::io::{Read, Write};
@@ -34,10 +34,10 @@ where
     H: Files<File = File> + Net + Processes + AllocGlobal,
     // Without a folder the spool is a new one in memory, of the size that the words say.
     ensures memory { words.entry.devices ≡ false → words.entry.root ≡ None →
-        ServesOrNot MemDisk.device (IsNewSpool words.entry.size) (AreRules words.entry.types words.entry.convs) []
+        ServesOrNot seen_of_memory (IsNewSpool words.entry.size) (AreRules words.entry.types words.entry.convs) []
         (R.remaining reader.old) (R.remaining reader.new) result (W.contents writer.old) (W.contents writer.new) }
     ensures folder { words.entry.devices ≡ false → IfSome words.entry.root (λ dir.
-        ServesOrNot FileDisk.device (λ disk. ⊤) (AreRules words.entry.types words.entry.convs) dir.now
+        ServesOrNot seen_of_file (λ disk. ⊤) (AreRules words.entry.types words.entry.convs) dir.now
         (R.remaining reader.old) (R.remaining reader.new) result (W.contents writer.old) (W.contents writer.new)) }
     ensures devices { words.entry.devices ≡ true → R.remaining reader.new ≡ R.remaining reader.old }
 {
@@ -60,7 +60,7 @@ fn serve_memory<R: Read, W: Write>(
     reader: &mut R,
     writer: &mut W,
 ) -> Result<(), ShellFault>
-    ensures { ServesOrNot MemDisk.device (IsNewSpool size) (λ mime. mime ≡ record { types = rules.0; convs = rules.1 }) []
+    ensures { ServesOrNot seen_of_memory (IsNewSpool size) (λ mime. mime ≡ record { types = rules.0; convs = rules.1 }) []
         (R.remaining reader.old) (R.remaining reader.new) result (W.contents writer.old) (W.contents writer.new) }
 {
     let disk = memory_device(alloc, size)?;
@@ -80,7 +80,7 @@ fn serve_folder<H, R: Read, W: Write>(
 ) -> Result<(), ShellFault>
 where
     H: Files<File = File> + Net + Processes + AllocGlobal,
-    ensures { ServesOrNot FileDisk.device (λ disk. ⊤) (λ mime. mime ≡ record { types = rules.0; convs = rules.1 }) dir.entry.now
+    ensures { ServesOrNot seen_of_file (λ disk. ⊤) (λ mime. mime ≡ record { types = rules.0; convs = rules.1 }) dir.entry.now
         (R.remaining reader.old) (R.remaining reader.new) result (W.contents writer.old) (W.contents writer.new) }
 {
     // The folder is this program's until all commands have been served.
