@@ -29,7 +29,7 @@ ghost use Rattle.decision_facts.specs.EventFaults.{FaultRows, EffectFaultRows, F
 ghost use Rattle.decision_facts.specs.ListedRows.{ListedRows, LeastRows, PhaseRows};
 ghost use Rattle.decision_facts.specs.ListedFaults.{ListedFaultRows, QueueFaultRows, PhaseFaultRows};
 ghost use Rattle.decision_facts.specs.Options.{OptionRows, OptionFaultRows, LastValueRows};
-ghost use Rattle.decision_facts.specs.Children.{FileRows, ArgumentRows};
+ghost use Rattle.decision_facts.specs.Children.{FileRows, ArgumentRows, EnvironmentRows};
 ghost use Rattle.decision_facts.specs.Devices.{JournalRows, DamagedRows, ClosedRows, LeastAreaRows, MadeRows, MadeAnewRows, AreaRows, HeaderFaultRows, PlanRows};
 
 /// Limits, texts, media types and the size of effects.
@@ -129,6 +129,7 @@ pub fn options()
 pub fn children()
     ensures files { FileRows }
     ensures arguments { ArgumentRows }
+    ensures environment { EnvironmentRows }
 {}
 
 /// What bytes of a device are.

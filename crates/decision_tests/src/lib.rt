@@ -7,8 +7,6 @@
 #[cfg(test)]
 mod codec;
 #[cfg(test)]
-mod effects;
-#[cfg(test)]
 mod indexes;
 #[cfg(test)]
 mod options;
