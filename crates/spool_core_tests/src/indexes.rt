@@ -64,20 +64,37 @@ fn numbers(alloc: Global, text: &str) -> Result<Vec<JobId>, Fail> {
     Ok(numbers)
 }
 
-#[test]
-fn jobs_are_in_the_order_of_their_turns(rt: HostRuntime) -> Result<(), Fail> {
-    let alloc = rt.alloc();
-    let queue = QueueName::read(alloc, "q")?;
-    let mut table = Table::new(alloc);
-    assert!(rt; table.index(&queue).is_none());
+// Whether the index of a queue has these numbers.
+fn has(alloc: Global, table: &Table, queue: &QueueName, text: &str) -> Result<bool, Fail> {
+    match table.index(queue) {
+        Some(index) => Ok(index.jobs() == numbers(alloc, text)?.as_slice()),
+        None => Ok(false),
+    }
+}
+
+// The first line behind whose event the queue has another index, if there is one.
+fn other_index(
+    alloc: Global,
+    table: &mut Table,
+    queue: &QueueName,
+) -> Result<Option<&'static str>, Fail> {
     for line in PLACES.lines() {
         let (spelling, wanted) = line.split_once(" =").ok_or("no index")?;
-        apply(&mut table, event(alloc, spelling)?)?;
-        let index = table.index(&queue).ok_or("no queue")?;
-        assert_eq!(rt;
-            (spelling, index.jobs()),
-            (spelling, numbers(alloc, wanted)?.as_slice())
-        );
+        apply(table, event(alloc, spelling)?)?;
+        if !has(alloc, table, queue, wanted)? {
+            return Ok(Some(line));
+        }
     }
+    Ok(None)
+}
+
+#[test]
+fn jobs_are_in_the_order_of_their_turns(rt: HostRuntime) -> Result<(), Fail> {
+    let queue = QueueName::read(rt.alloc(), "q")?;
+    let mut table = Table::new(rt.alloc());
+    assert!(rt; table.index(&queue).is_none());
+    let found = other_index(rt.alloc(), &mut table, &queue);
+    drop(table);
+    assert_eq!(rt; found?, None);
     Ok(())
 }

@@ -1,15 +1,13 @@
 //! Tables that are loaded from listings.
 
-use crate::spelled::{bytes_of, events, listing};
+use crate::spelled::{bytes_of, events, listing, lists};
 use event_codec::{decode_row, encode_queue_onto};
 use extents::Extent;
 use job_table::{LoadFault, Loading, Table, document_len, listed};
 use spool_core::replay;
-use spool_types::{
-    Attribute, AttributeName, Attributes, Head, JobId, JobRow, Message, Moment, Phase, Piece,
-    QueueName, QueueRow, Reason, Reasons, Row,
-};
+use spool_types::{Head, JobId, JobRow, Moment, Phase, Piece, QueueName, QueueRow, Row};
 use std::alloc::Global;
+use std::process::Abort;
 use std::test::*;
 
 // Where the payload of each row lies.
@@ -37,8 +35,8 @@ const EVENTS: [&str; 16] = [
 ];
 
 // Loads a row that comes next.
-fn take(loading: &mut Loading, row: Row) -> Result<(), Fail> {
-    Ok(loading.load(row, PAYLOAD)?)
+fn take(loading: &mut Loading, row: Row) -> Result<(), LoadFault> {
+    loading.load(row, PAYLOAD)
 }
 
 // The row of a queue, spelled and read again.
@@ -48,30 +46,39 @@ fn queue_row(alloc: Global, queue: &QueueRow) -> Result<Row, Fail> {
     Ok(decode_row(alloc, &bytes)?)
 }
 
+fn take_queue(alloc: Global, loading: &mut Loading, queue: &QueueRow) -> Result<(), Fail> {
+    Ok(take(loading, queue_row(alloc, queue)?)?)
+}
+
+// So many zeros.
+fn zeros(alloc: Global, len: usize) -> Result<Piece, Fail> {
+    match Piece::new(vec![in alloc; 0; len]?) {
+        Ok(piece) => Ok(piece),
+        Err(_) => Err(Fail::from("too many bytes")),
+    }
+}
+
 // The row of a job, and then its document as zeros, since a table has no bytes.
 fn take_job(alloc: Global, loading: &mut Loading, job: &JobRow) -> Result<(), Fail> {
     take(loading, Row::Job(listed(job)?))?;
     let len = document_len(job.phase, job.size);
     if 0 < len {
-        let bytes = Piece::new(vec![in alloc; 0; len]?)
-            .ok()
-            .ok_or("too many bytes")?;
+        let bytes = zeros(alloc, len)?;
         take(loading, Row::Piece { job: job.id, bytes })?;
     }
     Ok(())
 }
 
-// The table that is loaded from the listing of another.
-fn loaded_again(alloc: Global, table: &Table) -> Result<Table, Fail> {
-    let mut loading = Loading::new(alloc);
-    take(&mut loading, Row::Head(table.head()))?;
+// Loads the rows of a table.
+fn take_all(alloc: Global, loading: &mut Loading, table: &Table) -> Result<(), Fail> {
+    take(loading, Row::Head(table.head()))?;
     for queue in table.queues() {
-        take(&mut loading, queue_row(alloc, queue)?)?;
+        take_queue(alloc, loading, queue)?;
     }
     for job in table.jobs() {
-        take_job(alloc, &mut loading, job)?;
+        take_job(alloc, loading, job)?;
     }
-    finished(loading)
+    Ok(())
 }
 
 fn finished(loading: Loading) -> Result<Table, Fail> {
@@ -81,17 +88,45 @@ fn finished(loading: Loading) -> Result<Table, Fail> {
     Ok(loading.into_table()?)
 }
 
-#[test]
-fn a_listing_loaded_again_is_its_table(rt: HostRuntime) -> Result<(), Fail> {
-    let alloc = rt.alloc();
+// The table that is loaded from the listing of another.
+fn loaded_again(alloc: Global, table: &Table) -> Result<Table, Fail> {
+    let mut loading = Loading::new(alloc);
+    match take_all(alloc, &mut loading, table) {
+        Ok(()) => finished(loading),
+        Err(fail) => Err(fail),
+    }
+}
+
+// Whether the index of the queue q is these jobs.
+fn has_turns(alloc: Global, table: &Table, turns: &[JobId]) -> Result<bool, Fail> {
+    let queue = QueueName::read(alloc, "q")?;
+    match table.index(&queue) {
+        Some(index) => Ok(index.jobs() == turns),
+        None => Ok(false),
+    }
+}
+
+// The table after the events, and the one that is loaded from its listing.
+fn both(alloc: Global) -> Result<(Table, Table), Fail> {
     let table = replay(alloc, events(alloc, &EVENTS)?)?;
-    let again = loaded_again(alloc, &table)?;
-    let wanted = listing(alloc, &table)?;
-    assert_eq!(rt; listing(alloc, &again)?.as_slice(), wanted.as_slice());
+    match loaded_again(alloc, &table) {
+        Ok(again) => Ok((table, again)),
+        Err(fail) => Err(fail),
+    }
+}
+
+fn are_same<R: Abort>(rt: &R, alloc: Global, table: &Table, again: &Table) -> Result<(), Fail> {
+    let rows = listing(alloc, table)?;
+    assert!(rt; lists(alloc, again, &rows)?);
     assert_eq!(rt;
         (again.highest(), again.now().get(), again.is_idle()),
         (7, 7, false)
     );
+    let turns = [
+        JobId::new(7).ok_or("no number")?,
+        JobId::new(6).ok_or("no number")?,
+    ];
+    assert!(rt; has_turns(alloc, again, &turns)?);
     let document = &again.jobs().first().ok_or("no job")?.document;
     assert_eq!(rt;
         document.as_slice(),
@@ -101,21 +136,23 @@ fn a_listing_loaded_again_is_its_table(rt: HostRuntime) -> Result<(), Fail> {
         }]
         .as_slice()
     );
-    let queue = QueueName::read(alloc, "q")?;
-    let index = again.index(&queue).ok_or("no queue")?;
-    let turns = [
-        JobId::new(7).ok_or("no number")?,
-        JobId::new(6).ok_or("no number")?,
-    ];
-    assert_eq!(rt; index.jobs(), turns.as_slice());
     Ok(())
+}
+
+#[test]
+fn a_listing_loaded_again_is_its_table(rt: HostRuntime) -> Result<(), Fail> {
+    let (table, again) = both(rt.alloc())?;
+    let outcome = are_same(&rt, rt.alloc(), &table, &again);
+    drop(table);
+    drop(again);
+    outcome
 }
 
 #[test]
 fn no_rows_are_the_empty_table(rt: HostRuntime) -> Result<(), Fail> {
     let table = finished(Loading::new(rt.alloc()))?;
     let head = bytes_of(rt.alloc(), "40 00000000 0000000000000000")?;
-    assert_eq!(rt; listing(rt.alloc(), &table)?.as_slice(), head.as_slice());
+    assert!(rt; lists(rt.alloc(), &table, &head)?);
     Ok(())
 }
 
@@ -126,6 +163,10 @@ const QUEUE: &str = "41 000171 0003733a2f 0003612f62 00 0000001e 0005 0000 0000 
 
 const JOB: &str =
     "42 00000002 000171 000175 0000 0001 32 0000 01 0003612f62 00 00000001 00000000 00000000 02 01";
+
+const LISTED: &str = "40 00000009 0000000000000064 \
+    41 000171 0003733a2f 0003612f62 00 0000001e 0005 0000 0000 01 00 0000 00 00 \
+    42 00000002 000171 000175 0000 0001 32 0000 01 0003612f62 00 00000001 00000000 00000000 02 01";
 
 fn row(alloc: Global, text: &str) -> Result<Row, Fail> {
     Ok(decode_row(alloc, &bytes_of(alloc, text)?)?)
@@ -151,60 +192,21 @@ fn processing(attempt: u32, stage: u8, stages: u8) -> Phase {
     }
 }
 
-// The queue with these reasons.
-fn with_reasons(alloc: Global, words: [&str; 2]) -> Result<Row, Fail> {
-    let mut reasons = Vec::new(alloc);
-    for word in words {
-        reasons.push(Reason::read(alloc, word)?)?;
-    }
-    match row(alloc, QUEUE)? {
-        Row::Queue(mut queue) => {
-            queue.reasons = Reasons::new(reasons).ok().ok_or("too many")?;
-            Ok(Row::Queue(queue))
-        }
-        _ => Err(Fail::from("no queue")),
-    }
-}
-
-// The queue with attributes of these names.
-fn with_attributes(alloc: Global, names: [&str; 2]) -> Result<Row, Fail> {
-    let mut attributes = Vec::new(alloc);
-    for name in names {
-        let name = AttributeName::read(alloc, name)?;
-        attributes.push(Attribute {
-            name,
-            value: Message::empty(alloc),
-        })?;
-    }
-    match row(alloc, QUEUE)? {
-        Row::Queue(mut queue) => {
-            queue.attributes = Attributes::new(attributes).ok().ok_or("too many")?;
-            Ok(Row::Queue(queue))
-        }
-        _ => Err(Fail::from("no queue")),
-    }
-}
-
 fn is_misplaced(loading: &mut Loading, row: Row) -> bool {
     loading.load(row, PAYLOAD) == Err(LoadFault::Misplaced)
 }
 
+fn take_text(alloc: Global, loading: &mut Loading, text: &str) -> Result<(), Fail> {
+    Ok(take(loading, row(alloc, text)?)?)
+}
+
 // Rows that no bytes spell, and none that may come next. What comes behind them is loaded as if they hadn't come.
-#[test]
-fn rows_that_fit_no_table_are_misplaced(rt: HostRuntime) -> Result<(), Fail> {
-    let alloc = rt.alloc();
-    let mut loading = Loading::new(alloc);
-    let high = Head {
-        highest: 2_147_483_648,
-        moment: Moment::ZERO,
-    };
-    assert!(rt; is_misplaced(&mut loading, Row::Head(high)));
-    take(&mut loading, row(alloc, HEAD)?)?;
-    for words in [["b", "a"], ["a", "a"]] {
-        assert!(rt; is_misplaced(&mut loading, with_reasons(alloc, words)?));
-        assert!(rt; is_misplaced(&mut loading, with_attributes(alloc, words)?));
-    }
-    take(&mut loading, row(alloc, QUEUE)?)?;
+fn take_around<R: Abort>(rt: &R, alloc: Global, loading: &mut Loading) -> Result<(), Fail> {
+    let highest = 2_147_483_648;
+    let moment = Moment::ZERO;
+    assert!(rt; is_misplaced(loading, Row::Head(Head { highest, moment })));
+    take_text(alloc, loading, HEAD)?;
+    take_text(alloc, loading, QUEUE)?;
     for (attempts, phase) in [
         (2, processing(1, 1, 1)),
         (0, processing(0, 1, 1)),
@@ -212,14 +214,20 @@ fn rows_that_fit_no_table_are_misplaced(rt: HostRuntime) -> Result<(), Fail> {
         (1, processing(1, 2, 1)),
         (1, processing(1, 1, 2)),
     ] {
-        assert!(rt; is_misplaced(&mut loading, job_row(alloc, attempts, phase)?));
+        assert!(rt; is_misplaced(loading, job_row(alloc, attempts, phase)?));
     }
-    take(&mut loading, job_row(alloc, 1, processing(1, 1, 1))?)?;
-    let rows = format!(in alloc; "{HEAD} {QUEUE} {JOB}")?;
-    let found = listing(alloc, &finished(loading)?)?;
-    assert_eq!(rt;
-        found.as_slice(),
-        bytes_of(alloc, rows.as_str())?.as_slice()
-    );
+    take_text(alloc, loading, JOB)
+}
+
+#[test]
+fn rows_that_fit_no_table_are_misplaced(rt: HostRuntime) -> Result<(), Fail> {
+    let mut loading = Loading::new(rt.alloc());
+    match take_around(&rt, rt.alloc(), &mut loading) {
+        Ok(()) => {}
+        Err(fail) => return Err(fail),
+    }
+    let table = finished(loading)?;
+    let rows = bytes_of(rt.alloc(), LISTED)?;
+    assert!(rt; lists(rt.alloc(), &table, &rows)?);
     Ok(())
 }

@@ -3,13 +3,14 @@ ghost use Rattle.std.specs.Prelude.{◌≡◌, ◌≤◌, IfOk, IsSome};
 ghost use Rattle.spool_types.specs.State.{job_at};
 ghost use Rattle.spool_core.specs.Standing.{len_at};
 
-use crate::spelled::{CREATE, QUEUE, events};
-use crate::spools::{OPENING, made, open, reopen};
+use crate::spelled::{CREATE, QUEUE};
+use crate::spools::{Device, OPENING, closed, drives, made, open};
 use job_table::{Table, document_len};
-use spool_core::{CheckpointFault, Ending, ReadFault, Spool, drive};
-use spool_disk::{FuseDisk, MemDisk};
+use spool_core::{CheckpointFault, Ending, ReadFault, Spool};
+use spool_disk::MemDisk;
 use spool_types::JobId;
 use std::alloc::Global;
+use std::process::Abort;
 use std::test::*;
 
 // The queue, its job, and its document `hello you` in two parts.
@@ -20,19 +21,8 @@ const FILLED: [&str; 4] = [
     "06 00000001 00000004 20796f75",
 ];
 
-// How many calls these take, and then one of each part that is read.
+// How many calls these take.
 const FILLING: u64 = 16;
-
-// A spool with this document, on a device that fails after so many calls behind them.
-fn filled(alloc: Global, calls: u64) -> Result<Spool<FuseDisk<MemDisk>>, Fail>
-    requires { calls ≤ 100 }
-{
-    let mut spool = open(alloc, made(alloc, 1_024)?, OPENING + FILLING + calls)?;
-    match drive(alloc, &mut spool, events(alloc, &FILLED)?).ending {
-        Ending::End => Ok(spool),
-        ending => Err(Fail::from(ending)),
-    }
-}
 
 fn len_of(table: &Table, job: JobId) -> Result<usize, Fail>
     ensures { IfOk result (λ len. (len ≡ len_at table.now.state job) × IsSome (job_at table.now.state job)) }
@@ -45,7 +35,7 @@ fn len_of(table: &Table, job: JobId) -> Result<usize, Fail>
 
 // Reads bytes of job 1 from a place on, to where `into` is.
 fn read(
-    spool: &mut Spool<FuseDisk<MemDisk>>,
+    spool: &mut Spool<Device>,
     at: usize,
     into: &mut [u8],
 ) -> Result<Result<(), ReadFault>, Fail> {
@@ -57,55 +47,138 @@ fn read(
     Ok(spool.read_document(job, at, into))
 }
 
-#[test]
-fn parts_are_read(rt: HostRuntime) -> Result<(), Fail> {
-    let mut spool = filled(rt.alloc(), 50)?;
-    for _ in 0..3 {
-        let (mut whole, mut over, mut last) = ([0; 9], [0; 3], [0; 1]);
-        assert_eq!(rt; read(&mut spool, 0, &mut whole)?, Ok(()));
-        assert_eq!(rt; read(&mut spool, 4, &mut over)?, Ok(()));
-        assert_eq!(rt; read(&mut spool, 8, &mut last)?, Ok(()));
-        assert_eq!(rt; read(&mut spool, 9, &mut [])?, Ok(()));
-        assert_eq!(rt; (&whole, &over, &last), (b"hello you", b"o y", b"u"));
-        assert_eq!(rt; spool.checkpoint(), Ok(()));
-        spool = reopen(rt.alloc(), spool)?;
+fn reads_whole<R: Abort>(rt: &R, spool: &mut Spool<Device>) -> Result<(), Fail> {
+    let (mut whole, mut over, mut last) = ([0; 9], [0; 3], [0; 1]);
+    assert_eq!(rt; read(spool, 0, &mut whole)?, Ok(()));
+    assert_eq!(rt; read(spool, 4, &mut over)?, Ok(()));
+    assert_eq!(rt; read(spool, 8, &mut last)?, Ok(()));
+    assert_eq!(rt; read(spool, 9, &mut [])?, Ok(()));
+    assert_eq!(rt; (&whole, &over, &last), (b"hello you", b"o y", b"u"));
+    assert_eq!(rt; spool.checkpoint(), Ok(()));
+    Ok(())
+}
+
+// What is done to a spool.
+#[derive(Clone, Copy)]
+enum Step {
+    Fill,
+    ReadWhole,
+    ReadFirst,
+    Die,
+    FailToRead,
+}
+
+fn does<R: Abort>(
+    rt: &R,
+    alloc: Global,
+    spool: &mut Spool<Device>,
+    step: Step,
+) -> Result<(), Fail> {
+    match step {
+        Step::Fill => assert_eq!(rt; drives(alloc, spool, &FILLED)?, (4, Ending::End)),
+        Step::ReadWhole => reads_whole(rt, spool)?,
+        Step::ReadFirst => reads_first(rt, spool)?,
+        Step::Die => {
+            assert_eq!(rt; drives(alloc, spool, &["0a 00000001"])?, (0, Ending::Disk));
+            is_dead(rt, spool)?;
+        }
+        Step::FailToRead => {
+            assert_eq!(rt; read(spool, 1, &mut [7; 3])?, Err(ReadFault::Disk));
+            is_dead(rt, spool)?;
+        }
     }
     Ok(())
 }
 
-// The read of the first part takes the last call.
+fn reads_first<R: Abort>(rt: &R, spool: &mut Spool<Device>) -> Result<(), Fail> {
+    let mut first = [7; 3];
+    assert_eq!(rt; read(spool, 1, &mut first)?, Ok(()));
+    assert_eq!(rt; &first, b"ell");
+    Ok(())
+}
+
+// It reads nothing, and the bytes of the reader stay.
+fn is_dead<R: Abort>(rt: &R, spool: &mut Spool<Device>) -> Result<(), Fail> {
+    let mut bytes = [7; 3];
+    assert!(rt; spool.is_dead());
+    assert_eq!(rt; read(spool, 1, &mut bytes)?, Err(ReadFault::Dead));
+    assert_eq!(rt; bytes, [7; 3]);
+    assert_eq!(rt; spool.checkpoint(), Err(CheckpointFault::Dead));
+    Ok(())
+}
+
+fn does_all<R: Abort>(
+    rt: &R,
+    alloc: Global,
+    spool: &mut Spool<Device>,
+    steps: &[Step],
+) -> Result<(), Fail> {
+    for step in steps {
+        does(rt, alloc, spool, *step)?;
+    }
+    Ok(())
+}
+
+// Opens a disk with a device that fails after so many calls, and does these steps. The disk that is left.
+fn after<R: Abort>(
+    rt: &R,
+    alloc: Global,
+    disk: MemDisk,
+    calls: u64,
+    steps: &[Step],
+) -> Result<MemDisk, Fail> {
+    let mut spool = open(alloc, disk, calls)?;
+    let outcome = does_all(rt, alloc, &mut spool, steps);
+    let disk = closed(spool);
+    outcome?;
+    Ok(disk)
+}
+
+#[test]
+fn parts_are_read(rt: HostRuntime) -> Result<(), Fail> {
+    let disk = made(rt.alloc(), 1_024)?;
+    let disk = after(
+        &rt,
+        rt.alloc(),
+        disk,
+        u64::MAX,
+        &[Step::Fill, Step::ReadWhole],
+    )?;
+    let disk = after(&rt, rt.alloc(), disk, u64::MAX, &[Step::ReadWhole])?;
+    after(
+        &rt,
+        rt.alloc(),
+        disk,
+        u64::MAX,
+        &[Step::ReadWhole, Step::ReadFirst],
+    )?;
+    Ok(())
+}
+
+// The read takes the last call of the device.
 #[test]
 fn a_dead_spool_leaves_the_bytes_of_the_reader(rt: HostRuntime) -> Result<(), Fail> {
-    let mut spool = filled(rt.alloc(), 1)?;
-    let (mut first, mut second) = ([7; 3], [7; 3]);
-    assert_eq!(rt; read(&mut spool, 1, &mut first)?, Ok(()));
-    assert_eq!(rt; &first, b"ell");
-    assert_eq!(rt;
-        drive(
-            rt.alloc(),
-            &mut spool,
-            events(rt.alloc(), &["0a 00000001"])?
-        )
-        .ending,
-        Ending::Disk
-    );
-    assert_eq!(rt; read(&mut spool, 1, &mut second)?, Err(ReadFault::Dead));
-    assert_eq!(rt; second, [7; 3]);
-    assert_eq!(rt; spool.checkpoint(), Err(CheckpointFault::Dead));
+    let disk = made(rt.alloc(), 1_024)?;
+    after(
+        &rt,
+        rt.alloc(),
+        disk,
+        OPENING + FILLING + 1,
+        &[Step::Fill, Step::ReadFirst, Step::Die],
+    )?;
     Ok(())
 }
 
 #[test]
 fn a_read_that_fails_ends_the_spool(rt: HostRuntime) -> Result<(), Fail> {
-    let mut spool = filled(rt.alloc(), 0)?;
-    let (mut first, mut second) = ([7; 3], [7; 3]);
-    assert_eq!(rt; read(&mut spool, 1, &mut first)?, Err(ReadFault::Disk));
-    assert!(rt; spool.is_dead());
-    assert_eq!(rt; read(&mut spool, 1, &mut second)?, Err(ReadFault::Dead));
-    assert_eq!(rt; second, [7; 3]);
-    assert_eq!(rt; spool.checkpoint(), Err(CheckpointFault::Dead));
-    let mut spool = reopen(rt.alloc(), spool)?;
-    assert_eq!(rt; read(&mut spool, 1, &mut second)?, Ok(()));
-    assert_eq!(rt; &second, b"ell");
+    let disk = made(rt.alloc(), 1_024)?;
+    let disk = after(
+        &rt,
+        rt.alloc(),
+        disk,
+        OPENING + FILLING,
+        &[Step::Fill, Step::FailToRead],
+    )?;
+    after(&rt, rt.alloc(), disk, u64::MAX, &[Step::ReadFirst])?;
     Ok(())
 }

@@ -1,12 +1,13 @@
 //! Lists of events that are replayed, and driven on a spool.
 
-use crate::spelled::{CLOSE, CREATE, QUEUE, bytes_of, event, events, listing};
-use crate::spools::{OPENING, made, open, reopen};
+use crate::spelled::{CLOSE, CREATE, QUEUE, bytes_of, event, events, listing, lists};
+use crate::spools::{Device, OPENING, closed, driven, drives, made, open};
 use event_codec::decode;
 use spool_core::{Ending, Spool, drive, replay};
 use spool_disk::{FuseDisk, MemDisk};
-use spool_types::{Event, JobId, Refusal, Reply};
+use spool_types::Event;
 use std::alloc::Global;
+use std::process::Abort;
 use std::test::*;
 
 // The queue twice, its job, the end of the job's document, and a clock.
@@ -20,78 +21,93 @@ const LISTED: &str = "40 00000001 0000000000000000 \
 // The rows after the first events of the plan.
 fn rows_after(alloc: Global, count: usize) -> Result<Vec<u8>, Fail> {
     let count = count.min(PLAN.len());
-    listing(alloc, &replay(alloc, events(alloc, &PLAN[..count])?)?)
+    let table = replay(alloc, events(alloc, &PLAN[..count])?)?;
+    Ok(listing(alloc, &table)?)
 }
 
 #[test]
 fn refused_events_are_skipped(rt: HostRuntime) -> Result<(), Fail> {
     let rows = rows_after(rt.alloc(), 5)?;
-    assert_eq!(rt; rows.as_slice(), bytes_of(rt.alloc(), LISTED)?.as_slice());
+    let wanted = bytes_of(rt.alloc(), LISTED)?;
+    assert_eq!(rt; rows.as_slice(), wanted.as_slice());
     Ok(())
 }
 
-// The area has no room for the clock. Each opening finds the table of the events before.
+// What the plan is answered on a spool, and why it ends, in words.
+fn told(alloc: Global, spool: &mut Spool<Device>) -> Result<String, Fail> {
+    let driven = driven(alloc, spool, &PLAN)?;
+    let replies = driven.replies.as_slice();
+    let ending = driven.ending;
+    Ok(format!(in alloc; "{replies:?} {ending:?}")?)
+}
+
+// Drives the plan on a new spool of 198 bytes, whose area has no room for the clock. What it is answered, and the disk.
+fn full(alloc: Global) -> Result<(String, MemDisk), Fail> {
+    let mut spool = open(alloc, made(alloc, 198)?, u64::MAX)?;
+    let told = told(alloc, &mut spool);
+    let disk = closed(spool);
+    Ok((told?, disk))
+}
+
+// Whether an opening of the disk finds these rows, and the disk.
+fn finds(alloc: Global, disk: MemDisk, rows: &[u8]) -> Result<(bool, MemDisk), Fail> {
+    let spool = open(alloc, disk, u64::MAX)?;
+    let same = lists(alloc, spool.table(), rows);
+    let disk = closed(spool);
+    Ok((same?, disk))
+}
+
+// Whether so does the next opening.
+fn finds_twice(alloc: Global, disk: MemDisk, rows: &[u8]) -> Result<bool, Fail> {
+    let (first, disk) = finds(alloc, disk, rows)?;
+    let (second, _) = finds(alloc, disk, rows)?;
+    Ok(first && second)
+}
+
 #[test]
 fn driven_until_it_is_full(rt: HostRuntime) -> Result<(), Fail> {
-    let job = JobId::new(1).ok_or("no number")?;
-    let mut spool = open(rt.alloc(), made(rt.alloc(), 198)?, u64::MAX)?;
-    let driven = drive(rt.alloc(), &mut spool, events(rt.alloc(), &PLAN)?);
-    assert_eq!(rt; driven.ending, Ending::Full);
-    let replies = [
-        Ok(Reply::Done),
-        Err(Refusal::QueueExists),
-        Ok(Reply::Number(job)),
-        Ok(Reply::Done),
-    ];
-    assert_eq!(rt; driven.replies.as_slice(), replies.as_slice());
+    let (told, disk) = full(rt.alloc())?;
     let wanted = bytes_of(rt.alloc(), LISTED)?;
+    assert!(rt; finds_twice(rt.alloc(), disk, &wanted)?);
     assert_eq!(rt;
-        listing(rt.alloc(), spool.table())?.as_slice(),
-        wanted.as_slice()
+        told.as_str(),
+        "[Ok(Done), Err(QueueExists), Ok(Number(JobId { number: 1 })), Ok(Done)] Full"
     );
-    for _ in 0..2 {
-        spool = reopen(rt.alloc(), spool)?;
-        assert_eq!(rt;
-            listing(rt.alloc(), spool.table())?.as_slice(),
-            wanted.as_slice()
-        );
-    }
     Ok(())
 }
 
-// How many of the events are answered, and why it ended.
-fn drives(
+// Drives on a spool whose device fails within its second event, and then on the dead spool, which tells its first event's rows.
+fn dies<R: Abort>(
+    rt: &R,
     alloc: Global,
-    spool: &mut Spool<FuseDisk<MemDisk>>,
-    texts: &[&str],
-) -> Result<(usize, Ending), Fail> {
-    let driven = drive(alloc, spool, events(alloc, texts)?);
-    Ok((driven.replies.len(), driven.ending))
-}
-
-// An event takes four calls.
-#[test]
-fn nothing_is_driven_on_a_dead_spool(rt: HostRuntime) -> Result<(), Fail> {
-    let alloc = rt.alloc();
-    let mut spool = open(alloc, made(alloc, 198)?, OPENING + 6)?;
+    spool: &mut Spool<Device>,
+    rows: &[u8],
+) -> Result<(), Fail> {
     assert_eq!(rt;
-        drives(alloc, &mut spool, &[QUEUE, CREATE, CLOSE])?,
+        drives(alloc, spool, &[QUEUE, CREATE, CLOSE])?,
         (1, Ending::Disk)
     );
     assert!(rt; spool.is_dead());
-    assert_eq!(rt; drives(alloc, &mut spool, &PLAN)?, (0, Ending::Dead));
-    assert_eq!(rt; drives(alloc, &mut spool, &[])?, (0, Ending::End));
-    let wanted = rows_after(alloc, 1)?;
-    assert_eq!(rt;
-        listing(alloc, spool.table())?.as_slice(),
-        wanted.as_slice()
-    );
-    let spool = reopen(alloc, spool)?;
-    assert!(rt; !spool.is_dead());
-    assert_eq!(rt;
-        listing(alloc, spool.table())?.as_slice(),
-        wanted.as_slice()
-    );
+    assert_eq!(rt; drives(alloc, spool, &PLAN)?, (0, Ending::Dead));
+    assert_eq!(rt; drives(alloc, spool, &[])?, (0, Ending::End));
+    assert!(rt; lists(alloc, spool.table(), rows)?);
+    Ok(())
+}
+
+// The disk of a spool that died so. An event takes four calls.
+fn left_by_the_dead<R: Abort>(rt: &R, alloc: Global, rows: &[u8]) -> Result<MemDisk, Fail> {
+    let mut spool = open(alloc, made(alloc, 198)?, OPENING + 6)?;
+    let outcome = dies(rt, alloc, &mut spool, rows);
+    let disk = closed(spool);
+    outcome?;
+    Ok(disk)
+}
+
+#[test]
+fn nothing_is_driven_on_a_dead_spool(rt: HostRuntime) -> Result<(), Fail> {
+    let rows = rows_after(rt.alloc(), 1)?;
+    let disk = left_by_the_dead(&rt, rt.alloc(), &rows)?;
+    assert!(rt; finds(rt.alloc(), disk, &rows)?.0);
     Ok(())
 }
 
@@ -100,22 +116,26 @@ fn nothing_is_driven_on_a_dead_spool(rt: HostRuntime) -> Result<(), Fail> {
 fn cut(alloc: Global, calls: u64) -> Result<(MemDisk, usize), Fail> {
     match Spool::open(alloc, FuseDisk::new(made(alloc, 198)?, calls)) {
         Ok(mut spool) => {
-            let (answered, _) = drives(alloc, &mut spool, &PLAN)?;
-            Ok((spool.into_disk().into_disk(), answered))
+            let driven = drives(alloc, &mut spool, &PLAN);
+            let disk = closed(spool);
+            Ok((disk, driven?.0))
         }
         Err(error) => Ok((error.disk.into_disk(), 0)),
     }
 }
 
+// Whether an opening finds the table after the first events of the plan.
+fn finds_after(alloc: Global, disk: MemDisk, count: usize) -> Result<(bool, MemDisk), Fail> {
+    let rows = rows_after(alloc, count)?;
+    finds(alloc, disk, &rows)
+}
+
 // Whether an opening finds the table of the events that were answered, or of one more.
 fn keeps_what_was_answered(alloc: Global, calls: u64) -> Result<bool, Fail> {
     let (disk, answered) = cut(alloc, calls)?;
-    let spool = open(alloc, disk, u64::MAX)?;
-    let found = listing(alloc, spool.table())?;
-    Ok(
-        found == rows_after(alloc, answered)?
-            || found == rows_after(alloc, answered.saturating_add(1))?,
-    )
+    let (acknowledged, disk) = finds_after(alloc, disk, answered)?;
+    let (with_the_next, _) = finds_after(alloc, disk, answered.saturating_add(1))?;
+    Ok(acknowledged || with_the_next)
 }
 
 #[test]
@@ -166,47 +186,79 @@ const ANSWERED: &str = "\
 05 000171 7fffffff 000175 0000 0001 32 0000 = Err(NoNumberLeft)\n\
 05 000171 00000003 000175 0000 0001 32 0000 = Err(NoNumberLeft)";
 
-#[test]
-fn each_event_has_its_answer(rt: HostRuntime) -> Result<(), Fail> {
-    let alloc = rt.alloc();
-    let mut spool = open(alloc, made(alloc, 4_096)?, u64::MAX)?;
+// What an event is answered, in words.
+fn answer(alloc: Global, spool: &mut Spool<Device>, spelling: &str) -> Result<String, Fail> {
+    let driven = driven(alloc, spool, &[spelling])?;
+    match driven.replies.first() {
+        Some(reply) => Ok(format!(in alloc; "{reply:?}")?),
+        None => Err(Fail::from("no reply")),
+    }
+}
+
+// The first line whose event has another answer, if there is one.
+fn other_answer(alloc: Global, spool: &mut Spool<Device>) -> Result<Option<&'static str>, Fail> {
     for line in ANSWERED.lines() {
         let (spelling, wanted) = line.split_once(" = ").ok_or("no answer")?;
-        let driven = drive(alloc, &mut spool, events(alloc, &[spelling])?);
-        let reply = driven.replies.first().ok_or("no reply")?;
-        assert_eq!(rt;
-            (spelling, format!(in alloc; "{reply:?}")?.as_str()),
-            (spelling, wanted)
-        );
+        if answer(alloc, spool, spelling)?.as_str() != wanted {
+            return Ok(Some(line));
+        }
     }
+    Ok(None)
+}
+
+#[test]
+fn each_event_has_its_answer(rt: HostRuntime) -> Result<(), Fail> {
+    let mut spool = open(rt.alloc(), made(rt.alloc(), 4_096)?, u64::MAX)?;
+    let found = other_answer(rt.alloc(), &mut spool);
+    drop(spool);
+    assert_eq!(rt; found?, None);
     Ok(())
 }
 
-// The events of a queue, and of so many jobs, each of which is canceled before the clock goes on.
-fn canceled_jobs(alloc: Global, count: u32) -> Result<Vec<Event>, Fail> {
+// A job of the queue, the cancel of it, and a clock, all of this number.
+fn add_canceled(alloc: Global, number: u32, events: &mut Vec<Event>) -> Result<(), Fail> {
+    let n = number.to_be_bytes();
+    let create = [
+        5, 0, 1, b'q', n[0], n[1], n[2], n[3], 0, 1, b'u', 0, 0, 0, 1, 50, 0, 0,
+    ];
+    events.push(decode(alloc, &create)?)?;
+    events.push(decode(alloc, &[0x0A, n[0], n[1], n[2], n[3]])?)?;
+    events.push(decode(alloc, &[0x0B, 0, 0, 0, 0, n[0], n[1], n[2], n[3]])?)?;
+    Ok(())
+}
+
+// The events of a queue, and of 1,000 jobs that are canceled.
+fn canceled_jobs(alloc: Global) -> Result<Vec<Event>, Fail> {
     let mut events = Vec::new(alloc);
     events.push(event(alloc, QUEUE)?)?;
-    for number in 1..=count {
-        let n = number.to_be_bytes();
-        let create = [
-            5, 0, 1, b'q', n[0], n[1], n[2], n[3], 0, 1, b'u', 0, 0, 0, 1, 50, 0, 0,
-        ];
-        events.push(decode(alloc, &create)?)?;
-        events.push(decode(alloc, &[0x0A, n[0], n[1], n[2], n[3]])?)?;
-        events.push(decode(alloc, &[0x0B, 0, 0, 0, 0, n[0], n[1], n[2], n[3]])?)?;
+    for number in 1..=1_000 {
+        add_canceled(alloc, number, &mut events)?;
     }
     Ok(events)
 }
 
+// How many of them are answered on a new spool, and the disk.
+fn filled(alloc: Global) -> Result<(usize, MemDisk), Fail> {
+    let events = canceled_jobs(alloc)?;
+    let mut spool = open(alloc, made(alloc, 1_048_576)?, u64::MAX)?;
+    let answered = drive(alloc, &mut spool, events).replies.len();
+    Ok((answered, closed(spool)))
+}
+
+// The rows of the table after them.
+fn canceled_rows(alloc: Global) -> Result<Vec<u8>, Fail> {
+    let table = replay(alloc, canceled_jobs(alloc)?)?;
+    if table.jobs().len() != 1_000 || table.now().get() != 1_000 {
+        return Err(Fail::from("another table"));
+    }
+    Ok(listing(alloc, &table)?)
+}
+
 #[test]
 fn three_thousand_events_are_kept(rt: HostRuntime) -> Result<(), Fail> {
-    let alloc = rt.alloc();
-    let mut spool = open(alloc, made(alloc, 1_048_576)?, u64::MAX)?;
-    let driven = drive(alloc, &mut spool, canceled_jobs(alloc, 1_000)?);
-    assert_eq!(rt; (driven.replies.len(), driven.ending), (3_001, Ending::End));
-    let spool = reopen(alloc, spool)?;
-    let table = replay(alloc, canceled_jobs(alloc, 1_000)?)?;
-    assert_eq!(rt; (table.jobs().len(), table.now().get()), (1_000, 1_000));
-    assert!(rt; listing(alloc, spool.table())? == listing(alloc, &table)?);
+    let rows = canceled_rows(rt.alloc())?;
+    let (answered, disk) = filled(rt.alloc())?;
+    assert_eq!(rt; answered, 3_001);
+    assert!(rt; finds(rt.alloc(), disk, &rows)?.0);
     Ok(())
 }

@@ -1,9 +1,11 @@
 //! Events and rows in hexadecimal.
+//!
+//! What is owned here is held across few calls that may fail: each of these is proved to let it go.
 
 use event_codec::{decode, encode_queue_onto, encode_row_onto};
 use job_table::{Table, listed};
-use spool_types::{Event, Row};
-use std::alloc::Global;
+use spool_types::{Event, JobRow, ListedJob, Row};
+use std::alloc::{AllocError, Global};
 use std::test::Fail;
 
 /// A queue q.
@@ -36,15 +38,34 @@ pub fn events(alloc: Global, texts: &[&str]) -> Result<Vec<Event>, Fail> {
     Ok(events)
 }
 
+fn add_head(table: &Table, bytes: &mut Vec<u8>) -> Result<(), AllocError> {
+    let row = Row::Head(table.head());
+    encode_row_onto(&row, bytes)
+}
+
+fn add_listed(job: ListedJob, bytes: &mut Vec<u8>) -> Result<(), AllocError> {
+    let row = Row::Job(job);
+    encode_row_onto(&row, bytes)
+}
+
+fn add_job(job: &JobRow, bytes: &mut Vec<u8>) -> Result<(), AllocError> {
+    add_listed(listed(job)?, bytes)
+}
+
 /// How the rows of a table are spelled, without their documents.
-pub fn listing(alloc: Global, table: &Table) -> Result<Vec<u8>, Fail> {
+pub fn listing(alloc: Global, table: &Table) -> Result<Vec<u8>, AllocError> {
     let mut bytes = Vec::new(alloc);
-    encode_row_onto(&Row::Head(table.head()), &mut bytes)?;
+    add_head(table, &mut bytes)?;
     for queue in table.queues() {
         encode_queue_onto(queue, &mut bytes)?;
     }
     for job in table.jobs() {
-        encode_row_onto(&Row::Job(listed(job)?), &mut bytes)?;
+        add_job(job, &mut bytes)?;
     }
     Ok(bytes)
+}
+
+/// Whether the rows of a table are these bytes.
+pub fn lists(alloc: Global, table: &Table, rows: &[u8]) -> Result<bool, Fail> {
+    Ok(listing(alloc, table)?.as_slice() == rows)
 }
