@@ -10,7 +10,6 @@ use spool_core::{CheckpointFault, Ending, ReadFault, Spool};
 use spool_disk::MemDisk;
 use spool_types::JobId;
 use std::alloc::Global;
-use std::process::Abort;
 use std::test::*;
 
 // The queue, its job, and its document `hello you` in two parts.
@@ -47,15 +46,46 @@ fn read(
     Ok(spool.read_document(job, at, into))
 }
 
-fn reads_whole<R: Abort>(rt: &R, spool: &mut Spool<Device>) -> Result<(), Fail> {
-    let (mut whole, mut over, mut last) = ([0; 9], [0; 3], [0; 1]);
-    assert_eq!(rt; read(spool, 0, &mut whole)?, Ok(()));
-    assert_eq!(rt; read(spool, 4, &mut over)?, Ok(()));
-    assert_eq!(rt; read(spool, 8, &mut last)?, Ok(()));
-    assert_eq!(rt; read(spool, 9, &mut [])?, Ok(()));
-    assert_eq!(rt; (&whole, &over, &last), (b"hello you", b"o y", b"u"));
-    assert_eq!(rt; spool.checkpoint(), Ok(()));
-    Ok(())
+fn reads_whole(spool: &mut Spool<Device>) -> Result<bool, Fail> {
+    let mut whole = [0; 9];
+    Ok(read(spool, 0, &mut whole)? == Ok(()) && &whole == b"hello you")
+}
+
+fn reads_first(spool: &mut Spool<Device>) -> Result<bool, Fail> {
+    let mut first = [7; 3];
+    Ok(read(spool, 1, &mut first)? == Ok(()) && &first == b"ell")
+}
+
+fn reads_over(spool: &mut Spool<Device>) -> Result<bool, Fail> {
+    let mut over = [7; 3];
+    Ok(read(spool, 4, &mut over)? == Ok(()) && &over == b"o y")
+}
+
+fn reads_last(spool: &mut Spool<Device>) -> Result<bool, Fail> {
+    let mut last = [7; 1];
+    Ok(read(spool, 8, &mut last)? == Ok(()) && &last == b"u")
+}
+
+fn reads_nothing(spool: &mut Spool<Device>) -> Result<bool, Fail> {
+    Ok(read(spool, 9, &mut [])? == Ok(()))
+}
+
+fn fails_to_read(spool: &mut Spool<Device>) -> Result<bool, Fail> {
+    Ok(read(spool, 1, &mut [7; 3])? == Err(ReadFault::Disk))
+}
+
+// It reads nothing, and the bytes of the reader stay.
+fn is_dead(spool: &mut Spool<Device>) -> Result<bool, Fail> {
+    let mut bytes = [7; 3];
+    Ok(spool.is_dead() && read(spool, 1, &mut bytes)? == Err(ReadFault::Dead) && bytes == [7; 3])
+}
+
+fn fills(alloc: Global, spool: &mut Spool<Device>) -> Result<bool, Fail> {
+    Ok(drives(alloc, spool, &FILLED)? == (4, Ending::End))
+}
+
+fn dies(alloc: Global, spool: &mut Spool<Device>) -> Result<bool, Fail> {
+    Ok(drives(alloc, spool, &["0a 00000001"])? == (0, Ending::Disk))
 }
 
 // What is done to a spool.
@@ -64,121 +94,102 @@ enum Step {
     Fill,
     ReadWhole,
     ReadFirst,
-    Die,
+    ReadOver,
+    ReadLast,
+    ReadNothing,
     FailToRead,
+    Die,
+    BeDead,
+    Checkpoint,
+    CheckpointDead,
 }
 
-fn does<R: Abort>(
-    rt: &R,
-    alloc: Global,
-    spool: &mut Spool<Device>,
-    step: Step,
-) -> Result<(), Fail> {
+fn does(alloc: Global, spool: &mut Spool<Device>, step: Step) -> Result<bool, Fail> {
     match step {
-        Step::Fill => assert_eq!(rt; drives(alloc, spool, &FILLED)?, (4, Ending::End)),
-        Step::ReadWhole => reads_whole(rt, spool)?,
-        Step::ReadFirst => reads_first(rt, spool)?,
-        Step::Die => {
-            assert_eq!(rt; drives(alloc, spool, &["0a 00000001"])?, (0, Ending::Disk));
-            is_dead(rt, spool)?;
-        }
-        Step::FailToRead => {
-            assert_eq!(rt; read(spool, 1, &mut [7; 3])?, Err(ReadFault::Disk));
-            is_dead(rt, spool)?;
+        Step::Fill => fills(alloc, spool),
+        Step::ReadWhole => reads_whole(spool),
+        Step::ReadFirst => reads_first(spool),
+        Step::ReadOver => reads_over(spool),
+        Step::ReadLast => reads_last(spool),
+        Step::ReadNothing => reads_nothing(spool),
+        Step::FailToRead => fails_to_read(spool),
+        Step::Die => dies(alloc, spool),
+        Step::BeDead => is_dead(spool),
+        Step::Checkpoint => Ok(spool.checkpoint() == Ok(())),
+        Step::CheckpointDead => Ok(spool.checkpoint() == Err(CheckpointFault::Dead)),
+    }
+}
+
+// How many of the steps go as they say, up to the first that doesn't.
+fn done(alloc: Global, spool: &mut Spool<Device>, steps: &[Step]) -> Result<usize, Fail> {
+    for at in 0..steps.len() {
+        if !does(alloc, spool, steps[at])? {
+            return Ok(at);
         }
     }
-    Ok(())
+    Ok(steps.len())
 }
 
-fn reads_first<R: Abort>(rt: &R, spool: &mut Spool<Device>) -> Result<(), Fail> {
-    let mut first = [7; 3];
-    assert_eq!(rt; read(spool, 1, &mut first)?, Ok(()));
-    assert_eq!(rt; &first, b"ell");
-    Ok(())
-}
-
-// It reads nothing, and the bytes of the reader stay.
-fn is_dead<R: Abort>(rt: &R, spool: &mut Spool<Device>) -> Result<(), Fail> {
-    let mut bytes = [7; 3];
-    assert!(rt; spool.is_dead());
-    assert_eq!(rt; read(spool, 1, &mut bytes)?, Err(ReadFault::Dead));
-    assert_eq!(rt; bytes, [7; 3]);
-    assert_eq!(rt; spool.checkpoint(), Err(CheckpointFault::Dead));
-    Ok(())
-}
-
-fn does_all<R: Abort>(
-    rt: &R,
-    alloc: Global,
-    spool: &mut Spool<Device>,
-    steps: &[Step],
-) -> Result<(), Fail> {
-    for step in steps {
-        does(rt, alloc, spool, *step)?;
-    }
-    Ok(())
-}
-
-// Opens a disk with a device that fails after so many calls, and does these steps. The disk that is left.
-fn after<R: Abort>(
-    rt: &R,
+// Opens a disk with a device that fails after so many calls, and does these steps. How many went so, and the disk.
+fn after(
     alloc: Global,
     disk: MemDisk,
     calls: u64,
     steps: &[Step],
-) -> Result<MemDisk, Fail> {
+) -> Result<(usize, MemDisk), Fail> {
     let mut spool = open(alloc, disk, calls)?;
-    let outcome = does_all(rt, alloc, &mut spool, steps);
+    let done = done(alloc, &mut spool, steps);
     let disk = closed(spool);
-    outcome?;
-    Ok(disk)
+    Ok((done?, disk))
 }
 
+// Before a checkpoint, and after each of two.
 #[test]
 fn parts_are_read(rt: HostRuntime) -> Result<(), Fail> {
+    let reads = [
+        Step::ReadWhole,
+        Step::ReadOver,
+        Step::ReadLast,
+        Step::ReadNothing,
+        Step::ReadFirst,
+        Step::Checkpoint,
+    ];
     let disk = made(rt.alloc(), 1_024)?;
-    let disk = after(
-        &rt,
-        rt.alloc(),
-        disk,
-        u64::MAX,
-        &[Step::Fill, Step::ReadWhole],
-    )?;
-    let disk = after(&rt, rt.alloc(), disk, u64::MAX, &[Step::ReadWhole])?;
-    after(
-        &rt,
-        rt.alloc(),
-        disk,
-        u64::MAX,
-        &[Step::ReadWhole, Step::ReadFirst],
-    )?;
+    let (filled, disk) = after(rt.alloc(), disk, u64::MAX, &[Step::Fill])?;
+    let (first, disk) = after(rt.alloc(), disk, u64::MAX, &reads)?;
+    let (second, disk) = after(rt.alloc(), disk, u64::MAX, &reads)?;
+    let (third, _) = after(rt.alloc(), disk, u64::MAX, &reads)?;
+    assert_eq!(rt; [filled, first, second, third], [1, 6, 6, 6]);
     Ok(())
 }
 
 // The read takes the last call of the device.
 #[test]
 fn a_dead_spool_leaves_the_bytes_of_the_reader(rt: HostRuntime) -> Result<(), Fail> {
+    let steps = [
+        Step::Fill,
+        Step::ReadFirst,
+        Step::Die,
+        Step::BeDead,
+        Step::CheckpointDead,
+    ];
     let disk = made(rt.alloc(), 1_024)?;
-    after(
-        &rt,
-        rt.alloc(),
-        disk,
-        OPENING + FILLING + 1,
-        &[Step::Fill, Step::ReadFirst, Step::Die],
-    )?;
+    let (done, _) = after(rt.alloc(), disk, OPENING + FILLING + 1, &steps)?;
+    assert_eq!(rt; done, 5);
     Ok(())
 }
 
 #[test]
 fn a_read_that_fails_ends_the_spool(rt: HostRuntime) -> Result<(), Fail> {
+    let steps = [
+        Step::Fill,
+        Step::FailToRead,
+        Step::BeDead,
+        Step::CheckpointDead,
+    ];
     let disk = made(rt.alloc(), 1_024)?;
-    let disk = after(
-        &rt,
-        rt.alloc(),
-        disk,
-        OPENING + FILLING,
-        &[Step::Fill, Step::FailToRead],
-    )?;
-    after(&rt, rt.alloc(), disk, u64::MAX, &[Step::ReadFirst])?;
+    let (failing, disk) = after(rt.alloc(), disk, OPENING + FILLING, &steps)?;
+    let (reading, _) = after(rt.alloc(), disk, u64::MAX, &[Step::ReadFirst])?;
+    assert_eq!(rt; (failing, reading), (4, 1));
     Ok(())
 }

@@ -2,7 +2,6 @@
 
 use crate::spelled::{CLOSE, CREATE, QUEUE, bytes_of, event, events, listing, lists};
 use crate::spools::{Device, OPENING, closed, driven, drives, made, open};
-use event_codec::decode;
 use spool_core::{Ending, Spool, drive, replay};
 use spool_disk::{FuseDisk, MemDisk};
 use spool_types::Event;
@@ -215,26 +214,47 @@ fn each_event_has_its_answer(rt: HostRuntime) -> Result<(), Fail> {
     Ok(())
 }
 
-// A job of the queue, the cancel of it, and a clock, all of this number.
-fn add_canceled(alloc: Global, number: u32, events: &mut Vec<Event>) -> Result<(), Fail> {
-    let n = number.to_be_bytes();
-    let create = [
-        5, 0, 1, b'q', n[0], n[1], n[2], n[3], 0, 1, b'u', 0, 0, 0, 1, 50, 0, 0,
-    ];
-    events.push(decode(alloc, &create)?)?;
-    events.push(decode(alloc, &[0x0A, n[0], n[1], n[2], n[3]])?)?;
-    events.push(decode(alloc, &[0x0B, 0, 0, 0, 0, n[0], n[1], n[2], n[3]])?)?;
+// Adds the event that is spelled so, with a number between.
+fn add_numbered(
+    alloc: Global,
+    events: &mut Vec<Event>,
+    before: &str,
+    number: u32,
+    behind: &str,
+) -> Result<(), Fail> {
+    let text = format!(in alloc; "{before}{number:08x}{behind}")?;
+    events.push(event(alloc, text.as_str())?)?;
     Ok(())
 }
 
-// The events of a queue, and of 1,000 jobs that are canceled.
-fn canceled_jobs(alloc: Global) -> Result<Vec<Event>, Fail> {
-    let mut events = Vec::new(alloc);
+// Adds a job of the queue, the cancel of it, and a clock, all of this number.
+fn add_canceled(alloc: Global, events: &mut Vec<Event>, number: u32) -> Result<(), Fail> {
+    add_numbered(
+        alloc,
+        events,
+        "05 000171 ",
+        number,
+        " 000175 0000 0001 32 0000",
+    )?;
+    add_numbered(alloc, events, "0a ", number, "")?;
+    add_numbered(alloc, events, "0b 00000000", number, "")
+}
+
+// Adds the events of a queue, and of 1,000 jobs that are canceled.
+fn add_canceled_jobs(alloc: Global, events: &mut Vec<Event>) -> Result<(), Fail> {
     events.push(event(alloc, QUEUE)?)?;
     for number in 1..=1_000 {
-        add_canceled(alloc, number, &mut events)?;
+        add_canceled(alloc, events, number)?;
     }
-    Ok(events)
+    Ok(())
+}
+
+fn canceled_jobs(alloc: Global) -> Result<Vec<Event>, Fail> {
+    let mut events = Vec::new(alloc);
+    match add_canceled_jobs(alloc, &mut events) {
+        Ok(()) => Ok(events),
+        Err(fail) => Err(fail),
+    }
 }
 
 // How many of them are answered on a new spool, and the disk.
