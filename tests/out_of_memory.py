@@ -19,7 +19,7 @@ import sys
 top = os.path.join(os.path.dirname(os.path.abspath(__file__)), "..")
 
 # The crates that serve tests alone, and those whose names end in _tests.
-OF_TESTS = {"disk_images", "sample_rows", "spool_rows", "spool_scripts"}
+OF_TESTS = {"disk_images", "sample_rows", "spool_scripts"}
 
 # A program whose library is another crate. Both are looked up in the tables under the library's name.
 LIBRARIES = {"spool_shell": "spool_host", "spool_tools": "stage_tools"}

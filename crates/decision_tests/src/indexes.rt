@@ -82,8 +82,9 @@ fn makes(index: &mut Index, change: Change) -> Result<bool, Fail> {
     match change {
         Add(waiting) => {
             let entry = entry(waiting)?;
+            let id = entry.id;
             add(index, entry)?;
-            Ok(index.entry(entry.id).is_some())
+            Ok(index.entry(id).is_some())
         }
         Take(number) => {
             let id = JobId::new(number).ok_or("no number of a job")?;
