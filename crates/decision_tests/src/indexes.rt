@@ -70,8 +70,15 @@ fn add(index: &mut Index, entry: Entry) -> Result<(), Fail> {
     Ok(())
 }
 
+// The entry of a job, if it is there.
+fn find(index: &Index, number: u32) -> Result<Option<Entry>, Fail> {
+    let id = JobId::new(number).ok_or("no number of a job")?;
+    Ok(index.entry(id).copied())
+}
+
 // Takes away a job that is there.
-fn take(index: &mut Index, id: JobId) -> Result<(), Fail> {
+fn take(index: &mut Index, number: u32) -> Result<(), Fail> {
+    let id = JobId::new(number).ok_or("no number of a job")?;
     let entry = *index.entry(id).ok_or("the job isn't there")?;
     index.remove(entry);
     Ok(())
@@ -82,14 +89,12 @@ fn makes(index: &mut Index, change: Change) -> Result<bool, Fail> {
     match change {
         Add(waiting) => {
             let entry = entry(waiting)?;
-            let id = entry.id;
             add(index, entry)?;
-            Ok(index.entry(id).is_some())
+            Ok(find(index, waiting.0)? == Some(entry))
         }
         Take(number) => {
-            let id = JobId::new(number).ok_or("no number of a job")?;
-            take(index, id)?;
-            Ok(index.entry(id).is_none())
+            take(index, number)?;
+            Ok(find(index, number)?.is_none())
         }
         Bring(seconds) => {
             let now = moment(seconds)?;
