@@ -38,6 +38,7 @@ fn checkpoints_take_turns(rt: HostRuntime) -> Result<(), Fail> {
     assert_eq!(rt; areas.plan(&[13]), Ok(115));
     assert!(rt; lists(alloc, &mut areas)?);
     let disk = areas.into_disk();
+    assert_eq!(rt; disk.bytes().len(), 198);
     assert_eq!(rt;
         &disk.bytes()[99..134],
         [
