@@ -4,8 +4,8 @@
 No clause can say that a call takes no memory, nor what a call does after an allocation that was refused in its midst. This
 script runs programs over the library of tests/count_allocations.c, which it compiles with gcc, and looks at these:
 
-- A call that takes no memory. The tests of crates/memory_tests print a line before such a call and one behind it, and no
-  allocation may come between the two.
+- A call that takes no memory. A test may print `begin NAME` before such a call and `end NAME` behind it, and no allocation
+  may come between the two.
 - The tests of CRATES, with their first allocation refused, then with their second, and so on. Each has to end with that very
   fault: any other end is an answer that changed in the place of the fault.
 - The stored scripts of crates/spool_scripts/data that need no made up children, disk or limits, served by the shell. Between
@@ -39,8 +39,8 @@ STORED = os.path.join(HERE, "allocations.txt")
 SOURCE = os.path.join(HERE, "count_allocations.c")
 SHELL = os.path.join(CRATES_FOLDER, "spool_shell", "out", "spool_shell")
 
-# The crates whose tests are counted and refused their allocations. In those of memory_tests calls are marked.
-CRATES = ["memory_tests", "decision_tests", "disk_tests", "spool_core_tests", "text_tests"]
+# The crates whose tests are counted and refused their allocations.
+CRATES = ["decision_tests", "disk_tests", "spool_core_tests", "text_tests"]
 SHELL_NAME = "shell"
 
 # The scripts whose allocations are refused, up to their first opening.
@@ -147,13 +147,10 @@ def tests_of(counting, crate):
 def crate_counts(counting, crate, pool):
     """The lines of a crate for the stored file, and what differs."""
     tests = tests_of(counting, crate)
-    lines, differ, marks = [], [], 0
-    for test, (count, marked, faults) in zip(tests, pool.map(lambda test: looked_at(counting, crate, test), tests)):
+    lines, differ = [], []
+    for test, (count, _, faults) in zip(tests, pool.map(lambda test: looked_at(counting, crate, test), tests)):
         lines.append(f"{crate} {test.rsplit('::', 1)[-1]} {count}")
         differ += faults
-        marks += marked
-    if crate == "memory_tests" and not marks:
-        differ.append(f"{crate}: no call is marked")
     return lines, differ
 
 
