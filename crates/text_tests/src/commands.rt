@@ -1,9 +1,8 @@
-//! Texts of commands that come in pieces, and the texts of replies.
+//! Texts of commands that come in pieces, and a reply.
 ghost use Rattle.std.specs.Prelude.{◌<◌};
 
 use command_lines::{Answer, Command, Commands, print_reply};
-use sample_rows::{sample_job, sample_queue};
-use spool_types::{JobId, MediaType, Message, Phase, Reason, Reasons, Refusal};
+use sample_rows::sample_queue;
 use std::alloc::{AllocError, Global};
 use std::test::Fail;
 
@@ -101,54 +100,20 @@ fn every_command_is_read_however_it_is_cut(rt: HostRuntime) -> Result<(), Fail> 
     Ok(())
 }
 
-// The text of a reply.
-fn printed(alloc: Global, answer: &Answer<'_>) -> Result<String, Fail> {
-    Ok(String::from_utf8(print_reply(alloc, answer)?)?)
-}
-
 #[test]
-fn replies_are_printed_line_by_line(rt: HostRuntime) -> Result<(), Fail> {
+fn a_queue_is_listed(rt: HostRuntime) -> Result<(), Fail> {
     let alloc = rt.alloc();
-    let job = JobId::new(7).ok_or("no number")?;
-    let media = MediaType::read(alloc, "text/plain")?;
-    let stages = Some(3);
-    for (answer, want) in [
-        (Answer::Done, "ok\n"),
-        (Answer::Created(job), "ok job 7\n"),
-        (
-            Answer::Refused(Refusal::NoNumberLeft),
-            "error 9 NoNumberLeft\n",
-        ),
-        (
-            Answer::Closed { media, stages },
-            "ok type text/plain stages 3\n",
-        ),
-    ] {
-        assert_eq!(rt; printed(alloc, &answer)?.as_str(), want);
-    }
-    Ok(())
-}
-
-#[test]
-fn a_stopped_queue_is_listed_with_its_reasons(rt: HostRuntime) -> Result<(), Fail> {
-    let alloc = rt.alloc();
-    let mut row = sample_queue(alloc, "spoolfile:/out")?;
-    row.accepting = false;
-    row.stopped = true;
-    row.message = Message::read(alloc, "a \"b\"")?;
-    let mut reasons = Vec::new(alloc);
-    reasons.push(Reason::read(alloc, "media-empty")?)?;
-    reasons.push(Reason::read(alloc, "toner-low")?)?;
-    row.reasons = Reasons::new(reasons).ok().ok_or("too many reasons")?;
-    let jobs = [sample_job(alloc, Phase::Completed)?];
-    let rows = [row];
-    let listing = Answer::Queues {
-        rows: &rows,
-        jobs: &jobs,
-    };
+    let rows = [sample_queue(alloc, "spoolfile:/out")?];
+    let text = print_reply(
+        alloc,
+        &Answer::Queues {
+            rows: &rows,
+            jobs: &[],
+        },
+    )?;
     assert_eq!(rt;
-        printed(alloc, &listing)?.as_str(),
-        "queue lab 5 rejecting application/x-prn abort-job 30 5 media-empty,toner-low \"a \\\"b\\\"\"\nok 1\n"
+        text.as_slice(),
+        b"queue lab 3 accepting application/x-prn abort-job 30 5 none \"\"\nok 1\n".as_slice()
     );
     Ok(())
 }

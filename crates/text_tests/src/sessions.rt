@@ -1,7 +1,7 @@
 //! Sessions on the side channel.
-use crate::slow::Slow;
+use crate::slow::{Slow, case};
 use side_channel::{
-    Command, Device, DeviceId, Ending, Packet, SideFault, Status, answer, serve, state_bits,
+    Command, Device, DeviceId, Ending, Packet, SideFault, Status, serve, state_bits,
 };
 use std::alloc::Global;
 use std::io;
@@ -38,25 +38,22 @@ fn told_after(asked: usize) -> usize {
 fn requests_are_cut_anywhere(rt: HostRuntime) -> Result<(), Fail> {
     let alloc = rt.alloc();
     let device = printer(alloc)?;
-    for piece in [1, 3, 100] {
-        for most in 0..19 {
-            for fails in [false, true] {
-                let ending = match most {
-                    18 => Ok(Ending::End),
-                    _ if fails => Err(SideFault::Read),
-                    0 | 4 | 10 | 14 => Ok(Ending::Stopped),
-                    _ => Err(SideFault::Cut),
-                };
-                let mut reader = Slow::new(alloc, ASKED, piece, most, fails);
-                let mut written = Vec::new(alloc);
-                let ended = serve(alloc, &mut reader, &mut written, &device);
-                assert_eq!(rt; ended, ending, "after {most} bytes, {piece} at once");
-                assert_eq!(rt;
-                    written.as_slice(),
-                    &TOLD[..told_after(most).min(TOLD.len())]
-                );
-            }
-        }
+    for number in 0..114 {
+        let (piece, most, fails) = case(number);
+        let ending = match most {
+            18 => Ok(Ending::End),
+            _ if fails => Err(SideFault::Read),
+            0 | 4 | 10 | 14 => Ok(Ending::Stopped),
+            _ => Err(SideFault::Cut),
+        };
+        let mut reader = Slow::new(alloc, ASKED, piece, most, fails);
+        let mut written = Vec::new(alloc);
+        let ended = serve(alloc, &mut reader, &mut written, &device);
+        assert_eq!(rt; ended, ending, "after {most} bytes, {piece} at once");
+        assert_eq!(rt;
+            written.as_slice(),
+            &TOLD[..told_after(most).min(TOLD.len())]
+        );
     }
     Ok(())
 }
@@ -65,19 +62,17 @@ fn requests_are_cut_anywhere(rt: HostRuntime) -> Result<(), Fail> {
 fn answers_are_cut_anywhere(rt: HostRuntime) -> Result<(), Fail> {
     let alloc = rt.alloc();
     let device = printer(alloc)?;
-    for piece in [1, 3, 100] {
-        for most in 0..15 {
-            for fails in [false, true] {
-                let ending = match most {
-                    14 => Ok(Ending::End),
-                    _ => Err(SideFault::Write),
-                };
-                let mut writer = Slow::new(alloc, &[], piece, most, fails);
-                let ended = serve(alloc, &mut &ASKED[..], &mut writer, &device);
-                assert_eq!(rt; ended, ending, "before byte {most}, {piece} at once");
-                assert_eq!(rt; writer.written.as_slice(), &TOLD[..most.min(TOLD.len())]);
-            }
-        }
+    for number in 0..90 {
+        let (piece, most, fails) = case(number);
+        let ending = if most < 14 {
+            Err(SideFault::Write)
+        } else {
+            Ok(Ending::End)
+        };
+        let mut writer = Slow::new(alloc, &[], piece, most, fails);
+        let ended = serve(alloc, &mut &ASKED[..], &mut writer, &device);
+        assert_eq!(rt; ended, ending, "before byte {most}, {piece} at once");
+        assert_eq!(rt; writer.written.as_slice(), &TOLD[..most.min(TOLD.len())]);
     }
     Ok(())
 }
@@ -99,7 +94,7 @@ fn a_flood_ends_as_a_fault_of_the_reader(rt: HostRuntime) -> Result<(), Fail> {
 }
 
 #[test]
-fn packets_are_written_and_read(rt: HostRuntime) -> Result<(), Fail> {
+fn a_packet_is_written_and_read(rt: HostRuntime) -> Result<(), Fail> {
     let alloc = rt.alloc();
     let mut bytes = Vec::new(alloc);
     let request = Packet {
@@ -108,24 +103,11 @@ fn packets_are_written_and_read(rt: HostRuntime) -> Result<(), Fail> {
         length: 0,
         body: Vec::new(alloc),
     };
-    assert!(rt; !request.is_end());
     request.write(&mut bytes)?;
     assert_eq!(rt; bytes.as_slice(), b"\x04\0\0\0".as_slice());
-    let device = printer(alloc)?;
-    let reply = answer(&device, &request);
-    assert_eq!(rt; reply.status, Status::Ok);
-    reply.write(&mut bytes)?;
-    bytes.extend_from_slice(b"\xFF\0\0\0")?;
-    let mut rest = bytes.as_slice();
-    let mut seen = Vec::new(alloc);
-    for _ in 0..3 {
-        let packet = Packet::read(alloc, &mut rest)?.ok_or("no packet")?;
-        seen.extend_from_slice(&[packet.command, packet.status])?;
-        seen.extend_from_slice(&packet.length.to_be_bytes())?;
-        seen.extend_from_slice(packet.body.as_slice())?;
-        assert_eq!(rt; packet.is_end(), packet.command == 0xFF);
-    }
+    let mut rest = b"\x01\0\0\x02AB".as_slice();
+    let packet = Packet::read(alloc, &mut rest)?.ok_or("no packet")?;
+    assert_eq!(rt; packet.body.as_slice(), b"AB".as_slice());
     assert!(rt; Packet::read(alloc, &mut rest)?.is_none());
-    assert_eq!(rt; seen.as_slice(), bytes.as_slice());
     Ok(())
 }

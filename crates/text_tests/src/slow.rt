@@ -68,18 +68,25 @@ impl Write for Slow<'_> {
     }
 }
 
+/// How many bytes the next of some cases moves at once, how many at most, and whether it fails then: of each most, six cases.
+pub fn case(number: usize) -> (usize, usize, bool) {
+    let piece = match number % 3 {
+        0 => 1,
+        1 => 3,
+        _ => 100,
+    };
+    (piece, number / 6, number / 3 % 2 == 0)
+}
+
 #[test]
 fn all_bytes_or_a_prefix_are_written(rt: HostRuntime) -> Result<(), Fail> {
     let text = b"ok bytes 5\n";
-    for piece in [1, 3, 100] {
-        for most in 0..13 {
-            for fails in [false, true] {
-                let mut writer = Slow::new(rt.alloc(), &[], piece, most, fails);
-                let wanted = if most < 11 { Err(WriteFault) } else { Ok(()) };
-                assert_eq!(rt; write_whole(&mut writer, text), wanted, "{piece} of {most}");
-                assert_eq!(rt; writer.written.as_slice(), &text[..most.min(11)]);
-            }
-        }
+    for number in 0..78 {
+        let (piece, most, fails) = case(number);
+        let mut writer = Slow::new(rt.alloc(), &[], piece, most, fails);
+        let wanted = if most < 11 { Err(WriteFault) } else { Ok(()) };
+        assert_eq!(rt; write_whole(&mut writer, text), wanted, "{piece} of {most}");
+        assert_eq!(rt; writer.written.as_slice(), &text[..most.min(11)]);
     }
     let mut nowhere = Slow::new(rt.alloc(), &[], 1, 0, true);
     assert_eq!(rt; write_whole(&mut nowhere, b""), Ok(()));

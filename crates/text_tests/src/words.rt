@@ -31,15 +31,14 @@ fn only_a_text_with_a_backslash_is_copied(rt: HostRuntime) -> Result<(), Fail> {
 
 #[test]
 fn only_a_joined_line_is_copied(rt: HostRuntime) -> Result<(), Fail> {
-    let lines = joined_lines(rt.alloc(), "# x\na \\\nb\\\n# c\nd\\")?;
-    assert_eq!(rt; lines.len(), 2);
-    for (line, number, want, copies) in [
-        (&lines[0], 2, b"a  b # c".as_slice(), true),
-        (&lines[1], 5, b"d", false),
-    ] {
-        assert_eq!(rt; line.number, number);
-        assert_eq!(rt; line.text.bytes(), want);
-        assert_eq!(rt; matches!(&line.text, LineText::Joined(_)), copies);
+    let mut seen = Vec::new(rt.alloc());
+    for line in joined_lines(rt.alloc(), "# x\na \\\nb\\\n# c\nd\\")?.iter() {
+        if matches!(&line.text, LineText::Joined(_)) {
+            seen.push(b'+')?;
+        }
+        seen.extend_from_slice(line.text.bytes())?;
+        seen.push(b'|')?;
     }
+    assert_eq!(rt; seen.as_slice(), b"+a  b # c|d|".as_slice());
     Ok(())
 }
