@@ -54,7 +54,7 @@ SCRIPTS = {
 ALONE = ["large.py"]
 
 # Scripts that the gate runs (`.ci/run`), the scripts that take hours and are run on demand, and what the scripts are made of.
-IN_GATE = ["out_of_memory.py", "unused_lemmas.py", "edits_apply.py"]
+IN_GATE = ["out_of_memory.py", "unused_lemmas.py", "edits_apply.py", "places.py"]
 ON_DEMAND = ["gate_minutes.py", "more_edits.py"]
 PARTS = [
     "all.py",
@@ -69,7 +69,6 @@ PARTS = [
     "large_memory.py",
     "large_pieces.py",
     "large_run.py",
-    "large_spelling.py",
     "large_tables.py",
     "stored_scripts.py",
     "stories.py",

@@ -72,9 +72,9 @@ def pairs_of(text):
     return pairs, unread
 
 
-def fault_of(edit, crate):
+def fault_in(text, crate):
     """What is wrong with an edit of a crate, or None. A later replacement applies to what the earlier ones made."""
-    pairs, unread = pairs_of(edit.read_text(encoding="utf-8"))
+    pairs, unread = pairs_of(text)
     if unread:
         return f"a line begins with none of 'file: ', 'old: ' and 'new: ': {unread[0][:60]}"
     if not pairs:
@@ -94,6 +94,10 @@ def fault_of(edit, crate):
             return f"a text stands {count} times in {path}, and not once: {old.strip()[:60]}"
         texts[path] = texts[path].replace(old, new)
     return "it changes nothing" if texts == before else None
+
+
+def fault_of(edit, crate):
+    return fault_in(edit.read_text(encoding="utf-8"), crate)
 
 
 def edits_in(crate, folder):

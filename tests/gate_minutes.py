@@ -1,7 +1,7 @@
 #!/usr/bin/env python3
 """Measures the gate from nothing: gate_minutes.py [MINUTES]
 
-Runs `rt ci --anew` in a clean clone of what is committed, and prints a table by crate: the processor minutes of its proof,
+Runs `rt ci` in a clean clone of what is committed, and prints a table by crate: the processor minutes of its proof,
 of its tests and of its edits. The last line is `N processor minutes`, with status 0, or says that these are more than
 MINUTES (150 where no word is given), or that the gate failed, with status 1.
 
@@ -73,7 +73,7 @@ def gate(folder, looks):
     """Runs the gate in a folder. Its status, what it printed, and the processor seconds of all that it started."""
     log = os.path.join(folder, "gate.log")
     with open(log, "w", encoding="utf-8") as file:
-        begun = subprocess.Popen(["rt", "ci", "--anew"], cwd=os.path.join(folder, "clone"), stdout=file, stderr=file)
+        begun = subprocess.Popen(["rt", "ci"], cwd=os.path.join(folder, "clone"), stdout=file, stderr=file)
     done = threading.Event()
 
     def go_on_looking():

@@ -1,7 +1,7 @@
 """A spool's bytes: how events, rows, records and areas are spelled, and what a file of them says.
 
-This is a second spelling, written from the tables of codes and not from the program's code, so that tests/images.py can make
-a spool's file of any bytes and read what the program left of it. Numbers are big-endian. A text is its length in 2 bytes, then
+This is a second spelling, written from the tables of codes and not from the program's code, so that the tests can make a
+spool's file of any bytes and read what the program left of it. Numbers are big-endian. A text is its length in 2 bytes, then
 its bytes. A list of texts is their number, then the texts.
 
 A spool's file has two areas of the same length. An area is a header and records, the last with a closed gate behind it:
@@ -11,6 +11,7 @@ A spool's file has two areas of the same length. An area is a header and records
 
 A gate is open where it is A5. The payload is an event or a row of a listing.
 """
+import io
 from dataclasses import dataclass
 
 OPEN = 0xA5
@@ -289,14 +290,34 @@ def epoch_of(half):
     return int.from_bytes(half[2:10], "big") if half[0] == OPEN else 0
 
 
+def payloads_between(file, base, end):
+    """The payloads of the area of an open file that begins at `base`, up to its first closed gate."""
+    found, gate = [], base + HEADER
+    file.seek(gate)
+    while gate < end and file.read(1) == bytes([OPEN]):
+        found.append(file.read(int.from_bytes(file.read(4), "big")))
+        gate += FRAME + len(found[-1])
+    return found
+
+
 def payloads_of(half):
     """The payloads of an area up to its first closed gate."""
-    found, gate = [], HEADER
-    while gate < len(half) and half[gate] == OPEN:
-        length = int.from_bytes(half[gate + 1:gate + FRAME], "big")
-        found.append(half[gate + FRAME:gate + FRAME + length])
-        gate += FRAME + length
-    return found
+    return payloads_between(io.BytesIO(half), 0, len(half))
+
+
+def current_base(file, size):
+    """Where the area of an open file begins that has the higher epoch."""
+    def epoch_at(base):
+        file.seek(base)
+        return epoch_of(file.read(HEADER))
+
+    return max((0, size // 2), key=epoch_at)
+
+
+def current_payloads(file, size):
+    """The payloads of that area. The file may be too long for the memory."""
+    base = current_base(file, size)
+    return payloads_between(file, base, base + size // 2)
 
 
 def current(file):

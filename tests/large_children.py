@@ -3,19 +3,8 @@ that a child may say on standard error.
 """
 import os
 
-from large_run import SEND, Script, quoted, same
-from large_spelling import (
-    COMPLETED,
-    RETRY_LIMIT,
-    TYPE,
-    current_area,
-    head_row,
-    job_fields,
-    job_row,
-    payloads,
-    queue_fields,
-    queue_row,
-)
+from journal import COMPLETED, Head, Job, Queue, aborted, current_payloads
+from large_run import SEND, TYPE, Script, quoted, same
 
 QUEUES = 64
 DOCUMENT = 1_048_576
@@ -51,7 +40,7 @@ def rows_of(place):
     """The payloads of the spool's current area, which a checkpoint wrote."""
     name = place.at("spool", "spool.disk")
     with open(name, "rb") as file:
-        return payloads(file, current_area(file, os.path.getsize(name)))
+        return current_payloads(file, os.path.getsize(name))
 
 
 # ---- at once
@@ -160,9 +149,9 @@ def many_attempts(place):
     for name in ("fails", "prints"):
         turns = [b"%d" % turn for turn in range(1, TURNS + 1)]
         same(f"attempts of {name}", place.read(f"backend-{name}.ran").split(), turns)
-    fields = [job_fields(queue, number, "ann", "", 1, 50, "") for number, queue in enumerate("ab", 1)]
-    wanted = [job_row(fields[0], TYPE, (), TURNS, 0, 0, RETRY_LIMIT), job_row(fields[1], TYPE, (), TURNS, 0, 0, COMPLETED)]
-    same("the rows of the jobs", rows_of(place)[3:], wanted)
+    limited = Job(1, "a", "ann", media=TYPE, attempts=TURNS, phase=aborted("retry-limit"))
+    printed = Job(2, "b", "ann", media=TYPE, attempts=TURNS, phase=COMPLETED)
+    same("the rows of the jobs", rows_of(place)[3:], [limited.payload(), printed.payload()])
 
 
 # ---- long documents
@@ -260,8 +249,8 @@ class Says:
         self.jobs.append(listed(number, queue, DONE, 0, pages, title))
         kept = ",".join(sorted(reasons)) or "none"
         self.queues.append(f"queue {queue} 3 accepting {TYPE} abort-job 30 5 {kept} {quoted(message)}")
-        fields = queue_fields(queue, "says:/x")
-        self.rows.append(queue_row(fields, message=message, reasons=reasons, attributes=attributes))
+        shown = Queue(queue, "says:/x", TYPE, message=message, reasons=sorted(reasons), attributes=sorted(attributes))
+        self.rows.append(shown.payload())
         self.told.append(dropped)
 
     def look(self):
@@ -276,7 +265,7 @@ class Says:
         script.ask("checkpoint", "ok")
         self.place.print_all(script)
         found = rows_of(self.place)
-        same("the head", found[0], head_row(count, 0))
+        same("the head", found[0], Head(count).payload())
         for number, row in enumerate(self.rows, 1):
             same(f"the row of queue {number}", found[number], row)
 

@@ -5,26 +5,9 @@ jobs in it have ended, but for a few that lie all over it and are printed.
 """
 import os
 
+from journal import FRAME, HEADER, Head, Job, Queue, cancel, close, current_base, current_payloads, header, record, send
 from large_children import DONE, ask_jobs, bytes_of, listed, same_file
-from large_run import SEND, Script, same
-from large_spelling import (
-    FRAME,
-    HEADER,
-    TYPE,
-    add_queue,
-    cancel,
-    close,
-    create,
-    current_area,
-    head_row,
-    header,
-    payloads,
-    queue_fields,
-    queue_row,
-    record,
-    send,
-    send_head,
-)
+from large_run import SEND, TYPE, Script, same
 
 SIZE = 1 << 30
 HALF = SIZE // 2
@@ -61,9 +44,14 @@ class Area:
 
     def add_holes(self, job):
         """A send whose bytes are zeros that nobody writes."""
-        head = send_head(job, SEND)
-        self.put(self.at, record(head + bytes(SEND))[: FRAME + len(head)])
-        self.at += FRAME + len(head) + SEND
+        head = record(send(job, bytes(SEND)))[:-SEND]
+        self.put(self.at, head)
+        self.at += len(head) + SEND
+
+
+def created(queue, number):
+    """The event that makes a job."""
+    return Job(number, queue, "ann").event()
 
 
 def queue_name(turn):
@@ -76,15 +64,15 @@ def fill(area):
     while area.end - area.at > LEFT + 2 * (SEND + 100):
         number = len(jobs) + 1
         if area.at - (area.end - HALF) >= turn * (HALF // ALIVE) and turn < ALIVE:
-            area.add(create(queue_name(turn), number))
+            area.add(created(queue_name(turn), number))
             document = bytes_of(turn, LENGTH)
             area.add(send(number, document[:SEND]))
             area.add(send(number, document[SEND:]))
-            area.add(close(number))
+            area.add(close(number, media=TYPE))
             jobs.append((queue_name(turn), LENGTH, "3 none"))
             turn += 1
             continue
-        area.add(create("lab", number))
+        area.add(created("lab", number))
         sends = min(SENDS, (area.end - area.at - LEFT - 1_000) // (SEND + 100))
         for _ in range(sends):
             area.add_holes(number)
@@ -105,13 +93,13 @@ def make_spool(place, base):
         area = Area(file, base, 1 if base == 0 else 2)
         if base == 0:
             for name in names:
-                area.add(add_queue(name, uri_of(place, name)))
+                area.add(Queue(name, uri_of(place, name), TYPE).event())
         else:
             file.seek(0)
             file.write(header(1))
-            area.add(head_row(0, 0))
+            area.add(Head(0).payload())
             for name in sorted(names):
-                area.add(queue_row(queue_fields(name, uri_of(place, name))))
+                area.add(Queue(name, uri_of(place, name), TYPE).payload())
         jobs = fill(area)
     return area, jobs
 
@@ -132,7 +120,7 @@ def fill_to_the_last_byte(script, area, jobs):
     """A job whose document ends just where the area has room for a record of seven bytes, which no event gets."""
     number = len(jobs) + 1
     script.ask('create alive0 ann "" 1 50 ""', f"ok job {number}")
-    area.at += FRAME + len(create("alive0", number))
+    area.at += FRAME + len(created("alive0", number))
     document = b""
     while (room := area.end - area.at - FRAME - 9 - 7) > SEND:
         piece = bytes_of(number, SEND)
@@ -222,10 +210,10 @@ def gibibyte_made(place):
     place.serve(script, "--size", str(SIZE))
     name = place.at("spool", "spool.disk")
     same("the length of the file", os.path.getsize(name), SIZE)
-    wanted = [head_row(0, 0), queue_row(queue_fields("lab", "spoolfile:/out")), create("lab", 1)]
+    wanted = [Head(0).payload(), Queue("lab", "spoolfile:/out", TYPE).payload(), created("lab", 1)]
     with open(name, "rb") as file:
-        same("the current area", current_area(file, SIZE), HALF)
-        same("its payloads", payloads(file, HALF), wanted)
+        same("the current area", current_base(file, SIZE), HALF)
+        same("its payloads", current_payloads(file, SIZE), wanted)
 
 
 def gibibyte_file(place):
@@ -240,13 +228,13 @@ def gibibyte_in_memory(place):
     """A spool of 1 GiB in memory takes sends until its first area is full, and goes on in the second one."""
     script = Script()
     script.ask(f"queue lab spoolfile:/out {TYPE} abort-job", "ok")
-    at = HEADER + FRAME + len(add_queue("lab", "spoolfile:/out"))
+    at = HEADER + FRAME + len(Queue("lab", "spoolfile:/out", TYPE).event())
     piece = bytes_of(1, SEND)
     jobs = []
     while True:
         number, size = len(jobs) + 1, 0
         script.ask('create lab ann "" 1 50 ""', f"ok job {number}")
-        at += FRAME + len(create("lab", number))
+        at += FRAME + len(created("lab", number))
         while size < SENDS * SEND and at + FRAME + 9 + SEND + 7 <= HALF:
             size += SEND
             script.send(number, piece, f"ok bytes {size}")

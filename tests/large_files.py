@@ -1,7 +1,6 @@
 """Parts of tests/large.py: files of types, conversions and programs of thousands of lines, and queries of URIs."""
 from large_children import DONE, ask_jobs, bytes_of, listed, same_file
-from large_run import Script, same
-from large_spelling import TYPE
+from large_run import TYPE, Script, same
 
 LINES = 5_000
 BAD = 1_000

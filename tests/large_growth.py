@@ -6,8 +6,7 @@ The spools are made by bench/opening.py, byte by byte.
 import os
 import sys
 
-from large_run import Difference, Script, same_lines
-from large_spelling import TYPE
+from large_run import TYPE, Difference, Script, same_lines
 
 sys.path.insert(0, os.path.join(os.path.dirname(os.path.abspath(__file__)), "..", "bench"))
 import opening

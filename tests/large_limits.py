@@ -1,6 +1,6 @@
 """Parts of tests/large.py: each value of a command at its limit, one below and one above."""
-from large_run import Script, quoted, same
-from large_spelling import TYPE, create, queue_fields
+from journal import Job, Queue
+from large_run import TYPE, Script, quoted, same
 
 # How many bytes a line may have before its line feed.
 LINE = 4_096
@@ -178,7 +178,7 @@ def look_for_what_is_not_listed(place):
     script.ask(f"create {'q' * 127} {'u' * 255} {'t' * 255} 9999 100 {options}", "ok job 1")
     place.serve(script)
     journal = place.read("spool/spool.disk")
-    queue = b"\x01" + queue_fields("q" * 127, uri_of(1_023), media_type(255), "stop-printer", 86_400, 65_535)
-    job = create("q" * 127, 1, "u" * 255, "t" * 255, 9_999, 100, options)
-    same("the longest queue is in the journal", queue in journal, True)
-    same("the longest job is in the journal", job in journal, True)
+    queue = Queue("q" * 127, uri_of(1_023), media_type(255), "stop-printer", 86_400, 65_535)
+    job = Job(1, "q" * 127, "u" * 255, "t" * 255, 9_999, 100, options)
+    same("the longest queue is in the journal", queue.event() in journal, True)
+    same("the longest job is in the journal", job.event() in journal, True)

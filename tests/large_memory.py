@@ -2,8 +2,7 @@
 program ends with `spool: memory`. What was acknowledged is there when the spool is opened with enough of it.
 """
 from large_children import DONE, ask_jobs, bytes_of, listed, same_file
-from large_run import Difference, Script, quoted, same
-from large_spelling import TYPE
+from large_run import TYPE, Difference, Script, quoted, same
 
 JOBS = 4_000
 TITLE = "t" * 255

@@ -1,8 +1,7 @@
 """Parts of tests/large.py: input that comes in the smallest and in large pieces, and 3 MiB of a filter's standard error as
 crates/error_report reads it.
 """
-from large_run import SEND, Script, same_lines
-from large_spelling import TYPE
+from large_run import SEND, TYPE, Script, same_lines
 
 MEBIBYTE = 1 << 20
 

@@ -30,6 +30,9 @@ SUBREAPER = 36
 
 SEND = 65_536
 
+# The type of a document of which no rule tells another.
+TYPE = "application/octet-stream"
+
 
 class Difference(Exception):
     """A program did something else than it had to."""

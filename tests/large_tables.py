@@ -3,25 +3,8 @@
 The table is told by this module's own rules, and so are the rows of a checkpoint, which are read from the file: a listing
 shows no options, copies or priorities.
 """
-from large_run import Script, pieces_of, quoted, same
-from large_spelling import (
-    CANCELED,
-    FREE,
-    NO_FILTER,
-    TYPE,
-    UNTIL_RELEASED,
-    current_area,
-    head_row,
-    incoming,
-    job_fields,
-    job_row,
-    payloads,
-    piece_row,
-    queue_fields,
-    queue_row,
-    until,
-    waiting,
-)
+import journal
+from large_run import TYPE, Script, quoted, same
 
 QUEUES = 64
 JOBS = 10_000
@@ -57,8 +40,8 @@ class Queue:
         return f'queue {self.name} {state} accepting {self.target} {self.policy} {self.interval} {self.limit} none ""'
 
     def row(self):
-        fields = queue_fields(self.name, self.uri, self.target, self.policy, self.interval, self.limit)
-        return queue_row(fields, self.info, self.location, stopped=self.stopped)
+        asked = (self.name, self.uri, self.target, self.policy, self.interval, self.limit, self.info, self.location)
+        return journal.Queue(*asked, stopped=self.stopped).payload()
 
 
 def title_of(number):
@@ -132,21 +115,22 @@ class Job:
 
     def phase(self):
         if self.unprintable():
-            return NO_FILTER
+            return journal.aborted("no-filter")
         if self.kind == 0:
-            return incoming()
+            return journal.incoming()
         if self.kind in (5, 6):
-            return CANCELED
-        return waiting({1: FREE, 2: UNTIL_RELEASED, 3: until(NOW + self.number), 4: until(NOW)}[self.kind])
+            return journal.CANCELED
+        until = journal.until
+        return journal.waiting({1: journal.FREE, 2: journal.held(), 3: until(NOW + self.number), 4: until(NOW)}[self.kind])
 
     def rows(self):
         """Its row, and the pieces of its document where it hasn't ended."""
-        fields = job_fields(self.queue.name, self.number, self.user, self.title, self.copies, self.priority, self.options)
+        asked = (self.number, self.queue.name, self.user, self.title, self.copies, self.priority, self.options)
         media = None if self.kind in (0, 5) else TYPE
-        yield job_row(fields, media, (), 0, 0, len(self.document), self.phase())
+        yield journal.Job(*asked, media, size=len(self.document), phase=self.phase()).payload()
         if self.shown()[0] in "34":
-            for piece in pieces_of(self.document):
-                yield piece_row(self.number, piece)
+            for piece in journal.pieces(self.number, self.document):
+                yield piece.payload()
 
 
 def ask_jobs(script, jobs):
@@ -159,9 +143,9 @@ def ask_queues(script, queues):
 
 def look_at_rows(place, queues, jobs):
     """Whether the file's current area has exactly the rows of the table."""
-    wanted = [head_row(len(jobs), NOW)] + [queue.row() for queue in queues] + [row for job in jobs for row in job.rows()]
+    wanted = [journal.Head(len(jobs), NOW).payload()] + [queue.row() for queue in queues] + [row for job in jobs for row in job.rows()]
     with open(place.at("spool", "spool.disk"), "rb") as file:
-        found = payloads(file, current_area(file, SIZE))
+        found = journal.current_payloads(file, SIZE)
     for number, (row, want) in enumerate(zip(found, wanted), 1):
         same(f"row {number} of the checkpoint", row, want)
     same("rows of the checkpoint", len(found), len(wanted))

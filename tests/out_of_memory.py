@@ -68,6 +68,9 @@ PASSED_ON = {
 CAPACITIES = {
     ("child_pipeline", "insert"): ["1"],
     ("command_lines", "words_of"): ["MOST_WORDS"],
+    ("event_codec", "encode_head_onto"): ["13"],
+    ("event_codec", "encode_job_onto"): ["1 + created_len(job) + job_state_len(job)"],
+    ("event_codec", "encode_piece_onto"): ["9 + bytes.as_slice().len()"],
     ("event_codec", "encode_queue_onto"): ["1 + added_len(queue) + queue_state_len(queue)"],
     ("event_codec", "listed_at"): ["(count as usize).min(bytes.len() / 3)"],
     ("event_codec", "listed_attributes_at"): ["(count as usize).min(bytes.len() / 4)"],
@@ -91,7 +94,7 @@ CAPACITIES = {
 # The great numbers in bodies: bounds of loops, of counts and of fields. None is a capacity.
 NUMBERS = {
     ("backend_codes", "unless_spent"): ["u32::MAX"],
-    ("event_codec", "job_row_of"): ["1_048_576"],
+    ("event_codec", "job_state_at"): ["1_048_576"],
     ("job_table", "is_startable"): ["u32::MAX"],
     ("job_table", "is_untyped"): ["u32::MAX"],
     ("mime_rules", "int_bytes"): ["16_777_216"],

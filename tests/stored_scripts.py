@@ -5,7 +5,7 @@ import re
 DATA = os.path.join(os.path.dirname(os.path.realpath(__file__)), "..", "crates", "spool_scripts", "data")
 
 # What the built program has no word for.
-MADE_UP = ("children", "fuse", "limits")
+MADE_UP = ("children", "fuse", "lang", "limits")
 
 # Sends that have a whole line; greater counts and numbers are no commands.
 SEND = re.compile(rb'[ \t]*("?)send\1[ \t]+("?)([0-9]+)\2[ \t]+("?)([0-9]+)\4[ \t]*')

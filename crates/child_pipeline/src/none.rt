@@ -11,7 +11,7 @@ use crate::order::{ChildFault, Finish, Order};
 pub struct NoChildren;
 
 /// The ticket of a child of [`NoChildren`]: none is given.
-#[derive(Clone, Copy, Debug)]
+#[derive(Debug, Drop)]
 pub struct NoTicket;
 
 impl Children for NoChildren {

@@ -2,24 +2,23 @@
 ghost use Rattle.std.specs.Prelude.{◌≡◌, true, IfOk};
 ghost use Rattle.filter_args.specs.Environment.{environment_of};
 ghost use Rattle.spool_types.specs.Phases.{is_processing};
-ghost use Rattle.spool_types.specs.State.{job_of};
 ghost use Rattle.child_pipeline.specs.Orders.{program_of, scheme_of, words_of};
 
 use crate::order::Program;
 use crate::texts::{Scheme, Texts};
 use device_uri::{DeviceUri, UriFault};
 use filter_args::{ChildFile, Place};
-use spool_types::{AttemptNumber, JobRow, QueueRow, StageNumber, Uri};
+use spool_types::{AttemptNumber, Job, QueueRow, StageNumber, Uri};
 use std::alloc::{AllocError, Global};
 
 // The program of a stage: the filters in their order, then the backend.
 pub(crate) fn program(
     alloc: Global,
-    row: &JobRow,
+    row: &Job,
     queue: &QueueRow,
     stage: StageNumber,
 ) -> Result<Program, AllocError>
-    ensures { IfOk result (λ program. program ≡ program_of (job_of row.now) queue.now stage) }
+    ensures { IfOk result (λ program. program ≡ program_of row.now queue.now stage) }
 {
     let before = stage.get() as usize - 1;
     match row.filters.as_slice().get(before) {
@@ -43,11 +42,11 @@ fn scheme(alloc: Global, uri: &Uri) -> Result<Scheme, AllocError>
 pub(crate) fn words(
     alloc: Global,
     place: &Place,
-    row: &JobRow,
+    row: &Job,
     attempt: AttemptNumber,
     stage: StageNumber,
 ) -> Result<Texts, AllocError>
-    ensures { IfOk result (λ words. words ≡ words_of place.now (job_of row.now) attempt stage) }
+    ensures { IfOk result (λ words. words ≡ words_of place.now row.now attempt stage) }
 {
     let stage = stage.get() as u8;
     if stage == 1 {
@@ -64,11 +63,11 @@ pub(crate) fn words(
 pub(crate) fn environment(
     alloc: Global,
     place: &Place,
-    row: &JobRow,
+    row: &Job,
     queue: &QueueRow,
 ) -> Result<Texts, AllocError>
     requires { is_processing row.now.phase ≡ true }
-    ensures { IfOk result (λ variables. variables ≡ environment_of (job_of row.now) queue.now place.now) }
+    ensures { IfOk result (λ variables. variables ≡ environment_of row.now queue.now place.now) }
 {
     let variables = filter_args::environment(alloc, row, queue, place)?;
     Ok(Texts::new(variables))

@@ -3,7 +3,6 @@ ghost use Rattle.std.specs.Prelude.{◌≡◌, ◌&&◌, ◌==◌, false, nat_lt
 ghost use Rattle.std.specs.Option.{option_copied, option_map};
 ghost use Rattle.std.specs.FinMap as finite;
 ghost use Rattle.slab.specs.Slab.{Updates};
-ghost use Rattle.spool_types.specs.State.{job_of};
 ghost use Rattle.child_pipeline.specs.Slots.{numbered, begun_in, bound_behind, IsFirstStage, IsNextJob, IsReady, IsDue, IsReporting, IsTicketless, HasNext, StartsStage, FinishesStage, order_in, end_in, advanced_in, slot_in, input_in, put_progress, numbered_progress, is_ready, is_running, is_ended, IsRunning, IsEnded};
 ghost use Rattle.child_pipeline.specs.Finishes.{kept};
 ghost use Rattle.child_pipeline.specs.Told.{finish_in as finish_told};
@@ -15,7 +14,7 @@ use crate::reports::stage_end;
 use crate::texts::Content;
 use filter_args::Place;
 use slab::Slab;
-use spool_types::{AttemptNumber, JobId, JobRow, Phase, QueueRow, StageEnd, StageNumber};
+use spool_types::{AttemptNumber, Job, JobId, Phase, QueueRow, StageEnd, StageNumber};
 use std::alloc::{AllocError, Global};
 use std::collections::BTreeMap;
 use std::marker::Model;
@@ -125,7 +124,7 @@ impl<C: Children> Runner<C> {
     }
 
     /// Whether a job's slot is that of the stage that it is in, which wasn't started.
-    pub fn is_due(&self, row: &JobRow) -> bool
+    pub fn is_due(&self, row: &Job) -> bool
         ensures yes { IsTrue result → IsDue (finite.get self.now row.now.id) row.now.phase }
         ensures no { result ≡ false → ¬ (IsDue (finite.get self.now row.now.id) row.now.phase) }
     {
@@ -293,7 +292,7 @@ impl<C: Children> Runner<C> {
 
     /// Reserves a slot for the first stage of an attempt, in which the job is. A later stage has the slot of the one
     /// before it. It takes the place of a slot that is left from an earlier attempt, which isn't to run a child.
-    pub fn begin(&mut self, row: &JobRow) -> Result<(), AllocError>
+    pub fn begin(&mut self, row: &Job) -> Result<(), AllocError>
         requires first { IsFirstStage row.now.phase }
         requires ticketless { IsTicketless (finite.get self.old row.now.id) }
         ensures ok { OnOk result (self.new ≡ begun_in self.old row.now.id row.now.phase) }
@@ -322,12 +321,12 @@ impl<C: Children> Runner<C> {
         &mut self,
         children: &mut C,
         place: &Place,
-        row: &JobRow,
+        row: &Job,
         queue: &QueueRow,
         document: Content,
     ) -> Result<bool, AllocError>
         requires { IsDue (finite.get self.old row.now.id) row.now.phase }
-        ensures ok { IfOk result (λ started. StartsStage (C.tells children.old) (order_in place.now self.old (job_of row.now) queue.now document) started self.old row.now.id self.new (C.tells children.new)) }
+        ensures ok { IfOk result (λ started. StartsStage (C.tells children.old) (order_in place.now self.old row.now queue.now document) started self.old row.now.id self.new (C.tells children.new)) }
         ensures err { OnErr result (self.new ≡ self.old) }
         ensures unstarted { OnErr result (children.new ≡ children.old) }
     {

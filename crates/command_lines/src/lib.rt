@@ -56,4 +56,4 @@ mod words;
 pub use command::{Command, Creation, Rounds};
 pub use commands::Commands;
 pub use laws::{line_by_line, only_line_events, word_by_word};
-pub use reply::{Answer, print_reply};
+pub use reply::{Answer, ShownQueue, print_reply};

@@ -2,12 +2,19 @@
 ghost use Rattle.std.specs.Prelude.{◌≡◌, ◌++◌, IfOk, OnOk, codes, map};
 ghost use Rattle.std.specs.Fmt.{decimal};
 ghost use Rattle.spool_types.specs.State.{job_of};
-ghost use Rattle.command_lines.specs.Replies.{answer_text, quoted, job_line, job_head, job_sizes, jobs_text, queue_head, queue_rules, reasons_word, queue_text, queues_text, refusal_line, created_line, sent_line, closed_line, rounded_line, drained_line};
+ghost use Rattle.command_lines.specs.Replies.{answer_text, quoted, job_line, job_head, job_sizes, jobs_text, queue_head, queue_rules, reasons_word, queue_text, shown_text, refusal_line, created_line, sent_line, closed_line, rounded_line, drained_line};
 
 use line_words::{is_backslash, is_quote};
-use spool_types::{JobId, JobRow, MediaType, Moment, QueueRow, Reason, Refusal, is_busy};
+use spool_types::{Job, JobId, JobRow, MediaType, Moment, QueueRow, Reason, Refusal};
 use std::alloc::{AllocError, Global};
 use std::io::Write;
+
+/// A queue, and whether a job of it is processing.
+#[derive(Clone, Copy, Drop)]
+pub struct ShownQueue<'a> {
+    pub row: &'a QueueRow,
+    pub busy: bool,
+}
 
 /// What a command is answered.
 #[derive(Drop)]
@@ -26,11 +33,8 @@ pub enum Answer<'a> {
         rows: &'a [JobRow],
         now: Moment,
     },
-    /// The queues in ascending order of name, each processing where one of the jobs is.
-    Queues {
-        rows: &'a [QueueRow],
-        jobs: &'a [JobRow],
-    },
+    /// The queues in ascending order of name.
+    Queues(&'a [ShownQueue<'a>]),
     /// How many children a round started, and how many ends of stages were acknowledged in it.
     Rounded {
         started: usize,
@@ -66,7 +70,7 @@ pub fn print_reply(alloc: Global, answer: &Answer<'_>) -> Result<Vec<u8>, AllocE
         Answer::Sent(size) => sent(alloc, *size),
         Answer::Closed { media, stages } => closed(alloc, media, *stages),
         Answer::Jobs { rows, now } => jobs(alloc, rows, *now),
-        Answer::Queues { rows, jobs } => queues(alloc, rows, jobs),
+        Answer::Queues(shown) => queues(alloc, shown),
         Answer::Rounded { started, finished } => rounded(alloc, *started, *finished),
         Answer::Drained(rounds) => drained(alloc, *rounds),
         Answer::Refused(refusal) => refused(alloc, *refusal),
@@ -129,14 +133,14 @@ fn jobs(alloc: Global, rows: &[JobRow], now: Moment) -> Result<Vec<u8>, AllocErr
 {
     let mut text = Vec::new(alloc);
     for row in rows {
-        push_job(&mut text, row, &now)?;
+        push_job(&mut text, &row.job, &now)?;
     }
     push_count(&mut text, rows.len())?;
     Ok(text)
 }
 
-fn push_job(text: &mut Vec<u8>, row: &JobRow, now: &Moment) -> Result<(), AllocError>
-    ensures { OnOk result (text.new.items ≡ text.old.items ++ job_line now.now (job_of row.now)) }
+fn push_job(text: &mut Vec<u8>, row: &Job, now: &Moment) -> Result<(), AllocError>
+    ensures { OnOk result (text.new.items ≡ text.old.items ++ job_line now.now row.now) }
 {
     push_head(text, row, now)?;
     push_quoted(text, row.user.as_str())?;
@@ -146,8 +150,8 @@ fn push_job(text: &mut Vec<u8>, row: &JobRow, now: &Moment) -> Result<(), AllocE
     Ok(())
 }
 
-fn push_head(text: &mut Vec<u8>, row: &JobRow, now: &Moment) -> Result<(), AllocError>
-    ensures { OnOk result (text.new.items ≡ text.old.items ++ job_head now.now (job_of row.now)) }
+fn push_head(text: &mut Vec<u8>, row: &Job, now: &Moment) -> Result<(), AllocError>
+    ensures { OnOk result (text.new.items ≡ text.old.items ++ job_head now.now row.now) }
 {
     let number = row.id.get();
     let queue = row.queue.as_str();
@@ -156,29 +160,29 @@ fn push_head(text: &mut Vec<u8>, row: &JobRow, now: &Moment) -> Result<(), Alloc
     write!(text, "job {number} {queue} {state} {reason} ").map_err(|_| AllocError)
 }
 
-fn push_sizes(text: &mut Vec<u8>, row: &JobRow) -> Result<(), AllocError>
-    ensures { OnOk result (text.new.items ≡ text.old.items ++ job_sizes (job_of row.now)) }
+fn push_sizes(text: &mut Vec<u8>, row: &Job) -> Result<(), AllocError>
+    ensures { OnOk result (text.new.items ≡ text.old.items ++ job_sizes row.now) }
 {
     let size = row.size;
     let pages = row.pages;
     write!(text, " {size} {pages} ").map_err(|_| AllocError)
 }
 
-fn queues(alloc: Global, rows: &[QueueRow], jobs: &[JobRow]) -> Result<Vec<u8>, AllocError>
-    ensures { IfOk result (λ text. text.items ≡ queues_text (map job_of jobs.now) rows.now) }
+fn queues(alloc: Global, queues: &[ShownQueue<'_>]) -> Result<Vec<u8>, AllocError>
+    ensures { IfOk result (λ text. text.items ≡ shown_text queues.now) }
 {
     let mut text = Vec::new(alloc);
-    for row in rows {
-        push_queue(&mut text, row, jobs)?;
+    for queue in queues {
+        push_queue(&mut text, queue.row, queue.busy)?;
     }
-    push_count(&mut text, rows.len())?;
+    push_count(&mut text, queues.len())?;
     Ok(text)
 }
 
-fn push_queue(text: &mut Vec<u8>, row: &QueueRow, jobs: &[JobRow]) -> Result<(), AllocError>
-    ensures { OnOk result (text.new.items ≡ text.old.items ++ queue_text (map job_of jobs.now) row.now) }
+fn push_queue(text: &mut Vec<u8>, row: &QueueRow, busy: bool) -> Result<(), AllocError>
+    ensures { OnOk result (text.new.items ≡ text.old.items ++ queue_text busy row.now) }
 {
-    push_queue_head(text, row, jobs)?;
+    push_queue_head(text, row, busy)?;
     push_rules(text, row)?;
     push_reasons(text, row.reasons.as_slice())?;
     text.push(b' ')?;
@@ -187,11 +191,11 @@ fn push_queue(text: &mut Vec<u8>, row: &QueueRow, jobs: &[JobRow]) -> Result<(),
     Ok(())
 }
 
-fn push_queue_head(text: &mut Vec<u8>, row: &QueueRow, jobs: &[JobRow]) -> Result<(), AllocError>
-    ensures { OnOk result (text.new.items ≡ text.old.items ++ queue_head (map job_of jobs.now) row.now) }
+fn push_queue_head(text: &mut Vec<u8>, row: &QueueRow, busy: bool) -> Result<(), AllocError>
+    ensures { OnOk result (text.new.items ≡ text.old.items ++ queue_head busy row.now) }
 {
     let name = row.name.as_str();
-    let state = row.printer_state(is_busy(jobs, &row.name));
+    let state = row.printer_state(busy);
     let accepting = if row.accepting {
         "accepting"
     } else {

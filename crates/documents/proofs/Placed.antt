@@ -7,7 +7,7 @@ use Rattle.gate_journal.specs.Entries.{records}
 use Rattle.gate_journal.proofs.Places.{records-append}
 use Rattle.gate_journal.proofs.Steps.{length-records-push}
 use Rattle.spool_types.specs.declared.event.Event.{Event}
-use Rattle.spool_types.specs.declared.event.Event.TheVariants.{AddQueue, Info, SetAccept, SetStop, Create, Send, Close, Hold, Release, Cancel, Clock, Start, Stage, Abandon, Reopen}
+use Rattle.spool_types.specs.declared.event.Event.TheVariants.{Send}
 use Rattle.event_codec.specs.Spelling.{spelling, send_code}
 use Rattle.extents.specs.declared.extent.Extent.{Extent}
 use Rattle.spool_areas.specs.Header.{header_len}
@@ -41,20 +41,7 @@ sends_behind kind x y is = ap (λ (p : ℕ × List ℕ). front_of kind p.0 p.1 +
 -- an event that sends spells the bytes behind nine others
 spells : (e : Event) (k : ℕ) (bytes : List ℕ) → sent_by e ≡ Some (k, bytes) → spelling e ≡ front_of 0x06 k bytes ++ bytes
 spells (Send j sends) k bytes is = sends_behind 0x06 (j, sends) (k, bytes) is
-spells (AddQueue q) k bytes is = absurd (cc is)
-spells (Info notes) k bytes is = absurd (cc is)
-spells (SetAccept queue accepting) k bytes is = absurd (cc is)
-spells (SetStop queue stopped) k bytes is = absurd (cc is)
-spells (Create n) k bytes is = absurd (cc is)
-spells (Close c) k bytes is = absurd (cc is)
-spells (Hold j until) k bytes is = absurd (cc is)
-spells (Release j) k bytes is = absurd (cc is)
-spells (Cancel j) k bytes is = absurd (cc is)
-spells (Clock m) k bytes is = absurd (cc is)
-spells (Start j) k bytes is = absurd (cc is)
-spells (Stage e) k bytes is = absurd (cc is)
-spells (Abandon j) k bytes is = absurd (cc is)
-spells Reopen k bytes is = absurd (cc is)
+spells e k bytes is = absurd (cc is)
 
 pub spells_sent : SpellsSent spelling sent_by
 spells_sent e k bytes is = (front_of 0x06 k bytes, refl, spells e k bytes is)

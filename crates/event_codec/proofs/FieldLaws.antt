@@ -58,6 +58,11 @@ pub record Takes (bytes text rest : List ℕ) : Type 0 where
 pub Takes-then : (a x b y c : List ℕ) → Takes a x b → Takes b y c → Takes a (x ++ y) c
 Takes-then a x b y c p q = record { parts = p.parts ∙ ap (λ (t : List ℕ). x ++ t) q.parts ∙ sym (append_assoc x y c); rest_fits = q.rest_fits }
 
+-- what one reader took, and what the next took behind it
+infixl 10 ◌⨾◌
+pub ◌⨾◌ : {a x b y c : List ℕ} → Takes a x b → Takes b y c → Takes a (x ++ y) c
+p ⨾ q = Takes-then _ _ _ _ _ p q
+
 -- what a reader reads, by the code and the limits of a value
 pub record Reads {A : Type 0} (read : List ℕ → Field A) (code : A → List ℕ) (Legal : A → Type 0) : Type 0 where
   pub takes : (bytes : List ℕ) (x : A) (rest : List ℕ) → IsBytes bytes → read bytes ≡ Ok (x, rest) → Takes bytes (code x) rest × Legal x
@@ -88,6 +93,18 @@ again-last read code Legal reads x rest f legal = ap (λ r. r >>= f) (reads.agai
 -- the same, where what comes after is known
 pub again-step : {A B : Type 0} (read : List ℕ → Field A) (code : A → List ℕ) (Legal : A → Type 0) → Reads read code Legal → (x : A) (more rest : List ℕ) (f : A × List ℕ → Result B CodecFault) (y : Result B CodecFault) → Legal x → f (x, more ++ rest) ≡ y → (read ((code x ++ more) ++ rest) >>= f) ≡ y
 again-step read code Legal reads x more rest f y legal e = again-then read code Legal reads x more rest f legal ∙ e
+
+-- a value, and then the value that it is a part of
+pub reads_then : {A B : Type 0} (first : List ℕ → Field A) (code : A → List ℕ) (Legal : A → Type 0) (second : A → List ℕ → Field B) (more : B → List ℕ) (Rest : B → Type 0) (part : B → A) → Reads first code Legal → ((a : A) → Reads (second a) more (λ b. (part b ≡ a) × Rest b))
+    → Reads (λ bytes. first bytes >>= λ a. second a.0 a.1) (λ b. code (part b) ++ more b) (λ b. Legal (part b) × Rest b)
+reads_then {A = A} first code Legal second more Rest part reads others = record {
+  takes = λ bytes b rest fits e.
+      let a = got first code Legal reads bytes (λ a. second a.0 a.1) (b, rest) fits e in
+      let s = (others a.value).takes a.rest b rest a.taken.rest_fits a.then in
+      let taken : Takes bytes (code (part b)) a.rest = subst (λ (v : A). Takes bytes (code v) a.rest) (sym s.1.0) a.taken in
+      (taken ⨾ s.0, (subst Legal (sym s.1.0) a.legal, s.1.1));
+  again = λ b rest legal. again-step first code Legal reads (part b) (more b) rest (λ a. second a.0 a.1) (Ok (b, rest)) legal.0 ((others (part b)).again b rest (refl, legal.1));
+}
 
 -- ---- parts
 

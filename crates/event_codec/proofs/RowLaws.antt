@@ -1,7 +1,7 @@
 -- The laws of rows: what is read is spelled so, what is spelled so is read, and no row is spelled as an event is.
 use Rattle.std.proofs.Common.{◌≡◌, ℕ, suc, ◌+◌, ◌^◌, ◌<◌, ◌≤◌, cond, eqb, List, [], ◌∷◌, ◌++◌, length, Option, Some, None, Result, Ok, Err, refl, sym, ap, subst, ◌∙◌, arith, inl, inr}
 use Rattle.std.specs.Prelude.{IfOk}
-use Rattle.std.specs.Int.{w8, w16, w32, w64, to_be_bytes}
+use Rattle.std.specs.Int.{w8, w32, w64, to_be_bytes}
 use Rattle.std.proofs.lemmas.Bool.{eqb-true}
 use Rattle.std.proofs.lemmas.List.{append-nil, nil_from_length}
 use Rattle.spool_types.specs.declared.phase.Phase.{Phase}
@@ -11,26 +11,26 @@ use Rattle.spool_types.specs.declared.event.NewJob.{NewJob}
 use Rattle.spool_types.specs.declared.event.Event.{Event}
 use Rattle.spool_types.specs.declared.event.Event.TheVariants as events
 use Rattle.spool_types.specs.declared.rows.QueueRow.{QueueRow}
+use Rattle.spool_types.specs.declared.rows.Job.{Job as JobOf}
 use Rattle.spool_types.specs.declared.listing.Head.{Head as HeadOf}
-use Rattle.spool_types.specs.declared.listing.ListedJob.{ListedJob}
 use Rattle.spool_types.specs.declared.listing.Row.{Row}
 use Rattle.spool_types.specs.declared.listing.Row.TheVariants.{Head, Queue, Job, Piece}
 use Rattle.spool_types.specs.Limits.{greatest_number, greatest_moment, longest_document}
-use Rattle.spool_types.specs.Values.{is_queue_name, is_media_type, is_user_name, is_title, is_options, is_note, is_message}
+use Rattle.spool_types.specs.Values.{is_queue_name, is_media_type, is_note, is_message}
 use Rattle.field_codec.specs.declared.fault.CodecFault.{CodecFault}
 use Rattle.field_codec.specs.declared.fault.CodecFault.TheVariants.{Kind, Length, Range}
-use Rattle.event_codec.specs.Spelling.{text_code, counted_code, flag_code, queue_code, send_code, spelling, IsIn, IsJobNumber, IsText, IsQueue, IsJob}
-use Rattle.event_codec.specs.RowSpelling.{phase_code, typed_code, attributes_code, head_code, new_queue_of, queue_state_code, queue_row_code, new_job_of, created_code, job_state_code, job_row_code, row_spelling, IsTyped, IsQueueState, IsOrderedQueue, HasMoments, IsPhaseOf, IsRowSpellable}
-use Rattle.event_codec.specs.Reading.{Field, Gives, number_at, ranged_at, text_at, flag_at, filters_at, new_queue_at, piece_at, whole}
-use Rattle.event_codec.specs.RowReading.{some_media_at, flagged_media_at, typed_at, reasons_at, attributes_at, phase_at, head_at, queue_state_at, queue_row_at, created_at, job_row_at, piece_row_at, row_fields_at, row_at, row_reading}
-use Rattle.event_codec.proofs.FieldLaws.{IsBytes, bind_ok, passed_ok, done, ok_is, Takes, Takes-then, Reads, got, again-then, again-step, again-last, wide32, reads_ranged}
-use Rattle.event_codec.proofs.TextLaws.{reads_queue_name, reads_media, reads_user_name, reads_title, reads_options, reads_note, reads_message}
+use Rattle.event_codec.specs.Spelling.{text_code, counted_code, flag_code, queue_code, ticket_code, send_code, spelling, IsIn, IsJobNumber, IsText, IsQueue, IsJob}
+use Rattle.event_codec.specs.RowSpelling.{phase_code, typed_code, attributes_code, head_code, new_queue_of, queue_state_code, queue_row_code, new_job_of, created_code, job_state_code, job_row_code, row_spelling, IsTyped, IsQueueState, IsJobState, IsOrderedQueue, HasMoments, IsPhaseOf, IsLegalJob, IsRowSpellable}
+use Rattle.event_codec.specs.Reading.{Field, Gives, number_at, ranged_at, text_at, flag_at, filters_at, new_queue_at, ticket_at, piece_at, whole}
+use Rattle.event_codec.specs.RowReading.{some_media_at, flagged_media_at, typed_at, reasons_at, attributes_at, phase_at, head_at, queue_state_at, listed_queue_at, queue_row_at, created_at, job_state_at, listed_job_at, job_row_at, piece_row_at, row_fields_at, row_at, row_reading}
+use Rattle.event_codec.proofs.FieldLaws.{IsBytes, bind_ok, passed_ok, done, ok_is, Takes, Takes-then, ◌⨾◌, Reads, reads_then, got, again-then, again-step, again-last, wide32, reads_ranged}
+use Rattle.event_codec.proofs.TextLaws.{reads_queue_name, reads_media, reads_note, reads_message}
 use Rattle.event_codec.proofs.FilterLaws.{Anything, chosen, refused, reads_byte, AreFew, reads_few}
 use Rattle.event_codec.proofs.HoldLaws.{reads_flag, reads_moment}
 use Rattle.event_codec.proofs.ExitLaws.{Byte, of_byte}
 use Rattle.event_codec.proofs.PhaseLaws.{IsPhaseFor, reads_phase}
 use Rattle.event_codec.proofs.OrderLaws.{AreReasons, AreAttributes, reads_reasons, reads_attributes}
-use Rattle.event_codec.proofs.EventLaws.{reads_job_number, reads_copies, reads_priority, reads_dropped, reads_new_queue, IsPiece, piece_code, reads_piece, behind, nested6, nested7, send_nested, send_taken}
+use Rattle.event_codec.proofs.EventLaws.{reads_job_number, reads_dropped, reads_new_queue, IsPiece, piece_code, reads_piece, behind, nested3, nested6, nested7, ticket_takes, ticket_again, send_nested, send_taken}
 
 abbrev reads_highest : Reads (ranged_at 0 greatest_number w32) (to_be_bytes w32) (IsIn 0 greatest_number)
 reads_highest = reads_ranged 0 greatest_number w32 (2 ^ 32) wide32 (omega arith)
@@ -50,9 +50,8 @@ unfolding head_at
 head_takes bytes x fits e =
     let a = got (ranged_at 0 greatest_number w32) (to_be_bytes w32) (IsIn 0 greatest_number) reads_highest bytes _ x fits e in
     let b = got (ranged_at 0 greatest_moment w64) (to_be_bytes w64) (IsIn 0 greatest_moment) reads_moment a.rest _ x a.taken.rest_fits a.then in
-    let both = Takes-then bytes (to_be_bytes w32 a.value) a.rest (to_be_bytes w64 b.value) b.rest a.taken b.taken in
     let h : HeadOf = record { highest = a.value; moment = b.value } in
-    subst (Spelled 0x40 bytes) (ok_is (Head h, b.rest) x b.then) (record { taken = behind 0x40 bytes (head_code h) b.rest both; legal = record { fields = b.legal; legal = a.legal } })
+    subst (Spelled 0x40 bytes) (ok_is (Head h, b.rest) x b.then) (record { taken = behind 0x40 bytes (head_code h) b.rest (a.taken ⨾ b.taken); legal = record { fields = b.legal; legal = a.legal } })
 
 head_again : (h : HeadOf) (rest : List ℕ) → IsRowSpellable (Head h) → head_at (head_code h ++ rest) ≡ Ok (Head h, rest)
 unfolding head_at
@@ -62,68 +61,38 @@ head_again h rest is =
 
 -- ---- queues
 
-queue_state_nested : (q : QueueRow) → queue_state_code q ≡ text_code q.info ++ (text_code q.location ++ (flag_code q.accepting ++ (flag_code q.stopped ++ (text_code q.message ++ (counted_code q.reasons ++ attributes_code q.attributes)))))
-queue_state_nested q = nested7 (text_code q.info) (text_code q.location) (flag_code q.accepting) (flag_code q.stopped) (text_code q.message) (counted_code q.reasons) (attributes_code q.attributes)
+-- what is told of a queue, and what became of it
+abbrev HasState : QueueRow → Type 0
+HasState q = IsQueueState q × IsOrderedQueue q
 
-queue_state_taken : (q : QueueRow) (r0 r1 r2 r3 r4 r5 r6 r7 : List ℕ) → Takes r0 (text_code q.info) r1 → Takes r1 (text_code q.location) r2 → Takes r2 (flag_code q.accepting) r3 → Takes r3 (flag_code q.stopped) r4 → Takes r4 (text_code q.message) r5 → Takes r5 (counted_code q.reasons) r6 → Takes r6 (attributes_code q.attributes) r7 → Takes r0 (queue_state_code q) r7
-queue_state_taken q r0 r1 r2 r3 r4 r5 r6 r7 a b c d f g h =
-    let t5 = counted_code q.reasons ++ attributes_code q.attributes in
-    let t4 = text_code q.message ++ t5 in
-    let t3 = flag_code q.stopped ++ t4 in
-    let t2 = flag_code q.accepting ++ t3 in
-    let t1 = text_code q.location ++ t2 in
-    let p5 = Takes-then r5 (counted_code q.reasons) r6 (attributes_code q.attributes) r7 g h in
-    let p4 = Takes-then r4 (text_code q.message) r5 t5 r7 f p5 in
-    let p3 = Takes-then r3 (flag_code q.stopped) r4 t4 r7 d p4 in
-    let p2 = Takes-then r2 (flag_code q.accepting) r3 t3 r7 c p3 in
-    let p1 = Takes-then r1 (text_code q.location) r2 t2 r7 b p2 in
-    subst (λ (t : List ℕ). Takes r0 t r7) (sym (queue_state_nested q)) (Takes-then r0 (text_code q.info) r1 t1 r7 a p1)
-
--- the queue of a row, with what was read of it
-record State (n : NewQueue) (bytes : List ℕ) (x : Row × List ℕ) : Type 0 where
-  row : QueueRow
-  is_row : Queue row ≡ x.0
-  added : new_queue_of row ≡ n
-  taken : Takes bytes (queue_state_code row) x.1
-  state : IsQueueState row
-  ordered : IsOrderedQueue row
-
-queue_state_takes : (n : NewQueue) (bytes : List ℕ) (x : Row × List ℕ) → IsBytes bytes → queue_state_at n bytes ≡ Ok x → State n bytes x
+queue_state_takes : (n : NewQueue) (bytes : List ℕ) (m : QueueRow) (rest : List ℕ) → IsBytes bytes → queue_state_at n bytes ≡ Ok (m, rest) → Takes bytes (queue_state_code m) rest × ((new_queue_of m ≡ n) × HasState m)
 unfolding queue_state_at
-queue_state_takes n bytes x fits e =
-    let a = got (text_at is_note) text_code (IsText is_note) reads_note bytes _ x fits e in
-    let b = got (text_at is_note) text_code (IsText is_note) reads_note a.rest _ x a.taken.rest_fits a.then in
-    let c = got flag_at flag_code Anything reads_flag b.rest _ x b.taken.rest_fits b.then in
-    let d = got flag_at flag_code Anything reads_flag c.rest _ x c.taken.rest_fits c.then in
-    let f = got (text_at is_message) text_code (IsText is_message) reads_message d.rest _ x d.taken.rest_fits d.then in
-    let g = got reasons_at counted_code AreReasons reads_reasons f.rest _ x f.taken.rest_fits f.then in
-    let h = got attributes_at attributes_code AreAttributes reads_attributes g.rest _ x g.taken.rest_fits g.then in
+queue_state_takes n bytes m rest fits e =
+    let a = got (text_at is_note) text_code (IsText is_note) reads_note bytes _ (m, rest) fits e in
+    let b = got (text_at is_note) text_code (IsText is_note) reads_note a.rest _ (m, rest) a.taken.rest_fits a.then in
+    let c = got flag_at flag_code Anything reads_flag b.rest _ (m, rest) b.taken.rest_fits b.then in
+    let d = got flag_at flag_code Anything reads_flag c.rest _ (m, rest) c.taken.rest_fits c.then in
+    let f = got (text_at is_message) text_code (IsText is_message) reads_message d.rest _ (m, rest) d.taken.rest_fits d.then in
+    let g = got reasons_at counted_code AreReasons reads_reasons f.rest _ (m, rest) f.taken.rest_fits f.then in
+    let h = got attributes_at attributes_code AreAttributes reads_attributes g.rest _ (m, rest) g.taken.rest_fits g.then in
     let q : QueueRow = record { name = n.name; uri = n.uri; target = n.target; policy = n.policy; interval = n.interval; limit = n.limit; info = a.value; location = b.value; accepting = c.value; stopped = d.value; message = f.value; reasons = g.value; attributes = h.value } in
     let state : IsQueueState q = record { info = a.legal; location = b.legal; message = f.legal; few_reasons = g.legal.few; reasons = g.legal.each; few_attributes = h.legal.few; attributes = h.legal.each } in
-    let taken = queue_state_taken q bytes a.rest b.rest c.rest d.rest f.rest g.rest h.rest a.taken b.taken c.taken d.taken f.taken g.taken h.taken in
-    subst (State n bytes) (ok_is (Queue q, h.rest) x h.then) (record { row = q; is_row = refl; added = refl; taken = taken; state = state; ordered = record { reasons = g.legal.ascend; attributes = h.legal.ascend } })
+    let ordered : IsOrderedQueue q = record { reasons = g.legal.ascend; attributes = h.legal.ascend } in
+    let taken = a.taken ⨾ b.taken ⨾ c.taken ⨾ d.taken ⨾ f.taken ⨾ g.taken ⨾ h.taken in
+    subst (λ (y : QueueRow × List ℕ). Takes bytes (queue_state_code y.0) y.1 × ((new_queue_of y.0 ≡ n) × HasState y.0)) (ok_is (q, h.rest) (m, rest) h.then) (taken, (refl, (state, ordered)))
 
-queue_row_takes : (bytes : List ℕ) (x : Row × List ℕ) → IsBytes bytes → queue_row_at bytes ≡ Ok x → Spelled 0x41 bytes x
-unfolding queue_row_at
-queue_row_takes bytes x fits e =
-    let n = got new_queue_at queue_code IsQueue reads_new_queue bytes (λ queue. queue_state_at queue.0 queue.1) x fits e in
-    let s = queue_state_takes n.value n.rest x n.taken.rest_fits n.then in
-    let added : Takes bytes (queue_code (new_queue_of s.row)) n.rest = subst (λ (m : NewQueue). Takes bytes (queue_code m) n.rest) (sym s.added) n.taken in
-    let both = Takes-then bytes (queue_code (new_queue_of s.row)) n.rest (queue_state_code s.row) x.1 added s.taken in
-    let legal : IsQueue (new_queue_of s.row) = subst IsQueue (sym s.added) n.legal in
-    let is : IsRowSpellable (Queue s.row) = record { fields = record { added = legal; state = s.state }; legal = s.ordered } in
-    let read : Spelled 0x41 bytes (Queue s.row, x.1) = record { taken = behind 0x41 bytes (queue_row_code s.row) x.1 both; legal = is } in
-    subst (λ (row : Row). Spelled 0x41 bytes (row, x.1)) s.is_row read
-
-queue_state_again : (q : QueueRow) (rest : List ℕ) → IsQueueState q → IsOrderedQueue q → queue_state_at (new_queue_of q) (queue_state_code q ++ rest) ≡ Ok (Queue q, rest)
+queue_state_again : (n : NewQueue) (q : QueueRow) (rest : List ℕ) → (new_queue_of q ≡ n) × HasState q → queue_state_at n (queue_state_code q ++ rest) ≡ Ok (q, rest)
 unfolding queue_state_at
-queue_state_again q rest state ordered =
+queue_state_again n q rest is =
+    let state = is.1.0 in
+    let ordered = is.1.1 in
     let t5 = counted_code q.reasons ++ attributes_code q.attributes in
     let t4 = text_code q.message ++ t5 in
     let t3 = flag_code q.stopped ++ t4 in
     let t2 = flag_code q.accepting ++ t3 in
     let t1 = text_code q.location ++ t2 in
-    ap (λ (t : List ℕ). queue_state_at (new_queue_of q) (t ++ rest)) (queue_state_nested q) ∙
+    ap (λ (m : NewQueue). queue_state_at m (queue_state_code q ++ rest)) (sym is.0) ∙
+    ap (λ (t : List ℕ). queue_state_at (new_queue_of q) (t ++ rest)) (nested7 (text_code q.info) (text_code q.location) (flag_code q.accepting) (flag_code q.stopped) (text_code q.message) (counted_code q.reasons) (attributes_code q.attributes)) ∙
     again-step (text_at is_note) text_code (IsText is_note) reads_note q.info t1 rest _ _ state.info
     (again-step (text_at is_note) text_code (IsText is_note) reads_note q.location t2 rest _ _ state.location
     (again-step flag_at flag_code Anything reads_flag q.accepting t3 rest _ _ tt
@@ -132,61 +101,43 @@ queue_state_again q rest state ordered =
     (again-step reasons_at counted_code AreReasons reads_reasons q.reasons (attributes_code q.attributes) rest _ _ (record { few = state.few_reasons; each = state.reasons; ascend = ordered.reasons })
     (again-last attributes_at attributes_code AreAttributes reads_attributes q.attributes rest _ (record { few = state.few_attributes; each = state.attributes; ascend = ordered.attributes })))))))
 
+abbrev IsListedQueue : QueueRow → Type 0
+IsListedQueue q = IsQueue (new_queue_of q) × HasState q
+
+reads_listed_queue : Reads listed_queue_at queue_row_code IsListedQueue
+unfolding listed_queue_at
+reads_listed_queue = reads_then new_queue_at queue_code IsQueue queue_state_at queue_state_code HasState new_queue_of reads_new_queue (λ n. record { takes = queue_state_takes n; again = queue_state_again n })
+
+queue_row_takes : (bytes : List ℕ) (x : Row × List ℕ) → IsBytes bytes → queue_row_at bytes ≡ Ok x → Spelled 0x41 bytes x
+unfolding queue_row_at
+queue_row_takes bytes x fits e =
+    let a = got listed_queue_at queue_row_code IsListedQueue reads_listed_queue bytes _ x fits e in
+    let is : IsRowSpellable (Queue a.value) = record { fields = record { added = a.legal.0; state = a.legal.1.0 }; legal = a.legal.1.1 } in
+    subst (Spelled 0x41 bytes) (ok_is (Queue a.value, a.rest) x a.then) (record { taken = behind 0x41 bytes (queue_row_code a.value) a.rest a.taken; legal = is })
+
 queue_row_again : (q : QueueRow) (rest : List ℕ) → IsRowSpellable (Queue q) → queue_row_at (queue_row_code q ++ rest) ≡ Ok (Queue q, rest)
 unfolding queue_row_at
-queue_row_again q rest is =
-    again-step new_queue_at queue_code IsQueue reads_new_queue (new_queue_of q) (queue_state_code q) rest (λ queue. queue_state_at queue.0 queue.1) _ is.fields.added
-    (queue_state_again q rest is.fields.state is.legal)
+queue_row_again q rest is = again-last listed_queue_at queue_row_code IsListedQueue reads_listed_queue q rest _ (is.fields.added, (is.fields.state, is.legal))
 
 -- ---- jobs: as they were created
 
-created_nested : (n : NewJob) → created_code n ≡ to_be_bytes w32 n.job ++ (text_code n.queue ++ (text_code n.user ++ (text_code n.title ++ (to_be_bytes w16 n.copies ++ (to_be_bytes w8 n.priority ++ text_code n.options)))))
-created_nested n = nested7 (to_be_bytes w32 n.job) (text_code n.queue) (text_code n.user) (text_code n.title) (to_be_bytes w16 n.copies) (to_be_bytes w8 n.priority) (text_code n.options)
-
-created_taken : (n : NewJob) (r0 r1 r2 r3 r4 r5 r6 r7 : List ℕ) → Takes r0 (to_be_bytes w32 n.job) r1 → Takes r1 (text_code n.queue) r2 → Takes r2 (text_code n.user) r3 → Takes r3 (text_code n.title) r4 → Takes r4 (to_be_bytes w16 n.copies) r5 → Takes r5 (to_be_bytes w8 n.priority) r6 → Takes r6 (text_code n.options) r7 → Takes r0 (created_code n) r7
-created_taken n r0 r1 r2 r3 r4 r5 r6 r7 a b c d f g h =
-    let t5 = to_be_bytes w8 n.priority ++ text_code n.options in
-    let t4 = to_be_bytes w16 n.copies ++ t5 in
-    let t3 = text_code n.title ++ t4 in
-    let t2 = text_code n.user ++ t3 in
-    let t1 = text_code n.queue ++ t2 in
-    let p5 = Takes-then r5 (to_be_bytes w8 n.priority) r6 (text_code n.options) r7 g h in
-    let p4 = Takes-then r4 (to_be_bytes w16 n.copies) r5 t5 r7 f p5 in
-    let p3 = Takes-then r3 (text_code n.title) r4 t4 r7 d p4 in
-    let p2 = Takes-then r2 (text_code n.user) r3 t3 r7 c p3 in
-    let p1 = Takes-then r1 (text_code n.queue) r2 t2 r7 b p2 in
-    subst (λ (t : List ℕ). Takes r0 t r7) (sym (created_nested n)) (Takes-then r0 (to_be_bytes w32 n.job) r1 t1 r7 a p1)
-
 created_takes : (bytes : List ℕ) (n : NewJob) (rest : List ℕ) → IsBytes bytes → created_at bytes ≡ Ok (n, rest) → Takes bytes (created_code n) rest × IsJob n
 unfolding created_at
-created_takes bytes m rest fits e =
-    let a = got (ranged_at 1 greatest_number w32) (to_be_bytes w32) IsJobNumber reads_job_number bytes _ (m, rest) fits e in
-    let b = got (text_at is_queue_name) text_code (IsText is_queue_name) reads_queue_name a.rest _ (m, rest) a.taken.rest_fits a.then in
-    let c = got (text_at is_user_name) text_code (IsText is_user_name) reads_user_name b.rest _ (m, rest) b.taken.rest_fits b.then in
-    let d = got (text_at is_title) text_code (IsText is_title) reads_title c.rest _ (m, rest) c.taken.rest_fits c.then in
-    let f = got (ranged_at 1 9999 w16) (to_be_bytes w16) (IsIn 1 9999) reads_copies d.rest _ (m, rest) d.taken.rest_fits d.then in
-    let g = got (ranged_at 1 100 w8) (to_be_bytes w8) (IsIn 1 100) reads_priority f.rest _ (m, rest) f.taken.rest_fits f.then in
-    let h = got (text_at is_options) text_code (IsText is_options) reads_options g.rest _ (m, rest) g.taken.rest_fits g.then in
-    let n : NewJob = record { queue = b.value; job = a.value; user = c.value; title = d.value; copies = f.value; priority = g.value; options = h.value } in
-    let is : IsJob n = record { queue = b.legal; job = a.legal; user = c.legal; title = d.legal; copies = f.legal; priority = g.legal; options = h.legal } in
-    subst (λ (y : NewJob × List ℕ). Takes bytes (created_code y.0) y.1 × IsJob y.0) (ok_is (n, h.rest) (m, rest) h.then) (created_taken n bytes a.rest b.rest c.rest d.rest f.rest g.rest h.rest a.taken b.taken c.taken d.taken f.taken g.taken h.taken, is)
+created_takes bytes n rest fits e =
+    let a = got (ranged_at 1 greatest_number w32) (to_be_bytes w32) IsJobNumber reads_job_number bytes _ (n, rest) fits e in
+    let b = got (text_at is_queue_name) text_code (IsText is_queue_name) reads_queue_name a.rest _ (n, rest) a.taken.rest_fits a.then in
+    let t = ticket_takes b.value a.value b.rest n rest b.taken.rest_fits b.then in
+    let number : Takes bytes (to_be_bytes w32 n.job) a.rest = subst (λ (j : ℕ). Takes bytes (to_be_bytes w32 j) a.rest) (sym t.job_is) a.taken in
+    let queue : Takes a.rest (text_code n.queue) b.rest = subst (λ (q : List ℕ). Takes a.rest (text_code q) b.rest) (sym t.queue_is) b.taken in
+    (number ⨾ queue ⨾ t.taken, t.legal b.legal a.legal)
 
 created_again : (n : NewJob) (rest : List ℕ) → IsJob n → created_at (created_code n ++ rest) ≡ Ok (n, rest)
 unfolding created_at
 created_again n rest h =
-    let t5 = to_be_bytes w8 n.priority ++ text_code n.options in
-    let t4 = to_be_bytes w16 n.copies ++ t5 in
-    let t3 = text_code n.title ++ t4 in
-    let t2 = text_code n.user ++ t3 in
-    let t1 = text_code n.queue ++ t2 in
-    ap (λ (t : List ℕ). created_at (t ++ rest)) (created_nested n) ∙
-    again-step (ranged_at 1 greatest_number w32) (to_be_bytes w32) IsJobNumber reads_job_number n.job t1 rest _ _ h.job
-    (again-step (text_at is_queue_name) text_code (IsText is_queue_name) reads_queue_name n.queue t2 rest _ _ h.queue
-    (again-step (text_at is_user_name) text_code (IsText is_user_name) reads_user_name n.user t3 rest _ _ h.user
-    (again-step (text_at is_title) text_code (IsText is_title) reads_title n.title t4 rest _ _ h.title
-    (again-step (ranged_at 1 9999 w16) (to_be_bytes w16) (IsIn 1 9999) reads_copies n.copies t5 rest _ _ h.copies
-    (again-step (ranged_at 1 100 w8) (to_be_bytes w8) (IsIn 1 100) reads_priority n.priority (text_code n.options) rest _ _ h.priority
-    (again-last (text_at is_options) text_code (IsText is_options) reads_options n.options rest _ h.options))))))
+    ap (λ (t : List ℕ). created_at (t ++ rest)) (nested3 (to_be_bytes w32 n.job) (text_code n.queue) (ticket_code n)) ∙
+    again-step (ranged_at 1 greatest_number w32) (to_be_bytes w32) IsJobNumber reads_job_number n.job (text_code n.queue ++ ticket_code n) rest _ _ h.job
+    (again-step (text_at is_queue_name) text_code (IsText is_queue_name) reads_queue_name n.queue (ticket_code n) rest (λ queue. ticket_at queue.0 n.job queue.1) _ h.queue
+    (ticket_again n rest h))
 
 reads_created : Reads created_at created_code IsJob
 reads_created = record { takes = created_takes; again = created_again }
@@ -244,7 +195,7 @@ moments_of a n Completed h = tt
 moments_of a n Canceled h = tt
 moments_of a n (Aborted reason) h = tt
 
-phase_of : (r : ListedJob) (p : Phase) → IsPhaseFor r.attempts (length r.filters + 1) p → IsPhaseOf r p
+phase_of : (r : JobOf) (p : Phase) → IsPhaseFor r.attempts (length r.filters + 1) p → IsPhaseOf r p
 phase_of r (Incoming hold) h = tt
 phase_of r (Waiting hold m first) h = tt
 phase_of r (Processing attempt stage stages) h = record { newest = h.newest; stage_is = h.stage_is; of_all = h.all }
@@ -252,7 +203,7 @@ phase_of r Completed h = tt
 phase_of r Canceled h = tt
 phase_of r (Aborted reason) h = tt
 
-phase_for : (r : ListedJob) (p : Phase) → HasMoments p → IsPhaseOf r p → IsPhaseFor r.attempts (length r.filters + 1) p
+phase_for : (r : JobOf) (p : Phase) → HasMoments p → IsPhaseOf r p → IsPhaseFor r.attempts (length r.filters + 1) p
 phase_for r (Incoming hold) m h = m
 phase_for r (Waiting hold moment first) m h = m
 phase_for r (Processing attempt stage stages) m h = record { newest = h.newest; stage_is = h.stage_is; all = h.of_all }
@@ -260,58 +211,63 @@ phase_for r Completed m h = tt
 phase_for r Canceled m h = tt
 phase_for r (Aborted reason) m h = tt
 
-job_state_nested : (r : ListedJob) → job_state_code r ≡ typed_code r.media ++ (counted_code r.filters ++ (to_be_bytes w32 r.attempts ++ (to_be_bytes w32 r.pages ++ (to_be_bytes w32 r.size ++ phase_code r.phase))))
-job_state_nested r = nested6 (typed_code r.media) (counted_code r.filters) (to_be_bytes w32 r.attempts) (to_be_bytes w32 r.pages) (to_be_bytes w32 r.size) (phase_code r.phase)
+all_wide : (n : ℕ) → n < 2 ^ 32 → IsIn 0 4294967295 n
+all_wide n lt = record { at_least = omega arith; at_most = omega (arith, lt) }
 
-job_state_taken : (r : ListedJob) (r0 r1 r2 r3 r4 r5 r6 : List ℕ) → Takes r0 (typed_code r.media) r1 → Takes r1 (counted_code r.filters) r2 → Takes r2 (to_be_bytes w32 r.attempts) r3 → Takes r3 (to_be_bytes w32 r.pages) r4 → Takes r4 (to_be_bytes w32 r.size) r5 → Takes r5 (phase_code r.phase) r6 → Takes r0 (job_state_code r) r6
-job_state_taken r r0 r1 r2 r3 r4 r5 r6 a b c d f g =
+-- what became of a job
+abbrev HasBecome : JobOf → Type 0
+HasBecome r = IsJobState r × IsLegalJob r
+
+job_state_takes : (n : NewJob) (bytes : List ℕ) (m : JobOf) (rest : List ℕ) → IsBytes bytes → job_state_at n bytes ≡ Ok (m, rest) → Takes bytes (job_state_code m) rest × ((new_job_of m ≡ n) × HasBecome m)
+unfolding job_state_at
+job_state_takes n bytes m rest fits e =
+    let a = got typed_at typed_code IsTyped reads_typed bytes _ (m, rest) fits e in
+    let b = got filters_at counted_code AreFew reads_few a.rest _ (m, rest) a.taken.rest_fits a.then in
+    let c = got (number_at w32) (to_be_bytes w32) (λ k. k < 2 ^ 32) reads_dropped b.rest _ (m, rest) b.taken.rest_fits b.then in
+    let d = got (number_at w32) (to_be_bytes w32) (λ k. k < 2 ^ 32) reads_dropped c.rest _ (m, rest) c.taken.rest_fits c.then in
+    let f = got (ranged_at 0 longest_document w32) (to_be_bytes w32) (IsIn 0 longest_document) reads_size d.rest _ (m, rest) d.taken.rest_fits d.then in
+    let g = got (phase_at c.value (length b.value + 1)) phase_code (IsPhaseFor c.value (length b.value + 1)) (reads_phase c.value (length b.value + 1)) f.rest _ (m, rest) f.taken.rest_fits f.then in
+    let r : JobOf = record { id = n.job; queue = n.queue; user = n.user; title = n.title; copies = n.copies; priority = n.priority; options = n.options; media = a.value; filters = b.value; attempts = c.value; pages = d.value; size = f.value; phase = g.value } in
+    let state : IsJobState r = record { media = a.legal; filters = b.legal; attempts = all_wide c.value c.legal; pages = all_wide d.value d.legal; phase = moments_of c.value (length b.value + 1) g.value g.legal } in
+    let legal : IsLegalJob r = record { size = f.legal; phase = phase_of r g.value g.legal } in
+    let taken = a.taken ⨾ b.taken ⨾ c.taken ⨾ d.taken ⨾ f.taken ⨾ g.taken in
+    subst (λ (y : JobOf × List ℕ). Takes bytes (job_state_code y.0) y.1 × ((new_job_of y.0 ≡ n) × HasBecome y.0)) (ok_is (r, g.rest) (m, rest) g.then) (taken, (refl, (state, legal)))
+
+job_state_again : (n : NewJob) (r : JobOf) (rest : List ℕ) → (new_job_of r ≡ n) × HasBecome r → job_state_at n (job_state_code r ++ rest) ≡ Ok (r, rest)
+unfolding job_state_at
+job_state_again n r rest is =
+    let state = is.1.0 in
+    let legal = is.1.1 in
     let t4 = to_be_bytes w32 r.size ++ phase_code r.phase in
     let t3 = to_be_bytes w32 r.pages ++ t4 in
     let t2 = to_be_bytes w32 r.attempts ++ t3 in
     let t1 = counted_code r.filters ++ t2 in
-    let p4 = Takes-then r4 (to_be_bytes w32 r.size) r5 (phase_code r.phase) r6 f g in
-    let p3 = Takes-then r3 (to_be_bytes w32 r.pages) r4 t4 r6 d p4 in
-    let p2 = Takes-then r2 (to_be_bytes w32 r.attempts) r3 t3 r6 c p3 in
-    let p1 = Takes-then r1 (counted_code r.filters) r2 t2 r6 b p2 in
-    subst (λ (t : List ℕ). Takes r0 t r6) (sym (job_state_nested r)) (Takes-then r0 (typed_code r.media) r1 t1 r6 a p1)
+    ap (λ (m : NewJob). job_state_at m (job_state_code r ++ rest)) (sym is.0) ∙
+    ap (λ (t : List ℕ). job_state_at (new_job_of r) (t ++ rest)) (nested6 (typed_code r.media) (counted_code r.filters) (to_be_bytes w32 r.attempts) (to_be_bytes w32 r.pages) (to_be_bytes w32 r.size) (phase_code r.phase)) ∙
+    again-step typed_at typed_code IsTyped reads_typed r.media t1 rest _ _ state.media
+    (again-step filters_at counted_code AreFew reads_few r.filters t2 rest _ _ state.filters
+    (again-step (number_at w32) (to_be_bytes w32) (λ k. k < 2 ^ 32) reads_dropped r.attempts t3 rest _ _ (omega (arith, state.attempts.at_most))
+    (again-step (number_at w32) (to_be_bytes w32) (λ k. k < 2 ^ 32) reads_dropped r.pages t4 rest _ _ (omega (arith, state.pages.at_most))
+    (again-step (ranged_at 0 longest_document w32) (to_be_bytes w32) (IsIn 0 longest_document) reads_size r.size (phase_code r.phase) rest _ _ legal.size
+    (again-last (phase_at r.attempts (length r.filters + 1)) phase_code (IsPhaseFor r.attempts (length r.filters + 1)) (reads_phase r.attempts (length r.filters + 1)) r.phase rest _ (phase_for r r.phase state.phase legal.phase))))))
 
-all_wide : (n : ℕ) → n < 2 ^ 32 → IsIn 0 4294967295 n
-all_wide n lt = record { at_least = omega arith; at_most = omega (arith, lt) }
+abbrev IsListedJob : JobOf → Type 0
+IsListedJob r = IsJob (new_job_of r) × HasBecome r
+
+reads_listed_job : Reads listed_job_at job_row_code IsListedJob
+unfolding listed_job_at
+reads_listed_job = reads_then created_at created_code IsJob job_state_at job_state_code HasBecome new_job_of reads_created (λ n. record { takes = job_state_takes n; again = job_state_again n })
 
 job_row_takes : (bytes : List ℕ) (x : Row × List ℕ) → IsBytes bytes → job_row_at bytes ≡ Ok x → Spelled 0x42 bytes x
 unfolding job_row_at
 job_row_takes bytes x fits e =
-    let n = got created_at created_code IsJob reads_created bytes _ x fits e in
-    let a = got typed_at typed_code IsTyped reads_typed n.rest _ x n.taken.rest_fits n.then in
-    let b = got filters_at counted_code AreFew reads_few a.rest _ x a.taken.rest_fits a.then in
-    let c = got (number_at w32) (to_be_bytes w32) (λ k. k < 2 ^ 32) reads_dropped b.rest _ x b.taken.rest_fits b.then in
-    let d = got (number_at w32) (to_be_bytes w32) (λ k. k < 2 ^ 32) reads_dropped c.rest _ x c.taken.rest_fits c.then in
-    let f = got (ranged_at 0 longest_document w32) (to_be_bytes w32) (IsIn 0 longest_document) reads_size d.rest _ x d.taken.rest_fits d.then in
-    let g = got (phase_at c.value (length b.value + 1)) phase_code (IsPhaseFor c.value (length b.value + 1)) (reads_phase c.value (length b.value + 1)) f.rest _ x f.taken.rest_fits f.then in
-    let r : ListedJob = record { id = n.value.job; queue = n.value.queue; user = n.value.user; title = n.value.title; copies = n.value.copies; priority = n.value.priority; options = n.value.options; media = a.value; filters = b.value; attempts = c.value; pages = d.value; size = f.value; phase = g.value } in
-    let is : IsRowSpellable (Job r) = record {
-      fields = record { created = n.legal; state = record { media = a.legal; filters = b.legal; attempts = all_wide c.value c.legal; pages = all_wide d.value d.legal; phase = moments_of c.value (length b.value + 1) g.value g.legal } };
-      legal = record { size = f.legal; phase = phase_of r g.value g.legal };
-    } in
-    let taken = job_state_taken r n.rest a.rest b.rest c.rest d.rest f.rest g.rest a.taken b.taken c.taken d.taken f.taken g.taken in
-    subst (Spelled 0x42 bytes) (ok_is (Job r, g.rest) x g.then) (record { taken = behind 0x42 bytes (job_row_code r) g.rest (Takes-then bytes (created_code n.value) n.rest (job_state_code r) g.rest n.taken taken); legal = is })
+    let a = got listed_job_at job_row_code IsListedJob reads_listed_job bytes _ x fits e in
+    let is : IsRowSpellable (Job a.value) = record { fields = record { created = a.legal.0; state = a.legal.1.0 }; legal = a.legal.1.1 } in
+    subst (Spelled 0x42 bytes) (ok_is (Job a.value, a.rest) x a.then) (record { taken = behind 0x42 bytes (job_row_code a.value) a.rest a.taken; legal = is })
 
-job_row_again : (r : ListedJob) (rest : List ℕ) → IsRowSpellable (Job r) → job_row_at (job_row_code r ++ rest) ≡ Ok (Job r, rest)
+job_row_again : (r : JobOf) (rest : List ℕ) → IsRowSpellable (Job r) → job_row_at (job_row_code r ++ rest) ≡ Ok (Job r, rest)
 unfolding job_row_at
-job_row_again r rest is =
-    let t4 = to_be_bytes w32 r.size ++ phase_code r.phase in
-    let t3 = to_be_bytes w32 r.pages ++ t4 in
-    let t2 = to_be_bytes w32 r.attempts ++ t3 in
-    let t1 = counted_code r.filters ++ t2 in
-    let state = is.fields.state in
-    ap (λ (t : List ℕ). job_row_at ((created_code (new_job_of r) ++ t) ++ rest)) (job_state_nested r) ∙
-    again-step created_at created_code IsJob reads_created (new_job_of r) (typed_code r.media ++ t1) rest _ _ is.fields.created
-    (again-step typed_at typed_code IsTyped reads_typed r.media t1 rest _ _ state.media
-    (again-step filters_at counted_code AreFew reads_few r.filters t2 rest _ _ state.filters
-    (again-step (number_at w32) (to_be_bytes w32) (λ k. k < 2 ^ 32) reads_dropped r.attempts t3 rest _ _ (omega (arith, state.attempts.at_most))
-    (again-step (number_at w32) (to_be_bytes w32) (λ k. k < 2 ^ 32) reads_dropped r.pages t4 rest _ _ (omega (arith, state.pages.at_most))
-    (again-step (ranged_at 0 longest_document w32) (to_be_bytes w32) (IsIn 0 longest_document) reads_size r.size (phase_code r.phase) rest _ _ is.legal.size
-    (again-last (phase_at r.attempts (length r.filters + 1)) phase_code (IsPhaseFor r.attempts (length r.filters + 1)) (reads_phase r.attempts (length r.filters + 1)) r.phase rest _ (phase_for r r.phase state.phase is.legal.phase)))))))
+job_row_again r rest is = again-last listed_job_at job_row_code IsListedJob reads_listed_job r rest _ (is.fields.created, (is.fields.state, is.legal))
 
 -- ---- pieces
 
@@ -400,27 +356,12 @@ kind_of [] = 0
 kind_of (kind ∷ rest) = kind
 
 event_kind : (e : Event) (rest : List ℕ) → kind_of (spelling e ++ rest) < 0x40
-event_kind (events.AddQueue q) rest = omega arith
-event_kind (events.Info notes) rest = omega arith
-event_kind (events.SetAccept queue accepting) rest = omega arith
-event_kind (events.SetStop queue stopped) rest = omega arith
-event_kind (events.Create n) rest = omega arith
-event_kind (events.Send j bytes) rest = omega arith
-event_kind (events.Close c) rest = omega arith
-event_kind (events.Hold j until) rest = omega arith
-event_kind (events.Release j) rest = omega arith
-event_kind (events.Cancel j) rest = omega arith
-event_kind (events.Clock m) rest = omega arith
-event_kind (events.Start j) rest = omega arith
-event_kind (events.Stage e) rest = omega arith
-event_kind (events.Abandon j) rest = omega arith
 event_kind events.Reopen rest = omega arith
+event_kind e rest = omega arith
 
 row_kind : (row : Row) (rest : List ℕ) → 0x40 ≤ kind_of (row_spelling row ++ rest)
 row_kind (Head head) rest = omega arith
-row_kind (Queue q) rest = omega arith
-row_kind (Job r) rest = omega arith
-row_kind (Piece j bytes) rest = omega arith
+row_kind row rest = omega arith
 
 pub apart : (row : Row) (e : Event) (some more : List ℕ) → row_spelling row ++ some ≡ spelling e ++ more → ⊥
 apart row e some more same = absurd (omega (arith, event_kind e more, row_kind row some, ap kind_of same))

@@ -1,6 +1,6 @@
 -- Reading a row of a listing from left to right, with the first fault that is met.
 use Rattle.std.specs.Prelude.{ℕ, ◌+◌, ◌-◌, List, slice_get, [], ◌∷◌, length, Bool, true, false, Option, Some, None, Result, Ok, Err, is_ok, ◌==◌, if◌then◌else◌}
-use Rattle.std.specs.Int.{w8, w16, w32, w64}
+use Rattle.std.specs.Int.{w8, w32, w64}
 use Rattle.std.specs.Ordering.{nat_cmp, is_lt}
 use Rattle.std.specs.Cmp.Lexicographic.{slice_cmp}
 use Rattle.spool_types.specs.declared.phase.Hold.{Hold}
@@ -14,13 +14,15 @@ use Rattle.spool_types.specs.declared.phase.Phase.TheVariants.{Incoming, Waiting
 use Rattle.spool_types.specs.declared.effect.Attribute.{Attribute}
 use Rattle.spool_types.specs.declared.event.NewQueue.{NewQueue}
 use Rattle.spool_types.specs.declared.event.NewJob.{NewJob}
+use Rattle.spool_types.specs.declared.rows.QueueRow.{QueueRow}
+use Rattle.spool_types.specs.declared.rows.Job.{Job as JobOf}
 use Rattle.spool_types.specs.declared.listing.Row.{Row}
 use Rattle.spool_types.specs.declared.listing.Row.TheVariants.{Head, Queue, Job, Piece}
 use Rattle.spool_types.specs.Limits.{greatest_number, greatest_moment, longest_document}
-use Rattle.spool_types.specs.Values.{is_queue_name, is_media_type, is_user_name, is_title, is_options, is_note, is_reason, is_attribute_name, is_message}
+use Rattle.spool_types.specs.Values.{is_queue_name, is_media_type, is_note, is_reason, is_attribute_name, is_message}
 use Rattle.field_codec.specs.declared.fault.CodecFault.{CodecFault}
 use Rattle.field_codec.specs.declared.fault.CodecFault.TheVariants.{Kind, Length, Range}
-use Rattle.event_codec.specs.Reading.{Field, ◌>>=◌, number_at, checked, ranged_at, text_at, flag_at, list_at, filters_at, new_queue_at, piece_at, whole}
+use Rattle.event_codec.specs.Reading.{Field, ◌>>=◌, number_at, checked, ranged_at, text_at, flag_at, list_at, filters_at, new_queue_at, ticket_at, piece_at, whole}
 
 -- ---- phases
 
@@ -170,7 +172,7 @@ head_at bytes = do
   Ok (Head (record { highest = highest.0; moment = moment.0 }), moment.1)
 
 -- what is told of this queue, and what became of it
-unfoldable pub queue_state_at : NewQueue → List ℕ → Field Row
+unfoldable pub queue_state_at : NewQueue → List ℕ → Field QueueRow
 queue_state_at queue bytes = do
   info ← text_at is_note bytes
   location ← text_at is_note info.1
@@ -179,34 +181,44 @@ queue_state_at queue bytes = do
   message ← text_at is_message stopped.1
   reasons ← reasons_at message.1
   attributes ← attributes_at reasons.1
-  Ok (Queue (record { name = queue.name; uri = queue.uri; target = queue.target; policy = queue.policy; interval = queue.interval; limit = queue.limit; info = info.0; location = location.0; accepting = accepting.0; stopped = stopped.0; message = message.0; reasons = reasons.0; attributes = attributes.0 }), attributes.1)
+  Ok (record { name = queue.name; uri = queue.uri; target = queue.target; policy = queue.policy; interval = queue.interval; limit = queue.limit; info = info.0; location = location.0; accepting = accepting.0; stopped = stopped.0; message = message.0; reasons = reasons.0; attributes = attributes.0 }, attributes.1)
+
+unfoldable pub listed_queue_at : List ℕ → Field QueueRow
+listed_queue_at bytes = do
+  queue ← new_queue_at bytes
+  queue_state_at queue.0 queue.1
 
 unfoldable pub queue_row_at : List ℕ → Field Row
 queue_row_at bytes = do
-  queue ← new_queue_at bytes
-  queue_state_at queue.0 queue.1
+  queue ← listed_queue_at bytes
+  Ok (Queue queue.0, queue.1)
 
 unfoldable pub created_at : List ℕ → Field NewJob
 created_at bytes = do
   job ← ranged_at 1 greatest_number w32 bytes
   queue ← text_at is_queue_name job.1
-  user ← text_at is_user_name queue.1
-  title ← text_at is_title user.1
-  copies ← ranged_at 1 9999 w16 title.1
-  priority ← ranged_at 1 100 w8 copies.1
-  options ← text_at is_options priority.1
-  Ok (record { queue = queue.0; job = job.0; user = user.0; title = title.0; copies = copies.0; priority = priority.0; options = options.0 }, options.1)
+  ticket_at queue.0 job.0 queue.1
 
-unfoldable pub job_row_at : List ℕ → Field Row
-job_row_at bytes = do
-  job ← created_at bytes
-  media ← typed_at job.1
+-- what became of this job
+unfoldable pub job_state_at : NewJob → List ℕ → Field JobOf
+job_state_at job bytes = do
+  media ← typed_at bytes
   filters ← filters_at media.1
   attempts ← number_at w32 filters.1
   pages ← number_at w32 attempts.1
   size ← ranged_at 0 longest_document w32 pages.1
   phase ← phase_at attempts.0 (length filters.0 + 1) size.1
-  Ok (Job (record { id = job.0.job; queue = job.0.queue; user = job.0.user; title = job.0.title; copies = job.0.copies; priority = job.0.priority; options = job.0.options; media = media.0; filters = filters.0; attempts = attempts.0; pages = pages.0; size = size.0; phase = phase.0 }), phase.1)
+  Ok (record { id = job.job; queue = job.queue; user = job.user; title = job.title; copies = job.copies; priority = job.priority; options = job.options; media = media.0; filters = filters.0; attempts = attempts.0; pages = pages.0; size = size.0; phase = phase.0 }, phase.1)
+
+unfoldable pub listed_job_at : List ℕ → Field JobOf
+listed_job_at bytes = do
+  job ← created_at bytes
+  job_state_at job.0 job.1
+
+unfoldable pub job_row_at : List ℕ → Field Row
+job_row_at bytes = do
+  job ← listed_job_at bytes
+  Ok (Job job.0, job.1)
 
 unfoldable pub piece_row_at : List ℕ → Field Row
 piece_row_at bytes = do

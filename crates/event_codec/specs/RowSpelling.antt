@@ -1,7 +1,7 @@
 -- The one spelling of each row of a listing in bytes.
 use Rattle.std.specs.Prelude.{◌≡◌, ℕ, ◌+◌, ◌≤◌, Bool, true, List, [], ◌∷◌, ◌++◌, length, map, Option, None, Some}
 use Rattle.std.specs.List.{flat_map, AllByRecursion}
-use Rattle.std.specs.Int.{w8, w16, w32, w64, to_be_bytes}
+use Rattle.std.specs.Int.{w8, w32, w64, to_be_bytes}
 use Rattle.std.specs.Ordering.{nat_cmp, is_lt}
 use Rattle.std.specs.Cmp.Lexicographic.{slice_cmp}
 use Rattle.spool_types.specs.declared.phase.Hold.{Hold}
@@ -16,13 +16,13 @@ use Rattle.spool_types.specs.declared.effect.Attribute.{Attribute}
 use Rattle.spool_types.specs.declared.event.NewQueue.{NewQueue}
 use Rattle.spool_types.specs.declared.event.NewJob.{NewJob}
 use Rattle.spool_types.specs.declared.rows.QueueRow.{QueueRow}
+use Rattle.spool_types.specs.declared.rows.Job.{Job as JobOf}
 use Rattle.spool_types.specs.declared.listing.Head.{Head as HeadOf}
-use Rattle.spool_types.specs.declared.listing.ListedJob.{ListedJob}
 use Rattle.spool_types.specs.declared.listing.Row.{Row}
 use Rattle.spool_types.specs.declared.listing.Row.TheVariants.{Head, Queue, Job, Piece}
 use Rattle.spool_types.specs.Limits.{greatest_number, greatest_moment, longest_document, longest_send}
 use Rattle.spool_types.specs.Values.{is_media_type, is_note, is_message, is_reason}
-use Rattle.event_codec.specs.Spelling.{text_code, counted_code, flag_code, queue_code, send_code, attribute_code, IsIn, IsJobNumber, IsText, IsQueue, IsJob, AreFilters, IsAttribute}
+use Rattle.event_codec.specs.Spelling.{text_code, counted_code, flag_code, queue_code, ticket_code, send_code, attribute_code, IsIn, IsJobNumber, IsText, IsQueue, IsJob, AreFilters, IsAttribute}
 
 -- ---- fields. Numbers are big-endian
 
@@ -88,22 +88,15 @@ abbrev pub queue_row_code : QueueRow → List ℕ
 queue_row_code q = queue_code (new_queue_of q) ++ queue_state_code q
 
 -- the job as it was created
-abbrev pub new_job_of : ListedJob → NewJob
+abbrev pub new_job_of : JobOf → NewJob
 new_job_of r = record { queue = r.queue; job = r.id; user = r.user; title = r.title; copies = r.copies; priority = r.priority; options = r.options }
 
 -- a job as it was created: its number comes first
 abbrev pub created_code : NewJob → List ℕ
-created_code n =
-    to_be_bytes w32 n.job
-    ++ text_code n.queue
-    ++ text_code n.user
-    ++ text_code n.title
-    ++ to_be_bytes w16 n.copies
-    ++ to_be_bytes w8 n.priority
-    ++ text_code n.options
+created_code n = to_be_bytes w32 n.job ++ text_code n.queue ++ ticket_code n
 
 -- what became of a job
-abbrev pub job_state_code : ListedJob → List ℕ
+abbrev pub job_state_code : JobOf → List ℕ
 job_state_code r =
     typed_code r.media
     ++ counted_code r.filters
@@ -112,7 +105,7 @@ job_state_code r =
     ++ to_be_bytes w32 r.size
     ++ phase_code r.phase
 
-abbrev pub job_row_code : ListedJob → List ℕ
+abbrev pub job_row_code : JobOf → List ℕ
 job_row_code r = created_code (new_job_of r) ++ job_state_code r
 
 -- the row's kind in one byte, its fields in order, and nothing else
@@ -158,14 +151,14 @@ abbrev pub IsTyped : Option (List ℕ) → Type 0
 IsTyped None = Unit {0}
 IsTyped (Some media) = IsText is_media_type media
 
-pub record IsJobState (r : ListedJob) : Type 0 where
+pub record IsJobState (r : JobOf) : Type 0 where
   pub media : IsTyped r.media
   pub filters : AreFilters (Some r.filters)
   pub attempts : IsIn 0 4294967295 r.attempts
   pub pages : IsIn 0 4294967295 r.pages
   pub phase : HasMoments r.phase
 
-pub record HasJobFields (r : ListedJob) : Type 0 where
+pub record HasJobFields (r : JobOf) : Type 0 where
   pub created : IsJob (new_job_of r)
   pub state : IsJobState r
 
@@ -195,12 +188,12 @@ pub record IsOrderedQueue (q : QueueRow) : Type 0 where
   pub attributes : Ascend (map name_of q.attributes)
 
 -- the attempt and the stages of a processing job that its row tells
-pub record IsNewestAttempt (r : ListedJob) (attempt stage stages : ℕ) : Type 0 where
+pub record IsNewestAttempt (r : JobOf) (attempt stage stages : ℕ) : Type 0 where
   pub newest : attempt ≡ r.attempts
   pub stage_is : IsIn 1 16 stage
   pub of_all : stages ≡ length r.filters + 1
 
-abbrev pub IsPhaseOf : ListedJob → Phase → Type 0
+abbrev pub IsPhaseOf : JobOf → Phase → Type 0
 IsPhaseOf r (Incoming hold) = Unit {0}
 IsPhaseOf r (Waiting hold not_before first) = Unit {0}
 IsPhaseOf r (Processing attempt stage stages) = IsNewestAttempt r attempt stage stages
@@ -208,7 +201,7 @@ IsPhaseOf r Completed = Unit {0}
 IsPhaseOf r Canceled = Unit {0}
 IsPhaseOf r (Aborted reason) = Unit {0}
 
-pub record IsLegalJob (r : ListedJob) : Type 0 where
+pub record IsLegalJob (r : JobOf) : Type 0 where
   pub size : IsIn 0 longest_document r.size
   pub phase : IsPhaseOf r r.phase
 

@@ -67,21 +67,21 @@ queue_code q =
 abbrev pub notes_code : QueueNotes → List ℕ
 notes_code notes = text_code notes.queue ++ text_code notes.info ++ text_code notes.location
 
-abbrev pub accept_code : List ℕ → Bool → List ℕ
-accept_code queue accepting = text_code queue ++ flag_code accepting
+-- a flag of a queue
+abbrev pub flagged_code : List ℕ → Bool → List ℕ
+flagged_code queue flag = text_code queue ++ flag_code flag
 
-abbrev pub stop_code : List ℕ → Bool → List ℕ
-stop_code queue stopped = text_code queue ++ flag_code stopped
-
-abbrev pub job_code : NewJob → List ℕ
-job_code n =
-    text_code n.queue
-    ++ to_be_bytes w32 n.job
-    ++ text_code n.user
+-- what a job is asked with, behind its queue and its number
+abbrev pub ticket_code : NewJob → List ℕ
+ticket_code n =
+    text_code n.user
     ++ text_code n.title
     ++ to_be_bytes w16 n.copies
     ++ to_be_bytes w8 n.priority
     ++ text_code n.options
+
+abbrev pub job_code : NewJob → List ℕ
+job_code n = text_code n.queue ++ to_be_bytes w32 n.job ++ ticket_code n
 
 abbrev pub send_code : ℕ → List ℕ → List ℕ
 send_code j bytes = to_be_bytes w32 j ++ to_be_bytes w32 (length bytes) ++ bytes
@@ -152,8 +152,8 @@ stage_code e =
 abbrev pub spelling : Event → List ℕ
 spelling (AddQueue q) = 0x01 ∷ queue_code q
 spelling (Info notes) = 0x02 ∷ notes_code notes
-spelling (SetAccept queue accepting) = 0x03 ∷ accept_code queue accepting
-spelling (SetStop queue stopped) = 0x04 ∷ stop_code queue stopped
+spelling (SetAccept queue accepting) = 0x03 ∷ flagged_code queue accepting
+spelling (SetStop queue stopped) = 0x04 ∷ flagged_code queue stopped
 spelling (Create n) = 0x05 ∷ job_code n
 spelling (Send j bytes) = 0x06 ∷ send_code j bytes
 spelling (Close c) = 0x07 ∷ closing_code c

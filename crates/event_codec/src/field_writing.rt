@@ -1,5 +1,5 @@
 //! Writing fields behind the bytes that are there already, in room that is there already.
-ghost use Rattle.std.specs.Prelude.{◌≡◌, ◌+◌, ◌*◌, ◌≤◌, ◌<◌, ◌^◌, ◌++◌, List, ℕ, true, length, vec_len, vec_capacity};
+ghost use Rattle.std.specs.Prelude.{◌≡◌, ◌+◌, ◌*◌, ◌≤◌, ◌<◌, ◌^◌, ◌∷◌, ◌++◌, List, ℕ, [], true, length, vec_len, vec_capacity};
 ghost use Rattle.std.specs.List.{flat_map, AllByRecursion};
 ghost use Rattle.spool_types.specs.Values.{is_media_type};
 ghost use Rattle.event_codec.specs.Spelling.{text_code, counted_code, flag_code, IsText};
@@ -17,6 +17,16 @@ pub(crate) fn put(out: &mut Vec<u8>, bytes: &[u8])
         Ok(()) => {}
         Err(_) => unreachable!(),
     }
+}
+
+/// The byte that a spelling begins with.
+pub(crate) fn put_kind(out: &mut Vec<u8>, kind: u8)
+    requires room { vec_len out.old + 1 ≤ vec_capacity out.old }
+    ensures written { out.new.items ≡ out.old.items ++ kind ∷ [] }
+    ensures len { vec_len out.new ≡ vec_len out.old + 1 }
+    ensures grown { vec_capacity out.old ≤ vec_capacity out.new }
+{
+    put(out, &[kind]);
 }
 
 fn put_str(out: &mut Vec<u8>, text: &str)

@@ -61,10 +61,11 @@
 //!   the left (`exact`, by `reading`).
 //! - [`no_proper_prefix`]: no spelling is a proper prefix of another. [`one_event`]: bytes spell one event at most.
 //! - So it is with rows: [`encode_row`], [`encode_row_onto`] and [`decode_row`], [`no_proper_prefix_of_rows`] and [`one_row`].
-//!   The types of a row's fields leave something open (`IsLegalRow`): that a queue's lists ascend, that a processing job is
-//!   in a stage of its newest attempt, that a number or a size isn't too great, that a piece isn't empty. A row of which that
-//!   isn't so is written too, but has no spelling, and [`decode_row`] never gives it. [`rows_are_no_events`]: no row's bytes
-//!   begin as an event's do, so neither begins the other.
+//!   [`encode_queue_onto`] and [`encode_job_onto`] add the row of a queue or a job that is only looked at. The types of a
+//!   row's fields leave something open (`IsLegalRow`): that a queue's lists ascend, that a processing job is in a stage of its
+//!   newest attempt, that a number or a size isn't too great, that a piece isn't empty. A row of which that isn't so is
+//!   written too, but has no spelling, and [`decode_row`] never gives it. [`rows_are_no_events`]: no row's bytes begin as an
+//!   event's do, so neither begins the other.
 //! - No spelling of an event has 131,072 bytes, and none of a row 524,288 (`short`). [`effects_have_their_size`]: the effects
 //!   of a stage have as many bytes as `effects_size` says.
 //!
@@ -81,8 +82,8 @@
 //! before the first of them. Nothing is kept then.
 //!
 //! [`encode`] and [`encode_row`], [`encode_onto`] and [`encode_row_onto`] reserve the whole length at once, and fail only
-//! there. The last two don't fail where the room is there already (`fits`), and leave the bytes as they were where they fail
-//! (`kept`).
+//! there. Those that add to bytes don't fail where the room is there already (`fits`), and leave the bytes as they were
+//! where they fail (`kept`).
 #![tactic(auto)]
 
 mod effect_reading;
@@ -103,5 +104,5 @@ pub use laws::{
 };
 pub use reading::decode;
 pub use row_reading::decode_row;
-pub use row_writing::{encode_queue_onto, encode_row, encode_row_onto};
+pub use row_writing::{encode_job_onto, encode_queue_onto, encode_row, encode_row_onto};
 pub use writing::{encode, encode_onto};

@@ -4,7 +4,7 @@ ghost use Rattle.std.specs.Int.{w8, w16, w32};
 ghost use Rattle.spool_types.specs.declared.event.Event.{Event};
 ghost use Rattle.spool_types.specs.Values.{is_media_type, is_queue_name};
 ghost use Rattle.event_codec.specs.Spelling.{IsSpellable, spelling};
-ghost use Rattle.event_codec.specs.Reading.{Gives, MemoryOnly, text_at, flag_at, until_at, exit_at, policy_at, filters_at, maybe_filters_at, piece_at, new_queue_at, queue_at, notes_at, accept_at, stop_at, job_at, send_at, closing_at, hold_at, numbered_at, clock_at, stage_at, closing_copies, stage_copies, reaches_copy, whole, reading};
+ghost use Rattle.event_codec.specs.Reading.{Gives, MemoryOnly, text_at, flag_at, until_at, exit_at, policy_at, filters_at, maybe_filters_at, piece_at, new_queue_at, queue_at, notes_at, accept_at, stop_at, ticket_at, new_job_at, job_at, send_at, closing_at, hold_at, numbered_at, clock_at, stage_at, closing_copies, stage_copies, reaches_copy, whole, reading};
 
 use crate::effect_reading::effects_at;
 use crate::fields::texts_at;
@@ -13,7 +13,7 @@ use field_codec::{
 };
 use spool_types::{
     Closing, Event, Exit, Filters, JobId, LONGEST_SEND, MediaType, MediaTypeKind, Moment, NewJob,
-    NewQueue, Piece, Policy, QueueNotes, StageEnd,
+    NewQueue, Piece, Policy, QueueName, QueueNotes, StageEnd,
 };
 use std::alloc::Global;
 
@@ -216,23 +216,24 @@ fn stop_of(alloc: Global, fields: &[u8]) -> Result<Event, CodecFault>
     Ok(Event::SetStop { queue, stopped })
 }
 
-#[tactic(auto, unfolding(crate::specs::Reading::job_at, field_codec::specs::Fields::ranged_at, field_codec::specs::Fields::whole))]
-fn job_of(alloc: Global, fields: &[u8]) -> Result<Event, CodecFault>
-    ensures read { Gives (λ e. e) result (whole (job_at fields.now)) }
-    ensures memory { IfErr result (MemoryOnly (is_ok (text_at is_queue_name fields.now))) }
+/// What a job of this queue and this number is asked with.
+#[tactic(auto, unfolding(crate::specs::Reading::ticket_at, field_codec::specs::Fields::ranged_at))]
+pub(crate) fn ticket_at(
+    alloc: Global,
+    queue: QueueName,
+    job: JobId,
+    bytes: &[u8],
+) -> Result<(NewJob, &[u8]), CodecFault>
+    ensures read { Gives (λ x. (x.0, x.1.now)) result (ticket_at queue job bytes.now) }
 {
-    let (queue, rest) = text_at(alloc, fields)?;
-    let (number, rest) = u32_at(rest)?;
-    let job = job_id(number)?;
-    let (user, rest) = text_at(alloc, rest)?;
+    let (user, rest) = text_at(alloc, bytes)?;
     let (title, rest) = text_at(alloc, rest)?;
     let (copies, rest) = u16_at(rest)?;
     let copies = ranged(copies as u32)?;
     let (priority, rest) = u8_at(rest)?;
     let priority = ranged(priority as u32)?;
     let (options, rest) = text_at(alloc, rest)?;
-    ended(rest)?;
-    Ok(Event::Create(NewJob {
+    let ticket = NewJob {
         queue,
         job,
         user,
@@ -240,7 +241,30 @@ fn job_of(alloc: Global, fields: &[u8]) -> Result<Event, CodecFault>
         copies,
         priority,
         options,
-    }))
+    };
+    Ok((ticket, rest))
+}
+
+#[tactic(auto, unfolding(crate::specs::Reading::new_job_at, field_codec::specs::Fields::ranged_at))]
+fn new_job_at(alloc: Global, bytes: &[u8]) -> Result<(NewJob, &[u8]), CodecFault>
+    ensures read { Gives (λ x. (x.0, x.1.now)) result (new_job_at bytes.now) }
+    ensures copied { OnOk result (IsTrue (is_ok (text_at is_queue_name bytes.now))) }
+    ensures memory { IfErr result (MemoryOnly (is_ok (text_at is_queue_name bytes.now))) }
+{
+    let (queue, rest) = text_at(alloc, bytes)?;
+    let (number, rest) = u32_at(rest)?;
+    let job = job_id(number)?;
+    ticket_at(alloc, queue, job, rest)
+}
+
+#[tactic(auto, unfolding(crate::specs::Reading::job_at, field_codec::specs::Fields::whole))]
+fn job_of(alloc: Global, fields: &[u8]) -> Result<Event, CodecFault>
+    ensures read { Gives (λ e. e) result (whole (job_at fields.now)) }
+    ensures memory { IfErr result (MemoryOnly (is_ok (text_at is_queue_name fields.now))) }
+{
+    let (job, rest) = new_job_at(alloc, fields)?;
+    ended(rest)?;
+    Ok(Event::Create(job))
 }
 
 #[tactic(auto, unfolding(crate::specs::Reading::send_at, field_codec::specs::Fields::ranged_at, field_codec::specs::Fields::whole))]

@@ -2,17 +2,15 @@
 ghost use Rattle.std.specs.Prelude.{◌≡◌, ◌+◌, ◌≤◌, length, map, is_ok, false, None, Some, IsTrue, IfOk, IfErr, OnOk, Ok};
 ghost use Rattle.spool_types.specs.declared.listing.Row.{Row};
 ghost use Rattle.spool_types.specs.Values.{is_queue_name};
-ghost use Rattle.event_codec.specs.Reading.{Gives, MemoryOnly, text_at, list_at, whole};
+ghost use Rattle.event_codec.specs.Reading.{Gives, MemoryOnly, text_at, list_at, ticket_at, whole};
 ghost use Rattle.event_codec.specs.RowSpelling.{name_of, row_spelling, IsRowSpellable};
-ghost use Rattle.event_codec.specs.RowReading.{is_above, typed_at, reason_after, attribute_after, reasons_at, attributes_at, head_at, queue_row_at, created_at, job_row_at, piece_row_at, job_row_copies, row_reading, reaches_row_copy, last_of};
+ghost use Rattle.event_codec.specs.RowReading.{is_above, typed_at, reason_after, attribute_after, reasons_at, attributes_at, head_at, queue_state_at, listed_queue_at, queue_row_at, created_at, job_state_at, listed_job_at, job_row_at, piece_row_at, job_row_copies, row_reading, reaches_row_copy, last_of};
 
 use crate::phase_reading::phase_at;
-use crate::reading::{filters_at, flag_at, media_at, new_queue_at, piece_at};
-use field_codec::{
-    CodecFault, ended, job_id, moment, ranged, text_at, u8_at, u16_at, u32_at, u64_at,
-};
+use crate::reading::{filters_at, flag_at, media_at, new_queue_at, piece_at, ticket_at};
+use field_codec::{CodecFault, ended, job_id, moment, ranged, text_at, u8_at, u32_at, u64_at};
 use spool_types::{
-    Attribute, AttributeName, Attributes, Head, JobId, ListedJob, MOST_KEPT, MediaType, NewJob,
+    Attribute, AttributeName, Attributes, Head, Job, JobId, MOST_KEPT, MediaType, NewJob, NewQueue,
     QueueRow, Ranged, Reason, Reasons, Row,
 };
 use std::alloc::Global;
@@ -168,21 +166,23 @@ fn head_of(fields: &[u8]) -> Result<Row, CodecFault>
     }))
 }
 
-#[tactic(auto, unfolding(crate::specs::RowReading::queue_row_at, crate::specs::RowReading::queue_state_at, field_codec::specs::Fields::whole))]
-fn queue_row_of(alloc: Global, fields: &[u8]) -> Result<Row, CodecFault>
-    ensures read { Gives (λ row. row) result (whole (queue_row_at fields.now)) }
-    ensures memory { IfErr result (MemoryOnly (is_ok (text_at is_queue_name fields.now))) }
+/// What is told of this queue, and what became of it.
+#[tactic(auto, unfolding(crate::specs::RowReading::queue_state_at))]
+fn queue_state_at(
+    alloc: Global,
+    queue: NewQueue,
+    bytes: &[u8],
+) -> Result<(QueueRow, &[u8]), CodecFault>
+    ensures read { Gives (λ x. (x.0, x.1.now)) result (queue_state_at queue bytes.now) }
 {
-    let (queue, rest) = new_queue_at(alloc, fields)?;
-    let (info, rest) = text_at(alloc, rest)?;
+    let (info, rest) = text_at(alloc, bytes)?;
     let (location, rest) = text_at(alloc, rest)?;
     let (accepting, rest) = flag_at(rest)?;
     let (stopped, rest) = flag_at(rest)?;
     let (message, rest) = text_at(alloc, rest)?;
     let (reasons, rest) = reasons_at(alloc, rest)?;
     let (attributes, rest) = attributes_at(alloc, rest)?;
-    ended(rest)?;
-    Ok(Row::Queue(QueueRow {
+    let row = QueueRow {
         name: queue.name,
         uri: queue.uri,
         target: queue.target,
@@ -196,7 +196,28 @@ fn queue_row_of(alloc: Global, fields: &[u8]) -> Result<Row, CodecFault>
         message,
         reasons,
         attributes,
-    }))
+    };
+    Ok((row, rest))
+}
+
+#[tactic(auto, unfolding(crate::specs::RowReading::listed_queue_at))]
+fn listed_queue_at(alloc: Global, bytes: &[u8]) -> Result<(QueueRow, &[u8]), CodecFault>
+    ensures read { Gives (λ x. (x.0, x.1.now)) result (listed_queue_at bytes.now) }
+    ensures copied { OnOk result (IsTrue (is_ok (text_at is_queue_name bytes.now))) }
+    ensures memory { IfErr result (MemoryOnly (is_ok (text_at is_queue_name bytes.now))) }
+{
+    let (queue, rest) = new_queue_at(alloc, bytes)?;
+    queue_state_at(alloc, queue, rest)
+}
+
+#[tactic(auto, unfolding(crate::specs::RowReading::queue_row_at, field_codec::specs::Fields::whole))]
+fn queue_row_of(alloc: Global, fields: &[u8]) -> Result<Row, CodecFault>
+    ensures read { Gives (λ row. row) result (whole (queue_row_at fields.now)) }
+    ensures memory { IfErr result (MemoryOnly (is_ok (text_at is_queue_name fields.now))) }
+{
+    let (queue, rest) = listed_queue_at(alloc, fields)?;
+    ended(rest)?;
+    Ok(Row::Queue(queue))
 }
 
 /// A job as it was created.
@@ -209,32 +230,15 @@ fn created_at(alloc: Global, bytes: &[u8]) -> Result<(NewJob, &[u8]), CodecFault
     let (number, rest) = u32_at(bytes)?;
     let job = job_id(number)?;
     let (queue, rest) = text_at(alloc, rest)?;
-    let (user, rest) = text_at(alloc, rest)?;
-    let (title, rest) = text_at(alloc, rest)?;
-    let (copies, rest) = u16_at(rest)?;
-    let copies = ranged(copies as u32)?;
-    let (priority, rest) = u8_at(rest)?;
-    let priority = ranged(priority as u32)?;
-    let (options, rest) = text_at(alloc, rest)?;
-    let created = NewJob {
-        queue,
-        job,
-        user,
-        title,
-        copies,
-        priority,
-        options,
-    };
-    Ok((created, rest))
+    ticket_at(alloc, queue, job, rest)
 }
 
-#[tactic(auto, unfolding(crate::specs::RowReading::job_row_at, field_codec::specs::Fields::ranged_at, field_codec::specs::Fields::whole))]
-fn job_row_of(alloc: Global, fields: &[u8]) -> Result<Row, CodecFault>
-    ensures read { Gives (λ row. row) result (whole (job_row_at fields.now)) }
-    ensures memory { IfErr result (MemoryOnly (job_row_copies fields.now)) }
+/// What became of this job.
+#[tactic(auto, unfolding(crate::specs::RowReading::job_state_at, field_codec::specs::Fields::ranged_at))]
+fn job_state_at(alloc: Global, created: NewJob, bytes: &[u8]) -> Result<(Job, &[u8]), CodecFault>
+    ensures read { Gives (λ x. (x.0, x.1.now)) result (job_state_at created bytes.now) }
 {
-    let (created, rest) = created_at(alloc, fields)?;
-    let (media, rest) = typed_at(alloc, rest)?;
+    let (media, rest) = typed_at(alloc, bytes)?;
     let (filters, rest) = filters_at(alloc, rest)?;
     let (attempts, rest) = u32_at(rest)?;
     let (pages, rest) = u32_at(rest)?;
@@ -244,8 +248,7 @@ fn job_row_of(alloc: Global, fields: &[u8]) -> Result<Row, CodecFault>
     // `?` isn't proved here: a phase, which may have a moment, stands beside a slice.
     match phase_at(attempts, stages, rest) {
         Ok((phase, rest)) => {
-            ended(rest)?;
-            Ok(Row::Job(ListedJob {
+            let row = Job {
                 id: created.job,
                 queue: created.queue,
                 user: created.user,
@@ -259,10 +262,31 @@ fn job_row_of(alloc: Global, fields: &[u8]) -> Result<Row, CodecFault>
                 pages,
                 size: size.get(),
                 phase,
-            }))
+            };
+            Ok((row, rest))
         }
         Err(fault) => Err(fault),
     }
+}
+
+#[tactic(auto, unfolding(crate::specs::RowReading::listed_job_at))]
+fn listed_job_at(alloc: Global, bytes: &[u8]) -> Result<(Job, &[u8]), CodecFault>
+    ensures read { Gives (λ x. (x.0, x.1.now)) result (listed_job_at bytes.now) }
+    ensures copied { OnOk result (IsTrue (job_row_copies bytes.now)) }
+    ensures memory { IfErr result (MemoryOnly (job_row_copies bytes.now)) }
+{
+    let (created, rest) = created_at(alloc, bytes)?;
+    job_state_at(alloc, created, rest)
+}
+
+#[tactic(auto, unfolding(crate::specs::RowReading::job_row_at, field_codec::specs::Fields::whole))]
+fn job_row_of(alloc: Global, fields: &[u8]) -> Result<Row, CodecFault>
+    ensures read { Gives (λ row. row) result (whole (job_row_at fields.now)) }
+    ensures memory { IfErr result (MemoryOnly (job_row_copies fields.now)) }
+{
+    let (job, rest) = listed_job_at(alloc, fields)?;
+    ended(rest)?;
+    Ok(Row::Job(job))
 }
 
 #[tactic(auto, unfolding(crate::specs::RowReading::piece_row_at, field_codec::specs::Fields::ranged_at, field_codec::specs::Fields::whole))]

@@ -4,17 +4,17 @@ ghost use Rattle.std.specs.Int.{w8, w16, w32, w64, to_be_bytes};
 ghost use Rattle.std.specs.List.{flat_map, AllByRecursion};
 ghost use Rattle.spool_types.specs.Limits.{greatest_moment};
 ghost use Rattle.event_codec.specs.Spelling.{attribute_code, queue_code, IsIn, IsQueue, IsJob, IsAttribute};
-ghost use Rattle.event_codec.specs.RowSpelling.{hold_reason_number, holding_code, abort_reason_number, waiting_code, phase_code, typed_code, attributes_code, head_code, new_queue_of, queue_state_code, queue_row_code, new_job_of, created_code, job_state_code, job_row_code, row_spelling, IsHolding, IsWaitingFor, HasMoments, IsTyped, IsQueueState, HasQueueFields, IsJobState, HasJobFields, HasFields, IsLegalRow, IsOrderedQueue, IsRowSpellable};
-ghost use Rattle.spool_types.specs.declared.listing.Row.TheVariants.{Queue};
+ghost use Rattle.event_codec.specs.RowSpelling.{hold_reason_number, holding_code, abort_reason_number, waiting_code, phase_code, typed_code, attributes_code, head_code, new_queue_of, queue_state_code, queue_row_code, new_job_of, created_code, job_state_code, job_row_code, row_spelling, IsHolding, IsWaitingFor, HasMoments, IsTyped, IsQueueState, HasQueueFields, IsJobState, HasJobFields, HasFields, IsLegalRow, IsLegalJob, IsOrderedQueue, IsRowSpellable};
+ghost use Rattle.spool_types.specs.declared.listing.Row.{Row};
 
 use crate::effect_writing::put_attribute;
 use crate::field_writing::{
-    counted_len, media_len, put, put_counted, put_flag, put_media, put_text, text_len,
+    counted_len, media_len, put, put_counted, put_flag, put_kind, put_media, put_text, text_len,
 };
 use crate::writing::{policy_byte, put_send};
 use spool_types::{
-    AbortReason, Attribute, Attributes, Head, Hold, HoldReason, ListedJob, MediaType, Moment,
-    Phase, QueueRow, Row,
+    AbortReason, Attribute, Attributes, Head, Hold, HoldReason, Job, JobId, MediaType, Moment,
+    Phase, Piece, QueueRow, Row,
 };
 use std::alloc::{AllocError, Global};
 
@@ -204,7 +204,7 @@ fn put_queue_row(out: &mut Vec<u8>, queue: &QueueRow)
 }
 
 // What a job was created with.
-fn put_created(out: &mut Vec<u8>, job: &ListedJob)
+fn put_created(out: &mut Vec<u8>, job: &Job)
     requires room { vec_len out.old + length (created_code (new_job_of job.now)) ≤ vec_capacity out.old }
     ensures written { out.new.items ≡ out.old.items ++ created_code (new_job_of job.now) }
     ensures len { vec_len out.new ≡ vec_len out.old + length (created_code (new_job_of job.now)) }
@@ -221,7 +221,7 @@ fn put_created(out: &mut Vec<u8>, job: &ListedJob)
 }
 
 // What became of a job.
-fn put_job_state(out: &mut Vec<u8>, job: &ListedJob)
+fn put_job_state(out: &mut Vec<u8>, job: &Job)
     requires room { vec_len out.old + length (job_state_code job.now) ≤ vec_capacity out.old }
     ensures written { out.new.items ≡ out.old.items ++ job_state_code job.now }
     ensures len { vec_len out.new ≡ vec_len out.old + length (job_state_code job.now) }
@@ -236,7 +236,7 @@ fn put_job_state(out: &mut Vec<u8>, job: &ListedJob)
     put_phase(out, &job.phase);
 }
 
-fn put_job_row(out: &mut Vec<u8>, job: &ListedJob)
+fn put_job_row(out: &mut Vec<u8>, job: &Job)
     requires room { vec_len out.old + length (job_row_code job.now) ≤ vec_capacity out.old }
     ensures written { out.new.items ≡ out.old.items ++ job_row_code job.now }
     ensures len { vec_len out.new ≡ vec_len out.old + length (job_row_code job.now) }
@@ -245,34 +245,6 @@ fn put_job_row(out: &mut Vec<u8>, job: &ListedJob)
 {
     put_created(out, job);
     put_job_state(out, job);
-}
-
-// The byte that a row's spelling begins with.
-fn row_byte(row: &Row) -> u8
-    ensures first { take 1 (row_spelling row.now) ≡ result ∷ [] }
-{
-    match row {
-        Row::Head(_) => 0x40,
-        Row::Queue(_) => 0x41,
-        Row::Job(_) => 0x42,
-        Row::Piece { .. } => 0x43,
-    }
-}
-
-fn put_row(out: &mut Vec<u8>, row: &Row)
-    requires room { vec_len out.old + length (row_spelling row.now) ≤ vec_capacity out.old }
-    ensures written { out.new.items ≡ out.old.items ++ row_spelling row.now }
-    ensures len { vec_len out.new ≡ vec_len out.old + length (row_spelling row.now) }
-    ensures grown { vec_capacity out.old ≤ vec_capacity out.new }
-    ensures fields { HasFields row.now }
-{
-    put(out, &row_byte(row).to_be_bytes());
-    match row {
-        Row::Head(head) => put_head(out, head),
-        Row::Queue(queue) => put_queue_row(out, queue),
-        Row::Job(job) => put_job_row(out, job),
-        Row::Piece { job, bytes } => put_send(out, *job, bytes),
-    }
 }
 
 fn holding_len(hold: Hold) -> usize
@@ -340,7 +312,7 @@ fn queue_state_len(queue: &QueueRow) -> usize
         + attributes_len(queue.attributes.as_slice())
 }
 
-fn created_len(job: &ListedJob) -> usize
+fn created_len(job: &Job) -> usize
     ensures value { result ≡ length (created_code (new_job_of job.now)) }
     ensures small { result < 2 ^ 14 }
 {
@@ -351,39 +323,77 @@ fn created_len(job: &ListedJob) -> usize
         + text_len(&job.options)
 }
 
-fn job_state_len(job: &ListedJob) -> usize
+fn job_state_len(job: &Job) -> usize
     ensures value { result ≡ length (job_state_code job.now) }
     ensures small { result < 2 ^ 16 }
 {
     typed_len(&job.media) + counted_len(job.filters.as_slice()) + 12 + phase_len(job.phase)
 }
 
-/// How many bytes the spelling of a row has.
-fn spelled_row_len(row: &Row) -> usize
-    ensures value { result ≡ length (row_spelling row.now) }
-    ensures small { result < 2 ^ 19 }
+fn encode_head_onto(head: &Head, out: &mut Vec<u8>) -> Result<(), AllocError>
+    ensures spelled { OnOk result (out.new.items ≡ out.old.items ++ row_spelling (Row.Head head.now)) }
+    ensures spellable { OnOk result (IsLegalRow (Row.Head head.now) → IsRowSpellable (Row.Head head.now)) }
+    ensures short { length (row_spelling (Row.Head head.now)) < 2 ^ 19 }
+    ensures fits { vec_len out.old + length (row_spelling (Row.Head head.now)) ≤ vec_capacity out.old → IsOk result }
+    ensures kept { OnErr result (out.new.items ≡ out.old.items) }
+    ensures grown { vec_capacity out.old ≤ vec_capacity out.new }
 {
-    match row {
-        Row::Head(_) => 13,
-        Row::Queue(queue) => 1 + added_len(queue) + queue_state_len(queue),
-        Row::Job(job) => 1 + created_len(job) + job_state_len(job),
-        Row::Piece { bytes, .. } => 9 + bytes.as_slice().len(),
-    }
+    out.reserve(13)?;
+    put_kind(out, 0x40);
+    put_head(out, head);
+    Ok(())
 }
 
-/// The one spelling of a row, in memory that is reserved once. A row that no table lists is written, too, as by its
-/// fields. No bytes are read as it then.
-pub fn encode_row(alloc: Global, row: &Row) -> Result<Vec<u8>, AllocError>
-    ensures spelled { IfOk result (λ bytes. bytes.items ≡ row_spelling row.now) }
-    ensures spellable { OnOk result (IsLegalRow row.now → IsRowSpellable row.now) }
-    ensures short { length (row_spelling row.now) < 2 ^ 19 }
+/// Adds the one spelling of a queue's row to bytes that are there already, as `encode_row_onto` does. The queue is only
+/// looked at.
+pub fn encode_queue_onto(queue: &QueueRow, out: &mut Vec<u8>) -> Result<(), AllocError>
+    ensures spelled { OnOk result (out.new.items ≡ out.old.items ++ row_spelling (Row.Queue queue.now)) }
+    ensures spellable { OnOk result (IsOrderedQueue queue.now → IsRowSpellable (Row.Queue queue.now)) }
+    ensures short { length (row_spelling (Row.Queue queue.now)) < 2 ^ 19 }
+
+    // It fails only where the room was missing, and then the bytes are those that were there.
+    ensures fits { vec_len out.old + length (row_spelling (Row.Queue queue.now)) ≤ vec_capacity out.old → IsOk result }
+    ensures kept { OnErr result (out.new.items ≡ out.old.items) }
+    ensures grown { vec_capacity out.old ≤ vec_capacity out.new }
 {
-    let mut out = Vec::with_capacity(alloc, spelled_row_len(row))?;
-    put_row(&mut out, row);
-    Ok(out)
+    out.reserve(1 + added_len(queue) + queue_state_len(queue))?;
+    put_kind(out, 0x41);
+    put_queue_row(out, queue);
+    Ok(())
 }
 
-/// Adds the one spelling of a row to bytes that are there already, whose memory is made ready for all of it first.
+/// The same of a job's row.
+pub fn encode_job_onto(job: &Job, out: &mut Vec<u8>) -> Result<(), AllocError>
+    ensures spelled { OnOk result (out.new.items ≡ out.old.items ++ row_spelling (Row.Job job.now)) }
+    ensures spellable { OnOk result (IsLegalJob job.now → IsRowSpellable (Row.Job job.now)) }
+    ensures short { length (row_spelling (Row.Job job.now)) < 2 ^ 19 }
+
+    // It fails only where the room was missing, and then the bytes are those that were there.
+    ensures fits { vec_len out.old + length (row_spelling (Row.Job job.now)) ≤ vec_capacity out.old → IsOk result }
+    ensures kept { OnErr result (out.new.items ≡ out.old.items) }
+    ensures grown { vec_capacity out.old ≤ vec_capacity out.new }
+{
+    out.reserve(1 + created_len(job) + job_state_len(job))?;
+    put_kind(out, 0x42);
+    put_job_row(out, job);
+    Ok(())
+}
+
+fn encode_piece_onto(job: JobId, bytes: &Piece, out: &mut Vec<u8>) -> Result<(), AllocError>
+    ensures spelled { OnOk result (out.new.items ≡ out.old.items ++ row_spelling (Row.Piece job bytes.now)) }
+    ensures spellable { OnOk result (IsLegalRow (Row.Piece job bytes.now) → IsRowSpellable (Row.Piece job bytes.now)) }
+    ensures short { length (row_spelling (Row.Piece job bytes.now)) < 2 ^ 19 }
+    ensures fits { vec_len out.old + length (row_spelling (Row.Piece job bytes.now)) ≤ vec_capacity out.old → IsOk result }
+    ensures kept { OnErr result (out.new.items ≡ out.old.items) }
+    ensures grown { vec_capacity out.old ≤ vec_capacity out.new }
+{
+    out.reserve(9 + bytes.as_slice().len())?;
+    put_send(out, 0x43, job, bytes);
+    Ok(())
+}
+
+/// Adds the one spelling of a row to bytes that are there already, whose memory is made ready for all of it first. A row
+/// that no table lists is written, too, as by its fields. No bytes are read as it then.
 pub fn encode_row_onto(row: &Row, out: &mut Vec<u8>) -> Result<(), AllocError>
     ensures spelled { OnOk result (out.new.items ≡ out.old.items ++ row_spelling row.now) }
     ensures spellable { OnOk result (IsLegalRow row.now → IsRowSpellable row.now) }
@@ -394,24 +404,21 @@ pub fn encode_row_onto(row: &Row, out: &mut Vec<u8>) -> Result<(), AllocError>
     ensures kept { OnErr result (out.new.items ≡ out.old.items) }
     ensures grown { vec_capacity out.old ≤ vec_capacity out.new }
 {
-    out.reserve(spelled_row_len(row))?;
-    put_row(out, row);
-    Ok(())
+    match row {
+        Row::Head(head) => encode_head_onto(head, out),
+        Row::Queue(queue) => encode_queue_onto(queue, out),
+        Row::Job(job) => encode_job_onto(job, out),
+        Row::Piece { job, bytes } => encode_piece_onto(*job, bytes, out),
+    }
 }
 
-/// As `encode_row_onto`, the row of a queue, which is only looked at.
-pub fn encode_queue_onto(queue: &QueueRow, out: &mut Vec<u8>) -> Result<(), AllocError>
-    ensures spelled { OnOk result (out.new.items ≡ out.old.items ++ row_spelling (Queue queue.now)) }
-    ensures spellable { OnOk result (IsOrderedQueue queue.now → IsRowSpellable (Queue queue.now)) }
-    ensures short { OnOk result (length (row_spelling (Queue queue.now)) < 2 ^ 19) }
-
-    // It fails only where the room was missing, and then the bytes are those that were there.
-    ensures fits { vec_len out.old + length (row_spelling (Queue queue.now)) ≤ vec_capacity out.old → IsOk result }
-    ensures kept { OnErr result (out.new.items ≡ out.old.items) }
-    ensures grown { vec_capacity out.old ≤ vec_capacity out.new }
+/// The one spelling of a row, in memory that is reserved once.
+pub fn encode_row(alloc: Global, row: &Row) -> Result<Vec<u8>, AllocError>
+    ensures spelled { IfOk result (λ bytes. bytes.items ≡ row_spelling row.now) }
+    ensures spellable { OnOk result (IsLegalRow row.now → IsRowSpellable row.now) }
+    ensures short { length (row_spelling row.now) < 2 ^ 19 }
 {
-    out.reserve(1 + added_len(queue) + queue_state_len(queue))?;
-    put(out, &0x41u8.to_be_bytes());
-    put_queue_row(out, queue);
-    Ok(())
+    let mut out = Vec::new(alloc);
+    encode_row_onto(row, &mut out)?;
+    Ok(out)
 }

@@ -4,11 +4,11 @@ ghost use Rattle.std.specs.Int.{w8, w32, w64, to_be_bytes};
 ghost use Rattle.std.specs.List.{flat_map, AllByRecursion};
 ghost use Rattle.spool_types.specs.Limits.{greatest_moment};
 ghost use Rattle.spool_types.specs.Values.{is_media_type, is_filter_name, is_queue_name};
-ghost use Rattle.event_codec.specs.Spelling.{text_code, flag_code, until_code, filters_code, queue_code, notes_code, accept_code, stop_code, job_code, send_code, closing_code, hold_code, exit_code, stage_code, policy_number, spelling, IsText, IsQueue, AreNotes, IsIn, IsJobNumber, IsJob, IsSend, IsClosing, IsHold, IsExit, IsStageEnd, AreFilters, IsSpellable};
+ghost use Rattle.event_codec.specs.Spelling.{text_code, flag_code, until_code, filters_code, queue_code, notes_code, flagged_code, job_code, send_code, closing_code, hold_code, exit_code, stage_code, policy_number, spelling, IsText, IsQueue, AreNotes, IsIn, IsJobNumber, IsJob, IsSend, IsClosing, IsHold, IsExit, IsStageEnd, AreFilters, IsSpellable};
 
 use crate::effect_writing::put_effects;
 use crate::field_writing::{
-    counted_len, media_len, put, put_counted, put_flag, put_media, put_text, text_len,
+    counted_len, media_len, put, put_counted, put_flag, put_kind, put_media, put_text, text_len,
 };
 use spool_types::{
     Closing, Event, Exit, Filters, JobId, MediaType, Moment, NewJob, NewQueue, Piece, Policy,
@@ -27,13 +27,14 @@ pub(crate) fn policy_byte(policy: Policy) -> u8
     }
 }
 
-fn put_queue(out: &mut Vec<u8>, queue: &NewQueue)
-    requires room { vec_len out.old + length (queue_code queue.now) ≤ vec_capacity out.old }
-    ensures written { out.new.items ≡ out.old.items ++ queue_code queue.now }
-    ensures len { vec_len out.new ≡ vec_len out.old + length (queue_code queue.now) }
+fn put_queue(out: &mut Vec<u8>, kind: u8, queue: &NewQueue)
+    requires room { vec_len out.old + length (kind ∷ queue_code queue.now) ≤ vec_capacity out.old }
+    ensures written { out.new.items ≡ out.old.items ++ kind ∷ queue_code queue.now }
+    ensures len { vec_len out.new ≡ vec_len out.old + length (kind ∷ queue_code queue.now) }
     ensures grown { vec_capacity out.old ≤ vec_capacity out.new }
     ensures legal { IsQueue queue.now }
 {
+    put_kind(out, kind);
     put_text(out, &queue.name);
     put_text(out, &queue.uri);
     put_media(out, &queue.target);
@@ -42,47 +43,40 @@ fn put_queue(out: &mut Vec<u8>, queue: &NewQueue)
     put(out, &queue.limit.to_be_bytes());
 }
 
-fn put_notes(out: &mut Vec<u8>, notes: &QueueNotes)
-    requires room { vec_len out.old + length (notes_code notes.now) ≤ vec_capacity out.old }
-    ensures written { out.new.items ≡ out.old.items ++ notes_code notes.now }
-    ensures len { vec_len out.new ≡ vec_len out.old + length (notes_code notes.now) }
+fn put_notes(out: &mut Vec<u8>, kind: u8, notes: &QueueNotes)
+    requires room { vec_len out.old + length (kind ∷ notes_code notes.now) ≤ vec_capacity out.old }
+    ensures written { out.new.items ≡ out.old.items ++ kind ∷ notes_code notes.now }
+    ensures len { vec_len out.new ≡ vec_len out.old + length (kind ∷ notes_code notes.now) }
     ensures grown { vec_capacity out.old ≤ vec_capacity out.new }
     ensures legal { AreNotes notes.now }
 {
+    put_kind(out, kind);
     put_text(out, &notes.queue);
     put_text(out, &notes.info);
     put_text(out, &notes.location);
 }
 
-fn put_accept(out: &mut Vec<u8>, queue: &QueueName, accepting: bool)
-    requires room { vec_len out.old + length (accept_code queue.now accepting) ≤ vec_capacity out.old }
-    ensures written { out.new.items ≡ out.old.items ++ accept_code queue.now accepting }
-    ensures len { vec_len out.new ≡ vec_len out.old + length (accept_code queue.now accepting) }
+// An event that sets a flag of a queue.
+fn put_flagged(out: &mut Vec<u8>, kind: u8, queue: &QueueName, flag: bool)
+    requires room { vec_len out.old + length (kind ∷ flagged_code queue.now flag) ≤ vec_capacity out.old }
+    ensures written { out.new.items ≡ out.old.items ++ kind ∷ flagged_code queue.now flag }
+    ensures len { vec_len out.new ≡ vec_len out.old + length (kind ∷ flagged_code queue.now flag) }
     ensures grown { vec_capacity out.old ≤ vec_capacity out.new }
     ensures legal { IsText is_queue_name queue.now }
 {
+    put_kind(out, kind);
     put_text(out, queue);
-    put_flag(out, accepting);
+    put_flag(out, flag);
 }
 
-fn put_stop(out: &mut Vec<u8>, queue: &QueueName, stopped: bool)
-    requires room { vec_len out.old + length (stop_code queue.now stopped) ≤ vec_capacity out.old }
-    ensures written { out.new.items ≡ out.old.items ++ stop_code queue.now stopped }
-    ensures len { vec_len out.new ≡ vec_len out.old + length (stop_code queue.now stopped) }
-    ensures grown { vec_capacity out.old ≤ vec_capacity out.new }
-    ensures legal { IsText is_queue_name queue.now }
-{
-    put_text(out, queue);
-    put_flag(out, stopped);
-}
-
-fn put_job(out: &mut Vec<u8>, job: &NewJob)
-    requires room { vec_len out.old + length (job_code job.now) ≤ vec_capacity out.old }
-    ensures written { out.new.items ≡ out.old.items ++ job_code job.now }
-    ensures len { vec_len out.new ≡ vec_len out.old + length (job_code job.now) }
+fn put_job(out: &mut Vec<u8>, kind: u8, job: &NewJob)
+    requires room { vec_len out.old + length (kind ∷ job_code job.now) ≤ vec_capacity out.old }
+    ensures written { out.new.items ≡ out.old.items ++ kind ∷ job_code job.now }
+    ensures len { vec_len out.new ≡ vec_len out.old + length (kind ∷ job_code job.now) }
     ensures grown { vec_capacity out.old ≤ vec_capacity out.new }
     ensures legal { IsJob job.now }
 {
+    put_kind(out, kind);
     put_text(out, &job.queue);
     put(out, &job.job.get().to_be_bytes());
     put_text(out, &job.user);
@@ -92,13 +86,14 @@ fn put_job(out: &mut Vec<u8>, job: &NewJob)
     put_text(out, &job.options);
 }
 
-pub(crate) fn put_send(out: &mut Vec<u8>, job: JobId, bytes: &Piece)
-    requires room { vec_len out.old + length (send_code job bytes.now) ≤ vec_capacity out.old }
-    ensures written { out.new.items ≡ out.old.items ++ send_code job bytes.now }
-    ensures len { vec_len out.new ≡ vec_len out.old + length (send_code job bytes.now) }
+pub(crate) fn put_send(out: &mut Vec<u8>, kind: u8, job: JobId, bytes: &Piece)
+    requires room { vec_len out.old + length (kind ∷ send_code job bytes.now) ≤ vec_capacity out.old }
+    ensures written { out.new.items ≡ out.old.items ++ kind ∷ send_code job bytes.now }
+    ensures len { vec_len out.new ≡ vec_len out.old + length (kind ∷ send_code job bytes.now) }
     ensures grown { vec_capacity out.old ≤ vec_capacity out.new }
     ensures legal { IsSend job bytes.now }
 {
+    put_kind(out, kind);
     let bytes = bytes.as_slice();
     put(out, &job.get().to_be_bytes());
     put(out, &(bytes.len() as u32).to_be_bytes());
@@ -121,13 +116,14 @@ fn put_filters(out: &mut Vec<u8>, filters: &Option<Filters>)
     }
 }
 
-fn put_closing(out: &mut Vec<u8>, closing: &Closing)
-    requires room { vec_len out.old + length (closing_code closing.now) ≤ vec_capacity out.old }
-    ensures written { out.new.items ≡ out.old.items ++ closing_code closing.now }
-    ensures len { vec_len out.new ≡ vec_len out.old + length (closing_code closing.now) }
+fn put_closing(out: &mut Vec<u8>, kind: u8, closing: &Closing)
+    requires room { vec_len out.old + length (kind ∷ closing_code closing.now) ≤ vec_capacity out.old }
+    ensures written { out.new.items ≡ out.old.items ++ kind ∷ closing_code closing.now }
+    ensures len { vec_len out.new ≡ vec_len out.old + length (kind ∷ closing_code closing.now) }
     ensures grown { vec_capacity out.old ≤ vec_capacity out.new }
     ensures legal { IsClosing closing.now }
 {
+    put_kind(out, kind);
     put(out, &closing.job.get().to_be_bytes());
     put_media(out, &closing.media);
     put_filters(out, &closing.filters);
@@ -148,13 +144,14 @@ fn put_until(out: &mut Vec<u8>, until: Option<Moment>)
     }
 }
 
-fn put_hold(out: &mut Vec<u8>, job: JobId, until: Option<Moment>)
-    requires room { vec_len out.old + length (hold_code job until) ≤ vec_capacity out.old }
-    ensures written { out.new.items ≡ out.old.items ++ hold_code job until }
-    ensures len { vec_len out.new ≡ vec_len out.old + length (hold_code job until) }
+fn put_hold(out: &mut Vec<u8>, kind: u8, job: JobId, until: Option<Moment>)
+    requires room { vec_len out.old + length (kind ∷ hold_code job until) ≤ vec_capacity out.old }
+    ensures written { out.new.items ≡ out.old.items ++ kind ∷ hold_code job until }
+    ensures len { vec_len out.new ≡ vec_len out.old + length (kind ∷ hold_code job until) }
     ensures grown { vec_capacity out.old ≤ vec_capacity out.new }
     ensures legal { IsHold job until }
 {
+    put_kind(out, kind);
     put(out, &job.get().to_be_bytes());
     put_until(out, until);
 }
@@ -177,13 +174,14 @@ fn put_exit(out: &mut Vec<u8>, exit: Exit)
     }
 }
 
-fn put_stage(out: &mut Vec<u8>, end: &StageEnd)
-    requires room { vec_len out.old + length (stage_code end.now) ≤ vec_capacity out.old }
-    ensures written { out.new.items ≡ out.old.items ++ stage_code end.now }
-    ensures len { vec_len out.new ≡ vec_len out.old + length (stage_code end.now) }
+fn put_stage(out: &mut Vec<u8>, kind: u8, end: &StageEnd)
+    requires room { vec_len out.old + length (kind ∷ stage_code end.now) ≤ vec_capacity out.old }
+    ensures written { out.new.items ≡ out.old.items ++ kind ∷ stage_code end.now }
+    ensures len { vec_len out.new ≡ vec_len out.old + length (kind ∷ stage_code end.now) }
     ensures grown { vec_capacity out.old ≤ vec_capacity out.new }
     ensures legal { IsStageEnd end.now }
 {
+    put_kind(out, kind);
     put(out, &end.job.get().to_be_bytes());
     put(out, &end.attempt.get().to_be_bytes());
     put(out, &(end.stage.get() as u8).to_be_bytes());
@@ -192,47 +190,26 @@ fn put_stage(out: &mut Vec<u8>, end: &StageEnd)
     put_effects(out, &end.effects);
 }
 
-fn put_number(out: &mut Vec<u8>, job: JobId)
-    requires room { vec_len out.old + length (to_be_bytes w32 job) ≤ vec_capacity out.old }
-    ensures written { out.new.items ≡ out.old.items ++ to_be_bytes w32 job }
-    ensures len { vec_len out.new ≡ vec_len out.old + length (to_be_bytes w32 job) }
+fn put_number(out: &mut Vec<u8>, kind: u8, job: JobId)
+    requires room { vec_len out.old + length (kind ∷ to_be_bytes w32 job) ≤ vec_capacity out.old }
+    ensures written { out.new.items ≡ out.old.items ++ kind ∷ to_be_bytes w32 job }
+    ensures len { vec_len out.new ≡ vec_len out.old + length (kind ∷ to_be_bytes w32 job) }
     ensures grown { vec_capacity out.old ≤ vec_capacity out.new }
     ensures legal { IsJobNumber job }
 {
+    put_kind(out, kind);
     put(out, &job.get().to_be_bytes());
 }
 
-fn put_moment(out: &mut Vec<u8>, moment: Moment)
-    requires room { vec_len out.old + length (to_be_bytes w64 moment) ≤ vec_capacity out.old }
-    ensures written { out.new.items ≡ out.old.items ++ to_be_bytes w64 moment }
-    ensures len { vec_len out.new ≡ vec_len out.old + length (to_be_bytes w64 moment) }
+fn put_moment(out: &mut Vec<u8>, kind: u8, moment: Moment)
+    requires room { vec_len out.old + length (kind ∷ to_be_bytes w64 moment) ≤ vec_capacity out.old }
+    ensures written { out.new.items ≡ out.old.items ++ kind ∷ to_be_bytes w64 moment }
+    ensures len { vec_len out.new ≡ vec_len out.old + length (kind ∷ to_be_bytes w64 moment) }
     ensures grown { vec_capacity out.old ≤ vec_capacity out.new }
     ensures legal { IsIn 0 greatest_moment moment }
 {
+    put_kind(out, kind);
     put(out, &moment.get().to_be_bytes());
-}
-
-// The byte that an event's spelling begins with.
-fn kind_byte(event: &Event) -> u8
-    ensures first { take 1 (spelling event.now) ≡ result ∷ [] }
-{
-    match event {
-        Event::AddQueue(_) => 0x01,
-        Event::Info(_) => 0x02,
-        Event::SetAccept { .. } => 0x03,
-        Event::SetStop { .. } => 0x04,
-        Event::Create(_) => 0x05,
-        Event::Send { .. } => 0x06,
-        Event::Close(_) => 0x07,
-        Event::Hold { .. } => 0x08,
-        Event::Release(_) => 0x09,
-        Event::Cancel(_) => 0x0A,
-        Event::Clock(_) => 0x0B,
-        Event::Start(_) => 0x0C,
-        Event::Stage(_) => 0x0D,
-        Event::Abandon(_) => 0x0E,
-        Event::Reopen => 0x0F,
-    }
 }
 
 fn put_event(out: &mut Vec<u8>, event: &Event)
@@ -242,23 +219,22 @@ fn put_event(out: &mut Vec<u8>, event: &Event)
     ensures grown { vec_capacity out.old ≤ vec_capacity out.new }
     ensures legal { IsSpellable event.now }
 {
-    put(out, &kind_byte(event).to_be_bytes());
     match event {
-        Event::AddQueue(queue) => put_queue(out, queue),
-        Event::Info(notes) => put_notes(out, notes),
-        Event::SetAccept { queue, accepting } => put_accept(out, queue, *accepting),
-        Event::SetStop { queue, stopped } => put_stop(out, queue, *stopped),
-        Event::Create(job) => put_job(out, job),
-        Event::Send { job, bytes } => put_send(out, *job, bytes),
-        Event::Close(closing) => put_closing(out, closing),
-        Event::Hold { job, until } => put_hold(out, *job, *until),
-        Event::Release(job) => put_number(out, *job),
-        Event::Cancel(job) => put_number(out, *job),
-        Event::Clock(moment) => put_moment(out, *moment),
-        Event::Start(job) => put_number(out, *job),
-        Event::Stage(end) => put_stage(out, end),
-        Event::Abandon(job) => put_number(out, *job),
-        Event::Reopen => {}
+        Event::AddQueue(queue) => put_queue(out, 0x01, queue),
+        Event::Info(notes) => put_notes(out, 0x02, notes),
+        Event::SetAccept { queue, accepting } => put_flagged(out, 0x03, queue, *accepting),
+        Event::SetStop { queue, stopped } => put_flagged(out, 0x04, queue, *stopped),
+        Event::Create(job) => put_job(out, 0x05, job),
+        Event::Send { job, bytes } => put_send(out, 0x06, *job, bytes),
+        Event::Close(closing) => put_closing(out, 0x07, closing),
+        Event::Hold { job, until } => put_hold(out, 0x08, *job, *until),
+        Event::Release(job) => put_number(out, 0x09, *job),
+        Event::Cancel(job) => put_number(out, 0x0A, *job),
+        Event::Clock(moment) => put_moment(out, 0x0B, *moment),
+        Event::Start(job) => put_number(out, 0x0C, *job),
+        Event::Stage(end) => put_stage(out, 0x0D, end),
+        Event::Abandon(job) => put_number(out, 0x0E, *job),
+        Event::Reopen => put_kind(out, 0x0F),
     }
 }
 
@@ -338,10 +314,11 @@ fn spelled_len(event: &Event) -> usize
         Event::Send { bytes, .. } => 9 + bytes.as_slice().len(),
         Event::Close(closing) => 5 + media_len(&closing.media) + filters_len(&closing.filters),
         Event::Hold { until, .. } => 5 + until_len(*until),
-        Event::Release(_) | Event::Cancel(_) | Event::Start(_) | Event::Abandon(_) => 5,
         Event::Clock(_) => 9,
         Event::Stage(end) => 1 + stage_len(end),
         Event::Reopen => 1,
+        // A job's number alone.
+        _ => 5,
     }
 }
 

@@ -1,17 +1,16 @@
 //! The arguments of a child.
 ghost use Rattle.std.specs.Prelude.{◌≡◌, IfOk};
 ghost use Rattle.std.specs.Option.{option_map};
-ghost use Rattle.spool_types.specs.State.{job_of};
 ghost use Rattle.filter_args.specs.Arguments.{arguments};
 ghost use Rattle.filter_args.specs.Seen.{texts};
 
-use spool_types::JobRow;
+use spool_types::Job;
 use std::alloc::{AllocError, Global};
 
 /// The arguments after the program: the job's number, its user, its title, how many copies, its options, and the
 /// document's path where the child reads a file (filter(7)).
-pub fn words(alloc: Global, job: &JobRow, file: Option<&str>) -> Result<Vec<String>, AllocError>
-    ensures { IfOk result (λ words. texts words ≡ arguments (job_of job.now) (option_map (λ path. path.now) file.entry)) }
+pub fn words(alloc: Global, job: &Job, file: Option<&str>) -> Result<Vec<String>, AllocError>
+    ensures { IfOk result (λ words. texts words ≡ arguments job.now (option_map (λ path. path.now) file.entry)) }
 {
     let number = job.id.get();
     let copies = job.copies.get();

@@ -3,24 +3,23 @@ ghost use Rattle.std.specs.Prelude.{◌≡◌, ◌++◌, ◌∷◌, [], true, un
 ghost use Rattle.std.specs.Fmt.{decimal};
 ghost use Rattle.std.specs.String.{string_bytes};
 ghost use Rattle.spool_types.specs.Phases.{is_processing};
-ghost use Rattle.spool_types.specs.State.{job_of};
 ghost use Rattle.filter_args.specs.Environment.{environment_of, environment_at, document_variables, device_variables, place_variables, printer_variables, stage_variables, side_name, variable};
 ghost use Rattle.filter_args.specs.Seen.{texts};
 
 use crate::files::ChildFile;
 use crate::place::Place;
-use spool_types::{JobId, JobRow, Phase, QueueRow};
+use spool_types::{Job, JobId, Phase, QueueRow};
 use std::alloc::{AllocError, Global};
 
 /// The environment of the stage that a processing job is in, as `NAME=value`, in a fixed order (filter(7), backend(7)).
 pub fn environment(
     alloc: Global,
-    job: &JobRow,
+    job: &Job,
     queue: &QueueRow,
     place: &Place,
 ) -> Result<Vec<String>, AllocError>
     requires { is_processing job.now.phase ≡ true }
-    ensures { IfOk result (λ variables. texts variables ≡ environment_of (job_of job.now) queue.now place.now) }
+    ensures { IfOk result (λ variables. texts variables ≡ environment_of job.now queue.now place.now) }
 {
     match job.phase {
         Phase::Processing { attempt, stage, .. } => {
@@ -32,13 +31,13 @@ pub fn environment(
 
 fn environment_of_stage(
     alloc: Global,
-    job: &JobRow,
+    job: &Job,
     queue: &QueueRow,
     place: &Place,
     attempt: u32,
     stage: u8,
 ) -> Result<Vec<String>, AllocError>
-    ensures { IfOk result (λ variables. texts variables ≡ environment_at (job_of job.now) queue.now place.now attempt stage) }
+    ensures { IfOk result (λ variables. texts variables ≡ environment_at job.now queue.now place.now attempt stage) }
 {
     let mut variables = Vec::with_capacity(alloc, 14)?;
     push_document(alloc, &mut variables, job)?;
@@ -49,8 +48,8 @@ fn environment_of_stage(
     Ok(variables)
 }
 
-fn push_document(alloc: Global, variables: &mut Vec<String>, job: &JobRow) -> Result<(), AllocError>
-    ensures { OnOk result (texts variables.new ≡ texts variables.old ++ document_variables (job_of job.now)) }
+fn push_document(alloc: Global, variables: &mut Vec<String>, job: &Job) -> Result<(), AllocError>
+    ensures { OnOk result (texts variables.new ≡ texts variables.old ++ document_variables job.now) }
 {
     push(alloc, variables, "CHARSET", "utf-8")?;
     push(alloc, variables, "CONTENT_TYPE", content_type(job))?;
@@ -59,7 +58,7 @@ fn push_document(alloc: Global, variables: &mut Vec<String>, job: &JobRow) -> Re
 }
 
 // The document's media type, empty where the job has none.
-fn content_type(job: &JobRow) -> &str
+fn content_type(job: &Job) -> &str
     ensures { result.now ≡ unwrap_or job.now.media [] }
 {
     match &job.media {

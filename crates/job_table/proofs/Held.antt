@@ -7,14 +7,15 @@ use Rattle.std.proofs.lemmas.List.{length-map}
 use Rattle.spool_types.specs.State.{State, nothing}
 use Rattle.spool_types.specs.declared.event.NewJob.{NewJob}
 use Rattle.spool_types.specs.declared.event.Event.{Event}
-use Rattle.spool_types.specs.declared.event.Event.TheVariants.{AddQueue, Info, SetAccept, SetStop, Create, Send, Close, Hold, Release, Cancel, Clock, Start, Stage, Abandon, Reopen}
+use Rattle.spool_types.specs.declared.event.Event.TheVariants.{Create}
 use Rattle.spool_types.specs.declared.event.Reply.{Reply}
 use Rattle.spool_types.specs.declared.rows.QueueRow.{QueueRow}
-use Rattle.job_table.specs.Changes.{new_job, with_notes, with_accepting, with_stopped}
+use Rattle.job_table.specs.Changes.{new_job}
 use Rattle.job_table.specs.Ended.{IsAbout, subject}
 use Rattle.job_table.specs.Lanes.{AreLanes}
 use Rattle.job_table.specs.Legal.{IsLegal}
-use Rattle.job_table.specs.Step.{step, answered, refusal_of, after, reply_to}
+use Rattle.job_table.specs.Shapes.{Change, NewQueueRow, OfQueue, NewJobRow, OfJob, OfBoth, OfClock, OfAll, subject_of, IsOfOne, made}
+use Rattle.job_table.specs.Step.{change_by, step, answered, refusal_of, after, reply_to}
 use Rattle.job_table.proofs.Accepted.{accepted_create}
 use Rattle.job_table.proofs.Moves.{Stays, stays_queue, put_other, put_own}
 use Rattle.job_table.proofs.Seats.{Gains}
@@ -37,22 +38,17 @@ no_lanes v = record {
 }
 
 -- an event about a queue that is there leaves the jobs
+stays_by : (s : State) (change : Change) → IsOfOne change → subject_of change ≡ None → Stays s (made s change)
+stays_by s (OfQueue name f) about none = stays_queue s name f
+stays_by s (NewQueueRow q) about none = absurd about
+stays_by s (NewJobRow r) about none = absurd about
+stays_by s (OfClock m) about none = absurd about
+stays_by s OfAll about none = absurd about
+stays_by s (OfJob j f) about none = absurd (cc)
+stays_by s (OfBoth j effects verdict) about none = absurd (cc)
+
 pub stays_about : (s : State) (e : Event) → IsAbout e → subject e ≡ None → Stays s (after s e)
-stays_about s (Info notes) about none = stays_queue s notes.queue (with_notes notes)
-stays_about s (SetAccept queue accepting) about none = stays_queue s queue (with_accepting accepting)
-stays_about s (SetStop queue stopped) about none = stays_queue s queue (with_stopped stopped)
-stays_about s (AddQueue q) about none = absurd about
-stays_about s (Create n) about none = absurd about
-stays_about s (Clock m) about none = absurd about
-stays_about s Reopen about none = absurd about
-stays_about s (Send j bytes) about none = absurd (cc)
-stays_about s (Close c) about none = absurd (cc)
-stays_about s (Hold j until) about none = absurd (cc)
-stays_about s (Release j) about none = absurd (cc)
-stays_about s (Cancel j) about none = absurd (cc)
-stays_about s (Start j) about none = absurd (cc)
-stays_about s (Stage e) about none = absurd (cc)
-stays_about s (Abandon j) about none = absurd (cc)
+stays_about s e about none = stays_by s (change_by e) about none
 
 -- a new job is none that was there
 pub created : (s : State) → IsLegal s → (n : NewJob) → refusal_of s (Create n) ≡ None → Gains s (after s (Create n)) n.job (new_job n)

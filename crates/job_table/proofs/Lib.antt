@@ -6,12 +6,15 @@ pub mod Accepted
 pub mod Changes
 pub mod Rules
 pub mod Keys
+pub mod Follows
+mod RowChanges
 pub mod Legal
 pub mod Ended
 pub mod Reopened
 pub mod Choice
 pub mod Next
 pub mod Stages
+pub mod Over
 pub mod Above
 pub mod Loaded
 pub mod Settled

@@ -9,12 +9,11 @@ use Rattle.spool_types.specs.Phases.{has_ended}
 use Rattle.spool_types.specs.State.{State, Job}
 use Rattle.spool_types.specs.declared.rows.QueueRow.{QueueRow}
 use Rattle.spool_types.specs.declared.listing.Head.{Head}
-use Rattle.spool_types.specs.declared.listing.ListedJob.{ListedJob}
 use Rattle.spool_types.specs.declared.listing.Row.{Row}
 use Rattle.spool_types.specs.declared.listing.Row.TheVariants.{Head as HeadRow, Queue, Job as JobRow, Piece}
 use Rattle.job_table.specs.Documents.{document_len}
 use Rattle.job_table.specs.Legal.{IsLegal}
-use Rattle.job_table.specs.Loading.{Part, Progress, begin_loading, begun_part, headed, with_queue, with_job, with_piece, with_last, with_next_piece, loaded, unlisted, IsNewJob, IsNextQueue, IsNextPiece, IsPieceOf, IsPlaced}
+use Rattle.job_table.specs.Loading.{Part, Progress, begin_loading, begun_part, headed, with_queue, with_job, with_piece, with_last, with_next_piece, loaded, IsNewJob, IsNextQueue, IsNextPiece, IsPieceOf, IsPlaced}
 use Rattle.job_table.specs.Reading.{IsPartial, IsPartialIn, IsFresh, IsReading, IsGrown, part_of}
 use Rattle.job_table.specs.declared.loading.Partial.{Partial}
 use Rattle.job_table.proofs.Changes.{apart, some_same, one_more, legal_queue, legal_put}
@@ -68,8 +67,8 @@ reading_last p x begun legal new short = either (x.read == document_len x.row) r
     either false e = record { legal = legal; fresh = λ f. absurd (apart p.begun begun f); partial = short e }
 
 -- a listed job has no bytes yet
-pub unlisted_short : (s : State) (r : ListedJob) → IsNewJob s (unlisted r) → (0 == document_len (unlisted r)) ≡ false → IsPartial s (begun_part r)
-unlisted_short s r new short = either (has_ended r.phase) refl short
+pub listed_short : (s : State) (r : Job) → IsNewJob s r → (0 == document_len r) ≡ false → IsPartial s (begun_part r)
+listed_short s r new short = either (has_ended r.phase) refl short
   where
     either : (b : Bool) → has_ended r.phase ≡ b → (0 == cond b 0 r.size) ≡ false → IsPartial s (begun_part r)
     either true e short = absurd (cc)
@@ -106,7 +105,7 @@ reading_piece p (Some x) is j bytes next reading =
 pub reading_loaded : (p : Progress) (row : Row) → IsPlaced p row → IsReading p → IsReading (loaded p row)
 reading_loaded p (HeadRow head) placed reading = reading_head p head
 reading_loaded p (Queue q) placed reading = reading_queue p q placed reading
-reading_loaded p (JobRow r) placed reading = reading_last p (begun_part r) placed.begun reading.legal placed.new (unlisted_short p.state r placed.new)
+reading_loaded p (JobRow r) placed reading = reading_last p (begun_part r) placed.begun reading.legal placed.new (listed_short p.state r placed.new)
 reading_loaded p (Piece j bytes) placed reading = reading_piece p p.partial refl j bytes placed reading
 
 -- what is there after a row is seen by its parts

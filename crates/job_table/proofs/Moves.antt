@@ -5,31 +5,23 @@ use Rattle.std.specs.Cmp.{nat_cmp_total}
 use Rattle.std.specs.Cmp.Lexicographic.{slice_cmp, nat_list_cmp_total}
 use Rattle.std.specs.FinMap as finite
 use Rattle.spool_types.specs.declared.rows.QueueRow.{QueueRow}
-use Rattle.spool_types.specs.declared.event.Closing.{Closing}
 use Rattle.spool_types.specs.declared.event.Event.{Event}
-use Rattle.spool_types.specs.declared.event.Event.TheVariants.{AddQueue, Info, SetAccept, SetStop, Create, Send, Close, Hold, Release, Cancel, Clock, Start, Stage, Abandon, Reopen}
 use Rattle.spool_types.specs.State.{State, Job, queue_at, job_at}
 use Rattle.backend_codes.specs.declared.verdicts.Verdict.{Verdict}
 use Rattle.backend_codes.specs.declared.verdicts.Verdict.TheVariants as verdicts
-use Rattle.spool_types.specs.Phases.{hold_until}
 use Rattle.spool_types.specs.declared.effect.Effect.{Effect}
-use Rattle.spool_types.specs.declared.phase.Phase.TheVariants.{Canceled}
-use Rattle.spool_types.specs.declared.phase.Hold.TheVariants.{Free}
-use Rattle.job_table.specs.Attempts.{started, ruled, with_pages, with_effects, rule_by, rule_found, stage_verdict, lost_by, stops_queue}
-use Rattle.job_table.specs.Changes.{with_stopped, with_bytes, closed, held, ended, change_found, change_job, change_found_queue, change_queue, change_own_queue}
+use Rattle.job_table.specs.Attempts.{ruled, with_pages, with_effects, rule_by, rule_found, stops_queue}
+use Rattle.job_table.specs.Changes.{with_stopped, change_found, change_job, change_found_queue, change_queue, change_own_queue}
 use Rattle.row_effects.specs.Fold.{queue_after}
 use Rattle.job_table.specs.Ended.{subject}
 use Rattle.job_table.specs.Legal.{IsLegal}
-use Rattle.job_table.specs.Step.{after}
+use Rattle.job_table.specs.Shapes.{Change, NewQueueRow, OfQueue, NewJobRow, OfJob, OfBoth, OfClock, OfAll, subject_of, made}
+use Rattle.job_table.specs.Step.{change_by, refusal_of, after}
 use Rattle.job_table.proofs.Changes.{some_same, same_number, same_itself}
 use Rattle.job_table.proofs.Ended.{number_of}
 use Rattle.job_table.proofs.Keys.{keys_insert}
-use Rattle.job_table.proofs.Legal.{Keeps, legal_effects}
-
--- the job keeps its number and its queue
-pub record IsSameJob (r q : Job) : Type 0 where
-  pub id : q.id ≡ r.id
-  pub queue : q.queue ≡ r.queue
+use Rattle.job_table.proofs.Legal.{KeepsBy, Keeps, IsSound, sound, legal_effects}
+use Rattle.job_table.proofs.Follows.{IsSameJob}
 
 -- no job, no queue's name and no moment changes, but for the job of this number
 pub record Moves (s t : State) (j : ℕ) : Type 0 where
@@ -147,13 +139,6 @@ moves_ruled s legal j verdict (Some x) is = by_queue (queue_at s x.queue) refl
               (y, ap (finite.get (finite.insert s.jobs x.id y)) (sym id) ∙ put_own s x.id y, record { id = same.id ∙ ap (λ (z : Job). z.id) found; queue = same.queue ∙ ap (λ (z : Job). z.queue) found });
         }
 
-closed_same : (c : Closing) (r : Job) → IsSameJob r (closed c r)
-closed_same c r = by_filters c.filters refl
-  where
-    by_filters : (o : Option (List (List ℕ))) → c.filters ≡ o → IsSameJob r (closed c r)
-    by_filters None is = rw is (record { id = refl; queue = refl })
-    by_filters (Some filters) is = rw is (record { id = refl; queue = refl })
-
 moves_effects : (s : State) (j : ℕ) (effects : List Effect) → Moves s (with_effects s j effects) j
 moves_effects s j effects = moves_then s (change_job s j (with_pages effects)) (with_effects s j effects) j
     (moves_change s j (with_pages effects) (λ r. record { id = refl; queue = refl }))
@@ -164,21 +149,17 @@ module _ (s : State) (legal : IsLegal s) (j : ℕ) where
   at_number : (t : State) (k : ℕ) → Some k ≡ Some j → Moves s t k → Moves s t j
   at_number t k is all = subst (Moves s t) (number_of j k is) all
 
-  pub moves : (e : Event) → Keeps e → subject e ≡ Some j → Moves s (after s e) j
-  moves (AddQueue q) keeps is = absurd (cc)
-  moves (Info notes) keeps is = absurd (cc)
-  moves (SetAccept queue accepting) keeps is = absurd (cc)
-  moves (SetStop queue stopped) keeps is = absurd (cc)
-  moves (Create n) keeps is = absurd (cc)
-  moves (Send k bytes) keeps is = at_number _ k is (moves_change s k (with_bytes bytes) (λ r. record { id = refl; queue = refl }))
-  moves (Close c) keeps is = at_number _ c.job is (moves_change s c.job (closed c) (closed_same c))
-  moves (Hold k until) keeps is = at_number _ k is (moves_change s k (held (hold_until until)) (λ r. record { id = refl; queue = refl }))
-  moves (Release k) keeps is = at_number _ k is (moves_change s k (held Free) (λ r. record { id = refl; queue = refl }))
-  moves (Cancel k) keeps is = at_number _ k is (moves_change s k (ended Canceled) (λ r. record { id = refl; queue = refl }))
-  moves (Clock m) keeps is = absurd (cc)
-  moves (Start k) keeps is = at_number _ k is (moves_change s k started (λ r. record { id = refl; queue = refl }))
-  moves (Stage e) keeps is = at_number _ e.job is (moves_then s (with_effects s e.job e.effects) (after s (Stage e)) e.job
-      (moves_effects s e.job e.effects)
-      (moves_ruled (with_effects s e.job e.effects) (legal_effects s e.job e.effects keeps legal) e.job (stage_verdict e.exit) _ refl))
-  moves (Abandon k) keeps is = at_number _ k is (moves_ruled s legal k lost_by _ refl)
-  moves Reopen keeps is = absurd (cc)
+  moves_by : (change : Change) → KeepsBy change → IsSound s change → subject_of change ≡ Some j → Moves s (made s change) j
+  moves_by (NewQueueRow q) keeps sound is = absurd (cc)
+  moves_by (OfQueue name f) keeps sound is = absurd (cc)
+  moves_by (NewJobRow x) keeps sound is = absurd (cc)
+  moves_by (OfJob k f) keeps sound is = at_number _ k is (moves_change s k f sound.same)
+  moves_by (OfBoth k None verdict) keeps sound is = at_number _ k is (moves_ruled s legal k verdict _ refl)
+  moves_by (OfBoth k (Some effects) verdict) keeps sound is = at_number _ k is (moves_then s (with_effects s k effects) (made s (OfBoth k (Some effects) verdict)) k
+      (moves_effects s k effects)
+      (moves_ruled (with_effects s k effects) (legal_effects s k effects keeps legal) k verdict _ refl))
+  moves_by (OfClock m) keeps sound is = absurd (cc)
+  moves_by OfAll keeps sound is = absurd (cc)
+
+  pub moves : (e : Event) → Keeps e → refusal_of s e ≡ None → subject e ≡ Some j → Moves s (after s e) j
+  moves e keeps accepted is = moves_by (change_by e) keeps (sound s e accepted) is

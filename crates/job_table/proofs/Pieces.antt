@@ -6,7 +6,7 @@ use Rattle.spool_types.specs.Limits.{longest_send}
 use Rattle.spool_types.specs.State.{Job}
 use Rattle.spool_types.specs.declared.listing.Row.{Row}
 use Rattle.spool_types.specs.declared.listing.Row.TheVariants.{Job as JobRow, Piece}
-use Rattle.job_table.specs.Listing.{listed, parts, pieces, job_rows}
+use Rattle.job_table.specs.Listing.{parts, pieces, job_rows}
 
 pub nothing_of : {X : Type 0} (xs : List X) → length xs ≡ 0 → xs ≡ []
 nothing_of [] e = refl
@@ -52,4 +52,4 @@ pieces_more xs bytes n len some le =
 pub job_rows_more : (r : Job) (document bytes : List ℕ) (n : ℕ) → length document ≡ n * longest_send → 1 ≤ length bytes → length bytes ≤ longest_send → job_rows r (document ++ bytes) ≡ job_rows r document ++ Piece r.id bytes ∷ []
 job_rows_more r document bytes n len some le =
     let piece : List ℕ → Row = λ part. Piece r.id part in
-    ap (λ rows. JobRow (listed r) ∷ rows) (ap (map piece) (pieces_more document bytes n len some le) ∙ map-append piece (pieces document) (bytes ∷ []))
+    ap (λ rows. JobRow r ∷ rows) (ap (map piece) (pieces_more document bytes n len some le) ∙ map-append piece (pieces document) (bytes ∷ []))

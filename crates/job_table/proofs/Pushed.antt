@@ -32,19 +32,19 @@ last_false false false z y all first is rest = rest
 last_false true own z y all first is rest = absurd (cc)
 
 -- the places of a row that goes last are found as if it were the first
-found_step : (z y : JobRow) (zs : List JobRow) (j : ℕ) → nat_cmp z.id y.id ≡ Less → places_of (map place_entry (zs ++ y ∷ [])) j ≡ places_of (place_entry y ∷ map place_entry zs) j
-    → (b : Bool) → is_eq (nat_cmp j z.id) ≡ b → places_of (map place_entry (z ∷ (zs ++ y ∷ []))) j ≡ places_of (place_entry y ∷ place_entry z ∷ map place_entry zs) j
+found_step : (z y : JobRow) (zs : List JobRow) (j : ℕ) → nat_cmp z.job.id y.job.id ≡ Less → places_of (map place_entry (zs ++ y ∷ [])) j ≡ places_of (place_entry y ∷ map place_entry zs) j
+    → (b : Bool) → is_eq (nat_cmp j z.job.id) ≡ b → places_of (map place_entry (z ∷ (zs ++ y ∷ []))) j ≡ places_of (place_entry y ∷ place_entry z ∷ map place_entry zs) j
 found_step z y zs j less rest true here =
-    last_true (is_eq (nat_cmp j z.id)) (is_eq (nat_cmp j y.id)) z.document.items y.document.items (finite.find nat_cmp j (map place_entry (zs ++ y ∷ []))) (finite.find nat_cmp j (map place_entry zs)) here
-    (ap (λ (k : ℕ). is_eq (nat_cmp k y.id)) (same_number z.id j here) ∙ ap is_eq less)
+    last_true (is_eq (nat_cmp j z.job.id)) (is_eq (nat_cmp j y.job.id)) z.document.items y.document.items (finite.find nat_cmp j (map place_entry (zs ++ y ∷ []))) (finite.find nat_cmp j (map place_entry zs)) here
+    (ap (λ (k : ℕ). is_eq (nat_cmp k y.job.id)) (same_number z.job.id j here) ∙ ap is_eq less)
 found_step z y zs j less rest false other =
-    last_false (is_eq (nat_cmp j z.id)) (is_eq (nat_cmp j y.id)) z.document.items y.document.items (finite.find nat_cmp j (map place_entry (zs ++ y ∷ []))) (finite.find nat_cmp j (map place_entry zs)) other rest
+    last_false (is_eq (nat_cmp j z.job.id)) (is_eq (nat_cmp j y.job.id)) z.document.items y.document.items (finite.find nat_cmp j (map place_entry (zs ++ y ∷ []))) (finite.find nat_cmp j (map place_entry zs)) other rest
 
-found_last : (ys : List JobRow) (y : JobRow) → IsAbove nat_cmp y.id (map (λ (r : JobRow). r.id) ys) → (j : ℕ) → places_of (map place_entry (ys ++ y ∷ [])) j ≡ places_of (place_entry y ∷ map place_entry ys) j
+found_last : (ys : List JobRow) (y : JobRow) → IsAbove nat_cmp y.job.id (map (λ (r : JobRow). r.job.id) ys) → (j : ℕ) → places_of (map place_entry (ys ++ y ∷ [])) j ≡ places_of (place_entry y ∷ map place_entry ys) j
 found_last [] y above j = refl
-found_last (z ∷ zs) y above j = found_step z y zs j above.0 (found_last zs y above.1 j) (is_eq (nat_cmp j z.id)) refl
+found_last (z ∷ zs) y above j = found_step z y zs j above.0 (found_last zs y above.1 j) (is_eq (nat_cmp j z.job.id)) refl
 
-above_entries : (k : ℕ) (ys : List JobRow) → IsAbove nat_cmp k (map (λ (r : JobRow). r.id) ys) → IsAbove nat_cmp k (map (λ (e : ℕ × List Extent). e.0) (map place_entry ys))
+above_entries : (k : ℕ) (ys : List JobRow) → IsAbove nat_cmp k (map (λ (r : JobRow). r.job.id) ys) → IsAbove nat_cmp k (map (λ (e : ℕ × List Extent). e.0) (map place_entry ys))
 above_entries k [] above = tt
 above_entries k (y ∷ ys) above = (above.0, above_entries k ys above.1)
 
@@ -68,9 +68,9 @@ module _ (a : Inside) (ordered : IsOrdered a) where
       legal = subst IsLegal (sym push_queue_state) legal;
     }
 
-  module _ (row : JobRow) (vs : Vec JobRow Global) (above : IsAbove nat_cmp row.id (finite.keys (contents_of a).state.jobs)) (items : vs.items ≡ a.jobs.items ++ row ∷ []) where
-    job_gap : IsJobGap a.jobs.items row.id (length a.jobs.items)
-    job_gap = last_gap nat_cmp nat_cmp_total (λ r. r.id) job_of row.id a.jobs.items (subst (IsAbove nat_cmp row.id) (keys_jobs a.jobs.items ordered.jobs) above)
+  module _ (row : JobRow) (vs : Vec JobRow Global) (above : IsAbove nat_cmp row.job.id (finite.keys (contents_of a).state.jobs)) (items : vs.items ≡ a.jobs.items ++ row ∷ []) where
+    job_gap : IsJobGap a.jobs.items row.job.id (length a.jobs.items)
+    job_gap = last_gap nat_cmp nat_cmp_total (λ r. r.job.id) job_of row.job.id a.jobs.items (subst (IsAbove nat_cmp row.job.id) (keys_jobs a.jobs.items ordered.jobs) above)
 
     job_last : vs.items ≡ insert a.jobs.items (length a.jobs.items) row
     job_last = items ∙ sym (insert_last a.jobs.items row)
@@ -89,7 +89,7 @@ module _ (a : Inside) (ordered : IsOrdered a) where
 
     pub push_job_places : (j : ℕ) → places_at (contents_of (record a { jobs = vs })) j ≡ places_of (place_entry row ∷ (contents_of a).places) j
     push_job_places j = ap (λ ys. places_of (map place_entry ys) j) items
-        ∙ found_last a.jobs.items row (subst (IsAbove nat_cmp row.id) (keys_jobs a.jobs.items ordered.jobs) above) j
+        ∙ found_last a.jobs.items row (subst (IsAbove nat_cmp row.job.id) (keys_jobs a.jobs.items ordered.jobs) above) j
 
   -- a number above all has no places
   pub above_places : (k : ℕ) → IsAbove nat_cmp k (finite.keys (contents_of a).state.jobs) → places_at (contents_of a) k ≡ []

@@ -21,7 +21,7 @@ use Rattle.spool_types.specs.declared.listing.Row.{Row}
 use Rattle.spool_types.specs.declared.listing.Row.TheVariants.{Head as HeadRow, Queue, Job as JobRow, Piece}
 use Rattle.job_table.specs.Documents.{document_len, AreDocuments}
 use Rattle.job_table.specs.Legal.{IsLegal}
-use Rattle.job_table.specs.Listing.{listing, listed, parts, job_rows}
+use Rattle.job_table.specs.Listing.{listing, parts, job_rows}
 use Rattle.job_table.specs.Loading.{Part, Progress, IsAbove, begin_loading, begun_part, with_job, with_piece, with_last, loaded, IsWhole, IsNewJob, IsPlaced, ArePlaced, loaded_all}
 use Rattle.job_table.proofs.Above.{entries_above, above_front, found_there, absent_above, found_more}
 use Rattle.job_table.proofs.Rows.{true_from}
@@ -126,17 +126,17 @@ alive_with r some = either (has_ended r.phase) refl some
 
 -- a job and its pieces
 job_leads : (t : State) (r : Job) (document : List ℕ) → IsNewJob t r → length document ≡ document_len r → (doc : List ℕ) → doc ≡ document → Leads (whole_at t) (job_rows r doc) (whole_at (with_job t r))
-job_leads t r document new due [] is = leads_one (whole_at t) (JobRow (listed r)) [] (whole_at (with_job t r)) (record { begun = refl; whole = refl; new = new }) (record {
+job_leads t r document new due [] is = leads_one (whole_at t) (JobRow r) [] (whole_at (with_job t r)) (record { begun = refl; whole = refl; new = new }) (record {
   placed = tt;
-  is = put_whole (whole_at t) (begun_part (listed r)) (ap length is ∙ due);
+  is = put_whole (whole_at t) (begun_part r) (ap length is ∙ due);
 })
 job_leads t r document new due (b ∷ bs) is =
     let doc : List ℕ = b ∷ bs in
     let some : 1 ≤ document_len r = omega (arith, due, ap length is) in
     let count = piece_count (length doc) (omega arith) in
-    subst (λ m. Leads (whole_at t) (JobRow (listed r) ∷ map (λ bytes. Piece r.id bytes) (parts longest_send m doc)) (whole_at (with_job t r))) (sym count.1)
-    (leads_one (whole_at t) (JobRow (listed r)) (map (λ bytes. Piece r.id bytes) (parts longest_send (suc count.0) doc)) (whole_at (with_job t r)) (record { begun = refl; whole = refl; new = new })
-    (subst (λ p. Leads p (map (λ bytes. Piece r.id bytes) (parts longest_send (suc count.0) doc)) (whole_at (with_job t r))) (sym (stay_short (whole_at t) (begun_part (listed r)) some))
+    subst (λ m. Leads (whole_at t) (JobRow r ∷ map (λ bytes. Piece r.id bytes) (parts longest_send m doc)) (whole_at (with_job t r))) (sym count.1)
+    (leads_one (whole_at t) (JobRow r) (map (λ bytes. Piece r.id bytes) (parts longest_send (suc count.0) doc)) (whole_at (with_job t r)) (record { begun = refl; whole = refl; new = new })
+    (subst (λ p. Leads p (map (λ bytes. Piece r.id bytes) (parts longest_send (suc count.0) doc)) (whole_at (with_job t r))) (sym (stay_short (whole_at t) (begun_part r) some))
     (pieces_lead t r document due (alive_with r some) count.0 [] doc is count.2 count.3)))
 
 -- ## The rows of a table

@@ -16,7 +16,7 @@ use Rattle.job_table.specs.Contents.{Noted, HasMoves, places_at, places_of}
 use Rattle.job_table.specs.Documents.{document_len}
 use Rattle.job_table.specs.Lanes.{AreBeside}
 use Rattle.job_table.specs.Legal.{IsLegal}
-use Rattle.job_table.specs.Noted.{new_entry, new_spare, spare_entry, blank_entry, IsNewFor}
+use Rattle.job_table.specs.Noted.{new_entry, new_spare, spare_entry, blank_entry, IsNewOf}
 use Rattle.job_table.specs.Rows.{job_entry, place_entry, HoldsDocument, HoldDocuments, HasNew, IsMoved}
 use Rattle.job_table.specs.Seen.{contents_of, IsOrdered}
 use Rattle.job_table.specs.declared.new_places.NewDocument.{NewDocument}
@@ -33,26 +33,26 @@ beside_first P k ks y ys are = are.each 0 k y (omega arith)
 
 -- ## Nothing is noted yet
 
-pub noted_blank : (rs : List JobRow) (ds : List NewDocument) → AreBeside IsNewFor rs ds → map new_entry ds ≡ map blank_entry rs
+pub noted_blank : (rs : List JobRow) (ds : List NewDocument) → AreBeside IsNewOf rs ds → map new_entry ds ≡ map blank_entry rs
 noted_blank [] [] are = refl
 noted_blank [] (d ∷ ds) are = absurd (omega (arith, are.count))
 noted_blank (r ∷ rs) [] are = absurd (omega (arith, are.count))
 noted_blank (r ∷ rs) (d ∷ ds) are =
-    let own = beside_first IsNewFor r rs d ds are in
-    λ i. (own.job i, own.none i) ∷ noted_blank rs ds (beside_rest IsNewFor r rs d ds are) i
+    let own = beside_first IsNewOf r rs d ds are in
+    λ i. (own.job i, own.none i) ∷ noted_blank rs ds (beside_rest IsNewOf r rs d ds are) i
 
 room_here : (b : Bool) (spare : ℕ) (rest : Option ℕ) (x r : Job) (found : Option Job) → document_len x ≤ spare * longest_send → cond b (Some x) found ≡ Some r → (found ≡ Some r → document_len r ≤ unwrap_or rest 0 * longest_send) → document_len r ≤ unwrap_or (cond b (Some spare) rest) 0 * longest_send
 room_here true spare rest x r found own is later = subst (λ (y : Job). document_len y ≤ spare * longest_send) (some_same x r is) own
 room_here false spare rest x r found own is later = later is
 
-pub room_blank : (rs : List JobRow) (ds : List NewDocument) → AreBeside IsNewFor rs ds → (j : ℕ) (r : Job) → finite.find nat_cmp j (map job_entry rs) ≡ Some r → document_len r ≤ unwrap_or (finite.find nat_cmp j (map spare_entry ds)) 0 * longest_send
+pub room_blank : (rs : List JobRow) (ds : List NewDocument) → AreBeside IsNewOf rs ds → (j : ℕ) (r : Job) → finite.find nat_cmp j (map job_entry rs) ≡ Some r → document_len r ≤ unwrap_or (finite.find nat_cmp j (map spare_entry ds)) 0 * longest_send
 room_blank [] ds are j r there = absurd (cc)
 room_blank (x ∷ rs) [] are j r there = absurd (omega (arith, are.count))
 room_blank (x ∷ rs) (d ∷ ds) are j r there =
-    let own = beside_first IsNewFor x rs d ds are in
+    let own = beside_first IsNewOf x rs d ds are in
     subst (λ n. document_len r ≤ unwrap_or (cond (is_eq (nat_cmp j n)) (Some (new_spare d)) (finite.find nat_cmp j (map spare_entry ds))) 0 * longest_send) (sym own.job)
-    (room_here (is_eq (nat_cmp j x.id)) (new_spare d) (finite.find nat_cmp j (map spare_entry ds)) (job_of x) r (finite.find nat_cmp j (map job_entry rs)) own.room there
-    (λ later. room_blank rs ds (beside_rest IsNewFor x rs d ds are) j r later))
+    (room_here (is_eq (nat_cmp j x.job.id)) (new_spare d) (finite.find nat_cmp j (map spare_entry ds)) (job_of x) r (finite.find nat_cmp j (map job_entry rs)) own.room there
+    (λ later. room_blank rs ds (beside_rest IsNewOf x rs d ds are) j r later))
 
 -- ## Rows whose documents have moved
 
@@ -67,19 +67,19 @@ module _ (places : List (ℕ × List Extent)) where
 
   -- new places of the document's length
   abbrev pub HasWhole : JobRow → Type 0
-  HasWhole r = has_ended r.phase ≡ false → size_of (places_of places r.id) ≡ r.size
+  HasWhole r = has_ended r.job.phase ≡ false → size_of (places_of places r.job.id) ≡ r.job.size
 
-  same_phase : (x y : JobRow) → IsMoved places x y → has_ended y.phase ≡ has_ended x.phase
+  same_phase : (x y : JobRow) → IsMoved places x y → has_ended y.job.phase ≡ has_ended x.job.phase
   same_phase x y moved = ap (λ (r : Job). has_ended r.phase) moved.row
 
   moved_holds : (x y : JobRow) → IsMoved places x y → HasWhole x → HoldsDocument x → HoldsDocument y
-  moved_holds x y moved whole holds = either (has_ended x.phase) refl
+  moved_holds x y moved whole holds = either (has_ended x.job.phase) refl
     where
-      either : (b : Bool) → has_ended x.phase ≡ b → HoldsDocument y
+      either : (b : Bool) → has_ended x.job.phase ≡ b → HoldsDocument y
       either true e = subst HoldsDocument (sym (moved.over e)) holds
       either false e = record {
-        freed = λ over. absurd (apart (has_ended x.phase) (sym (same_phase x y moved) ∙ over) e);
-        sized = ap size_of (moved.lives e) ∙ whole e ∙ sym (ap (λ b. cond b 0 x.size) e) ∙ sym (ap document_len moved.row);
+        freed = λ over. absurd (apart (has_ended x.job.phase) (sym (same_phase x y moved) ∙ over) e);
+        sized = ap size_of (moved.lives e) ∙ whole e ∙ sym (ap (λ b. cond b 0 x.job.size) e) ∙ sym (ap document_len moved.row);
       }
 
   pub moved_hold : (xs ys : List JobRow) → AreBeside (IsMoved places) xs ys → ((i : ℕ) (d : JobRow) → i < length xs → HasWhole (get_or xs i d)) → HoldDocuments xs → HoldDocuments ys
@@ -90,7 +90,7 @@ module _ (places : List (ℕ × List Extent)) where
     moved_hold xs ys (beside_rest (IsMoved places) x xs y ys are) (λ i d lt. whole (suc i) d (omega arith)) holds.1,
   )
 
-  place_here : (b : Bool) (j : ℕ) (y : JobRow) (r : Job) (found : Option Job) (rest : Option (List Extent)) → (b ≡ true → has_ended y.phase ≡ false → y.document.items ≡ places_of places j) → cond b (Some (job_of y)) found ≡ Some r → has_ended r.phase ≡ false → (found ≡ Some r → unwrap_or rest [] ≡ places_of places j) → unwrap_or (cond b (Some y.document.items) rest) [] ≡ places_of places j
+  place_here : (b : Bool) (j : ℕ) (y : JobRow) (r : Job) (found : Option Job) (rest : Option (List Extent)) → (b ≡ true → has_ended y.job.phase ≡ false → y.document.items ≡ places_of places j) → cond b (Some (job_of y)) found ≡ Some r → has_ended r.phase ≡ false → (found ≡ Some r → unwrap_or rest [] ≡ places_of places j) → unwrap_or (cond b (Some y.document.items) rest) [] ≡ places_of places j
   place_here true j y r found rest own is lives later = own refl (ap (λ (x : Job). has_ended x.phase) (some_same (job_of y) r is) ∙ lives)
   place_here false j y r found rest own is lives later = later is
 
@@ -99,13 +99,13 @@ module _ (places : List (ℕ × List Extent)) where
   moved_places [] (y ∷ ys) are j r there lives = absurd (omega (arith, are.count))
   moved_places (x ∷ xs) (y ∷ ys) are j r there lives =
       let own = beside_first (IsMoved places) x xs y ys are in
-      place_here (is_eq (nat_cmp j y.id)) j y r (finite.find nat_cmp j (map job_entry ys)) (finite.find nat_cmp j (map place_entry ys))
-      (λ here live. own.lives (sym (same_phase x y own) ∙ live) ∙ ap (places_of places) (sym (ap (λ (q : Job). q.id) own.row) ∙ sym (same_number y.id j here)))
+      place_here (is_eq (nat_cmp j y.job.id)) j y r (finite.find nat_cmp j (map job_entry ys)) (finite.find nat_cmp j (map place_entry ys))
+      (λ here live. own.lives (sym (same_phase x y own) ∙ live) ∙ ap (places_of places) (sym (ap (λ (q : Job). q.id) own.row) ∙ sym (same_number y.job.id j here)))
       there lives
       (λ later. moved_places xs ys (beside_rest (IsMoved places) x xs y ys are) j r later lives)
 
 -- the same places for this job
-pub moved_as : (from to : List (ℕ × List Extent)) (x y : JobRow) → finite.find nat_cmp x.id from ≡ finite.find nat_cmp x.id to → IsMoved from x y → IsMoved to x y
+pub moved_as : (from to : List (ℕ × List Extent)) (x y : JobRow) → finite.find nat_cmp x.job.id from ≡ finite.find nat_cmp x.job.id to → IsMoved from x y → IsMoved to x y
 moved_as from to x y same moved = record {
   row = moved.row;
   lives = λ e. moved.lives e ∙ ap (λ o. unwrap_or o []) same;
@@ -116,11 +116,11 @@ less_and_equal : (o : Ordering) → o ≡ Less → o ≡ Equal → ⊥
 less_and_equal o less equal = cc
 
 -- no two rows have one number
-pub ids_apart : (ys : List JobRow) → IsTrue (finite.is_sorted nat_cmp (map job_entry ys)) → (i j : ℕ) (d e : JobRow) → i < j → j < length ys → ¬ ((get_or ys j d).id ≡ (get_or ys i e).id)
+pub ids_apart : (ys : List JobRow) → IsTrue (finite.is_sorted nat_cmp (map job_entry ys)) → (i j : ℕ) (d e : JobRow) → i < j → j < length ys → ¬ ((get_or ys j d).job.id ≡ (get_or ys i e).job.id)
 ids_apart ys sorted i j d e lt within same =
-    let less = rows.rise nat_cmp nat_cmp_total (λ (r : JobRow). r.id) job_of ys (rows.t_from _ sorted) i j d lt within in
-    let own : (get_or ys i d).id ≡ (get_or ys j d).id = ap (λ (r : JobRow). r.id) (get_or_default ys i d e (omega arith)) ∙ sym same in
-    less_and_equal (nat_cmp (get_or ys j d).id (get_or ys j d).id) (ap (λ n. nat_cmp n (get_or ys j d).id) (sym own) ∙ less) (tied_itself nat_cmp_total (get_or ys j d).id)
+    let less = rows.rise nat_cmp nat_cmp_total (λ (r : JobRow). r.job.id) job_of ys (rows.t_from _ sorted) i j d lt within in
+    let own : (get_or ys i d).job.id ≡ (get_or ys j d).job.id = ap (λ (r : JobRow). r.job.id) (get_or_default ys i d e (omega arith)) ∙ sym same in
+    less_and_equal (nat_cmp (get_or ys j d).job.id (get_or ys j d).job.id) (ap (λ n. nat_cmp n (get_or ys j d).job.id) (sym own) ∙ less) (tied_itself nat_cmp_total (get_or ys j d).job.id)
 
 blank_here : (b : Bool) (x r : Job) (found : Option Job) (rest : Option (List Extent)) → cond b (Some x) found ≡ Some r → (found ≡ Some r → rest ≡ Some []) → cond b (Some []) rest ≡ Some []
 blank_here true x r found rest is later = refl
@@ -130,24 +130,24 @@ blank_here false x r found rest is later = later is
 pub blank_found : (rs : List JobRow) (j : ℕ) (r : Job) → finite.find nat_cmp j (map job_entry rs) ≡ Some r → finite.find nat_cmp j (map blank_entry rs) ≡ Some []
 blank_found [] j r there = absurd (cc)
 blank_found (x ∷ rs) j r there =
-    blank_here (is_eq (nat_cmp j x.id)) (job_of x) r (finite.find nat_cmp j (map job_entry rs)) (finite.find nat_cmp j (map blank_entry rs)) there
+    blank_here (is_eq (nat_cmp j x.job.id)) (job_of x) r (finite.find nat_cmp j (map job_entry rs)) (finite.find nat_cmp j (map blank_entry rs)) there
     (λ later. blank_found rs j r later)
 
 module _ (a : Inside) (ordered : IsOrdered a) (noted : Noted) (has : HasMoves (contents_of a).state noted) where
-  own_place : (i : ℕ) (d : JobRow) → i < length a.jobs.items → IsJobPlace a.jobs.items (get_or a.jobs.items i d).id i
+  own_place : (i : ℕ) (d : JobRow) → i < length a.jobs.items → IsJobPlace a.jobs.items (get_or a.jobs.items i d).job.id i
   own_place i d lt = record {
     in_range = lt;
-    same = λ e. ap (λ (r : JobRow). nat_cmp r.id (get_or a.jobs.items i d).id) (get_or_default a.jobs.items i e d lt) ∙ tied_itself nat_cmp_total (get_or a.jobs.items i d).id;
+    same = λ e. ap (λ (r : JobRow). nat_cmp r.job.id (get_or a.jobs.items i d).job.id) (get_or_default a.jobs.items i e d lt) ∙ tied_itself nat_cmp_total (get_or a.jobs.items i d).job.id;
   }
 
-  job_here : (i : ℕ) (d : JobRow) → i < length a.jobs.items → job_at (contents_of a).state (get_or a.jobs.items i d).id ≡ Some (job_of (get_or a.jobs.items i d))
-  job_here i d lt = get_job a.jobs.items ordered.jobs (get_or a.jobs.items i d).id i d (own_place i d lt)
+  job_here : (i : ℕ) (d : JobRow) → i < length a.jobs.items → job_at (contents_of a).state (get_or a.jobs.items i d).job.id ≡ Some (job_of (get_or a.jobs.items i d))
+  job_here i d lt = get_job a.jobs.items ordered.jobs (get_or a.jobs.items i d).job.id i d (own_place i d lt)
 
   pub each_new : (i : ℕ) (d : JobRow) → i < length a.jobs.items → HasNew noted.places (get_or a.jobs.items i d)
-  each_new i d lt lives = (has (get_or a.jobs.items i d).id (job_of (get_or a.jobs.items i d)) (job_here i d lt) lives).0
+  each_new i d lt lives = (has (get_or a.jobs.items i d).job.id (job_of (get_or a.jobs.items i d)) (job_here i d lt) lives).0
 
   each_whole : (i : ℕ) (d : JobRow) → i < length a.jobs.items → HasWhole noted.places (get_or a.jobs.items i d)
-  each_whole i d lt lives = (has (get_or a.jobs.items i d).id (job_of (get_or a.jobs.items i d)) (job_here i d lt) lives).1
+  each_whole i d lt lives = (has (get_or a.jobs.items i d).job.id (job_of (get_or a.jobs.items i d)) (job_here i d lt) lives).1
 
   module _ (new : List JobRow) (count : length new ≡ length a.jobs.items) (each : (i : ℕ) (d : JobRow) → i < length new → IsMoved noted.places (get_or a.jobs.items i d) (get_or new i d)) (vs : Vec JobRow Global) (items : vs.items ≡ new) where
     beside : AreBeside (IsMoved noted.places) a.jobs.items new

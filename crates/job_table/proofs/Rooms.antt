@@ -7,7 +7,8 @@ use Rattle.std.specs.FinMap as finite
 use Rattle.spool_types.specs.Phases.{has_ended}
 use Rattle.spool_types.specs.State.{Job, job_of}
 use Rattle.spool_types.specs.declared.rows.JobRow.{JobRow}
-use Rattle.job_table.specs.Contents.{Contents, Room, HasNoMore, is_over, places_of}
+use Rattle.job_table.specs.Over.{is_over_by}
+use Rattle.job_table.specs.Contents.{Contents, Room, HasNoMore, places_of}
 use Rattle.extents.specs.declared.extent.Extent.{Extent}
 use Rattle.extents.specs.Extents.{size_of}
 use Rattle.job_table.specs.Documents.{document_len}
@@ -46,20 +47,20 @@ none_more : (b : Bool) (n : ℕ) (o : Option ℕ) → n ≡ 0 → unwrap_or (con
 none_more true n o none = rw none (omega arith)
 none_more false n o none = omega arith
 
-pub room_set : (ys : List JobRow) (i : ℕ) (y d : JobRow) → i < length ys → y.id ≡ (get_or ys i d).id → document_spare y ≤ document_spare (get_or ys i d) → (j : ℕ) → room_among (set ys i y) j ≤ room_among ys j
+pub room_set : (ys : List JobRow) (i : ℕ) (y d : JobRow) → i < length ys → y.job.id ≡ (get_or ys i d).job.id → document_spare y ≤ document_spare (get_or ys i d) → (j : ℕ) → room_among (set ys i y) j ≤ room_among ys j
 room_set [] i y d lt same le j = absurd (omega arith)
 room_set (z ∷ zs) zero y d lt same le j =
     subst (λ n. unwrap_or (cond (is_eq (nat_cmp j n)) (Some (document_spare y)) (finite.find nat_cmp j (map document_entry zs))) 0 ≤ room_among (z ∷ zs) j) (sym same)
-    (at_most_either (is_eq (nat_cmp j z.id)) (document_spare y) (document_spare z) (finite.find nat_cmp j (map document_entry zs)) (finite.find nat_cmp j (map document_entry zs)) le (omega arith))
+    (at_most_either (is_eq (nat_cmp j z.job.id)) (document_spare y) (document_spare z) (finite.find nat_cmp j (map document_entry zs)) (finite.find nat_cmp j (map document_entry zs)) le (omega arith))
 room_set (z ∷ zs) (suc i) y d lt same le j =
-    at_most_either (is_eq (nat_cmp j z.id)) (document_spare z) (document_spare z) (finite.find nat_cmp j (map document_entry (set zs i y))) (finite.find nat_cmp j (map document_entry zs)) (omega arith) (room_set zs i y d (omega arith) same le j)
+    at_most_either (is_eq (nat_cmp j z.job.id)) (document_spare z) (document_spare z) (finite.find nat_cmp j (map document_entry (set zs i y))) (finite.find nat_cmp j (map document_entry zs)) (omega arith) (room_set zs i y d (omega arith) same le j)
 
 pub room_insert : (ys : List JobRow) (i : ℕ) (y : JobRow) → i ≤ length ys → document_spare y ≡ 0 → (j : ℕ) → room_among (insert ys i y) j ≤ room_among ys j
-room_insert [] zero y le none j = none_more (is_eq (nat_cmp j y.id)) (document_spare y) None none
+room_insert [] zero y le none j = none_more (is_eq (nat_cmp j y.job.id)) (document_spare y) None none
 room_insert [] (suc i) y le none j = absurd (omega arith)
-room_insert (z ∷ zs) zero y le none j = none_more (is_eq (nat_cmp j y.id)) (document_spare y) (finite.find nat_cmp j (map document_entry (z ∷ zs))) none
+room_insert (z ∷ zs) zero y le none j = none_more (is_eq (nat_cmp j y.job.id)) (document_spare y) (finite.find nat_cmp j (map document_entry (z ∷ zs))) none
 room_insert (z ∷ zs) (suc i) y le none j =
-    at_most_either (is_eq (nat_cmp j z.id)) (document_spare z) (document_spare z) (finite.find nat_cmp j (map document_entry (insert zs i y))) (finite.find nat_cmp j (map document_entry zs)) (omega arith) (room_insert zs i y (omega arith) none j)
+    at_most_either (is_eq (nat_cmp j z.job.id)) (document_spare z) (document_spare z) (finite.find nat_cmp j (map document_entry (insert zs i y))) (finite.find nat_cmp j (map document_entry zs)) (omega arith) (room_insert zs i y (omega arith) none j)
 
 pub holds_set : (ys : List JobRow) (i : ℕ) (y d : JobRow) → i < length ys → (HoldsDocument (get_or ys i d) → HoldsDocument y) → HoldDocuments ys → HoldDocuments (set ys i y)
 holds_set [] i y d lt keeps holds = absurd (omega arith)
@@ -87,7 +88,7 @@ freed_here rest room z r false freed over e later = later e
 -- a job that has ended has no room
 pub freed_room : (ys : List JobRow) → HoldDocuments ys → (j : ℕ) (r : Job) → finite.find nat_cmp j (map job_entry ys) ≡ Some r → has_ended r.phase ≡ true → room_among ys j ≡ 0
 freed_room [] freed j r there over = refl
-freed_room (z ∷ zs) freed j r there over = freed_here _ _ z r (is_eq (nat_cmp j z.id)) freed.0.freed over there (λ later. freed_room zs freed.1 j r later over)
+freed_room (z ∷ zs) freed j r there over = freed_here _ _ z r (is_eq (nat_cmp j z.job.id)) freed.0.freed over there (λ later. freed_room zs freed.1 j r later over)
 
 -- ## Where documents lie, where rows are put in or written over
 
@@ -99,40 +100,49 @@ either_place true x y o p same rest = same
 either_place false x y o p same rest = rest
 
 -- a row with the same document
-pub places_same : (ys : List JobRow) (i : ℕ) (y d : JobRow) → i < length ys → y.id ≡ (get_or ys i d).id → y.document.items ≡ (get_or ys i d).document.items → (j : ℕ) → places_among (set ys i y) j ≡ places_among ys j
+pub places_same : (ys : List JobRow) (i : ℕ) (y d : JobRow) → i < length ys → y.job.id ≡ (get_or ys i d).job.id → y.document.items ≡ (get_or ys i d).document.items → (j : ℕ) → places_among (set ys i y) j ≡ places_among ys j
 places_same [] i y d lt same document j = absurd (omega arith)
 places_same (z ∷ zs) zero y d lt same document j =
     ap (λ n. unwrap_or (cond (is_eq (nat_cmp j n)) (Some y.document.items) (finite.find nat_cmp j (map place_entry zs))) []) same
-    ∙ either_place (is_eq (nat_cmp j z.id)) y.document.items z.document.items _ _ document refl
+    ∙ either_place (is_eq (nat_cmp j z.job.id)) y.document.items z.document.items _ _ document refl
 places_same (z ∷ zs) (suc i) y d lt same document j =
-    either_place (is_eq (nat_cmp j z.id)) z.document.items z.document.items _ _ refl (places_same zs i y d (omega arith) same document j)
+    either_place (is_eq (nat_cmp j z.job.id)) z.document.items z.document.items _ _ refl (places_same zs i y d (omega arith) same document j)
+
+-- the job that is found, if any, has ended
+abbrev pub ended_found : Option Job → Bool
+ended_found None = false
+ended_found (Some r) = has_ended r.phase
+
+pub lasts_found : (highest j : ℕ) (o : Option Job) → is_over_by highest j o ≡ false → ended_found o ≡ false
+lasts_found highest j None lives = refl
+lasts_found highest j (Some r) lives = lives
 
 -- a row with the same document, unless its job has ended
-kept_here : (b : Bool) (y : JobRow) (x : List Extent) (found : Option Job) (o p : Option (List Extent)) → (has_ended y.phase ≡ false → y.document.items ≡ x) → is_over (cond b (Some (job_of y)) found) ≡ false → unwrap_or o [] ≡ unwrap_or p [] → unwrap_or (cond b (Some y.document.items) o) [] ≡ unwrap_or (cond b (Some x) p) []
+kept_here : (b : Bool) (y : JobRow) (x : List Extent) (found : Option Job) (o p : Option (List Extent)) → (has_ended y.job.phase ≡ false → y.document.items ≡ x) → ended_found (cond b (Some (job_of y)) found) ≡ false → unwrap_or o [] ≡ unwrap_or p [] → unwrap_or (cond b (Some y.document.items) o) [] ≡ unwrap_or (cond b (Some x) p) []
 kept_here true y x found o p keeps lives rest = keeps lives
 kept_here false y x found o p keeps lives rest = rest
 
-kept_later : (b : Bool) (x : List Extent) (z : Job) (found : Option Job) (o p : Option (List Extent)) → is_over (cond b (Some z) found) ≡ false → (is_over found ≡ false → unwrap_or o [] ≡ unwrap_or p []) → unwrap_or (cond b (Some x) o) [] ≡ unwrap_or (cond b (Some x) p) []
+kept_later : (b : Bool) (x : List Extent) (z : Job) (found : Option Job) (o p : Option (List Extent)) → ended_found (cond b (Some z) found) ≡ false → (ended_found found ≡ false → unwrap_or o [] ≡ unwrap_or p []) → unwrap_or (cond b (Some x) o) [] ≡ unwrap_or (cond b (Some x) p) []
 kept_later true x z found o p lives later = refl
 kept_later false x z found o p lives later = later lives
 
-pub places_kept : (ys : List JobRow) (i : ℕ) (y d : JobRow) → i < length ys → y.id ≡ (get_or ys i d).id → KeepsDocument (get_or ys i d) y → (j : ℕ) → is_over (finite.find nat_cmp j (map job_entry (set ys i y))) ≡ false → places_among (set ys i y) j ≡ places_among ys j
+pub places_kept : (ys : List JobRow) (i : ℕ) (y d : JobRow) → i < length ys → y.job.id ≡ (get_or ys i d).job.id → KeepsDocument (get_or ys i d) y → (j : ℕ) → ended_found (finite.find nat_cmp j (map job_entry (set ys i y))) ≡ false → places_among (set ys i y) j ≡ places_among ys j
 places_kept [] i y d lt same keeps j lives = absurd (omega arith)
 places_kept (z ∷ zs) zero y d lt same keeps j lives =
-    kept_here (is_eq (nat_cmp j y.id)) y z.document.items (finite.find nat_cmp j (map job_entry zs)) (finite.find nat_cmp j (map place_entry zs)) (finite.find nat_cmp j (map place_entry zs)) keeps lives refl
+    kept_here (is_eq (nat_cmp j y.job.id)) y z.document.items (finite.find nat_cmp j (map job_entry zs)) (finite.find nat_cmp j (map place_entry zs)) (finite.find nat_cmp j (map place_entry zs)) keeps lives refl
     ∙ ap (λ n. unwrap_or (cond (is_eq (nat_cmp j n)) (Some z.document.items) (finite.find nat_cmp j (map place_entry zs))) []) same
 places_kept (z ∷ zs) (suc i) y d lt same keeps j lives =
-    kept_later (is_eq (nat_cmp j z.id)) z.document.items (job_of z) (finite.find nat_cmp j (map job_entry (set zs i y))) (finite.find nat_cmp j (map place_entry (set zs i y))) (finite.find nat_cmp j (map place_entry zs)) lives
+    kept_later (is_eq (nat_cmp j z.job.id)) z.document.items (job_of z) (finite.find nat_cmp j (map job_entry (set zs i y))) (finite.find nat_cmp j (map place_entry (set zs i y))) (finite.find nat_cmp j (map place_entry zs)) lives
     (λ later. places_kept zs i y d (omega arith) same keeps j later)
 
 -- another row is written over
-pub places_other : (ys : List JobRow) (i : ℕ) (y d : JobRow) → i < length ys → y.id ≡ (get_or ys i d).id → (j : ℕ) → is_eq (nat_cmp j y.id) ≡ false → places_among (set ys i y) j ≡ places_among ys j
+pub places_other : (ys : List JobRow) (i : ℕ) (y d : JobRow) → i < length ys → y.job.id ≡ (get_or ys i d).job.id → (j : ℕ) → is_eq (nat_cmp j y.job.id) ≡ false → places_among (set ys i y) j ≡ places_among ys j
 places_other [] i y d lt same j other = absurd (omega arith)
 places_other (z ∷ zs) zero y d lt same j other =
     ap (λ b. unwrap_or (cond b (Some y.document.items) (finite.find nat_cmp j (map place_entry zs))) []) other
     ∙ sym (ap (λ b. unwrap_or (cond b (Some z.document.items) (finite.find nat_cmp j (map place_entry zs))) []) (ap (λ n. is_eq (nat_cmp j n)) (sym same) ∙ other))
 places_other (z ∷ zs) (suc i) y d lt same j other =
-    either_place (is_eq (nat_cmp j z.id)) z.document.items z.document.items _ _ refl (places_other zs i y d (omega arith) same j other)
+    either_place (is_eq (nat_cmp j z.job.id)) z.document.items z.document.items _ _ refl (places_other zs i y d (omega arith) same j other)
 
 -- a job's extents have as many bytes as its document
 sized_here : (b : Bool) (z : JobRow) (found : Option Job) (o : Option (List Extent)) (r : Job) → size_of z.document.items ≡ document_len (job_of z) → cond b (Some (job_of z)) found ≡ Some r
@@ -142,7 +152,7 @@ sized_here false z found o r sized e later = later e
 
 pub sized_place : (ys : List JobRow) → HoldDocuments ys → (j : ℕ) (r : Job) → finite.find nat_cmp j (map job_entry ys) ≡ Some r → size_of (places_among ys j) ≡ document_len r
 sized_place [] holds j r there = absurd (cc)
-sized_place (z ∷ zs) holds j r there = sized_here (is_eq (nat_cmp j z.id)) z _ _ r holds.0.sized there (λ later. sized_place zs holds.1 j r later)
+sized_place (z ∷ zs) holds j r there = sized_here (is_eq (nat_cmp j z.job.id)) z _ _ r holds.0.sized there (λ later. sized_place zs holds.1 j r later)
 
 -- a new row without a document
 absent_here : (b : Bool) (x : Job) (o : Option Job) (Q : Type 0) → cond b (Some x) o ≡ None → (b ≡ false → o ≡ None → Q) → Q
@@ -151,25 +161,25 @@ absent_here false x o Q none rest = rest refl none
 
 pub absent_place : (ys : List JobRow) (j : ℕ) → finite.find nat_cmp j (map job_entry ys) ≡ None → places_among ys j ≡ []
 absent_place [] j none = refl
-absent_place (z ∷ zs) j none = absent_here (is_eq (nat_cmp j z.id)) (job_of z) _ _ none
+absent_place (z ∷ zs) j none = absent_here (is_eq (nat_cmp j z.job.id)) (job_of z) _ _ none
     (λ other rest. ap (λ b. unwrap_or (cond b (Some z.document.items) (finite.find nat_cmp j (map place_entry zs))) []) other ∙ absent_place zs j rest)
 
 new_place : (b : Bool) (o : Option (List Extent)) (x : List Extent) → x ≡ [] → (b ≡ true → unwrap_or o [] ≡ []) → unwrap_or (cond b (Some x) o) [] ≡ unwrap_or o []
 new_place true o x none absent = none ∙ sym (absent refl)
 new_place false o x none absent = refl
 
-pub places_insert : (ys : List JobRow) (i : ℕ) (y : JobRow) → i ≤ length ys → y.document.items ≡ [] → finite.find nat_cmp y.id (map job_entry ys) ≡ None → (j : ℕ) → places_among (insert ys i y) j ≡ places_among ys j
-places_insert [] zero y le none absent j = new_place (is_eq (nat_cmp j y.id)) None y.document.items none (λ e. refl)
+pub places_insert : (ys : List JobRow) (i : ℕ) (y : JobRow) → i ≤ length ys → y.document.items ≡ [] → finite.find nat_cmp y.job.id (map job_entry ys) ≡ None → (j : ℕ) → places_among (insert ys i y) j ≡ places_among ys j
+places_insert [] zero y le none absent j = new_place (is_eq (nat_cmp j y.job.id)) None y.document.items none (λ e. refl)
 places_insert [] (suc i) y le none absent j = absurd (omega arith)
-places_insert (z ∷ zs) zero y le none absent j = new_place (is_eq (nat_cmp j y.id)) (finite.find nat_cmp j (map place_entry (z ∷ zs))) y.document.items none
-    (λ e. subst (λ k. places_among (z ∷ zs) k ≡ []) (sym (same_number y.id j e)) (absent_place (z ∷ zs) y.id absent))
-places_insert (z ∷ zs) (suc i) y le none absent j = absent_here (is_eq (nat_cmp y.id z.id)) (job_of z) _ _ absent
-    (λ other rest. either_place (is_eq (nat_cmp j z.id)) z.document.items z.document.items _ _ refl (places_insert zs i y (omega arith) none rest j))
+places_insert (z ∷ zs) zero y le none absent j = new_place (is_eq (nat_cmp j y.job.id)) (finite.find nat_cmp j (map place_entry (z ∷ zs))) y.document.items none
+    (λ e. subst (λ k. places_among (z ∷ zs) k ≡ []) (sym (same_number y.job.id j e)) (absent_place (z ∷ zs) y.job.id absent))
+places_insert (z ∷ zs) (suc i) y le none absent j = absent_here (is_eq (nat_cmp y.job.id z.job.id)) (job_of z) _ _ absent
+    (λ other rest. either_place (is_eq (nat_cmp j z.job.id)) z.document.items z.document.items _ _ refl (places_insert zs i y (omega arith) none rest j))
 
 -- a row without a document that stands first
-pub places_first : (places : List (ℕ × List Extent)) (y : JobRow) → y.document.items ≡ [] → places_of places y.id ≡ [] → (j : ℕ) → places_of (place_entry y ∷ places) j ≡ places_of places j
-places_first places y none absent j = new_place (is_eq (nat_cmp j y.id)) (finite.find nat_cmp j places) y.document.items none
-    (λ e. subst (λ k. places_of places k ≡ []) (sym (same_number y.id j e)) absent)
+pub places_first : (places : List (ℕ × List Extent)) (y : JobRow) → y.document.items ≡ [] → places_of places y.job.id ≡ [] → (j : ℕ) → places_of (place_entry y ∷ places) j ≡ places_of places j
+places_first places y none absent j = new_place (is_eq (nat_cmp j y.job.id)) (finite.find nat_cmp j places) y.document.items none
+    (λ e. subst (λ k. places_of places k ≡ []) (sym (same_number y.job.id j e)) absent)
 
 -- one extent more has so many bytes more
 pub size_more : (xs : List Extent) (x : Extent) → size_of (xs ++ x ∷ []) ≡ size_of xs + x.len

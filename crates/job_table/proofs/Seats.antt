@@ -11,7 +11,6 @@ use Rattle.spool_types.specs.Phases.{has_ended, is_processing, is_waiting}
 use Rattle.spool_types.specs.State.{State, Job, job_at, queue_at}
 use Rattle.spool_types.specs.declared.effect.Effect.{Effect}
 use Rattle.spool_types.specs.declared.event.Event.{Event}
-use Rattle.spool_types.specs.declared.event.Event.TheVariants.{AddQueue, Info, SetAccept, SetStop, Create, Send, Close, Hold, Release, Cancel, Clock, Start, Stage, Abandon, Reopen}
 use Rattle.spool_types.specs.declared.refusal.Refusal.TheVariants.{JobEnded}
 use Rattle.spool_types.specs.declared.phase.Phase.{Phase}
 use Rattle.spool_types.specs.declared.phase.Phase.TheVariants as phases
@@ -19,13 +18,15 @@ use Rattle.queue_sched.specs.Index.{entry_of}
 use Rattle.queue_sched.specs.declared.entry.Entry.{Entry}
 use Rattle.job_table.specs.Ended.{subject}
 use Rattle.job_table.specs.Legal.{IsLegal}
-use Rattle.job_table.specs.Step.{refusal_of, after}
+use Rattle.job_table.specs.Shapes.{Change, NewQueueRow, OfQueue, NewJobRow, OfJob, OfBoth, OfClock, OfAll, subject_of, causes_of}
+use Rattle.job_table.specs.Step.{row, change_by, first_cause, refusal_of, after}
 use Rattle.job_table.specs.Lanes.{standing_in, standing_of, seat_of, seat, is_live, live_count, IsLane, IsReseated, IsSameLane, IsAdvanced, HasSeat, AreBeside, IsLaneOf, AreLanes}
 use Rattle.job_table.specs.Places.{IsNameAt}
 use Rattle.job_table.specs.declared.lane.Lane.{Lane}
 use Rattle.job_table.specs.declared.lane.Standing.{Standing}
 use Rattle.job_table.specs.declared.lane.Standing.TheVariants.{Ended, Waiting, Processing}
-use Rattle.job_table.proofs.Accepted.{job_there}
+use Rattle.spool_types.specs.declared.refusal.Refusal.{Refusal}
+use Rattle.job_table.proofs.Accepted.{job_found}
 use Rattle.job_table.proofs.Changes.{some_same}
 use Rattle.job_table.proofs.Ended.{number_of, refused_and_not, refused_as_ended}
 use Rattle.job_table.proofs.Legal.{KeepsOrder, keeps_each, legal_after}
@@ -419,22 +420,17 @@ same_subject : (s : State) (j k : ℕ) → Some k ≡ Some j → (r : Job) × (j
 same_subject s j k is found = subst (λ n. (r : Job) × (job_at s n ≡ Some r)) (number_of j k is) found
 
 -- an event about a job that isn't refused finds it
+subject_by : (s : State) (j : ℕ) (change : Change) (own : List (Bool × Refusal)) → subject_of change ≡ Some j → first_cause (causes_of s change own) ≡ None → (r : Job) × (job_at s j ≡ Some r)
+subject_by s j (NewQueueRow q) own is accepted = absurd (cc)
+subject_by s j (OfQueue name f) own is accepted = absurd (cc)
+subject_by s j (NewJobRow x) own is accepted = absurd (cc)
+subject_by s j (OfJob k f) own is accepted = same_subject s j k is (job_found s k own accepted)
+subject_by s j (OfBoth k effects verdict) own is accepted = same_subject s j k is (job_found s k own accepted)
+subject_by s j (OfClock m) own is accepted = absurd (cc)
+subject_by s j OfAll own is accepted = absurd (cc)
+
 subject_there : (s : State) (j : ℕ) (e : Event) → subject e ≡ Some j → refusal_of s e ≡ None → (r : Job) × (job_at s j ≡ Some r)
-subject_there s j (AddQueue q) is accepted = absurd (cc)
-subject_there s j (Info notes) is accepted = absurd (cc)
-subject_there s j (SetAccept queue accepting) is accepted = absurd (cc)
-subject_there s j (SetStop queue stopped) is accepted = absurd (cc)
-subject_there s j (Create n) is accepted = absurd (cc)
-subject_there s j (Send k bytes) is accepted = same_subject s j k is (job_there s (Send k bytes) k _ refl accepted)
-subject_there s j (Close c) is accepted = same_subject s j c.job is (job_there s (Close c) c.job _ refl accepted)
-subject_there s j (Hold k until) is accepted = same_subject s j k is (job_there s (Hold k until) k _ refl accepted)
-subject_there s j (Release k) is accepted = same_subject s j k is (job_there s (Release k) k _ refl accepted)
-subject_there s j (Cancel k) is accepted = same_subject s j k is (job_there s (Cancel k) k _ refl accepted)
-subject_there s j (Clock m) is accepted = absurd (cc)
-subject_there s j (Start k) is accepted = same_subject s j k is (job_there s (Start k) k _ refl accepted)
-subject_there s j (Stage e) is accepted = same_subject s j e.job is (job_there s (Stage e) e.job _ refl accepted)
-subject_there s j (Abandon k) is accepted = same_subject s j k is (job_there s (Abandon k) k _ refl accepted)
-subject_there s j Reopen is accepted = absurd (cc)
+subject_there s j e is accepted = subject_by s j (change_by e) ((row e).own s) is accepted
 
 -- and finds that it hasn't ended
 subject_live : (s : State) → IsLegal s → (j : ℕ) (e : Event) → subject e ≡ Some j → refusal_of s e ≡ None → (r : Job) → job_at s j ≡ Some r → is_live (standing_of r) ≡ false → ⊥
@@ -454,7 +450,7 @@ pub goes : ((effects : List Effect) → KeepsOrder effects) → (s t : State) �
 goes law s t legal j e is accepted after_it =
     let found = subject_there s j e is accepted in
     record {
-      moves = subst (λ u. Moves s u j) (sym after_it) (moves s legal j e (keeps_each law e) is);
+      moves = subst (λ u. Moves s u j) (sym after_it) (moves s legal j e (keeps_each law e) accepted is);
       legal = subst IsLegal (sym after_it) (legal_after s e (keeps_each law e) accepted legal);
       row = found.0;
       there = found.1;

@@ -34,20 +34,20 @@ pub grown_places : (at j : ℕ) (bytes : List ℕ) (o : Option Partial) (q : Par
 grown_places at j bytes None q places next grown k = absurd next
 grown_places at j bytes (Some p) q places next grown k = either (j == k) refl
   where
-    now_id : q.row.id ≡ j
+    now_id : q.row.job.id ≡ j
     now_id = ap (λ (x : Job). x.id) grown.0 ∙ next.own
 
-    was_id : p.row.id ≡ j
+    was_id : p.row.job.id ≡ j
     was_id = next.own
 
     either : (b : Bool) → (j == k) ≡ b → places_of (place_entry q.row ∷ places) k ≡ (if b then places_of (place_entry p.row ∷ places) k ++ extent_behind at (length bytes) ∷ [] else places_of (place_entry p.row ∷ places) k)
     either true same =
-        own_entry k q.row.id q.row.document.items places (now_id ∙ same_by j k same)
+        own_entry k q.row.job.id q.row.document.items places (now_id ∙ same_by j k same)
         ∙ grown.2
-        ∙ ap (λ xs. xs ++ extent_behind at (length bytes) ∷ []) (sym (own_entry k p.row.id p.row.document.items places (was_id ∙ same_by j k same)))
+        ∙ ap (λ xs. xs ++ extent_behind at (length bytes) ∷ []) (sym (own_entry k p.row.job.id p.row.document.items places (was_id ∙ same_by j k same)))
     either false other =
-        other_entry k q.row.id q.row.document.items places (ap (λ n. is_eq (nat_cmp k n)) now_id ∙ other_by j k other)
-        ∙ sym (other_entry k p.row.id p.row.document.items places (ap (λ n. is_eq (nat_cmp k n)) was_id ∙ other_by j k other))
+        other_entry k q.row.job.id q.row.document.items places (ap (λ n. is_eq (nat_cmp k n)) now_id ∙ other_by j k other)
+        ∙ sym (other_entry k p.row.job.id p.row.document.items places (ap (λ n. is_eq (nat_cmp k n)) was_id ∙ other_by j k other))
 
 -- and so many bytes more
 pub grown_measured : (at count : ℕ) (o : Option Partial) (q : Partial) → IsGrown at count o (Some q) → IsMeasured o → size_of q.row.document.items ≡ q.read

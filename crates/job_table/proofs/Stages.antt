@@ -1,81 +1,37 @@
 -- A stage that is spent stays spent, and one that is left is spent.
-use Rattle.std.proofs.Common.{◌≡◌, ◌⊎◌, inl, inr, ℕ, ◌+◌, ◌<◌, ◌≤◌, ◌==◌, Bool, true, false, cond, List, [], ◌∷◌, Some, None, Option, IsSome, IsTrue, refl, sym, ap, subst, ◌∙◌, arith}
+use Rattle.std.proofs.Common.{◌≡◌, ◌⊎◌, inl, inr, ℕ, ◌+◌, ◌≤◌, ◌==◌, Bool, true, false, cond, List, [], ◌∷◌, Some, None, Option, IsSome, refl, sym, ap, subst, ◌∙◌, arith}
 use Rattle.std.specs.Prelude.{nat_le}
 use Rattle.std.specs.Ordering.{nat_cmp, eq_by_cmp}
 use Rattle.std.specs.Cmp.{nat_cmp_total}
 use Rattle.std.specs.FinMap as finite
 use Rattle.std.proofs.lemmas.Bool.Decides.{nat_tests}
 use Rattle.std.proofs.lemmas.Bool.{and_parts, both_ways}
-use Rattle.job_table.specs.Attempts.{is_in_stage, next_stage, rule, ruled, started, with_pages, with_effects, rule_by, rule_found, stage_verdict, lost_by, reopened}
-use Rattle.job_table.specs.Changes.{change_found, change_found_queue, change_job, change_own_queue, new_job, with_bytes, closed, held, ended}
+use Rattle.job_table.specs.Attempts.{is_in_stage, next_stage, rule, ruled, with_pages, with_effects, rule_by, rule_found, stage_verdict, lost_by, reopened}
+use Rattle.job_table.specs.Changes.{change_found, change_found_queue, change_job, change_own_queue}
 use Rattle.job_table.specs.Fold.{after_all, after_one, unless_refused}
 use Rattle.job_table.specs.Legal.{IsLegal, Fits}
 use Rattle.job_table.specs.Stages.{Key, key_of, IsUpTo, IsSpentOf, IsSpentBy, IsSpent, IsIn}
-use Rattle.job_table.specs.Step.{refusal_of, after}
+use Rattle.job_table.specs.Shapes.{Change, NewQueueRow, OfQueue, NewJobRow, OfJob, OfBoth, OfClock, OfAll, causes_of, made}
+use Rattle.job_table.specs.Step.{row, change_by, first_cause, refusal_of, after}
 use Rattle.spool_types.specs.declared.effect.Effect.{Effect}
-use Rattle.spool_types.specs.declared.event.Closing.{Closing}
 use Rattle.spool_types.specs.declared.event.Event.{Event}
 use Rattle.spool_types.specs.declared.event.StageEnd.{StageEnd}
-use Rattle.spool_types.specs.declared.event.Event.TheVariants.{AddQueue, Info, SetAccept, SetStop, Create, Send, Close, Hold, Release, Cancel, Clock, Start, Stage, Abandon, Reopen}
-use Rattle.spool_types.specs.declared.phase.Hold.{Hold as Held}
-use Rattle.spool_types.specs.declared.phase.Hold.TheVariants.{Free}
+use Rattle.spool_types.specs.declared.event.Event.TheVariants.{Stage}
 use Rattle.spool_types.specs.declared.phase.Phase.{Phase}
 use Rattle.spool_types.specs.declared.phase.Phase.TheVariants.{Incoming, Waiting, Processing, Completed, Canceled, Aborted}
 use Rattle.spool_types.specs.declared.refusal.Refusal.{Refusal}
 use Rattle.spool_types.specs.declared.rows.QueueRow.{QueueRow}
-use Rattle.spool_types.specs.Phases.{has_ended, is_processing, with_hold, hold_until}
+use Rattle.spool_types.specs.Phases.{has_ended, is_processing}
 use Rattle.spool_types.specs.State.{State, Job, queue_at, job_at}
 use Rattle.row_effects.specs.Fold.{queue_after}
 use Rattle.backend_codes.specs.declared.verdicts.Verdict.{Verdict}
 use Rattle.backend_codes.specs.declared.verdicts.Verdict.TheVariants as verdicts
-use Rattle.job_table.proofs.Accepted.{accepted_create, job_there, accepted_stage}
+use Rattle.job_table.proofs.Accepted.{accepted_new, job_there, accepted_stage}
 use Rattle.job_table.proofs.Changes.{not_both, at_most_highest, same_itself, same_number, some_same, change_queue_other, change_own_other}
 use Rattle.job_table.proofs.Ended.{unchanged, below_number}
-use Rattle.job_table.proofs.Legal.{KeepsOrder, Keeps, keeps_each, legal_effects, legal_after, legal_after_one}
+use Rattle.job_table.proofs.Follows.{Follows, in_place, ruled_follows}
+use Rattle.job_table.proofs.Legal.{IsSound, sound, KeepsOrder, KeepsBy, Keeps, keeps_each, legal_effects, legal_after, legal_after_one}
 use Rattle.job_table.proofs.Reopened.{reopened_onward, reopened_lost, reopened_others, reopened_counts}
-
--- ## What follows a row
-
--- where the second is processing, the first is in the same stage or a lower one
-abbrev Goes : Phase → Phase → Type 0
-Goes p x = (stage : ℕ) → IsUpTo stage x → IsUpTo stage p
-
--- a job with so many attempts in this phase may become this one
-abbrev Follows : ℕ → Phase → Job → Type 0
-Follows attempts p x = IsTrue (has_ended x.phase) ⊎ ((attempts < x.attempts) ⊎ ((x.attempts ≡ attempts) × Goes p x.phase))
-
-in_place : (r : Job) → Follows r.attempts r.phase r
-in_place r = inr (inr (refl, λ stage up. up))
-
-next_goes : (p : Phase) → Goes p (next_stage p)
-next_goes (Incoming hold) = λ stage up. up
-next_goes (Waiting hold not_before first) = λ stage up. up
-next_goes (Processing attempt at stages) = λ stage up. omega (arith, up)
-next_goes Completed = λ stage up. up
-next_goes Canceled = λ stage up. up
-next_goes (Aborted reason) = λ stage up. up
-
-held_goes : (hold : Held) (p : Phase) → Goes p (with_hold hold p)
-held_goes hold (Incoming before) = λ stage up. up
-held_goes hold (Waiting before not_before first) = λ stage up. up
-held_goes hold (Processing attempt at stages) = λ stage up. up
-held_goes hold Completed = λ stage up. up
-held_goes hold Canceled = λ stage up. up
-held_goes hold (Aborted reason) = λ stage up. up
-
-ruled_follows : (now interval : ℕ) (v : Verdict) (r : Job) → Follows r.attempts r.phase (ruled now interval v r)
-ruled_follows now interval verdicts.NextStage r = inr (inr (refl, next_goes r.phase))
-ruled_follows now interval verdicts.Completed r = inl refl
-ruled_follows now interval (verdicts.Aborted reason) r = inl refl
-ruled_follows now interval verdicts.Canceled r = inl refl
-ruled_follows now interval (verdicts.Held reason) r = inr (inr (refl, λ stage up. absurd up))
-ruled_follows now interval verdicts.StopQueue r = inr (inr (refl, λ stage up. absurd up))
-ruled_follows now interval verdicts.RetryAt r = inr (inr (refl, λ stage up. absurd up))
-ruled_follows now interval verdicts.RetryFirst r = inr (inr (refl, λ stage up. absurd up))
-
-closed_follows : (c : Closing) (filters : Option (List (List ℕ))) → c.filters ≡ filters → (r : Job) → Follows r.attempts r.phase (closed (record c { filters = filters }) r)
-closed_follows c None is r = inl refl
-closed_follows c (Some filters) is r = inr (inr (refl, λ stage up. absurd up))
 
 -- ## What an event leaves of a job
 
@@ -140,28 +96,24 @@ lost s j r there legal true busy = by_queue (queue_at s r.queue) refl ((legal.jo
         (ruled s.moment q.interval (lost_by r q) r, (reopened_lost s legal j r q (record { there = there; queue = is; processing = busy })).job, ruled_follows s.moment q.interval (lost_by r q) r)
 
 module _ (s : State) (j : ℕ) (r : Job) (there : job_at s j ≡ Some r) (legal : IsLegal s) where
-  goes_on : (e : Event) → Keeps e → refusal_of s e ≡ None → IsFollowed j r.attempts r.phase (after s e)
-  goes_on (AddQueue q) keeps accepted = found_same s (after s (AddQueue q)) j r there refl
-  goes_on (Info notes) keeps accepted = found_same s (after s (Info notes)) j r there (change_queue_other s notes.queue _ j _)
-  goes_on (SetAccept queue accepting) keeps accepted = found_same s (after s (SetAccept queue accepting)) j r there (change_queue_other s queue _ j _)
-  goes_on (SetStop queue stopped) keeps accepted = found_same s (after s (SetStop queue stopped)) j r there (change_queue_other s queue _ j _)
-  goes_on (Create n) keeps accepted =
-      let above = accepted_create s n accepted in
+  goes_on_by : (change : Change) (own : List (Bool × Refusal)) → KeepsBy change → IsSound s change → first_cause (causes_of s change own) ≡ None → IsFollowed j r.attempts r.phase (made s change)
+  goes_on_by (NewQueueRow q) own keeps sound accepted = found_same s (made s (NewQueueRow q)) j r there refl
+  goes_on_by (OfQueue name f) own keeps sound accepted = found_same s (made s (OfQueue name f)) j r there (change_queue_other s name f j _)
+  goes_on_by (NewJobRow x) own keeps sound accepted =
+      let above = accepted_new s x own accepted in
       let within = at_most_highest s j r legal there in
-      found_same s (after s (Create n)) j r there (finite.get-insert nat_cmp_total s.jobs n.job (new_job n) j ∙ ap (λ b. cond b (Some (new_job n)) (finite.get s.jobs j)) (below_number j n.job (omega arith)))
-  goes_on (Send k bytes) keeps accepted = goes_by s j r there k (with_bytes bytes) in_place
-  goes_on (Close c) keeps accepted = goes_by s j r there c.job (closed c) (closed_follows c c.filters refl)
-  goes_on (Hold k until) keeps accepted = goes_by s j r there k (held (hold_until until)) (λ x. inr (inr (refl, held_goes (hold_until until) x.phase)))
-  goes_on (Release k) keeps accepted = goes_by s j r there k (held Free) (λ x. inr (inr (refl, held_goes Free x.phase)))
-  goes_on (Cancel k) keeps accepted = goes_by s j r there k (ended Canceled) (λ x. inl refl)
-  goes_on (Clock m) keeps accepted = found_same s (after s (Clock m)) j r there refl
-  goes_on (Start k) keeps accepted = goes_by s j r there k started (λ x. inr (inl (omega arith)))
-  goes_on (Stage e) keeps accepted =
-      let found = folded s j r there e.job e.effects in
-      alike_then j (after s (Stage e)) r found.0 found.2
-      (verdict_on (with_effects s e.job e.effects) j found.0 found.1 (legal_effects s e.job e.effects keeps legal) e.job (stage_verdict e.exit) _ refl)
-  goes_on (Abandon k) keeps accepted = verdict_on s j r there legal k lost_by _ refl
-  goes_on Reopen keeps accepted = lost s j r there legal (is_processing r.phase) refl
+      found_same s (made s (NewJobRow x)) j r there (finite.get-insert nat_cmp_total s.jobs x.id x j ∙ ap (λ b. cond b (Some x) (finite.get s.jobs j)) (below_number j x.id (omega arith)))
+  goes_on_by (OfJob k f) own keeps sound accepted = goes_by s j r there k f sound.follows
+  goes_on_by (OfBoth k None verdict) own keeps sound accepted = verdict_on s j r there legal k verdict _ refl
+  goes_on_by (OfBoth k (Some effects) verdict) own keeps sound accepted =
+      let found = folded s j r there k effects in
+      alike_then j (made s (OfBoth k (Some effects) verdict)) r found.0 found.2
+      (verdict_on (with_effects s k effects) j found.0 found.1 (legal_effects s k effects keeps legal) k verdict _ refl)
+  goes_on_by (OfClock m) own keeps sound accepted = found_same s (made s (OfClock m)) j r there refl
+  goes_on_by OfAll own keeps sound accepted = lost s j r there legal (is_processing r.phase) refl
+
+  goes_on : (e : Event) → Keeps e → refusal_of s e ≡ None → IsFollowed j r.attempts r.phase (after s e)
+  goes_on e keeps accepted = goes_on_by (change_by e) ((row e).own s) keeps (sound s e accepted) accepted
 
 -- ## What an event leaves where there is no job
 
@@ -173,9 +125,9 @@ own_counts : (s : State) (f : QueueRow → QueueRow) (o : Option Job) → s.high
 own_counts s f None = refl
 own_counts s f (Some r) = queue_counts s r.queue f (queue_at s r.queue)
 
-record IsStillAbsent (s t : State) (j : ℕ) : Type 0 where
-  highest : s.highest ≤ t.highest
-  absent : job_at t j ≡ None
+pub record IsStillAbsent (s t : State) (j : ℕ) : Type 0 where
+  pub highest : s.highest ≤ t.highest
+  pub absent : job_at t j ≡ None
 
 absent_same : (s t : State) (j : ℕ) → job_at s j ≡ None → s.highest ≡ t.highest → job_at t j ≡ job_at s j → IsStillAbsent s t j
 absent_same s t j none same kept = record { highest = omega (arith, same); absent = kept ∙ none }
@@ -193,7 +145,7 @@ absent_changed : (s : State) (j : ℕ) → job_at s j ≡ None → (k : ℕ) (f 
 absent_changed s j none k f None at_k = absent_same s s j none refl refl
 absent_changed s j none k f (Some x) at_k = record { highest = omega arith; absent = absent_put s j k x (f x) none at_k }
 
-absent_ruled : (s : State) (j : ℕ) → job_at s j ≡ None → IsLegal s → (k : ℕ) (verdict : Job → QueueRow → Verdict) (o : Option Job) → job_at s k ≡ o → IsStillAbsent s (rule_found s verdict o) j
+pub absent_ruled : (s : State) (j : ℕ) → job_at s j ≡ None → IsLegal s → (k : ℕ) (verdict : Job → QueueRow → Verdict) (o : Option Job) → job_at s k ≡ o → IsStillAbsent s (rule_found s verdict o) j
 absent_ruled s j none legal k verdict None at_k = absent_same s s j none refl refl
 absent_ruled s j none legal k verdict (Some x) at_k = by_queue (queue_at s x.queue)
   where
@@ -215,30 +167,26 @@ absent_then s t u j one two =
     record { highest = omega (arith, first, second); absent = two.absent }
 
 module _ (s : State) (j : ℕ) (none : job_at s j ≡ None) (given : j ≤ s.highest) (legal : IsLegal s) where
-  stays_absent : (e : Event) → Keeps e → refusal_of s e ≡ None → IsStillAbsent s (after s e) j
-  stays_absent (AddQueue q) keeps accepted = absent_same s (after s (AddQueue q)) j none refl refl
-  stays_absent (Info notes) keeps accepted = absent_same s (after s (Info notes)) j none (queue_counts s notes.queue _ _) (change_queue_other s notes.queue _ j _)
-  stays_absent (SetAccept queue accepting) keeps accepted = absent_same s (after s (SetAccept queue accepting)) j none (queue_counts s queue _ _) (change_queue_other s queue _ j _)
-  stays_absent (SetStop queue stopped) keeps accepted = absent_same s (after s (SetStop queue stopped)) j none (queue_counts s queue _ _) (change_queue_other s queue _ j _)
-  stays_absent (Create n) keeps accepted =
-      let above = accepted_create s n accepted in
+  absent_by : (change : Change) (own : List (Bool × Refusal)) → KeepsBy change → first_cause (causes_of s change own) ≡ None → IsStillAbsent s (made s change) j
+  absent_by (NewQueueRow q) own keeps accepted = absent_same s (made s (NewQueueRow q)) j none refl refl
+  absent_by (OfQueue name f) own keeps accepted = absent_same s (made s (OfQueue name f)) j none (queue_counts s name _ _) (change_queue_other s name _ j _)
+  absent_by (NewJobRow x) own keeps accepted =
+      let above = accepted_new s x own accepted in
       record {
         highest = omega (arith, above);
-        absent = finite.get-insert nat_cmp_total s.jobs n.job (new_job n) j ∙ ap (λ b. cond b (Some (new_job n)) (finite.get s.jobs j)) (below_number j n.job (omega (arith, above, given))) ∙ none;
+        absent = finite.get-insert nat_cmp_total s.jobs x.id x j ∙ ap (λ b. cond b (Some x) (finite.get s.jobs j)) (below_number j x.id (omega (arith, above, given))) ∙ none;
       }
-  stays_absent (Send k bytes) keeps accepted = absent_changed s j none k _ _ refl
-  stays_absent (Close c) keeps accepted = absent_changed s j none c.job _ _ refl
-  stays_absent (Hold k until) keeps accepted = absent_changed s j none k _ _ refl
-  stays_absent (Release k) keeps accepted = absent_changed s j none k _ _ refl
-  stays_absent (Cancel k) keeps accepted = absent_changed s j none k _ _ refl
-  stays_absent (Clock m) keeps accepted = absent_same s (after s (Clock m)) j none refl refl
-  stays_absent (Start k) keeps accepted = absent_changed s j none k _ _ refl
-  stays_absent (Stage e) keeps accepted =
-      let first = absent_folded s j none e.job e.effects in
-      absent_then s (with_effects s e.job e.effects) (after s (Stage e)) j first
-      (absent_ruled (with_effects s e.job e.effects) j first.absent (legal_effects s e.job e.effects keeps legal) e.job (stage_verdict e.exit) _ refl)
-  stays_absent (Abandon k) keeps accepted = absent_ruled s j none legal k lost_by _ refl
-  stays_absent Reopen keeps accepted = absent_same s (reopened s) j none (sym (reopened_counts s).0) ((reopened_onward s legal).absent j none ∙ sym none)
+  absent_by (OfJob k f) own keeps accepted = absent_changed s j none k _ _ refl
+  absent_by (OfBoth k None verdict) own keeps accepted = absent_ruled s j none legal k verdict _ refl
+  absent_by (OfBoth k (Some effects) verdict) own keeps accepted =
+      let first = absent_folded s j none k effects in
+      absent_then s (with_effects s k effects) (made s (OfBoth k (Some effects) verdict)) j first
+      (absent_ruled (with_effects s k effects) j first.absent (legal_effects s k effects keeps legal) k verdict _ refl)
+  absent_by (OfClock m) own keeps accepted = absent_same s (made s (OfClock m)) j none refl refl
+  absent_by OfAll own keeps accepted = absent_same s (reopened s) j none (sym (reopened_counts s).0) ((reopened_onward s legal).absent j none ∙ sym none)
+
+  pub stays_absent : (e : Event) → Keeps e → refusal_of s e ≡ None → IsStillAbsent s (after s e) j
+  stays_absent e keeps accepted = absent_by (change_by e) ((row e).own s) keeps accepted
 
 -- ## Stages
 

@@ -19,10 +19,10 @@ abbrev pub IsQueueGap : List QueueRow → List ℕ → ℕ → Type 0
 IsQueueGap = IsGap (slice_cmp nat_cmp) (λ r. r.name)
 
 abbrev pub IsJobPlace : List JobRow → ℕ → ℕ → Type 0
-IsJobPlace = IsPlace nat_cmp (λ r. r.id)
+IsJobPlace = IsPlace nat_cmp (λ r. r.job.id)
 
 abbrev pub IsJobGap : List JobRow → ℕ → ℕ → Type 0
-IsJobGap = IsGap nat_cmp (λ r. r.id)
+IsJobGap = IsGap nat_cmp (λ r. r.job.id)
 
 abbrev pub queues_of : List QueueRow → Queues
 queues_of ys = finite.from_sorted (map queue_entry ys)
@@ -67,39 +67,39 @@ module _ (ys : List QueueRow) (h : IsTrue (finite.is_sorted (slice_cmp nat_cmp) 
 
 module _ (ys : List JobRow) (h : IsTrue (finite.is_sorted nat_cmp (map job_entry ys))) where
   pub get_job : (k : ℕ) (i : ℕ) (d : JobRow) → IsJobPlace ys k i → finite.get (jobs_of ys) k ≡ Some (job_of (get_or ys i d))
-  get_job = rows.get_place nat_cmp nat_cmp_total (λ r. r.id) job_of ys h
+  get_job = rows.get_place nat_cmp nat_cmp_total (λ r. r.job.id) job_of ys h
 
   pub some_job : (k i : ℕ) → IsJobPlace ys k i → (x : Job) × (finite.get (jobs_of ys) k ≡ Some x)
-  some_job = rows.some_place nat_cmp nat_cmp_total (λ r. r.id) job_of ys h
+  some_job = rows.some_place nat_cmp nat_cmp_total (λ r. r.job.id) job_of ys h
 
   pub get_no_job : (k : ℕ) (i : ℕ) → IsJobGap ys k i → finite.get (jobs_of ys) k ≡ None
-  get_no_job = rows.get_gap nat_cmp nat_cmp_total (λ r. r.id) job_of ys h
+  get_no_job = rows.get_gap nat_cmp nat_cmp_total (λ r. r.job.id) job_of ys h
 
-  pub insert_job : (y : JobRow) (i : ℕ) → IsJobGap ys y.id i → jobs_of (insert ys i y) ≡ finite.insert (jobs_of ys) y.id (job_of y)
-  insert_job = rows.map_insert nat_cmp nat_cmp_total (λ r. r.id) job_of ys h
+  pub insert_job : (y : JobRow) (i : ℕ) → IsJobGap ys y.job.id i → jobs_of (insert ys i y) ≡ finite.insert (jobs_of ys) y.job.id (job_of y)
+  insert_job = rows.map_insert nat_cmp nat_cmp_total (λ r. r.job.id) job_of ys h
 
-  pub sorted_insert_job : (y : JobRow) (i : ℕ) → IsJobGap ys y.id i → IsTrue (finite.is_sorted nat_cmp (map job_entry (insert ys i y)))
-  sorted_insert_job = rows.sorted_insert nat_cmp nat_cmp_total (λ r. r.id) job_of ys h
+  pub sorted_insert_job : (y : JobRow) (i : ℕ) → IsJobGap ys y.job.id i → IsTrue (finite.is_sorted nat_cmp (map job_entry (insert ys i y)))
+  sorted_insert_job = rows.sorted_insert nat_cmp nat_cmp_total (λ r. r.job.id) job_of ys h
 
-  pub set_job : (y : JobRow) (k i : ℕ) (d : JobRow) → IsJobPlace ys k i → (get_or ys i d).id ≡ y.id → jobs_of (set ys i y) ≡ finite.insert (jobs_of ys) k (job_of y)
-  set_job = rows.map_set nat_cmp nat_cmp_total (λ r. r.id) job_of ys h
+  pub set_job : (y : JobRow) (k i : ℕ) (d : JobRow) → IsJobPlace ys k i → (get_or ys i d).job.id ≡ y.job.id → jobs_of (set ys i y) ≡ finite.insert (jobs_of ys) k (job_of y)
+  set_job = rows.map_set nat_cmp nat_cmp_total (λ r. r.job.id) job_of ys h
 
-  pub sorted_set_job : (y : JobRow) (k i : ℕ) (d : JobRow) → IsJobPlace ys k i → (get_or ys i d).id ≡ y.id → IsTrue (finite.is_sorted nat_cmp (map job_entry (set ys i y)))
-  sorted_set_job = rows.sorted_set nat_cmp nat_cmp_total (λ r. r.id) job_of ys h
+  pub sorted_set_job : (y : JobRow) (k i : ℕ) (d : JobRow) → IsJobPlace ys k i → (get_or ys i d).job.id ≡ y.job.id → IsTrue (finite.is_sorted nat_cmp (map job_entry (set ys i y)))
+  sorted_set_job = rows.sorted_set nat_cmp nat_cmp_total (λ r. r.job.id) job_of ys h
 
   -- what is found among the rows is what the map has
   pub find_job : (k : ℕ) → finite.find nat_cmp k (map job_entry ys) ≡ finite.get (jobs_of ys) k
   find_job k = sym (finite.get-from_sorted nat_cmp (map job_entry ys) k (rows.t_from _ h))
 
   pub values_jobs : finite.values (jobs_of ys) ≡ map job_of ys
-  values_jobs = rows.values_map nat_cmp nat_cmp_total (λ r. r.id) job_of ys h
+  values_jobs = rows.values_map nat_cmp nat_cmp_total (λ r. r.job.id) job_of ys h
 
-  pub keys_jobs : finite.keys (jobs_of ys) ≡ map (λ r. r.id) ys
-  keys_jobs = ap (map (λ e. e.0)) (rows.entries_map nat_cmp nat_cmp_total (λ r. r.id) job_of ys h) ∙ firsts ys
+  pub keys_jobs : finite.keys (jobs_of ys) ≡ map (λ r. r.job.id) ys
+  keys_jobs = ap (map (λ e. e.0)) (rows.entries_map nat_cmp nat_cmp_total (λ r. r.job.id) job_of ys h) ∙ firsts ys
     where
-      firsts : (zs : List JobRow) → map (λ e. e.0) (map job_entry zs) ≡ map (λ r. r.id) zs
+      firsts : (zs : List JobRow) → map (λ e. e.0) (map job_entry zs) ≡ map (λ r. r.job.id) zs
       firsts [] = refl
-      firsts (z ∷ zs) = ap (λ ks. z.id ∷ ks) (firsts zs)
+      firsts (z ∷ zs) = ap (λ ks. z.job.id ∷ ks) (firsts zs)
 
 pub map-same : {X : Type 0} (xs : List X) → map (λ x. x) xs ≡ xs
 map-same [] = refl

@@ -5,27 +5,8 @@ use Rattle.std.specs.FinMap as finite
 use Rattle.spool_types.specs.Limits.{longest_send}
 use Rattle.spool_types.specs.State.{State, Job}
 use Rattle.spool_types.specs.declared.listing.Head.{Head as HeadRow}
-use Rattle.spool_types.specs.declared.listing.ListedJob.{ListedJob}
 use Rattle.spool_types.specs.declared.listing.Row.{Row}
 use Rattle.spool_types.specs.declared.listing.Row.TheVariants.{Head, Queue, Job as JobRow, Piece}
-
--- a job, as a row of a listing
-abbrev pub listed : Job → ListedJob
-listed r = record {
-  id = r.id;
-  queue = r.queue;
-  user = r.user;
-  title = r.title;
-  copies = r.copies;
-  priority = r.priority;
-  options = r.options;
-  media = r.media;
-  filters = r.filters;
-  attempts = r.attempts;
-  pages = r.pages;
-  size = r.size;
-  phase = r.phase;
-}
 
 -- so many parts, of which each but the last has this length
 abbrev pub parts : ℕ → ℕ → List ℕ → List (List ℕ)
@@ -38,7 +19,7 @@ pieces bytes = parts longest_send ((length bytes + 65535) / longest_send) bytes
 
 -- a job, and behind it the pieces of its document
 abbrev pub job_rows : Job → List ℕ → List Row
-job_rows r document = JobRow (listed r) ∷ map (λ bytes. Piece r.id bytes) (pieces document)
+job_rows r document = JobRow r ∷ map (λ bytes. Piece r.id bytes) (pieces document)
 
 abbrev pub head_of : State → HeadRow
 head_of s = record { highest = s.highest; moment = s.moment }

@@ -13,7 +13,6 @@ use Rattle.spool_types.specs.Phases.{is_processing}
 use Rattle.spool_types.specs.State.{State, Job, nothing, queue_at}
 use Rattle.spool_types.specs.declared.rows.QueueRow.{QueueRow}
 use Rattle.spool_types.specs.declared.listing.Head.{Head}
-use Rattle.spool_types.specs.declared.listing.ListedJob.{ListedJob}
 use Rattle.spool_types.specs.declared.listing.Row.{Row}
 use Rattle.spool_types.specs.declared.listing.Row.TheVariants.{Head as HeadRow, Queue, Job as JobRow, Piece}
 use Rattle.row_effects.specs.Fold.{IsInOrder}
@@ -46,27 +45,9 @@ IsWhole p = p.partial ≡ None
 
 -- ## What a row adds
 
--- the job of a row
-abbrev pub unlisted : ListedJob → Job
-unlisted r = record {
-  id = r.id;
-  queue = r.queue;
-  user = r.user;
-  title = r.title;
-  copies = r.copies;
-  priority = r.priority;
-  options = r.options;
-  media = r.media;
-  filters = r.filters;
-  attempts = r.attempts;
-  pages = r.pages;
-  size = r.size;
-  phase = r.phase;
-}
-
 -- its document is still to come
-abbrev pub begun_part : ListedJob → Part
-begun_part r = record { row = unlisted r; read = 0 }
+abbrev pub begun_part : Job → Part
+begun_part r = record { row = r; read = 0 }
 
 abbrev pub headed : Head → State
 headed head = record nothing { highest = head.highest; moment = head.moment }
@@ -129,10 +110,10 @@ pub record IsNewJob (s : State) (r : Job) : Type 0 where
   pub alone : is_processing r.phase ≡ true → is_busy (finite.values s.jobs) r.queue ≡ false
 
 -- a job comes once the documents before it are whole
-pub record IsNextJob (p : Progress) (r : ListedJob) : Type 0 where
+pub record IsNextJob (p : Progress) (r : Job) : Type 0 where
   pub begun : p.begun ≡ true
   pub whole : IsWhole p
-  pub new : IsNewJob p.state (unlisted r)
+  pub new : IsNewJob p.state r
 
 -- a piece has the greatest length, or is the rest of the document
 pub record IsNextPiece (x : Part) (j : ℕ) (bytes : List ℕ) : Type 0 where

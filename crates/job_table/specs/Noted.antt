@@ -4,7 +4,7 @@ use Rattle.std.specs.Ordering.{nat_cmp}
 use Rattle.std.specs.FinMap as finite
 use Rattle.extents.specs.declared.extent.Extent.{Extent}
 use Rattle.spool_types.specs.Limits.{longest_send}
-use Rattle.spool_types.specs.State.{job_of}
+use Rattle.spool_types.specs.State.{Job}
 use Rattle.spool_types.specs.declared.rows.JobRow.{JobRow}
 use Rattle.job_table.specs.Contents.{Noted}
 use Rattle.job_table.specs.Documents.{document_len}
@@ -30,10 +30,14 @@ AreNoted a = IsTrue (finite.is_sorted nat_cmp (map new_entry a.documents.items))
 
 -- a job, and no extents
 abbrev pub blank_entry : JobRow → ℕ × List Extent
-blank_entry r = (r.id, [])
+blank_entry r = (r.job.id, [])
 
--- no extents for the job of this row, and room for all pieces of its document
-pub record IsNewFor (r : JobRow) (d : NewDocument) : Type 0 where
+-- no extents for this job, and room for all pieces of its document
+pub record IsNewFor (r : Job) (d : NewDocument) : Type 0 where
   pub job : d.job ≡ r.id
   pub none : d.extents.items ≡ []
-  pub room : document_len (job_of r) ≤ new_spare d * longest_send
+  pub room : document_len r ≤ new_spare d * longest_send
+
+-- the same of its row
+abbrev pub IsNewOf : JobRow → NewDocument → Type 0
+IsNewOf r d = IsNewFor r.job d

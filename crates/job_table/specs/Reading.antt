@@ -6,7 +6,7 @@ use Rattle.extents.specs.Extents.{size_of}
 use Rattle.spool_types.specs.Limits.{longest_send}
 use Rattle.spool_types.specs.Phases.{has_ended}
 use Rattle.spool_types.specs.Sent.{with_placed, extent_behind, piece_of}
-use Rattle.spool_types.specs.State.{State, nothing, job_of}
+use Rattle.spool_types.specs.State.{State, nothing}
 use Rattle.spool_types.specs.declared.listing.Row.{Row}
 use Rattle.job_table.specs.Contents.{places_of}
 use Rattle.job_table.specs.Legal.{IsLegal}
@@ -16,7 +16,7 @@ use Rattle.job_table.specs.declared.loading.Loading.TheInside.{Inside}
 use Rattle.job_table.specs.declared.loading.Partial.{Partial}
 
 abbrev pub part_of : Partial → Part
-part_of p = record { row = job_of p.row; read = p.read }
+part_of p = record { row = p.row.job; read = p.read }
 
 abbrev pub progress_of : Inside → Progress
 progress_of a = record { state = a.store.state; begun = a.begun; partial = option_map part_of a.partial }
@@ -76,10 +76,10 @@ abbrev pub IsGrown : ℕ → ℕ → Option Partial → Option Partial → Type 
 IsGrown at count None new = new ≡ None
 IsGrown at count (Some p) None = ⊥
 IsGrown at count (Some p) (Some q) =
-    (job_of q.row ≡ job_of p.row) × (q.read ≡ p.read + count) × (q.row.document.items ≡ p.row.document.items ++ extent_behind at count ∷ [])
+    (q.row.job ≡ p.row.job) × (q.read ≡ p.read + count) × (q.row.document.items ≡ p.row.document.items ++ extent_behind at count ∷ [])
 
 -- the last job is as it was, but for memory
 abbrev pub HasSameParts : Option Partial → Option Partial → Type 0
 HasSameParts None new = new ≡ None
 HasSameParts (Some p) None = ⊥
-HasSameParts (Some p) (Some q) = (job_of q.row ≡ job_of p.row) × (q.read ≡ p.read) × (q.row.document.items ≡ p.row.document.items)
+HasSameParts (Some p) (Some q) = (q.row.job ≡ p.row.job) × (q.read ≡ p.read) × (q.row.document.items ≡ p.row.document.items)

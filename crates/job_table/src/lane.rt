@@ -5,13 +5,12 @@ ghost use Rattle.std.specs.Option.{IsNone};
 ghost use Rattle.std.specs.List.{Contains};
 ghost use Rattle.queue_sched.specs.Index.{IsFirstStartable, NoneIsStartable};
 ghost use Rattle.queue_sched.specs.declared.entry.Entry.{Entry};
-ghost use Rattle.spool_types.specs.State.{job_of};
 ghost use Rattle.job_table.specs.Lanes.{standing_of, is_live, live_count, IsLane, IsReseated, HasSeat, IsSameLane, IsAdvanced};
 ghost use Rattle.job_table.specs.declared.lane.Standing.{Standing};
 ghost use Rattle.job_table.specs.declared.lane.Lane.{Lane};
 
 use queue_sched::{Entry, Index};
-use spool_types::{JobId, JobRow, Moment, Phase};
+use spool_types::{Job, JobId, Moment, Phase};
 use std::alloc::{AllocError, Global};
 
 mod draft;
@@ -29,12 +28,12 @@ pub(crate) enum Standing {
 }
 
 // Where the job stands in the lane of its queue.
-pub(crate) fn standing_of_row(row: &JobRow) -> Standing
-    ensures { result ≡ standing_of (job_of row.now) }
+pub(crate) fn standing_of(job: &Job) -> Standing
+    ensures { result ≡ standing_of job.now }
 {
-    match row.phase {
+    match job.phase {
         Phase::Incoming(_) => Standing::Incoming,
-        Phase::Waiting { .. } => match Entry::of_row(row) {
+        Phase::Waiting { .. } => match Entry::of_job(job) {
             Some(entry) => Standing::Waiting(entry),
             None => unreachable!(),
         },

@@ -15,8 +15,10 @@
 //!
 //! `specs/` says it, and the crates above cite it:
 //!
-//! - `Step`: one row an event, with the causes of its refusals in order, the table after it and its reply; `Changes`:
-//!   what events change in a row; `Fold`: many events in turn.
+//! - `Step`: one row an event, with the shape of its change, the causes of its refusals in order and its reply, and what it
+//!   is answered (`answer_to`); `Shapes`: the shapes, each with the causes that go with it; `Changes`: what events change in
+//!   a row; `Fold`: many events in turn.
+//! - `Over`: the numbers of jobs that are over. `Turns`: what a call does with the stages of attempts.
 //! - `Legal`: what is so of each table that events lead to. `Documents`: how long the documents of a table are.
 //! - `Contents`: what an event adds to the places of documents (`AddsPlaces`).
 //! - `Attempts`: how an attempt at a job starts, and what its end, or its loss, makes of the job and its queue. The effects
@@ -106,7 +108,6 @@ pub use laws::{
     ended_jobs_stay, legal_tables_stay_legal, listings_are_loaded, reopening,
     spent_stages_stay_spent,
 };
-pub use listing::listed;
 pub use loading::{LoadFault, Loading};
 pub use places::document_len;
 pub use store::is_in_stage;

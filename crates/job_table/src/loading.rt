@@ -3,7 +3,6 @@ ghost use Rattle.std.specs.Prelude.{◌≡◌, ℕ, ◌+◌, ◌^◌, ◌↔◌,
 ghost use Rattle.std.specs.Option.{option_map};
 ghost use Rattle.std.specs.FinMap as finite;
 ghost use Rattle.spool_types.specs.declared.listing.Row.{Row};
-ghost use Rattle.spool_types.specs.State.{job_of};
 ghost use Rattle.spool_types.specs.Busy.{is_busy};
 ghost use Rattle.spool_types.specs.Phases.{has_ended, is_processing};
 ghost use Rattle.row_effects.specs.Fold.{IsInOrder};
@@ -13,7 +12,7 @@ ghost use Rattle.row_effects.specs.Attributes.{name_of};
 ghost use Rattle.job_table.specs.Legal.{IsLegal, Fits, IsUntyped, IsStartable, IsStarted};
 ghost use Rattle.job_table.specs.Contents.{HasPlace, places_at, places_of};
 ghost use Rattle.job_table.specs.Documents.{document_len};
-ghost use Rattle.job_table.specs.Loading.{IsWhole, IsPlaced, IsNewQueue, IsNewJob, IsNextQueue, IsNextJob, IsNextPiece, IsPieceOf, begin_loading, loaded, unlisted, with_job};
+ghost use Rattle.job_table.specs.Loading.{IsWhole, IsPlaced, IsNewQueue, IsNewJob, IsNextQueue, IsNextJob, IsNextPiece, IsPieceOf, begin_loading, loaded, with_job};
 ghost use Rattle.job_table.specs.Reading.{AddsPiece, HasSameParts, IsGrown, IsMeasured, MayGrow, part_of, with_last_place};
 ghost use Rattle.job_table.specs.Rows.{IsFreed};
 ghost use Rattle.extents.specs.Extents.{size_of};
@@ -23,7 +22,7 @@ use crate::places::{document_len, extent_behind, piece_count};
 use crate::store::Store;
 use crate::table::Table;
 use spool_types::{
-    Attribute, Head, JobId, JobRow, LONGEST_DOCUMENT, LONGEST_SEND, ListedJob, MOST_QUEUES, Phase,
+    Attribute, Head, Job, JobId, JobRow, LONGEST_DOCUMENT, LONGEST_SEND, MOST_QUEUES, Phase,
     QueueRow, Reason, Row, is_busy,
 };
 use std::alloc::{AllocError, Global};
@@ -164,7 +163,7 @@ impl Loading {
         Ok(())
     }
 
-    fn load_job(&mut self, job: ListedJob) -> Result<(), LoadFault>
+    fn load_job(&mut self, job: Job) -> Result<(), LoadFault>
         ensures placed { OnOk result (IsPlaced self.old.progress (Row.Job job)) }
         ensures loaded { OnOk result (self.new.progress ≡ loaded self.old.progress (Row.Job job)) }
         ensures misplaced { IsErrOf result LoadFault.Misplaced ↔ (¬ (IsPlaced self.old.progress (Row.Job job))) }
@@ -206,7 +205,7 @@ impl Loading {
         self.begun && self.partial.is_none() && is_new_queue(&self.store, queue)
     }
 
-    fn takes_job(&self, job: &ListedJob) -> bool
+    fn takes_job(&self, job: &Job) -> bool
         ensures yes { IsTrue result → IsNextJob self.now.progress job.now }
         ensures absent { IsTrue result → places_of self.now.places job.now.id ≡ [] }
         ensures no { result ≡ false → ¬ (IsNextJob self.now.progress job.now) }
@@ -227,12 +226,12 @@ impl Loading {
 
 // A piece has 65,536 bytes, or is the rest of its job's document.
 fn is_next_piece(last: &Partial, job: JobId, bytes: &[u8]) -> bool
-    requires { last.now.read ≤ last.now.row.size }
+    requires { last.now.read ≤ last.now.row.job.size }
     ensures yes { IsTrue result → IsNextPiece (part_of last.now) job bytes.now }
     ensures no { result ≡ false → ¬ (IsNextPiece (part_of last.now) job bytes.now) }
 {
-    let short = last.row.size as usize - last.read;
-    last.row.id == job && bytes.len() == short.min(LONGEST_SEND)
+    let short = last.row.job.size as usize - last.read;
+    last.row.job.id == job && bytes.len() == short.min(LONGEST_SEND)
 }
 
 // Adds a piece of so many bytes, whose payload is at this place, to the last job's document.
@@ -268,10 +267,10 @@ fn has_no_jobs(store: &Store) -> bool
 }
 
 // Whether the job may be added to the table, behind its jobs.
-fn is_new_job(store: &Store, job: &ListedJob) -> bool
-    ensures yes { IsTrue result → IsNewJob store.now.state (unlisted job.now) }
+fn is_new_job(store: &Store, job: &Job) -> bool
+    ensures yes { IsTrue result → IsNewJob store.now.state job.now }
     ensures absent { IsTrue result → places_at store.now job.now.id ≡ [] }
-    ensures no { result ≡ false → ¬ (IsNewJob store.now.state (unlisted job.now)) }
+    ensures no { result ≡ false → ¬ (IsNewJob store.now.state job.now) }
 {
     store.is_above_jobs(job.id)
         && job.id.get() <= store.highest()
@@ -282,16 +281,16 @@ fn is_new_job(store: &Store, job: &ListedJob) -> bool
 }
 
 // Whether no other job of its queue is processing, where it is. Only then the jobs are looked through.
-fn is_alone(store: &Store, job: &ListedJob) -> bool
+fn is_alone(store: &Store, job: &Job) -> bool
     ensures { result ≡ not (is_processing job.now.phase && is_busy (finite.values store.now.state.jobs) job.now.queue) }
 {
     !(job.phase.is_processing() && is_busy(store.jobs(), &job.queue))
 }
 
 // Whether the phase fits the rest of the row.
-fn fits(job: &ListedJob) -> bool
-    ensures yes { IsTrue result → Fits (unlisted job.now) job.now.phase }
-    ensures no { result ≡ false → ¬ (Fits (unlisted job.now) job.now.phase) }
+fn fits(job: &Job) -> bool
+    ensures yes { IsTrue result → Fits job.now job.now.phase }
+    ensures no { result ≡ false → ¬ (Fits job.now job.now.phase) }
 {
     match job.phase {
         Phase::Incoming(_) => is_untyped(job),
@@ -305,23 +304,23 @@ fn fits(job: &ListedJob) -> bool
     }
 }
 
-fn is_untyped(job: &ListedJob) -> bool
-    ensures yes { IsTrue result → IsUntyped (unlisted job.now) }
-    ensures no { result ≡ false → ¬ (IsUntyped (unlisted job.now)) }
+fn is_untyped(job: &Job) -> bool
+    ensures yes { IsTrue result → IsUntyped job.now }
+    ensures no { result ≡ false → ¬ (IsUntyped job.now) }
 {
     job.media.is_none() && job.filters.as_slice().is_empty() && job.attempts < u32::MAX
 }
 
-fn is_startable(job: &ListedJob) -> bool
-    ensures yes { IsTrue result → IsStartable (unlisted job.now) }
-    ensures no { result ≡ false → ¬ (IsStartable (unlisted job.now)) }
+fn is_startable(job: &Job) -> bool
+    ensures yes { IsTrue result → IsStartable job.now }
+    ensures no { result ≡ false → ¬ (IsStartable job.now) }
 {
     job.media.is_some() && job.attempts < u32::MAX
 }
 
-fn is_started(job: &ListedJob, attempt: u32, stage: u8, stages: u8) -> bool
-    ensures yes { IsTrue result → IsStarted (unlisted job.now) attempt stage stages }
-    ensures no { result ≡ false → ¬ (IsStarted (unlisted job.now) attempt stage stages) }
+fn is_started(job: &Job, attempt: u32, stage: u8, stages: u8) -> bool
+    ensures yes { IsTrue result → IsStarted job.now attempt stage stages }
+    ensures no { result ≡ false → ¬ (IsStarted job.now attempt stage stages) }
 {
     job.media.is_some()
         && 1 <= attempt
@@ -352,44 +351,29 @@ fn names_ascend(attributes: &[Attribute]) -> bool
 }
 
 // The row of a listed job, with memory for the extents of all pieces of its document.
-fn unlisted_row(alloc: Global, job: ListedJob) -> Result<JobRow, AllocError>
-    ensures row { IfOk result (λ row. job_of row ≡ unlisted job) }
+fn unlisted_row(alloc: Global, job: Job) -> Result<JobRow, AllocError>
+    ensures row { IfOk result (λ row. row.job ≡ job) }
     ensures freed { IfOk result IsFreed }
     ensures none { IfOk result (λ row. row.document.items ≡ []) }
 {
-    let document = Vec::with_capacity(alloc, piece_count(document_len(job.phase, job.size)))?;
-    Ok(JobRow {
-        id: job.id,
-        queue: job.queue,
-        user: job.user,
-        title: job.title,
-        copies: job.copies,
-        priority: job.priority,
-        options: job.options,
-        media: job.media,
-        filters: job.filters,
-        attempts: job.attempts,
-        pages: job.pages,
-        size: job.size,
-        phase: job.phase,
-        document,
-    })
+    let document = Vec::with_capacity(alloc, piece_count(document_len(&job)))?;
+    Ok(JobRow { job, document })
 }
 
 // The job goes into the table where its document is whole, and else is given back.
 fn settle(store: &mut Store, last: Partial) -> Option<Partial>
     requires room { 0 < store.old.room.jobs }
     requires legal { IsLegal store.old.state }
-    requires new { IsNewJob store.old.state (job_of last.row) }
+    requires new { IsNewJob store.old.state last.row.job }
     requires freed { IsFreed last.row }
     requires measured { size_of last.row.document.items ≡ last.read }
-    ensures state { store.new.state ≡ cond (last.read == document_len (job_of last.row)) (with_job store.old.state (job_of last.row)) store.old.state }
-    ensures rest { option_map part_of result ≡ cond (last.read == document_len (job_of last.row)) None (Some (part_of last)) }
+    ensures state { store.new.state ≡ cond (last.read == document_len last.row.job) (with_job store.old.state last.row.job) store.old.state }
+    ensures rest { option_map part_of result ≡ cond (last.read == document_len last.row.job) None (Some (part_of last)) }
     ensures measured { IsMeasured result }
     ensures places { (j : ℕ) → places_of (with_last_place result store.new.places) j ≡ places_of (with_last_place (Some last) store.old.places) j }
 {
     let Partial { row, read } = last;
-    if read == document_len(row.phase, row.size) {
+    if read == document_len(&row.job) {
         store.push_job(row);
         None
     } else {

@@ -11,7 +11,7 @@ ghost use Rattle.job_table.specs.Places.{IsPlace, IsGap};
 ghost use Rattle.job_table.specs.Rows.{job_entry};
 
 use crate::places::{document_len, piece_count};
-use spool_types::{Extent, JobId, JobRow};
+use spool_types::{Extent, Job, JobId, JobRow};
 use std::alloc::{AllocError, Global};
 use std::marker::Model;
 use std::mem;
@@ -64,7 +64,7 @@ impl NewPlaces {
     {
         let mut documents = Vec::with_capacity(alloc, rows.len())?;
         for row in rows {
-            documents.push(new_document(alloc, row)?)?;
+            documents.push(new_document(alloc, &row.job)?)?;
         }
         Ok(NewPlaces { documents })
     }
@@ -105,14 +105,14 @@ fn place(documents: &[NewDocument], job: JobId) -> Result<usize, usize>
     documents.binary_search_by_key(&job, |document| document.job)
 }
 
-// No extents for the job of this row, with memory for as many as its document has pieces.
-fn new_document(alloc: Global, row: &JobRow) -> Result<NewDocument, AllocError>
-    ensures { IfOk result (IsNewFor row.now) }
+// No extents for this job, with memory for as many as its document has pieces.
+fn new_document(alloc: Global, job: &Job) -> Result<NewDocument, AllocError>
+    ensures { IfOk result (IsNewFor job.now) }
 {
-    let count = piece_count(document_len(row.phase, row.size));
+    let count = piece_count(document_len(job));
     let extents = Vec::with_capacity(alloc, count)?;
     Ok(NewDocument {
-        job: row.id,
+        job: job.id,
         extents,
     })
 }

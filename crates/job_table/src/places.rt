@@ -1,10 +1,10 @@
 //! Where the bytes of sends and of pieces lie, and how many pieces a document has.
-ghost use Rattle.std.specs.Prelude.{◌≡◌, ◌+◌, ◌*◌, ◌<◌, ◌≤◌, ◌^◌, cond};
+ghost use Rattle.std.specs.Prelude.{◌≡◌, ◌+◌, ◌*◌, ◌<◌, ◌≤◌, ◌^◌};
 ghost use Rattle.spool_types.specs.Limits.{longest_send};
-ghost use Rattle.spool_types.specs.Phases.{has_ended};
+ghost use Rattle.job_table.specs.Documents.{document_len};
 ghost use Rattle.spool_types.specs.Sent.{bytes_behind, extent_behind};
 
-use spool_types::{Extent, LONGEST_SEND, Phase};
+use spool_types::{Extent, Job, LONGEST_SEND};
 
 // Behind the kind of a payload, the job and the length.
 const BYTES_BEHIND: u64 = 9;
@@ -20,11 +20,15 @@ pub(crate) fn extent_behind(place: u64, count: usize) -> Extent
     }
 }
 
-/// How many bytes the document of a job has, by its phase and its size: one that has ended has none.
-pub fn document_len(phase: Phase, size: u32) -> usize
-    ensures { result ≡ cond (has_ended phase) 0 size }
+/// How many bytes the document of a job has: one that has ended has none.
+pub fn document_len(job: &Job) -> usize
+    ensures { result ≡ document_len job.now }
 {
-    if phase.has_ended() { 0 } else { size as usize }
+    if job.phase.has_ended() {
+        0
+    } else {
+        job.size as usize
+    }
 }
 
 /// How many pieces a document of so many bytes has.

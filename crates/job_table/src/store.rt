@@ -102,8 +102,8 @@ impl Store {
     pub fn job(&self, id: JobId) -> Option<&JobRow>
         ensures row { option_map job_of (option_copied result) ≡ job_at self.now.state id }
         ensures places { IfSome result (λ r. r.now.document.items ≡ places_at self.now id) }
-        ensures sized { IfSome result (λ r. size_of r.now.document.items ≡ document_len (job_of r.now)) }
-        ensures ended { IfSome result (λ r. has_ended r.now.phase ≡ true → r.now.document.items ≡ []) }
+        ensures sized { IfSome result (λ r. size_of r.now.document.items ≡ document_len r.now.job) }
+        ensures ended { IfSome result (λ r. has_ended r.now.job.phase ≡ true → r.now.document.items ≡ []) }
     {
         match job_place(&self.jobs, id) {
             Ok(at) => Some(&self.jobs[at]),

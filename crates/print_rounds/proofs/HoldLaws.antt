@@ -29,7 +29,8 @@ use Rattle.print_rounds.specs.Choice.{slots_for, slots_in, slots_by, readiness}
 use Rattle.print_rounds.specs.Counts.{report_events}
 use Rattle.print_rounds.specs.Courses.{Answer, Course, Launching, IsLaunch, AreLaunchings, given, Ending, IsReport, IsEndingOf, AreEndings, is_silent}
 use Rattle.print_rounds.specs.Script.{current_slots, is_current}
-use Rattle.print_rounds.specs.World.{key_in, keys_in, IsAmong, AreOnce, IsEndedSlot, IsHeld}
+use Rattle.print_rounds.specs.World.{key_in, keys_in, IsEndedSlot, IsHeld}
+use Rattle.job_table.specs.Turns.{IsAmong, AreOnce}
 use Rattle.print_rounds.specs.declared.outcome.Launch.{Launch}
 use Rattle.print_rounds.specs.declared.outcome.Launch.TheVariants.{Unlaunched, Launched, NoMemory, Disk, Dead}
 use Rattle.print_rounds.specs.declared.outcome.Report.{Report}

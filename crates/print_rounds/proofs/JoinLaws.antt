@@ -3,13 +3,13 @@ use Rattle.std.proofs.Common.{◌≡◌, ◌⊎◌, inl, inr, Bool, true, false,
 use Rattle.std.proofs.lemmas.Bool.{both_ways}
 use Rattle.std.proofs.lemmas.List.{map-append}
 use Rattle.spool_types.specs.declared.event.Event.{Event}
-use Rattle.job_table.specs.Fold.{after_all}
+use Rattle.job_table.specs.Fold.{after_all, AreAccepted}
 use Rattle.job_table.specs.Legal.{IsLegal}
 use Rattle.job_table.specs.Stages.{Key, IsSpent}
-use Rattle.spool_core.specs.History.{AreAccepted}
 use Rattle.child_pipeline.specs.Told.{Told}
 use Rattle.print_rounds.specs.Courses.{Course}
-use Rattle.print_rounds.specs.World.{key_in, keys_in, AreOnce, IsAmong, IsReached, IsHeld, IsCallTurn}
+use Rattle.print_rounds.specs.World.{key_in, keys_in, IsHeld, IsCallTurn}
+use Rattle.job_table.specs.Turns.{AreOnce, IsAmong, IsReached}
 use Rattle.print_rounds.proofs.HoldLaws.{Laws}
 use Rattle.print_rounds.proofs.KeyLaws.{accepted_both, among_either, once_both, reached_later, reached_sooner}
 use Rattle.print_rounds.proofs.PrefixLaws.{after_both}

@@ -5,15 +5,14 @@ use Rattle.spool_types.specs.declared.event.Event.{Event}
 use Rattle.spool_types.specs.declared.event.Event.TheVariants.{Start, Stage}
 use Rattle.spool_types.specs.State.{State}
 use Rattle.job_table.specs.Attempts.{next_of}
-use Rattle.job_table.specs.Fold.{after_all, after_one, unless_refused}
+use Rattle.job_table.specs.Fold.{after_all, after_one, unless_refused, AreAccepted}
 use Rattle.job_table.specs.Stages.{Key, IsIn}
 use Rattle.job_table.specs.Step.{after, refusal_of}
-use Rattle.spool_core.specs.History.{AreAccepted}
 use Rattle.spool_core.specs.Standing.{Standing, IsAnswer}
 use Rattle.child_pipeline.specs.Slots.{end_in}
 use Rattle.print_rounds.specs.Counts.{acknowledged_by, start_events, starting_events, report_events, ending_events}
 use Rattle.print_rounds.specs.Courses.{Answer, Course, Starting, IsStartingOf, AreStartings, Ending, IsReport, IsEnding, IsEndingOf, AreEndings, is_silent}
-use Rattle.print_rounds.specs.World.{AreOnce, IsAmong, IsReached}
+use Rattle.job_table.specs.Turns.{AreOnce, IsAmong, IsReached}
 use Rattle.print_rounds.specs.declared.outcome.Report.{Report}
 use Rattle.print_rounds.specs.declared.outcome.Report.TheVariants as reports
 use Rattle.std.specs.FinMap as finite

@@ -3,10 +3,9 @@ use Rattle.std.proofs.Common.{◌≡◌, ◌⊎◌, inl, inr, ℕ, false, List, 
 use Rattle.std.proofs.lemmas.Bool.{both_ways}
 use Rattle.spool_disk.specs.Disk.{DiskView}
 use Rattle.spool_types.specs.State.{State}
-use Rattle.job_table.specs.Fold.{after_all}
+use Rattle.job_table.specs.Fold.{after_all, AreAccepted}
 use Rattle.job_table.specs.Legal.{IsLegal}
 use Rattle.job_table.specs.Stages.{Key, IsIn, IsSpent}
-use Rattle.spool_core.specs.History.{AreAccepted}
 use Rattle.spool_core.specs.Standing.{Standing}
 use Rattle.filter_args.specs.declared.place.Place.{Place}
 use Rattle.child_pipeline.specs.Slots.{Slots}

@@ -1,12 +1,10 @@
 -- Turns of World: what calls do with the stages of attempts, so that none is started twice.
-use Rattle.std.specs.Prelude.{◌≡◌, ◌⊎◌, ℕ, Bool, true, false, List, [], ◌∷◌, ◌++◌, map, Some}
+use Rattle.std.specs.Prelude.{◌≡◌, ℕ, true, List, [], ◌++◌, map, Some}
 use Rattle.std.specs.FinMap as finite
 use Rattle.spool_types.specs.declared.event.Event.{Event}
 use Rattle.spool_types.specs.State.{State}
-use Rattle.job_table.specs.Fold.{after_all}
-use Rattle.job_table.specs.Legal.{IsLegal}
-use Rattle.job_table.specs.Stages.{Key, IsIn, IsSpent}
-use Rattle.spool_core.specs.History.{AreAccepted}
+use Rattle.job_table.specs.Stages.{Key, IsIn}
+use Rattle.job_table.specs.Turns.{IsTurn}
 use Rattle.child_pipeline.specs.Slots.{Slots, is_ended}
 use Rattle.child_pipeline.specs.Told.{Told}
 use Rattle.child_pipeline.specs.declared.order.Placed.{Placed}
@@ -20,22 +18,6 @@ key_in p = record { job = p.order.job; attempt = p.order.attempt; stage = p.orde
 abbrev pub keys_in : List Placed → List Key
 keys_in ps = map key_in ps
 
-abbrev pub IsAmong : List Key → Key → Type 0
-IsAmong [] k = ⊥
-IsAmong (x ∷ xs) k = (x ≡ k) ⊎ IsAmong xs k
-
--- each stands once in the list
-abbrev pub AreOnce : List Key → Type 0
-AreOnce [] = Unit {0}
-AreOnce (k ∷ ks) = (¬ (IsAmong ks k)) × AreOnce ks
-
--- after some of the events, the first of them, the table has the job in that stage
-pub record IsReached (s : State) (more : List Event) (k : Key) : Type 0 where
-  pub first : List Event
-  pub rest : List Event
-  pub split : more ≡ first ++ rest
-  pub reached : IsIn (after_all s first) k
-
 -- the slot keeps the finish of this stage, or that it couldn't be started
 pub record IsEndedSlot (slots : Slots) (k : Key) : Type 0 where
   pub slot : Slot ℕ
@@ -47,17 +29,6 @@ pub record IsEndedSlot (slots : Slots) (k : Key) : Type 0 where
 -- the stage that the table has a job in, and whose finish or NoStart a slot keeps
 abbrev pub IsHeld : State → Slots → Key → Type 0
 IsHeld s slots k = IsIn s k × IsEndedSlot slots k
-
--- One call: the table and the stages that are held at its start; the events acknowledged in it and the stages of the orders
--- that are new in it; the table and the stages that are held at its return, and whether the device has failed by then.
-pub record IsTurn (s : State) (Held : Key → Type 0) (more : List Event) (keys : List Key) (s' : State) (Held' : Key → Type 0) (over : Bool) : Type 0 where
-  pub legal : IsLegal s
-  pub accepted : AreAccepted s more
-  pub table : s' ≡ after_all s more
-  pub distinct : AreOnce keys
-  pub outside : (k : Key) → IsAmong keys k → ¬ (Held k)
-  pub reached : (k : Key) → IsAmong keys k → IsReached s more k
-  pub settled : over ≡ false → (k : Key) → Held k ⊎ IsAmong keys k → Held' k ⊎ IsSpent s' k
 
 -- the orders that are new in a call, where the children tell them, and the turn that it was
 pub record IsCallTurn {D : Type 0} (t : Told) (old : Course D) (more : List Event) (new : Course D) : Type 0 where

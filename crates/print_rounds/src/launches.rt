@@ -1,7 +1,7 @@
 //! The second part of a round: one stage of each processing job is started.
 ghost use Rattle.std.specs.Prelude.{◌≡◌, List, Option, ℕ, false, map, None, Some, IfOk, IsSome, OnErr};
 ghost use Rattle.std.specs.FinMap as finite;
-ghost use Rattle.spool_types.specs.State.{Job, job_of, job_at, queue_at};
+ghost use Rattle.spool_types.specs.State.{Job, job_at, queue_at};
 ghost use Rattle.spool_types.specs.declared.rows.QueueRow.{QueueRow as QueueOf};
 ghost use Rattle.job_table.specs.Legal.{Fits};
 ghost use Rattle.child_pipeline.specs.Slots.{IsDue, IsTicketless, slot_in};
@@ -18,7 +18,7 @@ use filter_args::Place;
 use job_table::Table;
 use spool_core::Spool;
 use spool_disk::Disk;
-use spool_types::{JobId, JobRow, Phase};
+use spool_types::{Job, JobId, Phase};
 use std::alloc::{AllocError, Global};
 
 // How many children were started, and the first fault.
@@ -43,11 +43,11 @@ fn slot_at<C: Children>(runner: &Runner<C>, job: JobId, attempt: u32, stage: u8)
 }
 
 // Sees that a job whose stage is to be started has a slot for it, and tells whether it is to be.
-fn make_due<C: Children>(runner: &mut Runner<C>, row: &JobRow) -> Result<bool, AllocError>
-    requires fits { Fits (job_of row.now) row.now.phase }
+fn make_due<C: Children>(runner: &mut Runner<C>, row: &Job) -> Result<bool, AllocError>
+    requires fits { Fits row.now row.now.phase }
     requires rests { IsTicketless (finite.get runner.old row.now.id) }
-    ensures ok { IfOk result (λ due. IsMade runner.old (job_of row.now) due runner.new) }
-    ensures err { OnErr result (IsUnmade runner.old (job_of row.now) runner.new) }
+    ensures ok { IfOk result (λ due. IsMade runner.old row.now due runner.new) }
+    ensures err { OnErr result (IsUnmade runner.old row.now runner.new) }
 {
     let Phase::Processing { attempt, stage, .. } = row.phase else {
         return Ok(false);
@@ -80,10 +80,10 @@ fn prepare<C: Children>(
     let Some(row) = table.job(job) else {
         return Ok(false);
     };
-    let Some(_queue) = table.queue(&row.queue) else {
+    let Some(_queue) = table.queue(&row.job.queue) else {
         return Ok(false);
     };
-    make_due(runner, row)
+    make_due(runner, &row.job)
 }
 
 // Whether the stage of a job has the output of the one before it.
@@ -130,10 +130,10 @@ fn start<C: Children>(
     let Some(row) = table.job(job) else {
         unreachable!()
     };
-    let Some(queue) = table.queue(&row.queue) else {
+    let Some(queue) = table.queue(&row.job.queue) else {
         unreachable!()
     };
-    match runner.start_stage(children, place, row, queue, document) {
+    match runner.start_stage(children, place, &row.job, queue, document) {
         Ok(started) => Launch::Launched(started),
         Err(_) => Launch::NoMemory,
     }

@@ -24,7 +24,7 @@ fn len_of(table: &Table, job: JobId) -> usize
     ensures { result ≡ len_at table.now.state job }
 {
     match table.job(job) {
-        Some(row) => document_len(row.phase, row.size),
+        Some(row) => document_len(&row.job),
         None => 0,
     }
 }

@@ -19,7 +19,7 @@ fn is_current<C: Children>(table: &Table, runner: &Runner<C>, job: JobId) -> boo
     let Some(slot) = runner.slot(job) else {
         return false;
     };
-    is_in_stage(row.phase, slot.attempt, slot.stage)
+    is_in_stage(row.job.phase, slot.attempt, slot.stage)
 }
 
 // Frees each slot whose job isn't in its stage any more. It visits the slots alone.

@@ -2,10 +2,9 @@
 ghost use Rattle.std.specs.Prelude.{◌≡◌, ◌↔◌, ℕ, false, nat_le, IsTrue, IsSome, IfSome, MatchOption};
 ghost use Rattle.std.specs.Ordering.{is_lt};
 ghost use Rattle.spool_types.specs.Phases.{is_waiting};
-ghost use Rattle.spool_types.specs.State.{job_of};
 ghost use Rattle.queue_sched.specs.Index.{entry_of, goes_before, is_startable};
 
-use spool_types::{Hold, JobId, JobRow, Moment, Phase, Priority};
+use spool_types::{Hold, Job, JobId, Moment, Phase, Priority};
 use std::cmp::Ordering;
 
 /// A waiting job, as far as its turn goes.
@@ -21,19 +20,19 @@ pub struct Entry {
 
 impl Entry {
     /// The entry of a waiting job; no other job has one.
-    pub fn of_row(row: &JobRow) -> Option<Entry>
-        ensures waiting { IsSome result ↔ IsTrue (is_waiting row.now.phase) }
-        ensures value { IfSome result (λ e. e ≡ entry_of (job_of row.now)) }
+    pub fn of_job(job: &Job) -> Option<Entry>
+        ensures waiting { IsSome result ↔ IsTrue (is_waiting job.now.phase) }
+        ensures value { IfSome result (λ e. e ≡ entry_of job.now) }
     {
-        match row.phase {
+        match job.phase {
             Phase::Waiting {
                 hold,
                 not_before,
                 first,
             } => Some(Entry {
-                id: row.id,
+                id: job.id,
                 first,
-                priority: row.priority,
+                priority: job.priority,
                 hold,
                 not_before,
             }),

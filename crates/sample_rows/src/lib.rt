@@ -6,16 +6,16 @@
 ghost use Rattle.std.specs.Prelude.{◌≡◌, [], IfOk};
 
 use spool_types::{
-    Copies, Interval, Items, JobId, JobRow, MediaType, Message, Note, OptionText, Phase, Policy,
+    Copies, Interval, Items, Job, JobId, MediaType, Message, Note, OptionText, Phase, Policy,
     Priority, QueueName, QueueRow, TextFault, Title, Uri, UserName,
 };
 use std::alloc::Global;
 
-/// Job 7 of the queue `lab`, in this phase, with no filter and no document.
-pub fn sample_job(alloc: Global, phase: Phase) -> Result<JobRow, TextFault>
-    ensures phase { IfOk result (λ row. row.phase ≡ phase) }
+/// Job 7 of the queue `lab`, in this phase, with no filter.
+pub fn sample_job(alloc: Global, phase: Phase) -> Result<Job, TextFault>
+    ensures phase { IfOk result (λ job. job.phase ≡ phase) }
 {
-    Ok(JobRow {
+    Ok(Job {
         id: JobId::new(7).ok_or(TextFault::Bad)?,
         queue: QueueName::read(alloc, "lab")?,
         user: UserName::read(alloc, "ann")?,
@@ -29,7 +29,6 @@ pub fn sample_job(alloc: Global, phase: Phase) -> Result<JobRow, TextFault>
         pages: 0,
         size: 3,
         phase,
-        document: Vec::new(alloc),
     })
 }
 

@@ -7,11 +7,11 @@ use Rattle.spool_types.specs.declared.event.Reply.{Reply}
 use Rattle.spool_types.specs.declared.refusal.Refusal.{Refusal}
 use Rattle.spool_types.specs.State.{State}
 use Rattle.job_table.specs.Fold.{after_one, after_all, unless_refused}
-use Rattle.job_table.specs.Step.{refusal_of, step, answered}
+use Rattle.job_table.specs.Step.{refusal_of, step, answered, answer_to}
 use Rattle.spool_disk.specs.Disk.{DiskView, IsLawful, LeavesOnly}
 use Rattle.spool_disk.proofs.Moments.{started, runs_on, weaker_run}
 use Rattle.spool_core.specs.Image.{HasTable, HasDocuments, HasWhole, HasBeforeOrAfterEvent, HasWholeBeforeOrAfterEvent, documents_after_one, unless_refused_sent}
-use Rattle.spool_core.specs.Driving.{answer_to, replies_to, documents_after, HasPrefixTable, HasWholePrefix, IsInHand, LeavesTable, LeavesWhole, IsChain, IsWholeChain, room_after, room_after_one}
+use Rattle.spool_core.specs.Driving.{replies_to, documents_after, HasPrefixTable, HasWholePrefix, IsInHand, LeavesTable, LeavesWhole, IsChain, IsWholeChain, room_after, room_after_one}
 
 pub after_all_last : (s : State) (es : List Event) (e : Event) → after_all s (es ++ e ∷ []) ≡ after_one (after_all s es) e
 after_all_last s [] e = refl

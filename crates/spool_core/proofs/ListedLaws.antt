@@ -18,10 +18,11 @@ use Rattle.spool_areas.specs.Current.{Current}
 use Rattle.spool_areas.specs.Extents.{bytes_of}
 use Rattle.spool_areas.specs.Header.{header_len}
 use Rattle.event_codec.specs.RowSpelling.{row_spelling}
-use Rattle.job_table.specs.Contents.{Contents, AreSized, is_over, places_at}
+use Rattle.job_table.specs.Contents.{Contents, AreSized, places_at}
+use Rattle.job_table.specs.Over.{is_over_by}
 use Rattle.job_table.specs.Documents.{AreDocuments, document_len}
 use Rattle.job_table.specs.Legal.{IsLegal}
-use Rattle.job_table.specs.Listing.{head_of, listed, job_rows, listing, pieces}
+use Rattle.job_table.specs.Listing.{head_of, job_rows, listing, pieces}
 use Rattle.documents.specs.Documents.{joined}
 use Rattle.documents.specs.Placed.{placed_pieces}
 use Rattle.documents.proofs.Joined.{bytes_are, joined_len}
@@ -113,7 +114,7 @@ others_placed gate documents [] j apart = refl
 others_placed gate documents (q ∷ rs) j apart =
     let own = job_rows q (documents q.id) in
     placed-append gate own (rows_of documents rs) j
-    ∙ (λ i. pieces_placed (gate + 5 + length (row_spelling (JobRow (listed q)))) q.id j (pieces (documents q.id)) (other_test q.id j apart.0) i
+    ∙ (λ i. pieces_placed (gate + 5 + length (row_spelling (JobRow q))) q.id j (pieces (documents q.id)) (other_test q.id j apart.0) i
     ++ others_placed (gate + length (records (map row_spelling own))) documents rs j apart.1 i)
 
 none_of_them : (s : State) (j : ℕ) (rs : List Job) → job_at s j ≡ None → AreFound s rs → AllByRecursion (λ (q : Job). q.id ≢ j) rs
@@ -152,6 +153,6 @@ lying_fit v lawful a c stands are r tells j q there = either (has_ended q.phase)
         let none : document_len q ≡ 0 = ap (λ b. cond b 0 q.size) over in
         omega (arith, most r (places_at c j), are j q there, none)
     either false lives =
-        joined_len (a.base + header_len) a.gate (places_at c j) r (stands.lie j (ap is_over there ∙ lives))
+        joined_len (a.base + header_len) a.gate (places_at c j) r (stands.lie j (ap (is_over_by c.state.highest j) there ∙ lives))
         (omega (arith, stands.inside, stands.area.within, lawful.image_size a.disk r (lawful.reads_image a.disk r tells)))
         ∙ are j q there

@@ -23,8 +23,8 @@ use Rattle.row_effects.specs.Keys.{is_ascending}
 use Rattle.row_effects.specs.Reasons.{word_of}
 use Rattle.row_effects.specs.Attributes.{name_of}
 use Rattle.job_table.specs.Legal.{Fits}
-use Rattle.job_table.specs.Listing.{listed, parts, pieces, job_rows}
-use Rattle.job_table.specs.Loading.{Progress, ArePlaced, loaded, loaded_all, unlisted}
+use Rattle.job_table.specs.Listing.{parts, pieces, job_rows}
+use Rattle.job_table.specs.Loading.{Progress, ArePlaced, loaded, loaded_all}
 use Rattle.event_codec.specs.RowSpelling.{Ascend, IsOrderedQueue, IsPhaseOf, IsLegalRow, IsRowSpellable, row_spelling}
 use Rattle.spool_core.specs.Checkpointing.{AreFramesOf, AreAdded, MayBeListed}
 
@@ -56,23 +56,6 @@ queues_ordered : (qs : List QueueRow) (p : Progress) (rest : List Row) → ArePl
 queues_ordered [] p rest placed = tt
 queues_ordered (q ∷ qs) p rest placed = (ordered q placed.0.new.in_order, queues_ordered qs (loaded p (Queue q)) rest placed.1)
 
--- the document was left out
-fits_whole : (r : Job) (phase : Phase) → Fits (unlisted (listed r)) phase → Fits r phase
-fits_whole r (Incoming hold) fits = record { media = fits.media; filters = fits.filters; attempts = fits.attempts }
-fits_whole r (Waiting hold not_before first) fits = record { media = fits.media; attempts = fits.attempts }
-fits_whole r (Processing attempt stage stages) fits = record {
-  media = fits.media;
-  started = fits.started;
-  newest = fits.newest;
-  counted = fits.counted;
-  from_first = fits.from_first;
-  to_last = fits.to_last;
-  of_all = fits.of_all;
-}
-fits_whole r Completed fits = tt
-fits_whole r Canceled fits = tt
-fits_whole r (Aborted reason) fits = tt
-
 -- the rows of jobs, each with its document
 abbrev pub rows_of : (ℕ → List ℕ) → List Job → List Row
 rows_of documents rs = flat_map (λ r. job_rows r (documents r.id)) rs
@@ -80,7 +63,7 @@ rows_of documents rs = flat_map (λ r. job_rows r (documents r.id)) rs
 jobs_may : (documents : ℕ → List ℕ) (rs : List Job) (p : Progress) → ArePlaced p (rows_of documents rs) → AllByRecursion MayBeListed rs
 jobs_may documents [] p placed = tt
 jobs_may documents (r ∷ rs) p placed = (
-  record { size = placed.0.new.size; phase = fits_whole r r.phase placed.0.new.phase },
+  record { size = placed.0.new.size; phase = placed.0.new.phase },
   jobs_may documents rs (loaded_all p (job_rows r (documents r.id))) (placed_behind p (job_rows r (documents r.id)) (rows_of documents rs) placed),
 )
 
@@ -95,7 +78,7 @@ told documents qs rs p placed = record {
   jobs = jobs_may documents rs (loaded_all p (map (λ q. Queue q) qs)) (placed_behind p (map (λ q. Queue q) qs) (rows_of documents rs) placed);
 }
 
-phase_of : (r : Job) (phase : Phase) → Fits r phase → length r.filters ≤ 15 → IsPhaseOf (listed r) phase
+phase_of : (r : Job) (phase : Phase) → Fits r phase → length r.filters ≤ 15 → IsPhaseOf r phase
 phase_of r (Incoming hold) fits few = tt
 phase_of r (Waiting hold not_before first) fits few = tt
 phase_of r (Processing attempt stage stages) fits few = record {
@@ -107,7 +90,7 @@ phase_of r Completed fits few = tt
 phase_of r Canceled fits few = tt
 phase_of r (Aborted reason) fits few = tt
 
-pub legal_job : (r : Job) → MayBeListed r → length r.filters ≤ 15 → IsLegalRow (JobRow (listed r))
+pub legal_job : (r : Job) → MayBeListed r → length r.filters ≤ 15 → IsLegalRow (JobRow r)
 legal_job r may few = record { size = record { at_least = omega arith; at_most = may.size }; phase = phase_of r r.phase may.phase few }
 
 -- an element of them all

@@ -19,7 +19,7 @@ use Rattle.gate_journal.proofs.Steps.{length-records-push}
 use Rattle.event_codec.specs.RowSpelling.{row_spelling}
 use Rattle.job_table.specs.Contents.{Contents, Noted, move_room, places_of}
 use Rattle.job_table.specs.Documents.{document_len}
-use Rattle.job_table.specs.Listing.{listed, pieces}
+use Rattle.job_table.specs.Listing.{pieces}
 use Rattle.documents.specs.Documents.{joined}
 use Rattle.documents.specs.Placed.{placed_pieces}
 use Rattle.documents.proofs.Moved.{spells_pieces}
@@ -70,7 +70,7 @@ replaced_then at n rows others more too old mid new is first next front back her
 
 -- a job, and these pieces of its document
 abbrev pub part_rows : Job → List (List ℕ) → List Row
-part_rows row parts = JobRow (listed row) ∷ map (λ bytes. Piece row.id bytes) parts
+part_rows row parts = JobRow row ∷ map (λ bytes. Piece row.id bytes) parts
 
 -- so many bytes of the document are in the frames of its pieces
 pub record IsPartFilled (tells : Option (List ℕ)) (document : List Extent) (row : Job) (done : ℕ) (start : Cursor) (old : List (Vec ℕ Global)) (before : Noted) (now : Cursor) (new : List (Vec ℕ Global)) (noted : Noted) : Type 0 where
@@ -101,13 +101,13 @@ all_left n = omega arith
 module _ (table : Contents) (job : ℕ) (cursor : Cursor) (frames : List (Vec ℕ Global)) (due : IsDue table job cursor frames) where
   -- the frame of the job is next
   due_within : cursor.frame < length frames
-  due_within = within_frames frames due.front (JobRow (listed due.row)) (map (λ bytes. Piece due.row.id bytes) (pieces (replicate (document_len due.row) 0)) ++ due.back) cursor.frame due.framed due.at_is
+  due_within = within_frames frames due.front (JobRow due.row) (map (λ bytes. Piece due.row.id bytes) (pieces (replicate (document_len due.row) 0)) ++ due.back) cursor.frame due.framed due.at_is
 
-  due_len : (d : Vec ℕ Global) → length (get_or frames cursor.frame d).items ≡ length (row_spelling (JobRow (listed due.row))) + 5
-  due_len d = len_here frames due.front (JobRow (listed due.row)) (map (λ bytes. Piece due.row.id bytes) (pieces (replicate (document_len due.row) 0)) ++ due.back) cursor.frame due.framed due.at_is d
+  due_len : (d : Vec ℕ Global) → length (get_or frames cursor.frame d).items ≡ length (row_spelling (JobRow due.row)) + 5
+  due_len d = len_here frames due.front (JobRow due.row) (map (λ bytes. Piece due.row.id bytes) (pieces (replicate (document_len due.row) 0)) ++ due.back) cursor.frame due.framed due.at_is d
 
   pub due_short : HasGateBehind frames cursor
-  due_short d = omega (arith, due.short, due_len d, length-append (row_spelling (JobRow (listed due.row))) (records (map row_spelling (map (λ bytes. Piece due.row.id bytes) (pieces (replicate (document_len due.row) 0))))))
+  due_short d = omega (arith, due.short, due_len d, length-append (row_spelling (JobRow due.row)) (records (map row_spelling (map (λ bytes. Piece due.row.id bytes) (pieces (replicate (document_len due.row) 0))))))
 
   pub part_begun : (tells : Option (List ℕ)) (document : List Extent) (next : Cursor) → IsBehind frames cursor next → IsPartFilled tells document due.row 0 cursor frames table.moves next frames table.moves
   part_begun tells document next behind =
@@ -120,7 +120,7 @@ module _ (table : Contents) (job : ℕ) (cursor : Cursor) (frames : List (Vec �
         told = λ r told. refl;
         filled = λ front back is are. are;
         frame = omega (arith, behind.frame);
-        gate = omega (arith, behind.gate d, due_len d, length-append (row_spelling (JobRow (listed due.row))) []);
+        gate = omega (arith, behind.gate d, due_len d, length-append (row_spelling (JobRow due.row)) []);
         places = λ j. sym (append-nil (places_of table.moves.places j));
         there = λ j there. there;
         room = λ j apart. refl;
@@ -142,7 +142,7 @@ same_test : (k : ℕ) → (k == k) ≡ true
 same_test k = grind (arith, nat_tests)
 
 rows_push : (row : Job) (parts : List (List ℕ)) (b : List ℕ) → part_rows row (parts ++ b ∷ []) ≡ part_rows row parts ++ Piece row.id b ∷ []
-rows_push row parts b = ap (λ (l : List Row). JobRow (listed row) ∷ l) (map-append (λ bytes. Piece row.id bytes) parts (b ∷ []))
+rows_push row parts b = ap (λ (l : List Row). JobRow row ∷ l) (map-append (λ bytes. Piece row.id bytes) parts (b ∷ []))
 
 module _ (tells : Option (List ℕ)) (document : List Extent) (row : Job) (done count : ℕ) (start : Cursor) (old : List (Vec ℕ Global)) (before : Noted) (now : Cursor) (mid : List (Vec ℕ Global)) (noted : Noted)
     (p : IsPartFilled tells document row done start old before now mid noted) (within : done < document_len row) (is : count ≡ min (document_len row - done) longest_send) where
@@ -168,7 +168,7 @@ module _ (tells : Option (List ℕ)) (document : List Extent) (row : Job) (done 
   rest_rows = map (λ bytes. Piece row.id bytes) (pieces (replicate (document_len row - done - count) 0))
 
   all_rows : blank_rows row ≡ part_rows row p.parts ++ (some_piece ∷ rest_rows)
-  all_rows = ap (part_rows row) next_piece ∙ ap (λ (l : List Row). JobRow (listed row) ∷ l) (map-append (λ bytes. Piece row.id bytes) p.parts (zeros ∷ pieces (replicate (document_len row - done - count) 0)))
+  all_rows = ap (part_rows row) next_piece ∙ ap (λ (l : List Row). JobRow row ∷ l) (map-append (λ bytes. Piece row.id bytes) p.parts (zeros ∷ pieces (replicate (document_len row - done - count) 0)))
 
   many : length (part_rows row p.others) ≡ length (part_rows row p.parts)
   many = alike_count (part_rows row p.parts) (part_rows row p.others) p.alike

@@ -11,7 +11,8 @@ use Rattle.spool_types.specs.Phases.{has_ended}
 use Rattle.spool_types.specs.State.{Job, job_of, job_at}
 use Rattle.spool_types.specs.declared.rows.JobRow.{JobRow}
 use Rattle.spool_areas.specs.Header.{header_len}
-use Rattle.job_table.specs.Contents.{Contents, is_over, places_at}
+use Rattle.job_table.specs.Contents.{Contents, places_at}
+use Rattle.job_table.specs.Over.{is_over_by}
 use Rattle.job_table.specs.Documents.{document_len}
 use Rattle.documents.specs.Documents.{joined}
 use Rattle.documents.proofs.Joined.{joined_len}
@@ -81,15 +82,15 @@ stands_read v a b r c d alive on same places stands =
 
 -- a job's places hold as many bytes as its document has
 module _ {D : Type 0} (v : DiskView D) (lawful : IsLawful v) (a : Current D) (c : Contents) (stands : IsStandingAt v a c) (j : ℕ) (found : JobRow) (is : Some (job_of found) ≡ job_at c.state j)
-    (places : found.document.items ≡ places_at c j) (sized : size_of found.document.items ≡ document_len (job_of found)) (ended : has_ended found.phase ≡ true → found.document.items ≡ []) where
-  long_by : (b : Bool) → has_ended found.phase ≡ b → (r : List ℕ) → v.bytes a.disk ≡ Some r → length (joined r (places_at c j)) ≡ size_of (places_at c j)
+    (places : found.document.items ≡ places_at c j) (sized : size_of found.document.items ≡ document_len (job_of found)) (ended : has_ended found.job.phase ≡ true → found.document.items ≡ []) where
+  long_by : (b : Bool) → has_ended found.job.phase ≡ b → (r : List ℕ) → v.bytes a.disk ≡ Some r → length (joined r (places_at c j)) ≡ size_of (places_at c j)
   long_by true over r tells = ap (λ (xs : List Extent). length (joined r xs)) (sym places ∙ ended over) ∙ ap size_of (sym (sym places ∙ ended over))
   long_by false lives r tells =
-      joined_len (a.base + header_len) a.gate (places_at c j) r (stands.lie j (sym (ap is_over is) ∙ lives))
+      joined_len (a.base + header_len) a.gate (places_at c j) r (stands.lie j (sym (ap (is_over_by c.state.highest j) is) ∙ lives))
       (omega (arith, stands.inside, stands.area.within, lawful.image_size a.disk r (lawful.reads_image a.disk r tells)))
 
   pub places_long : (r : List ℕ) → v.bytes a.disk ≡ Some r → length (joined r (places_at c j)) ≡ len_at c.state j
-  places_long r tells = long_by (has_ended found.phase) refl r tells ∙ ap size_of (sym places) ∙ sized ∙ ap len_found is
+  places_long r tells = long_by (has_ended found.job.phase) refl r tells ∙ ap size_of (sym places) ∙ sized ∙ ap len_found is
 
   pub document_long : (row : Job) → job_at c.state j ≡ Some row → (r : List ℕ) → v.bytes a.disk ≡ Some r → length (joined r (places_at c j)) ≡ document_len row
-  document_long row there r tells = long_by (has_ended found.phase) refl r tells ∙ ap size_of (sym places) ∙ sized ∙ ap document_len (some_same (job_of found) row (is ∙ there))
+  document_long row there r tells = long_by (has_ended found.job.phase) refl r tells ∙ ap size_of (sym places) ∙ sized ∙ ap document_len (some_same (job_of found) row (is ∙ there))

@@ -54,9 +54,3 @@ module _ {D : Type 0} (v : DiskView D) (disk loaded synced : D) (s : State)
 
     pub since_sync : LeavesOnly v synced new Midway
     since_sync = runs_on v synced loaded new Midway Reopening still run changed
-
-    pub since_start : LeavesOnly v disk synced (v.image disk) → LeavesOnly v disk new (λ c. v.image disk c ⊎ Midway c)
-    since_start first = runs_on v disk synced new (λ c. v.image disk c ⊎ Midway c) Midway
-        (weaker_run v disk synced (λ c. v.image disk c ⊎ Midway c) (v.image disk) first (λ c left. inl left))
-        since_sync
-        (λ c left. inr left)

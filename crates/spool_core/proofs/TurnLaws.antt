@@ -4,15 +4,15 @@ use Rattle.spool_types.specs.declared.event.Event.{Event}
 use Rattle.spool_types.specs.declared.event.Reply.{Reply}
 use Rattle.spool_types.specs.declared.refusal.Refusal.{Refusal}
 use Rattle.spool_types.specs.State.{State}
-use Rattle.job_table.specs.Step.{refusal_of}
+use Rattle.job_table.specs.Step.{refusal_of, answer_to}
 use Rattle.job_table.specs.Fold.{after_one, after_all}
 use Rattle.spool_disk.specs.Disk.{DiskView, IsLawful, IsSynced, Blames, LeavesOnly}
 use Rattle.spool_disk.proofs.Moments.{started, weaker_run, at_return}
 use Rattle.spool_disk.proofs.Ranges.{told}
 use Rattle.spool_core.specs.Image.{HasTable, HasDocuments, HasBeforeOrAfterEvent, HasWholeBeforeOrAfterEvent, documents_after_one}
-use Rattle.spool_core.specs.Standing.{Standing}
-use Rattle.spool_core.specs.Driving.{answer_to, replies_to, documents_after, HasPrefixTable, HasWholePrefix, IsAcknowledged, IsAcknowledgedWhole, IsChain, IsWholeChain, KeepsImages, LeavesDocuments, room_after, room_after_one, IsDriven, IsOutcome, IsEnding, reach}
-use Rattle.spool_core.specs.Turns.{IsAnswered, IsBroken, DrivesOne}
+use Rattle.spool_core.specs.Standing.{Standing, IsFailed}
+use Rattle.spool_core.specs.Driving.{replies_to, documents_after, HasPrefixTable, HasWholePrefix, IsAcknowledged, IsAcknowledgedWhole, IsChain, IsWholeChain, KeepsImages, LeavesDocuments, room_after, room_after_one, IsDriven, IsOutcome, IsEnding, reach}
+use Rattle.spool_core.specs.Turns.{IsAnswered, DrivesOne}
 use Rattle.spool_core.specs.declared.driving.Ending.{Ending}
 use Rattle.spool_core.specs.declared.driving.Ending.TheVariants.{End, Memory, Full, Disk, Dead}
 use Rattle.spool_core.proofs.DriveLaws.{after_all_last, replies_last, documents_after-append, IsNext, HasTableAfter, HasWholeAfter, turn_prefix, turn_whole, run_none, run_more, chain_more, whole_more, room_last}
@@ -39,7 +39,7 @@ module _ {D : Type 0} (v : DiskView D)
   dead_ends n End new is alive dead some = absurd (not_dead old.dead (alive (omega (arith, is.0, some))) dead)
   dead_ends n Memory new is alive dead some = absurd (not_dead old.dead is.1 dead)
   dead_ends n Full new is alive dead some = absurd (not_dead old.dead is.3 dead)
-  dead_ends n Disk new is alive dead some = absurd (not_dead old.dead is.3 dead)
+  dead_ends n Disk new is alive dead some = absurd (not_dead old.dead is.4 dead)
   dead_ends n Dead new is alive dead some = (refl, is.3)
 
   pub driven_none : (replies : List (Result Reply Refusal)) → replies ≡ [] → (old.dead ≡ false → IsSome (v.bytes old.disk) → KeepsImages v old) → (old.dead ≡ false → IsSynced v old.disk) → IsDriven v old events replies old
@@ -205,12 +205,12 @@ module _ {D : Type 0} (v : DiskView D)
         sent_on sent c left = subst (λ (ds : ℕ → List ℕ). HasDocuments new.state ds c) (λ i. documents_after_one (now_table i) (now_documents i) e) (sent told_now.0 documents_now told_now.1 has_now c left)
 
       -- the device failed
-      end_of_disk : IsBroken v now e new → IsOutcome v old events replies Disk new
+      end_of_disk : IsFailed v now e new → IsOutcome v old events replies Disk new
       end_of_disk broken = record {
         replies_are = driven.replies_are;
-        table = broken.table ∙ driven.table;
+        table = broken.state ∙ driven.table;
         room = broken.room ∙ driven.room;
-        ending_is = (e, next.hand, ap (λ (s : State). refusal_of s e) broken.table ∙ broken.accepted, sym driven.dead ∙ broken.alive, broken.dead, omega (arith, driven.counted, broken.cause));
+        ending_is = (e, next.hand, ap (λ (s : State). refusal_of s e) broken.state ∙ broken.fits.accepted, omega (arith, broken.fits.room, broken.room), sym driven.dead ∙ broken.fits.alive, broken.dead, omega (arith, driven.counted, broken.cause));
         alive = driven.alive;
         blames = record { later = omega (arith, driven.counted, broken.cause); failed = λ is. omega (arith, driven.counted, broken.cause); counted = λ other. absurd (other refl) };
         fixed = turns.fixed ∙ driven.fixed;

@@ -4,21 +4,14 @@ use Rattle.spool_types.specs.declared.event.Event.{Event}
 use Rattle.spool_types.specs.declared.event.Reply.{Reply}
 use Rattle.spool_types.specs.declared.refusal.Refusal.{Refusal}
 use Rattle.spool_types.specs.State.{State}
-use Rattle.job_table.specs.Step.{refusal_of, reply_to}
+use Rattle.job_table.specs.Step.{answer_to, refusal_of}
 use Rattle.job_table.specs.Fold.{after_one, after_all}
 use Rattle.spool_disk.specs.Disk.{DiskView, Blames, LeavesOnly}
 use Rattle.spool_core.specs.Image.{HasTable, HasDocuments, HasWhole, HasBeforeOrAfterEvent, HasWholeBeforeOrAfterEvent, documents_after_one}
+use Rattle.gate_journal.specs.Appends.{kept_room}
 use Rattle.spool_core.specs.Standing.{Standing, IsFull, record_len}
 use Rattle.spool_core.specs.declared.driving.Ending.{Ending}
 use Rattle.spool_core.specs.declared.driving.Ending.TheVariants.{End, Memory, Full, Disk, Dead}
-
--- what an event is answered: the reply of the step, or its refusal
-abbrev pub unless_refused_reply : State → Event → Option Refusal → Result Reply Refusal
-unless_refused_reply s e None = Ok (reply_to s e)
-unless_refused_reply s e (Some r) = Err r
-
-abbrev pub answer_to : State → Event → Result Reply Refusal
-answer_to s e = unless_refused_reply s e (refusal_of s e)
 
 -- what the events are answered, each on the table that the ones before it left
 abbrev pub replies_to : State → List Event → List (Result Reply Refusal)
@@ -70,7 +63,7 @@ IsEnding v old events n End new = (n ≡ length events) × (new.dead ≡ old.dea
 IsEnding v old events n Memory new = (n < length events) × (old.dead ≡ false) × (new.dead ≡ false)
 IsEnding v old events n Full new = (e : Event) × IsInHand events n e × IsFull new e × (old.dead ≡ false)
 IsEnding v old events n Disk new =
-    (e : Event) × IsInHand events n e × (refusal_of new.state e ≡ None) × (old.dead ≡ false) × (new.dead ≡ true) × (v.failures old.disk < v.failures new.disk)
+    (e : Event) × IsInHand events n e × (refusal_of new.state e ≡ None) × (record_len e + kept_room ≤ new.room) × (old.dead ≡ false) × (new.dead ≡ true) × (v.failures old.disk < v.failures new.disk)
 IsEnding v old events n Dead new = IsTrue old.dead × (n ≡ 0) × (0 < length events) × (new ≡ old)
 
 -- A crash leaves this table alone.

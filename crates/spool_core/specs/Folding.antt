@@ -3,9 +3,10 @@ use Rattle.spool_disk.specs.Disk.{DiskView, ChangesNothing}
 use Rattle.std.specs.Prelude.{◌≡◌, ◌⊎◌, ℕ, ◌+◌, ◌-◌, List, [], ◌∷◌, ◌++◌, length, take, drop, ⊤, Option, Some, None, false}
 use Rattle.spool_types.specs.declared.event.Event.{Event}
 use Rattle.spool_types.specs.declared.listing.Row.{Row}
-use Rattle.spool_types.specs.State.{State, job_at}
+use Rattle.spool_types.specs.State.{State}
 use Rattle.spool_types.specs.Sent.{sent_by}
-use Rattle.job_table.specs.Contents.{Contents, is_over, places_of, AddsPlaces}
+use Rattle.job_table.specs.Contents.{Contents, places_of, AddsPlaces}
+use Rattle.job_table.specs.Over.{is_over}
 use Rattle.job_table.specs.Step.{refusal_of, after}
 use Rattle.documents.specs.Documents.{LieIn}
 use Rattle.documents.specs.Placed.{placed_pieces}
@@ -68,9 +69,9 @@ abbrev pub IsRowOrNone : List ℕ → Option Row → Type 0
 IsRowOrNone payload (Some row) = IsRowIn payload row
 IsRowOrNone payload None = (row : Row) → IsRowSpellable row → payload ≡ row_spelling row → ⊥
 
--- jobs that have ended stay so
+-- numbers that are over stay so
 abbrev pub StayOver : State → State → Type 0
-StayOver s t = (j : ℕ) → is_over (job_at t j) ≡ false → is_over (job_at s j) ≡ false
+StayOver s t = (j : ℕ) → is_over t j ≡ false → is_over s j ≡ false
 
 -- The payload is the spelling of an event that this table accepts, and that leads to this reading.
 pub record IsAfterEvent (c : Contents) (payload : List ℕ) (place : ℕ) (t : Contents) : Type 0 where

@@ -1,13 +1,13 @@
 -- One event of a run.
 use Rattle.spool_disk.specs.Disk.{DiskView}
-use Rattle.std.specs.Prelude.{◌≡◌, ◌<◌, true, false, IsTrue, None, Result, Ok, Err}
+use Rattle.std.specs.Prelude.{◌≡◌, false, IsTrue, Result, Ok, Err}
 use Rattle.spool_types.specs.declared.event.Event.{Event}
 use Rattle.spool_types.specs.declared.event.Reply.{Reply}
 use Rattle.spool_types.specs.declared.refusal.Refusal.{Refusal}
-use Rattle.job_table.specs.Step.{refusal_of}
 use Rattle.job_table.specs.Fold.{after_one}
-use Rattle.spool_core.specs.Standing.{Standing, IsFull}
-use Rattle.spool_core.specs.Driving.{answer_to, room_after_one}
+use Rattle.spool_core.specs.Standing.{Standing, IsFailed, IsFull}
+use Rattle.spool_core.specs.Driving.{room_after_one}
+use Rattle.job_table.specs.Step.{answer_to}
 use Rattle.spool_core.specs.declared.driving.Ending.{Ending}
 use Rattle.spool_core.specs.declared.driving.Ending.TheVariants.{End, Memory, Full, Disk, Dead}
 
@@ -19,19 +19,10 @@ pub record IsAnswered {D : Type 0} (old : Standing D) (e : Event) (answer : Resu
   pub room : new.room ≡ room_after_one old.state old.room e
   pub dead : new.dead ≡ false
 
--- the device failed
-pub record IsBroken {D : Type 0} (v : DiskView D) (old : Standing D) (e : Event) (new : Standing D) : Type 0 where
-  pub alive : old.dead ≡ false
-  pub accepted : refusal_of old.state e ≡ None
-  pub table : new.state ≡ old.state
-  pub room : new.room ≡ old.room
-  pub dead : new.dead ≡ true
-  pub cause : v.failures old.disk < v.failures new.disk
-
 abbrev pub DrivesOne : {D : Type 0} → DiskView D → Standing D → Event → Result (Result Reply Refusal) Ending → Standing D → Type 0
 DrivesOne v old e (Ok answer) new = IsAnswered old e answer new
 DrivesOne v old e (Err End) new = ⊥
 DrivesOne v old e (Err Memory) new = (old.dead ≡ false) × (new ≡ old)
 DrivesOne v old e (Err Full) new = IsFull old e × (new ≡ old)
-DrivesOne v old e (Err Disk) new = IsBroken v old e new
+DrivesOne v old e (Err Disk) new = IsFailed v old e new
 DrivesOne v old e (Err Dead) new = IsTrue old.dead × (new ≡ old)

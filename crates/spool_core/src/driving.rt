@@ -4,11 +4,11 @@ ghost use Rattle.spool_disk.specs.Disk.{Blames, IsSynced, LeavesOnly};
 ghost use Rattle.spool_types.specs.declared.event.Event.{Event};
 ghost use Rattle.spool_types.specs.declared.event.NewJob.{NewJob};
 ghost use Rattle.spool_types.specs.declared.event.Event.TheVariants.{Create};
-ghost use Rattle.spool_types.specs.declared.refusal.Refusal.TheVariants.{JobEnded};
 ghost use Rattle.spool_types.specs.State.{Job, job_at};
 ghost use Rattle.job_table.specs.Step.{refusal_of};
 ghost use Rattle.job_table.specs.Fold.{after_all};
 ghost use Rattle.job_table.specs.Ended.{HasEndedJob, subject};
+ghost use Rattle.job_table.specs.Over.{HasOver, late_refusal};
 ghost use Rattle.spool_core.specs.Image.{HasTable, HasDocuments, HasBeforeOrAfterEvent, HasWholeBeforeOrAfterEvent, documents_after_one};
 ghost use Rattle.spool_core.specs.Standing.{IsFull};
 ghost use Rattle.spool_core.specs.Driving.{replies_to, reach, room_after, HasPrefixTable, HasWholePrefix, IsEnding, IsAcknowledged, IsAcknowledgedWhole, KeepsImages, LeavesDocuments, IsOutcome};
@@ -141,10 +141,12 @@ pub fn drive<D: Disk>(alloc: Global, spool: &mut Spool<D>, events: Vec<Event>) -
     ensures sent { spool.old.dead ≡ false → (r : List ℕ) (documents : ℕ → List ℕ) → D.device.bytes spool.old.disk ≡ Some r → HasDocuments spool.old.state documents r →
         (c : List ℕ) → D.device.image spool.new.disk c → HasWholePrefix spool.old.state documents events.items (length result.replies.items) (reach result.ending (length result.replies.items)) c }
 
-    // A job that has ended stays as it is, and what would change it is refused.
+    // A job that has ended stays as it is. A number that is over stays so, what is about it is refused, and it is not given
+    // again.
     ensures ended { (j : ℕ) (job : Job) → HasEndedJob spool.old.state j job → job_at spool.new.state j ≡ Some job }
-    ensures refused { (j : ℕ) (job : Job) (e : Event) → HasEndedJob spool.old.state j job → subject e ≡ Some j → refusal_of spool.new.state e ≡ Some JobEnded }
-    ensures number { (j : ℕ) (job : Job) (n : NewJob) → HasEndedJob spool.old.state j job → n.job ≡ j → IsSome (refusal_of spool.new.state (Create n)) }
+    ensures over { (j : ℕ) → HasOver spool.old.state j → HasOver spool.new.state j }
+    ensures refused { (j : ℕ) (e : Event) → HasOver spool.old.state j → subject e ≡ Some j → refusal_of spool.new.state e ≡ Some (late_refusal (job_at spool.new.state j)) }
+    ensures number { (j : ℕ) (n : NewJob) → HasOver spool.old.state j → n.job ≡ j → IsSome (refusal_of spool.new.state (Create n)) }
 
     ensures blames { Blames (D.device.failures spool.old.disk) (D.device.failures spool.new.disk) (result.ending ≡ Ending.Disk) }
     ensures fixed { D.device.size spool.new.disk ≡ D.device.size spool.old.disk }

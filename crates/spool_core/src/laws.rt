@@ -5,14 +5,14 @@ ghost use Rattle.spool_types.specs.State.{State, Job, nothing, job_at};
 ghost use Rattle.spool_types.specs.declared.event.Event.{Event};
 ghost use Rattle.spool_types.specs.declared.event.Event.TheVariants.{Create};
 ghost use Rattle.spool_types.specs.declared.event.NewJob.{NewJob};
-ghost use Rattle.spool_types.specs.declared.refusal.Refusal.TheVariants.{JobEnded};
 ghost use Rattle.job_table.specs.Attempts.{HasNoProcessing};
 ghost use Rattle.job_table.specs.Ended.{HasEndedJob, subject};
+ghost use Rattle.job_table.specs.Over.{HasOver, late_refusal};
 ghost use Rattle.job_table.specs.Fold.{after_all};
 ghost use Rattle.job_table.specs.Legal.{IsLegal};
 ghost use Rattle.job_table.specs.Step.{refusal_of};
 ghost use Rattle.spool_core.specs.Driving.{HasPrefixTable, HasWholePrefix, documents_after};
-ghost use Rattle.spool_core.specs.Image.{HasTable, HasDocument, HasDocuments, HasRoom, HasFault, IsReopenedFrom};
+ghost use Rattle.spool_core.specs.Image.{HasTable, HasDocument, HasDocuments, HasRoom, HasFault, IsMidway, IsReopenedFrom};
 ghost use Rattle.spool_core.specs.Lives.{Life, KeepsAcknowledged, after_lives, documents_after_lives, history_of, next_documents, next_table};
 ghost use Rattle.spool_areas.specs.declared.fault.OpenFault.{OpenFault};
 
@@ -43,21 +43,28 @@ pub fn lives_go_on()
         (left : ℕ) × (acknowledged ≤ left) × (left ≤ most) × (t ≡ next_table s (record { events = events; acknowledged = acknowledged; left = left }))
         × HasDocuments t (next_documents s documents (record { events = events; acknowledged = acknowledged; left = left })) image }
 
+    // So does the next opening where a crash cuts one off, whatever it leaves: it gives the table that the one would have
+    // given, with the same documents.
+    ensures cut { (s t : State) (image left : List ℕ) → IsMidway image left → IsReopenedFrom s image → IsReopenedFrom t left → t ≡ s }
+    ensures cut_documents { (s : State) (documents : ℕ → List ℕ) (image left : List ℕ) → IsMidway image left → HasTable s image → HasDocuments s documents image → HasDocuments s documents left }
+
     // The lives are as one life of the events that were left, with a Reopen at each opening. Their tables are legal.
     ensures history { (s : State) (lives : List Life) → after_lives s lives ≡ after_all s (history_of lives) }
     ensures sent { (s : State) (documents : ℕ → List ℕ) (lives : List Life) → documents_after_lives s documents lives ≡ documents_after s documents (history_of lives) }
     ensures legal { (lives : List Life) → IsLegal (after_lives nothing lives) }
     ensures idle { (s : State) (l : Life) → IsLegal s → HasNoProcessing (next_table s l) }
 
-    // A job that has ended after the acknowledged events of a life stays so in all later lives. It isn't started again, and
-    // its number isn't given again.
+    // A job that has ended after the acknowledged events of a life stays so in all later lives, and so does a number that is
+    // over. It isn't started again, and its number isn't given again.
     ensures ended { (s : State) (l : Life) (lives : List Life) (j : ℕ) (job : Job) → KeepsAcknowledged l →
         HasEndedJob (after_all s (take l.acknowledged l.events)) j job → job_at (after_lives s (l ∷ lives)) j ≡ Some job }
-    ensures refused { (s : State) (l : Life) (lives : List Life) (more : List Event) (j : ℕ) (job : Job) (e : Event) → KeepsAcknowledged l →
-        HasEndedJob (after_all s (take l.acknowledged l.events)) j job → subject e ≡ Some j →
-        refusal_of (after_all (after_lives s (l ∷ lives)) more) e ≡ Some JobEnded }
-    ensures number { (s : State) (l : Life) (lives : List Life) (more : List Event) (j : ℕ) (job : Job) (n : NewJob) → KeepsAcknowledged l →
-        HasEndedJob (after_all s (take l.acknowledged l.events)) j job → n.job ≡ j →
+    ensures over { (s : State) (l : Life) (lives : List Life) (j : ℕ) → KeepsAcknowledged l →
+        HasOver (after_all s (take l.acknowledged l.events)) j → HasOver (after_lives s (l ∷ lives)) j }
+    ensures refused { (s : State) (l : Life) (lives : List Life) (more : List Event) (j : ℕ) (e : Event) → KeepsAcknowledged l →
+        HasOver (after_all s (take l.acknowledged l.events)) j → subject e ≡ Some j →
+        refusal_of (after_all (after_lives s (l ∷ lives)) more) e ≡ Some (late_refusal (job_at (after_all (after_lives s (l ∷ lives)) more) j)) }
+    ensures number { (s : State) (l : Life) (lives : List Life) (more : List Event) (j : ℕ) (n : NewJob) → KeepsAcknowledged l →
+        HasOver (after_all s (take l.acknowledged l.events)) j → n.job ≡ j →
         IsSome (refusal_of (after_all (after_lives s (l ∷ lives)) more) (Create n)) }
 {
     ended_jobs_stay();

@@ -17,7 +17,7 @@
 //!    that leaves the area or may not come next, or the closed one, where the document of a listed job isn't whole or those
 //!    7 bytes aren't left.
 //! 4. A job has a *document* in it: what those rows and events have for it (`HasDocument`). What is said of documents speaks
-//!    of jobs that haven't ended.
+//!    of numbers that aren't over (`is_over` of `job_table`).
 //! 5. No image has two tables, two faults, one of each, two rooms, or two documents of a job ([`one_reading`]).
 //!
 //! # Promises, on every disk that meets `Disk`
@@ -40,12 +40,14 @@
 //!   an image with the table of the bytes or the one after the policy, and with their documents (`synced`). Once it has returned
 //!   every image has the table that is shown (`kept`), and the documents of the bytes (`documents`).
 //! - *CrashSafeOpen*, after an error: the disk is handed back, and tells its bytes if it did before (`told_back`). But for a
-//!   failed device it reads as before and has no new image (`back`). After a failed one each image is one that was handed
-//!   over, or has one of these two tables (`failed`).
+//!   failed device it reads as before and has no new image (`back`). After a failed one it goes as above: until the first sync
+//!   has answered an image is one that was handed over, and from then on it has one of these two tables (`failed`).
+//! - *CrashSafeOpen*, again: the epoch is that of the bytes (`epoch`). Whatever a crash leaves of an opening, the next one gives
+//!   the same table, and the documents are there (`cut`, `cut_documents` of [`lives_go_on`]).
 //! - *CrashSafeDrive*: [`drive`] answers each event up to its end as the step does (`replies`), its table is the fold of these
-//!   events (`table`), and it says why it ended (`ending`). On a spool that isn't dead a crash at any moment leaves the table
-//!   and the documents after a prefix of the events, the one in hand among them only where the device failed (`any_moment`,
-//!   `documents`).
+//!   events (`table`), and it says why it ended (`ending`): with Disk only at an event that fits. On a spool that isn't dead a
+//!   crash at any moment leaves the table and the documents after a prefix of the events, the one in hand among them only
+//!   where the device failed (`any_moment`, `documents`).
 //! - *CrashSafeDrive*, acknowledged: no acknowledged event is lost. A chain of disks leads from one reply to the next
 //!   (`acknowledged`): between two neighbours a crash leaves the table before the event or the one after it. The chain holds
 //!   the documents too: from an event's disk on what it sent isn't lost (`whole`). At the end every image has what the
@@ -55,8 +57,8 @@
 //! - *CrashSafeDrive*, at its end: every image has the table that is shown (`kept`), or after a fault that one or the one with
 //!   the event in hand (`after_fault`). [`replay`] is the same fold from the empty table on, with no disk.
 //! - *EndedStaysEnded*: a table changes by accepted events only (`answer`), and none changes a job that has ended
-//!   (`ended_jobs_stay` of `job_table`). [`drive`] says it of its events: such a job stays as it is (`ended`), what
-//!   would change it is refused (`refused`), and its number is not given again (`number`).
+//!   (`ended_jobs_stay` of `job_table`). [`drive`] says it of its events: such a job stays as it is (`ended`), and a number
+//!   that is over stays so (`over`). What is about it is refused (`refused`), and it is not given again (`number`).
 //! - *ExactRefusals*: each answer of `apply` comes with its cause, in the order of [`ApplyFault`] (`answer`). `open`
 //!   answers `NotASpool` or `Damaged` only for bytes with that fault (`fault`), and `Disk` only where the device's
 //!   count of failures rose (`blames`). So it is with `checkpoint` and [`CheckpointFault`]: it is `EpochEnd` exactly at the

@@ -1,11 +1,11 @@
 //! Tables that are loaded from listings.
 
 use crate::spelled::{bytes_of, events, listing, lists};
-use event_codec::{decode_row, encode_queue_onto};
+use event_codec::{decode_row, encode_job_onto, encode_queue_onto};
 use extents::Extent;
-use job_table::{LoadFault, Loading, Table, document_len, listed};
+use job_table::{LoadFault, Loading, Table, document_len};
 use spool_core::replay;
-use spool_types::{Head, JobId, JobRow, Moment, Phase, Piece, QueueName, QueueRow, Row};
+use spool_types::{Head, Job, JobId, Moment, Phase, Piece, QueueName, QueueRow, Row};
 use std::alloc::Global;
 use std::process::Abort;
 use std::test::*;
@@ -58,10 +58,17 @@ fn zeros(alloc: Global, len: usize) -> Result<Piece, Fail> {
     }
 }
 
+// The row of a job, spelled and read again.
+fn listed_job(alloc: Global, job: &Job) -> Result<Row, Fail> {
+    let mut bytes = Vec::new(alloc);
+    encode_job_onto(job, &mut bytes)?;
+    Ok(decode_row(alloc, &bytes)?)
+}
+
 // The row of a job, and then its document as zeros, since a table has no bytes.
-fn take_job(alloc: Global, loading: &mut Loading, job: &JobRow) -> Result<(), Fail> {
-    take(loading, Row::Job(listed(job)?))?;
-    let len = document_len(job.phase, job.size);
+fn take_job(alloc: Global, loading: &mut Loading, job: &Job) -> Result<(), Fail> {
+    take(loading, listed_job(alloc, job)?)?;
+    let len = document_len(job);
     if 0 < len {
         let bytes = zeros(alloc, len)?;
         take(loading, Row::Piece { job: job.id, bytes })?;
@@ -75,8 +82,8 @@ fn take_all(alloc: Global, loading: &mut Loading, table: &Table) -> Result<(), F
     for queue in table.queues() {
         take_queue(alloc, loading, queue)?;
     }
-    for job in table.jobs() {
-        take_job(alloc, loading, job)?;
+    for row in table.jobs() {
+        take_job(alloc, loading, &row.job)?;
     }
     Ok(())
 }

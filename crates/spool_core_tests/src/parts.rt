@@ -27,7 +27,7 @@ fn len_of(table: &Table, job: JobId) -> Result<usize, Fail>
     ensures { IfOk result (λ len. (len ≡ len_at table.now.state job) × IsSome (job_at table.now.state job)) }
 {
     match table.job(job) {
-        Some(row) => Ok(document_len(row.phase, row.size)),
+        Some(row) => Ok(document_len(&row.job)),
         None => Err(Fail::from("no job")),
     }
 }

@@ -2,9 +2,9 @@
 //!
 //! What is owned here is held across few calls that may fail: each of these is proved to let it go.
 
-use event_codec::{decode, encode_queue_onto, encode_row_onto};
-use job_table::{Table, listed};
-use spool_types::{Event, JobRow, ListedJob, Row};
+use event_codec::{decode, encode_job_onto, encode_queue_onto, encode_row_onto};
+use job_table::Table;
+use spool_types::{Event, Row};
 use std::alloc::{AllocError, Global};
 use std::test::Fail;
 
@@ -43,15 +43,6 @@ fn add_head(table: &Table, bytes: &mut Vec<u8>) -> Result<(), AllocError> {
     encode_row_onto(&row, bytes)
 }
 
-fn add_listed(job: ListedJob, bytes: &mut Vec<u8>) -> Result<(), AllocError> {
-    let row = Row::Job(job);
-    encode_row_onto(&row, bytes)
-}
-
-fn add_job(job: &JobRow, bytes: &mut Vec<u8>) -> Result<(), AllocError> {
-    add_listed(listed(job)?, bytes)
-}
-
 /// How the rows of a table are spelled, without their documents.
 pub fn listing(alloc: Global, table: &Table) -> Result<Vec<u8>, AllocError> {
     let mut bytes = Vec::new(alloc);
@@ -59,8 +50,8 @@ pub fn listing(alloc: Global, table: &Table) -> Result<Vec<u8>, AllocError> {
     for queue in table.queues() {
         encode_queue_onto(queue, &mut bytes)?;
     }
-    for job in table.jobs() {
-        add_job(job, &mut bytes)?;
+    for row in table.jobs() {
+        encode_job_onto(&row.job, &mut bytes)?;
     }
     Ok(bytes)
 }

@@ -1,15 +1,15 @@
 -- A round, and a run, is a turn of World.
-use Rattle.std.proofs.Common.{◌≡◌, ◌⊎◌, inl, inr, ℕ, true, false, Bool, List, [], ◌∷◌, ◌++◌, Some, None, Result, Ok, Err, refl, sym, ap, subst, ◌∙◌, append-nil}
+use Rattle.std.proofs.Common.{◌≡◌, ◌⊎◌, inl, inr, ℕ, true, false, Bool, List, [], ◌∷◌, ◌++◌, Some, None, Option, Result, Ok, Err, refl, sym, ap, subst, ◌∙◌, append-nil}
+use Rattle.std.specs.List.{flat_map}
 use Rattle.std.proofs.lemmas.Bool.{both_ways}
 use Rattle.spool_types.specs.declared.event.Event.{Event}
 use Rattle.spool_types.specs.declared.event.Reply.{Reply}
 use Rattle.spool_types.specs.declared.refusal.Refusal.{Refusal}
 use Rattle.spool_types.specs.State.{State}
-use Rattle.job_table.specs.Fold.{after_all, unless_refused}
+use Rattle.job_table.specs.Fold.{after_all, after_one, accepted, if_accepted, unless_refused, AreAccepted}
 use Rattle.job_table.specs.Legal.{IsLegal}
 use Rattle.job_table.specs.Stages.{Key, IsIn, IsSpent}
 use Rattle.job_table.specs.Step.{step, refusal_of, answered, after, reply_to}
-use Rattle.spool_core.specs.History.{AreAccepted}
 use Rattle.spool_core.specs.Standing.{Standing}
 use Rattle.spool_core.specs.Checkpointing.{IsCheckpoint}
 use Rattle.spool_core.specs.declared.spool.checkpoint_fault.CheckpointFault.{CheckpointFault}
@@ -19,14 +19,44 @@ use Rattle.command_lines.specs.declared.command.Command.{Command}
 use Rattle.child_pipeline.specs.Told.{Told}
 use Rattle.print_rounds.specs.Courses.{Course}
 use Rattle.print_rounds.specs.World.{IsEndedSlot, IsCallTurn}
-use Rattle.spool_engine.specs.EventTurns.{Setting, Outcome, served, no_memory, full, disk, dead, unread, unreadable, unlisted, IsTaken, IsLeft, IsServedBy, IsOutcome}
+use Rattle.spool_engine.specs.EventTurns.{listed, tried_as, Setting, Outcome, served, no_memory, full, disk, dead, unread, unreadable, unlisted, IsTaken, IsLeft, IsServedBy, IsOutcome}
 use Rattle.spool_engine.specs.Rounds.{Ran, IsRoundWith, IsRan, AreRan, AreRunBy}
-use Rattle.spool_engine.specs.Runs.{Turn, How, answered as replied, ran, event_turn, IsHow, IsHeld as HasSlotsOf, AreTurns, last_course}
-use Rattle.spool_engine.specs.Script.{Meaning, says, asks, lists, runs, meaning}
+use Rattle.spool_engine.specs.Runs.{tried_by, tried_in, Turn, How, answered as replied, ran, event_turn, IsHow, IsHeld as HasSlotsOf, AreTurns, last_course}
+use Rattle.spool_engine.specs.Calls.{IsQuietTurn, tried_in_turns}
+use Rattle.spool_engine.specs.Script.{event_in, event_of, Meaning, says, asks, lists, runs, meaning}
 
--- a turn after which no child runs
-abbrev pub IsQuietTurn : {D : Type 0} → Told → Course D → Course D → Type 0
-IsQuietTurn t old new = (more : List Event) × (c : IsCallTurn t old more new) × (c.now.running ≡ [])
+-- ## The events that were tried
+
+accepted_all : (s : State) (es : List Event) → AreAccepted s es → accepted s es ≡ es
+accepted_all s [] all = refl
+accepted_all s (e ∷ es) (first, others) =
+    ap (if_accepted e (accepted (after_one s e) es)) first
+    ∙ ap (λ u. e ∷ accepted u es) (ap (unless_refused s e) first)
+    ∙ ap (λ l. e ∷ l) (accepted_all (after s e) es others)
+
+skipped_first : (s : State) (e : Event) (es : List Event) (o : Option Refusal) → refusal_of s e ≡ o → after_all (after_one s e) (accepted (after_one s e) es) ≡ after_all (after_one s e) es
+    → after_all s (if_accepted e (accepted (after_one s e) es) o) ≡ after_all (after_one s e) es
+skipped_first s e es None taken rest = rest
+skipped_first s e es (Some x) refused rest = ap (λ u. after_all u (accepted (after_one s e) es)) (sym (ap (unless_refused s e) refused)) ∙ rest
+
+skipped : (s : State) (es : List Event) → after_all s (accepted s es) ≡ after_all s es
+skipped s [] = refl
+skipped s (e ∷ es) = skipped_first s e es (refusal_of s e) refl (skipped (after_one s e) es)
+
+accepted_first : (e : Event) (es fs : List Event) (o : Option Refusal) → if_accepted e (es ++ fs) o ≡ if_accepted e es o ++ fs
+accepted_first e es fs None = refl
+accepted_first e es fs (Some x) = refl
+
+accepted_append : (s : State) (es fs : List Event) → accepted s (es ++ fs) ≡ accepted s es ++ accepted (after_all s es) fs
+accepted_append s [] fs = refl
+accepted_append s (e ∷ es) fs =
+    ap (λ l. if_accepted e l (refusal_of s e)) (accepted_append (after_one s e) es fs)
+    ∙ accepted_first e (accepted (after_one s e) es) (accepted (after_all (after_one s e) es) fs) (refusal_of s e)
+
+-- nothing comes of an event that is refused
+refused_alone : (s : State) (e : Event) (refusal : Refusal) (o : Option Refusal) → answered s e o ≡ Err refusal → [] ≡ if_accepted e (accepted (after_one s e) []) o
+refused_alone s e refusal None is = absurd (cc)
+refused_alone s e refusal (Some x) is = refl
 
 -- what is so of each legal table, and of calls
 pub record Laws (D : Type 0) : Type 0 where
@@ -40,8 +70,8 @@ some_same x y e = cc
 module _ {D : Type 0} (laws : Laws D) (t : Told) (quiet : t.running ≡ []) where
   -- events without a round: the slots are as they were
   plain_turn : (old new : Course D) (events : List Event) → IsLegal old.spool.state → old.told ≡ Some t → AreAccepted old.spool.state events → new.spool.state ≡ after_all old.spool.state events
-      → HasSlotsOf old new → (old.spool.dead ≡ true → new.spool.dead ≡ true) → IsQuietTurn t old new
-  plain_turn old new events legal tells accepted table held over = (
+      → HasSlotsOf old new → (old.spool.dead ≡ true → new.spool.dead ≡ true) → IsQuietTurn t old events new
+  plain_turn old new events legal tells accepted_in table held over = (
     events,
     record {
       now = t;
@@ -50,7 +80,7 @@ module _ {D : Type 0} (laws : Laws D) (t : Told) (quiet : t.running ≡ []) wher
       added = sym (append-nil t.orders);
       turn = record {
         legal = legal;
-        accepted = accepted;
+        accepted = accepted_in;
         table = table;
         distinct = tt;
         outside = λ k among. absurd among;
@@ -66,9 +96,14 @@ module _ {D : Type 0} (laws : Laws D) (t : Told) (quiet : t.running ≡ []) wher
       after_over = λ died. (refl, over died);
     },
     quiet,
+    λ lives. sym (accepted_all old.spool.state events accepted_in),
   )
 
-  still_turn : (old new : Course D) → IsLegal old.spool.state → old.told ≡ Some t → new.spool ≡ old.spool → HasSlotsOf old new → IsQuietTurn t old new
+  -- the same of other events that were tried
+  tried_too : (old new : Course D) (tried others : List Event) → (new.spool.dead ≡ false → accepted old.spool.state tried ≡ accepted old.spool.state others) → IsQuietTurn t old tried new → IsQuietTurn t old others new
+  tried_too old new tried others same (more, call, quiet_then, all) = (more, call, quiet_then, λ lives. all lives ∙ same lives)
+
+  still_turn : (old new : Course D) → IsLegal old.spool.state → old.told ≡ Some t → new.spool ≡ old.spool → HasSlotsOf old new → IsQuietTurn t old [] new
   still_turn old new legal tells same held = plain_turn old new [] legal tells tt (ap (λ (x : Standing D). x.state) same) held (λ died. ap (λ (x : Standing D). x.dead) same ∙ died)
 
   -- ## A command of one event, or of none
@@ -82,15 +117,16 @@ module _ {D : Type 0} (laws : Laws D) (t : Told) (quiet : t.running ≡ []) wher
       state_in (Ok p) = p.0
       state_in (Err r) = s
 
-  taken_turn : (old new : Course D) (e : Event) (answer : Result (State × Reply) Refusal) → IsLegal old.spool.state → old.told ≡ Some t → HasSlotsOf old new → IsTaken old.spool e answer new.spool → IsQuietTurn t old new
-  taken_turn old new e (Ok r) legal tells held done =
+  taken_turn : (old new : Course D) (e : Event) (answer : Result (State × Reply) Refusal) → step old.spool.state e ≡ answer → IsLegal old.spool.state → old.told ≡ Some t → HasSlotsOf old new → IsTaken old.spool e answer new.spool → IsQuietTurn t old (e ∷ []) new
+  taken_turn old new e (Ok r) stepped legal tells held done =
       plain_turn old new (e ∷ []) legal tells (done.fits.accepted, tt) (done_state old.spool.state e new.spool.state r.1 done.fits.accepted done.step) held
       (λ died. absurd (both_ways _ done.fits.alive died))
-  taken_turn old new e (Err refusal) legal tells held refused = still_turn old new legal tells refused.1 held
+  taken_turn old new e (Err refusal) stepped legal tells held refused =
+      tried_too old new [] (e ∷ []) (λ lives. refused_alone old.spool.state e refusal (refusal_of old.spool.state e) stepped) (still_turn old new legal tells refused.1 held)
 
   -- ## A checkpoint
 
-  unlisted_turn : (device : DiskView D) (old new : Course D) (fault : CheckpointFault) → IsLegal old.spool.state → old.told ≡ Some t → HasSlotsOf old new → IsCheckpoint device old.spool (Err fault) new.spool → IsQuietTurn t old new
+  unlisted_turn : (device : DiskView D) (old new : Course D) (fault : CheckpointFault) → IsLegal old.spool.state → old.told ≡ Some t → HasSlotsOf old new → IsCheckpoint device old.spool (Err fault) new.spool → IsQuietTurn t old [] new
   unlisted_turn device old new listing.Dead legal tells held is = still_turn old new legal tells is.1 held
   unlisted_turn device old new listing.EpochEnd legal tells held is = still_turn old new legal tells is.2 held
   unlisted_turn device old new listing.Memory legal tells held is = still_turn old new legal tells is.1 held
@@ -99,23 +135,24 @@ module _ {D : Type 0} (laws : Laws D) (t : Told) (quiet : t.running ≡ []) wher
 
   -- ## By its outcome
 
-  left_turn : (device : DiskView D) (old new : Course D) (c : Command) → IsLegal old.spool.state → old.told ≡ Some t → HasSlotsOf old new → IsLeft device old.spool c new.spool → IsQuietTurn t old new
+  left_turn : (device : DiskView D) (old new : Course D) (c : Command) → IsLegal old.spool.state → old.told ≡ Some t → HasSlotsOf old new → IsLeft device old.spool c new.spool → IsQuietTurn t old [] new
   left_turn device old new c legal tells held left = elim left [
     | inl same ↦ still_turn old new legal tells same held
     | inr read ↦ plain_turn old new [] legal tells tt read.1.state held (λ died. read.1.dead ∙ died)
   ]
 
-  served_turn : (device : DiskView D) (old new : Course D) (w : Meaning) (reply : List ℕ) → IsLegal old.spool.state → old.told ≡ Some t → HasSlotsOf old new → IsServedBy device old.spool w reply new.spool → IsQuietTurn t old new
+  served_turn : (device : DiskView D) (old new : Course D) (w : Meaning) (reply : List ℕ) → IsLegal old.spool.state → old.told ≡ Some t → HasSlotsOf old new → IsServedBy device old.spool w reply new.spool → IsQuietTurn t old (listed (event_in w)) new
   served_turn device old new (says text) reply legal tells held is = still_turn old new legal tells is.1 held
-  served_turn device old new (asks e line) reply legal tells held is = taken_turn old new e (step old.spool.state e) legal tells held is.1
+  served_turn device old new (asks e line) reply legal tells held is = taken_turn old new e (step old.spool.state e) refl legal tells held is.1
   served_turn device old new lists reply legal tells held is = plain_turn old new [] legal tells tt is.1.state held (λ died. absurd (both_ways _ is.1.may.alive died))
   served_turn device old new (runs most line) reply legal tells held is = absurd is
 
-  outcome_turn : (v : Setting D) (old : Course D) (turn : Turn D) (o : Outcome) → IsLegal old.spool.state → old.told ≡ Some t → HasSlotsOf old turn.next → IsOutcome v old.spool (event_turn turn o) o → IsQuietTurn t old turn.next
+  outcome_turn : (v : Setting D) (old : Course D) (turn : Turn D) (o : Outcome) → IsLegal old.spool.state → old.told ≡ Some t → HasSlotsOf old turn.next → IsOutcome v old.spool (event_turn turn o) o → IsQuietTurn t old (tried_as (event_of v.mime old.spool.state turn.document turn.command) o) turn.next
   outcome_turn v old turn served legal tells held is = served_turn v.device old turn.next (meaning v.mime old.spool.state turn.document turn.command) turn.text legal tells held is
   outcome_turn v old turn no_memory legal tells held is = left_turn v.device old turn.next turn.command legal tells held is.cause.2
   outcome_turn v old turn full legal tells held is = left_turn v.device old turn.next turn.command legal tells held is.cause.1
-  outcome_turn v old turn disk legal tells held is = plain_turn old turn.next [] legal tells tt is.cause.state held (λ died. is.cause.dead)
+  outcome_turn v old turn disk legal tells held is =
+      tried_too old turn.next [] (listed (event_of v.mime old.spool.state turn.document turn.command)) (λ lives. absurd (both_ways _ lives is.cause.dead)) (plain_turn old turn.next [] legal tells tt is.cause.state held (λ died. is.cause.dead))
   outcome_turn v old turn dead legal tells held is = still_turn old turn.next legal tells is.cause.1 held
   outcome_turn v old turn unread legal tells held is = still_turn old turn.next legal tells is.same held
   outcome_turn v old turn unreadable legal tells held is = plain_turn old turn.next [] legal tells tt is.fails.cause.1.state held (λ died. is.fails.cause.1.dead)
@@ -123,7 +160,7 @@ module _ {D : Type 0} (laws : Laws D) (t : Told) (quiet : t.running ≡ []) wher
 
   -- ## A round
 
-  same_turn : (old new : Course D) → IsLegal old.spool.state → old.told ≡ Some t → new ≡ old → IsQuietTurn t old new
+  same_turn : (old new : Course D) → IsLegal old.spool.state → old.told ≡ Some t → new ≡ old → IsQuietTurn t old [] new
   same_turn old new legal tells same = still_turn old new legal tells (ap (λ (c : Course D). c.spool) same) (record { slots = ap (λ (c : Course D). c.slots) same; told = ap (λ (c : Course D). c.told) same })
 
   -- what is told after a round, whose children have all been finished
@@ -132,49 +169,67 @@ module _ {D : Type 0} (laws : Laws D) (t : Told) (quiet : t.running ≡ []) wher
       let (js, once) = is.finished t tells quiet in
       ap (λ (u : Told). u.running) (some_same now once.now (sym tells' ∙ once.tells)) ∙ once.finished.running
 
-  pub round_turn : (v : Setting D) (old : Course D) (r : Ran D) → IsLegal old.spool.state → old.told ≡ Some t → IsRan v old r → IsQuietTurn t old r.next
+  pub round_turn : (v : Setting D) (old : Course D) (r : Ran D) → IsLegal old.spool.state → old.told ≡ Some t → IsRan v old r → IsQuietTurn t old r.tried r.next
   round_turn v old r legal tells is = by_death old.spool.dead is.round
     where
-      by_death : (b : Bool) → IsRoundWith v.device v.place old b r → IsQuietTurn t old r.next
-      by_death true round = same_turn old r.next legal tells round.0.1
+      by_death : (b : Bool) → IsRoundWith v.device v.place old b r → IsQuietTurn t old r.tried r.next
+      by_death true round = subst (λ l. IsQuietTurn t old l r.next) (sym round.1) (same_turn old r.next legal tells round.0.1)
       by_death false round = elim round [
-        | inl unbegun ↦ same_turn old r.next legal tells unbegun.0.1
+        | inl unbegun ↦ subst (λ l. IsQuietTurn t old l r.next) (sym unbegun.1) (same_turn old r.next legal tells unbegun.0.1)
         | inr made ↦
-            let c = made.0.turn t tells quiet in
-            (_, c, quiet_after v old r is tells c.now c.tells)
+            let c = made.0.turn t tells quiet in (
+              _,
+              c,
+              quiet_after v old r is tells c.now c.tells,
+              λ lives. sym (accepted_all old.spool.state _ c.turn.accepted) ∙ ap (accepted old.spool.state) (sym (made.1 ∙ made.0.all_acknowledged lives)),
+            )
       ]
 
 -- ## Rounds, and turns, one after the other
 
 module _ {D : Type 0} (laws : Laws D) where
-  then_turn : (t : Told) (old mid new : Course D) → (one : IsQuietTurn t old mid) → IsQuietTurn one.1.now mid new → IsQuietTurn t old new
-  then_turn t old mid new (more, one, quiet) (further, two, quiet_then) =
-      (more ++ further, laws.joined old mid new t more further one two, quiet_of)
+  then_turn : (t : Told) (old mid new : Course D) (tried others : List Event) → (one : IsQuietTurn t old tried mid) → IsQuietTurn one.1.now mid others new → IsQuietTurn t old (tried ++ others) new
+  then_turn t old mid new tried others (more, one, quiet, all) (further, two, quiet_then, all_then) =
+      (more ++ further, laws.joined old mid new t more further one two, quiet_of, all_of)
     where
+      lived : new.spool.dead ≡ false → (b : Bool) → mid.spool.dead ≡ b → mid.spool.dead ≡ false
+      lived lives true died = absurd (both_ways _ lives (two.after_over died).1)
+      lived lives false alive = alive
+
+      all_of : new.spool.dead ≡ false → more ++ further ≡ accepted old.spool.state (tried ++ others)
+      all_of lives =
+          let first : more ≡ accepted old.spool.state tried = all (lived lives mid.spool.dead refl) in
+          let table : mid.spool.state ≡ after_all old.spool.state tried = one.turn.table ∙ ap (after_all old.spool.state) first ∙ skipped old.spool.state tried in
+          ap (λ l. l ++ further) first
+          ∙ ap (λ l. accepted old.spool.state tried ++ l) (all_then lives)
+          ∙ ap (λ s. accepted old.spool.state tried ++ accepted s others) table
+          ∙ sym (accepted_append old.spool.state tried others)
+
       quiet_of : (laws.joined old mid new t more further one two).now.running ≡ []
       quiet_of = ap (λ (u : Told). u.running) (some_same (laws.joined old mid new t more further one two).now two.now (sym (laws.joined old mid new t more further one two).tells ∙ two.tells)) ∙ quiet_then
 
-  legal_then : (t : Told) (old mid : Course D) → IsQuietTurn t old mid → IsLegal mid.spool.state
-  legal_then t old mid (more, one, quiet) = subst IsLegal (sym one.turn.table) (laws.legal old.spool.state more one.turn.legal)
+  pub legal_then : (t : Told) (old mid : Course D) (tried : List Event) → IsQuietTurn t old tried mid → IsLegal mid.spool.state
+  legal_then t old mid tried (more, one, quiet, all) = subst IsLegal (sym one.turn.table) (laws.legal old.spool.state more one.turn.legal)
 
-  rounds_turn : (v : Setting D) (rs : List (Ran D)) (t : Told) → t.running ≡ [] → (old new : Course D) → IsLegal old.spool.state → old.told ≡ Some t → AreRan v old rs new → IsQuietTurn t old new
+  rounds_turn : (v : Setting D) (rs : List (Ran D)) (t : Told) → t.running ≡ [] → (old new : Course D) → IsLegal old.spool.state → old.told ≡ Some t → AreRan v old rs new → IsQuietTurn t old (flat_map (λ r. r.tried) rs) new
   rounds_turn v [] t quiet old new legal tells same = same_turn laws t quiet old new legal tells same
   rounds_turn v (r ∷ rs) t quiet old new legal tells (is, others) =
       let one = round_turn laws t quiet v old r legal tells is in
-      then_turn t old r.next new one (rounds_turn v rs one.1.now one.2 r.next new (legal_then t old r.next one) one.1.tells others)
+      then_turn t old r.next new r.tried (flat_map (λ r. r.tried) rs) one (rounds_turn v rs one.1.now one.2 r.next new (legal_then t old r.next r.tried one) one.1.tells others)
 
-  run_turn : (v : Setting D) (w : Meaning) (t : Told) → t.running ≡ [] → (old new : Course D) (rs : List (Ran D)) (reply : List ℕ) → IsLegal old.spool.state → old.told ≡ Some t → AreRunBy v w old rs new reply → IsQuietTurn t old new
+  run_turn : (v : Setting D) (w : Meaning) (t : Told) → t.running ≡ [] → (old new : Course D) (rs : List (Ran D)) (reply : List ℕ) → IsLegal old.spool.state → old.told ≡ Some t → AreRunBy v w old rs new reply → IsQuietTurn t old (flat_map (λ r. r.tried) rs) new
   run_turn v (says text) t quiet old new rs reply legal tells is = absurd is
   run_turn v (asks e line) t quiet old new rs reply legal tells is = absurd is
   run_turn v lists t quiet old new rs reply legal tells is = absurd is
   run_turn v (runs most line) t quiet old new rs reply legal tells is = rounds_turn v rs t quiet old new legal tells is.each
 
-  how_turn : (v : Setting D) (t : Told) → t.running ≡ [] → (old : Course D) (turn : Turn D) (how : How D) → IsLegal old.spool.state → old.told ≡ Some t → IsHow v old turn how → IsQuietTurn t old turn.next
+  how_turn : (v : Setting D) (t : Told) → t.running ≡ [] → (old : Course D) (turn : Turn D) (how : How D) → IsLegal old.spool.state → old.told ≡ Some t → IsHow v old turn how → IsQuietTurn t old (tried_by (event_of v.mime old.spool.state turn.document turn.command) how) turn.next
   how_turn v t quiet old turn (replied outcome) legal tells is = outcome_turn laws t quiet v old turn outcome legal tells is.1 is.0
   how_turn v t quiet old turn (ran rs) legal tells is = run_turn v (meaning v.mime old.spool.state turn.document turn.command) t quiet old turn.next rs turn.text legal tells is
 
-  pub turns_turn : (v : Setting D) (turns : List (Turn D)) (t : Told) → t.running ≡ [] → (old : Course D) → IsLegal old.spool.state → old.told ≡ Some t → AreTurns v old turns → IsQuietTurn t old (last_course old turns)
+  pub turns_turn : (v : Setting D) (turns : List (Turn D)) (t : Told) → t.running ≡ [] → (old : Course D) → IsLegal old.spool.state → old.told ≡ Some t → AreTurns v old turns → IsQuietTurn t old (tried_in_turns v.mime old turns) (last_course old turns)
   turns_turn v [] t quiet old legal tells are = same_turn laws t quiet old old legal tells refl
   turns_turn v (turn ∷ turns) t quiet old legal tells (first, others) =
       let one = how_turn v t quiet old turn turn.how legal tells first.how in
-      then_turn t old turn.next (last_course turn.next turns) one (turns_turn v turns one.1.now one.2 turn.next (legal_then t old turn.next one) one.1.tells others)
+      let tried = tried_in v.mime old turn in
+      then_turn t old turn.next (last_course turn.next turns) tried (tried_in_turns v.mime turn.next turns) one (turns_turn v turns one.1.now one.2 turn.next (legal_then t old turn.next tried one) one.1.tells others)

@@ -1,6 +1,6 @@
 -- The MIME database: by which rules documents are typed, and which filters change one type into another.
 use Rattle.std.specs.Prelude.{ℕ, List, codes, unwrap_or, refl}
-use Rattle.std.specs.Coded.{Coded, code_by, coded×}
+use Rattle.std.specs.Coded.{Coded, code_by, coded×, coded_list, coded_ℕ}
 use Rattle.mime_rules.specs.Best.{type_of}
 use Rattle.mime_rules.specs.Seen.{types_of}
 use Rattle.mime_rules.specs.TypesValue.{TypesValue, types_code}
@@ -10,18 +10,17 @@ use Rattle.mime_costs.specs.declared.conversion.Conversion.{Conversion}
 pub record Mime : Type 0 where
   pub types : TypesValue
   pub convs : List Conversion
+  -- in which documents are typed
+  pub locale : List ℕ
 
 abbrev pub mime_code : Coded Mime
-mime_code = code_by (TypesValue × List Conversion) (coded× types_code convs_code) (λ m. (m.types, m.convs)) (λ p. record { types = p.0; convs = p.1 }) (λ _. refl)
+mime_code = code_by (TypesValue × (List Conversion × List ℕ)) (coded× types_code (coded× convs_code (coded_list coded_ℕ)))
+    (λ m. (m.types, (m.convs, m.locale))) (λ p. record { types = p.0; convs = p.1.0; locale = p.1.1 }) (λ _. refl)
 
 -- the type of a document that no rule tells
 abbrev pub unknown_type : List ℕ
 unknown_type = codes "application/octet-stream"
 
--- the locale in which documents are typed
-abbrev pub locale : List ℕ
-locale = codes "C"
-
 -- the type of a document with this name and these bytes
 abbrev pub media_of : Mime → List ℕ → List ℕ → List ℕ
-media_of mime name document = unwrap_or (type_of (record { name = name; bytes = document; locale = locale }) (types_of mime.types)) unknown_type
+media_of mime name document = unwrap_or (type_of (record { name = name; bytes = document; locale = mime.locale }) (types_of mime.types)) unknown_type

@@ -5,9 +5,9 @@ ghost use Rattle.std.specs.FinMap as finite;
 ghost use Rattle.spool_types.specs.State.{job_at};
 ghost use Rattle.spool_types.specs.declared.event.Closing.{Closing as ClosingOf};
 ghost use Rattle.spool_types.specs.declared.event.Reply.{Reply};
-ghost use Rattle.job_table.specs.Contents.{is_over};
+ghost use Rattle.job_table.specs.Over.{is_over};
 ghost use Rattle.job_table.specs.Step.{refusal_of};
-ghost use Rattle.command_lines.specs.Replies.{jobs_text, queues_text};
+ghost use Rattle.command_lines.specs.Replies.{jobs_text, queues_text, shown_text};
 ghost use Rattle.command_lines.specs.declared.command.Command.{Command};
 ghost use Rattle.filter_args.specs.declared.place.Place.{Place as PlaceOf};
 ghost use Rattle.print_rounds.specs.Courses.{course};
@@ -26,7 +26,7 @@ use crate::answers::{answer_text, checkpoint_text, fault_text};
 use crate::mime::Mime;
 use crate::options::job_options;
 use child_pipeline::{Children, Content, Runner};
-use command_lines::{Answer, Creation, print_reply};
+use command_lines::{Answer, Creation, ShownQueue, print_reply};
 use device_uri::{DeviceUri, UriFault};
 use filter_args::Place;
 use job_table::Table;
@@ -143,7 +143,7 @@ impl<D: Disk> Executor<D> {
     }
 
     /// Closes a job, and makes the text of its reply. A document is read only where the job can be closed.
-    pub fn close(&mut self, mime: &Mime, job: JobId, name: &str) -> Result<Vec<u8>, AllocError>
+    pub fn close(&mut self, mime: &Mime<'_>, job: JobId, name: &str) -> Result<Vec<u8>, AllocError>
         ensures { (p : PlaceOf) → (t : EventTurn D) ×
             Takes (setting D.device mime.now p) self.old (Command.Close job name.now) t self.new ×
             IfOk result (λ text. text.items ≡ t.text) }
@@ -165,7 +165,7 @@ impl<D: Disk> Executor<D> {
     fn document(&mut self, job: JobId) -> Result<Content, Unread>
         requires alive { self.old.dead ≡ false }
         requires there { IsSome (job_at self.old.state job) }
-        requires lasts { is_over (job_at self.old.state job) ≡ false }
+        requires lasts { is_over self.old.state job ≡ false }
         ensures { IsDocumentRead D.device self.old job result self.new }
     {
         read_document(self.alloc, &mut self.spool, job)
@@ -174,7 +174,7 @@ impl<D: Disk> Executor<D> {
     // Closes a job that has this document, and makes the text of its reply.
     fn close_typed(
         &mut self,
-        mime: &Mime,
+        mime: &Mime<'_>,
         job: JobId,
         name: &str,
         document: &[u8],
@@ -200,7 +200,7 @@ impl<D: Disk> Executor<D> {
     // The event that closes a job with this document, and its media type once more for the reply.
     fn closing(
         &self,
-        mime: &Mime,
+        mime: &Mime<'_>,
         job: JobId,
         name: &str,
         document: &[u8],
@@ -222,7 +222,7 @@ impl<D: Disk> Executor<D> {
     // The filters that lead a job's document of this type to what its queue takes.
     fn filters(
         &self,
-        mime: &Mime,
+        mime: &Mime<'_>,
         job: JobId,
         media: &MediaType,
     ) -> Result<Option<Filters>, AllocError>
@@ -239,7 +239,7 @@ impl<D: Disk> Executor<D> {
         ensures { option_copied result ≡ queue_of_job self.now.state job }
     {
         let row = self.table().job(job)?;
-        self.table().queue(&row.queue)
+        self.table().queue(&row.job.queue)
     }
 
     /// Lists the table in the other area, so that the journal has room again, and makes the text of the reply.
@@ -304,15 +304,23 @@ impl<D: Disk> Executor<D> {
         // Until the device has failed a crash leaves what is listed.
         ensures kept { IsKept D.device self.now }
     {
-        let table = self.table();
-        print_reply(
-            self.alloc,
-            &Answer::Queues {
-                rows: table.queues(),
-                jobs: table.jobs(),
-            },
-        )
+        let shown = shown_queues(self.alloc, self.table())?;
+        print_reply(self.alloc, &Answer::Queues(&shown))
     }
+}
+
+// The queues of a table. Whether one is processing is asked of its lane, so that no job is looked at.
+fn shown_queues(alloc: Global, table: &Table) -> Result<Vec<ShownQueue<'_>>, AllocError>
+    ensures { IfOk result (λ shown.
+        shown_text shown.items ≡ queues_text (finite.values table.now.state.jobs) (finite.values table.now.state.queues)) }
+{
+    let rows = table.queues();
+    let mut shown = Vec::with_capacity(alloc, rows.len())?;
+    for row in rows {
+        let busy = table.processing(&row.name).is_some();
+        shown.push(ShownQueue { row, busy })?;
+    }
+    Ok(shown)
 }
 
 // How many stages a closed job has: its filters, and then the backend.

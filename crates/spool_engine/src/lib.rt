@@ -6,10 +6,11 @@
 //! pieces in which the reader gives it.
 //!
 //! A document is typed when its job is closed: by the job's file name and its bytes, which are read from the device, in the
-//! locale `C`, with the rules of types that the engine was made with, and `application/octet-stream` where no rule is true.
-//! Its filters are those of the least chain of conversions from this type to what the job's queue takes; where no chain leads
-//! there the document can't be printed. Both are looked at, and the document is read, only where the job can be closed. Where
-//! the device fails at the document the reply is `error disk`, and no event is tried.
+//! locale of the children's place, with the rules of types that the engine was made with, and
+//! `application/octet-stream` where no rule is true. Its filters are those of the least chain of conversions from this type
+//! to what the job's queue takes; where no chain leads there the document can't be printed. Both are looked at, and the
+//! document is read, only where the job can be closed. Where the device fails at the document the reply is `error disk`, and
+//! no event is tried.
 //!
 //! A job keeps the printed form of its options. They are read before the spool is asked, as a queue's URI is: those with
 //! a fault, or too long when printed, are `error options`, also on a dead spool.

@@ -12,33 +12,26 @@ use std::marker::Model;
 // The type of a document that no rule tells.
 const UNKNOWN_TYPE: &str = "application/octet-stream";
 
-// The locale in which documents are typed.
-const LOCALE: &str = "C";
-
-/// By which rules documents are typed, and which filters change one type into another.
+/// By which rules documents are typed and in which locale, and which filters change one type into another.
 #[derive(Drop)]
-pub(crate) struct Mime {
-    types: Types,
-    convs: Convs,
+pub(crate) struct Mime<'a> {
+    pub types: &'a Types,
+    pub convs: &'a Convs,
+    /// The locale of the place where the children run.
+    pub locale: &'a str,
 }
 
-impl Model for Mime {
+impl<'a> Model for Mime<'a> {
     ghost use Rattle.spool_engine.specs.Mime.{Mime, mime_code};
 
     ghost Value = { Mime };
 
     ghost coded = { mime_code };
 
-    ghost view = { λ mime. record { types = mime.types; convs = mime.convs } };
+    ghost view = { λ mime. record { types = mime.types.now; convs = mime.convs.now; locale = mime.locale.now } };
 }
 
-impl Mime {
-    pub fn new(types: Types, convs: Convs) -> Mime
-        ensures { result ≡ record { types = types; convs = convs } }
-    {
-        Mime { types, convs }
-    }
-
+impl<'a> Mime<'a> {
     /// The type of a document with this name and these bytes.
     pub fn type_of(
         &self,
@@ -48,7 +41,7 @@ impl Mime {
     ) -> Result<MediaType, AllocError>
         ensures { IfOk result (λ media. media ≡ media_of self.now name.now document.now) }
     {
-        match self.types.type_of(name, document, LOCALE) {
+        match self.types.type_of(name, document, self.locale) {
             Some(media) => media.clone(),
             None => unknown_type(alloc),
         }

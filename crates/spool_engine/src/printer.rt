@@ -139,7 +139,7 @@ impl<D: Disk, C: Children> Printer<D, C> {
     // Serves a command, and makes the text of its reply.
     fn execute(
         &mut self,
-        mime: &Mime,
+        mime: &Mime<'_>,
         place: &Place,
         command: Command,
     ) -> Result<Vec<u8>, AllocError>
@@ -169,7 +169,7 @@ impl<D: Disk, C: Children> Printer<D, C> {
     // Serves a command, and writes its reply.
     fn answer<W: Write>(
         &mut self,
-        mime: &Mime,
+        mime: &Mime<'_>,
         place: &Place,
         command: Command,
         writer: &mut W,
@@ -189,7 +189,7 @@ impl<D: Disk, C: Children> Printer<D, C> {
     // Serves the commands that are whole.
     fn serve_whole<W: Write>(
         &mut self,
-        mime: &Mime,
+        mime: &Mime<'_>,
         place: &Place,
         commands: &mut Commands,
         writer: &mut W,
@@ -212,7 +212,7 @@ impl<D: Disk, C: Children> Printer<D, C> {
     // Serves the commands that are left where the text ends.
     fn serve_end<W: Write>(
         &mut self,
-        mime: &Mime,
+        mime: &Mime<'_>,
         place: &Place,
         commands: &mut Commands,
         writer: &mut W,
@@ -237,7 +237,7 @@ impl<D: Disk, C: Children> Printer<D, C> {
     // Takes a piece of the text, and serves the commands that are whole then.
     fn take_piece<W: Write>(
         &mut self,
-        mime: &Mime,
+        mime: &Mime<'_>,
         place: &Place,
         commands: &mut Commands,
         piece: &[u8],
@@ -256,7 +256,7 @@ impl<D: Disk, C: Children> Printer<D, C> {
     /// interrupted is made again.
     pub fn serve<R: Read, W: Write>(
         &mut self,
-        mime: &Mime,
+        mime: &Mime<'_>,
         place: &Place,
         reader: &mut R,
         writer: &mut W,

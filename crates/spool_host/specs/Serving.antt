@@ -4,6 +4,8 @@ use Rattle.std.specs.FinMap as finite
 use Rattle.std.specs.String.{string_bytes}
 use Rattle.child_pipeline.specs.Told.{Told}
 use Rattle.filter_args.specs.declared.place.Place.{Place}
+use Rattle.mime_costs.specs.declared.conversion.Conversion.{Conversion}
+use Rattle.mime_rules.specs.TypesValue.{TypesValue}
 use Rattle.print_rounds.specs.Courses.{Course, course}
 use Rattle.spool_disk.specs.Disk.{DiskView}
 use Rattle.spool_core.specs.Image.{IsFaultOf, IsReopenedFrom}
@@ -23,6 +25,10 @@ pub record IsPlace (root : List ℕ) (side : Bool) (place : Place) : Type 0 wher
   pub locale : string_bytes place.lang ≡ codes "C"
   pub programs : string_bytes place.path ≡ codes "/usr/bin:/bin"
   pub channel : place.side ≡ side
+
+-- by what documents are typed there: these rules and conversions, in the locale of the place
+abbrev pub database : TypesValue → List Conversion → Place → Mime
+database types convs place = record { types = types; convs = convs; locale = string_bytes place.lang }
 
 -- ---- opening a disk
 

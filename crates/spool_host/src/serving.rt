@@ -4,7 +4,7 @@ ghost use Rattle.spool_disk.specs.Memory.{mem_bytes};
 ghost use Rattle.spool_types.specs.State.{nothing};
 ghost use Rattle.spool_core.specs.Image.{HasTable};
 ghost use Rattle.spool_host.specs.Ending.{ending_of};
-ghost use Rattle.spool_host.specs.Serving.{HasRun, IsOpened, IsPlace, IsUnopened, IsUnread};
+ghost use Rattle.spool_host.specs.Serving.{HasRun, IsOpened, IsPlace, IsUnopened, IsUnread, database};
 
 use crate::fault::ShellFault;
 use child_pipeline::Children;
@@ -56,7 +56,7 @@ pub fn open_engine<D: Disk + Drop, C: Children + Drop>(
     children: (C, Place),
     rules: (Types, Convs),
 ) -> Result<Engine<D, C>, ShellFault>
-    ensures opened { IfOk result (IsOpened D.device (record { types = rules.0; convs = rules.1 }) children.1 (C.tells children.0) disk) }
+    ensures opened { IfOk result (IsOpened D.device (database rules.0 rules.1 children.1) children.1 (C.tells children.0) disk) }
     ensures fault { IfErr result (IsUnread D.device disk) }
 {
     let (types, convs) = rules;
@@ -76,7 +76,7 @@ pub fn serve<D: Disk + Drop, C: Children + Drop, R: Read, W: Write>(
     reader: &mut R,
     writer: &mut W,
 ) -> Result<(), ShellFault>
-    ensures { HasRun D.device (record { types = rules.0; convs = rules.1 }) children.1 (C.tells children.0)
+    ensures { HasRun D.device (database rules.0 rules.1 children.1) children.1 (C.tells children.0)
         disk (R.remaining reader.old) result (W.contents writer.old) (W.contents writer.new)
         ⊎ IsUnopened D.device
         disk (R.remaining reader.old) (R.remaining reader.new) result (W.contents writer.old) (W.contents writer.new) }

@@ -3,12 +3,16 @@
 use crate::fault::CaseFault;
 use crate::fuse::{Fuse, read_fuse};
 use crate::limits::{Limits, read_limits};
+use std::alloc::Global;
 use std::fs::{File, Files};
 use std::io::ErrorKind;
 use std::{fs, io};
 
 // How long a disk is, in bytes, where a case doesn't say.
 const USUAL_SIZE: usize = 4_194_304;
+
+// The locale, where a case doesn't say.
+const USUAL_LANG: &str = "C";
 
 /// A script, the replies that are wanted, and what it is served on.
 #[derive(Drop)]
@@ -21,6 +25,8 @@ pub struct Case {
     pub types: String,
     /// Conversions, as in mime.convs(5).
     pub convs: String,
+    /// The locale in which documents are typed.
+    pub lang: String,
     /// The length of the disk in bytes.
     pub size: usize,
     /// How the children go.
@@ -79,11 +85,22 @@ pub fn read_case<R: Files<File = File> + AllocGlobal>(
         account,
         types: text_of(rt, path, "types")?,
         convs: text_of(rt, path, "convs")?,
+        lang: lang_of(rt.alloc(), text_of(rt, path, "lang")?.as_str())?,
         size: size_of(text_of(rt, path, "size")?.as_str())?,
         children: text_of(rt, path, "children")?,
         fuse: read_fuse(text_of(rt, path, "fuse")?.as_str())?,
         limits: read_limits(text_of(rt, path, "limits")?.as_str())?,
     })
+}
+
+// The locale that a file of a case says.
+fn lang_of(alloc: Global, text: &str) -> Result<String, CaseFault> {
+    let lang = if text.is_empty() {
+        USUAL_LANG
+    } else {
+        text.trim_end()
+    };
+    Ok(String::from_str(alloc, lang)?)
 }
 
 // The length of the disk that a file of a case says.

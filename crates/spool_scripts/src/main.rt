@@ -8,6 +8,7 @@
 //! a new engine, over the spool that is opened again on the same disk. Further files are there where there is need:
 //!
 //! - `NAME.types` has rules of types, and `NAME.convs` conversions.
+//! - `NAME.lang` has the locale of the types, which is else `C`.
 //! - `NAME.size` has the length of the disk in bytes, which is else 4,194,304.
 //! - `NAME.children` tells how the children of rounds go ([`outcomes`]). Without it none can be started.
 //! - `NAME.fuse` has two numbers ([`fuse`]): the case is served with a disk that fails after the first number of calls, and

@@ -84,7 +84,7 @@ fn engine_on(
 ) -> Result<Engine<FuseDisk<MemDisk>, MemChildren>, CaseFault> {
     let (types, _) = Types::read(alloc, case.types.as_str())?;
     let (convs, _) = Convs::read(alloc, case.convs.as_str())?;
-    let place = place(alloc)?;
+    let place = place(alloc, case.lang.as_str())?;
     match Spool::open(alloc, disk) {
         Ok(spool) => Ok(Engine::new(alloc, spool, children, types, convs, place)),
         Err(error) => Err(CaseFault::from(error.fault)),
@@ -124,10 +124,10 @@ fn serve_part(
 }
 
 // Where the children run.
-fn place(alloc: Global) -> Result<Place, CaseFault> {
+fn place(alloc: Global, lang: &str) -> Result<Place, CaseFault> {
     Ok(Place {
         root: String::from_str(alloc, "/r")?,
-        lang: String::from_str(alloc, "C")?,
+        lang: String::from_str(alloc, lang)?,
         path: String::from_str(alloc, "/bin")?,
         side: false,
     })

@@ -3,34 +3,19 @@
 use Rattle.std.specs.Prelude.{ℕ, ◌+◌, List, [], ◌∷◌, ◌++◌, length, Option, None, Some, ◌==◌, if◌then◌else◌}
 use Rattle.extents.specs.declared.extent.Extent.{Extent}
 use Rattle.spool_types.specs.declared.event.Event.{Event}
-use Rattle.spool_types.specs.declared.event.Event.TheVariants.{AddQueue, Info, SetAccept, SetStop, Create, Send, Close, Hold, Release, Cancel, Clock, Start, Stage, Abandon, Reopen}
+use Rattle.spool_types.specs.declared.event.Event.TheVariants.{Send}
 use Rattle.spool_types.specs.declared.listing.Row.{Row}
 use Rattle.spool_types.specs.declared.listing.Row.TheVariants as rows
 
 -- the job that an event sends bytes to, and these bytes
 abbrev pub sent_by : Event → Option (ℕ × List ℕ)
-sent_by (AddQueue q) = None
-sent_by (Info notes) = None
-sent_by (SetAccept queue accepting) = None
-sent_by (SetStop queue stopped) = None
-sent_by (Create n) = None
 sent_by (Send j bytes) = Some (j, bytes)
-sent_by (Close c) = None
-sent_by (Hold j until) = None
-sent_by (Release j) = None
-sent_by (Cancel j) = None
-sent_by (Clock m) = None
-sent_by (Start j) = None
-sent_by (Stage e) = None
-sent_by (Abandon j) = None
-sent_by Reopen = None
+sent_by e = None
 
 -- the job that a row has a piece of, and the bytes of the piece
 abbrev pub piece_of : Row → Option (ℕ × List ℕ)
-piece_of (rows.Head head) = None
-piece_of (rows.Queue q) = None
-piece_of (rows.Job r) = None
 piece_of (rows.Piece j bytes) = Some (j, bytes)
+piece_of row = None
 
 -- ---- what was sent
 

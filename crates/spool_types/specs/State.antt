@@ -4,43 +4,16 @@ use Rattle.std.specs.Prelude.{ℕ, List, Option}
 use Rattle.std.specs.Ordering.{nat_cmp}
 use Rattle.std.specs.Cmp.Lexicographic.{slice_cmp}
 use Rattle.std.specs.FinMap as map
-use Rattle.spool_types.specs.declared.phase.Phase.{Phase}
 use Rattle.spool_types.specs.declared.rows.QueueRow.{QueueRow}
 use Rattle.spool_types.specs.declared.rows.JobRow.{JobRow}
+use Rattle.spool_types.specs.declared.rows.Job.{Job as JobRecord}
 
--- a job's row without its document
-pub record Job : Type 0 where
-  pub id : ℕ
-  pub queue : List ℕ
-  pub user : List ℕ
-  pub title : List ℕ
-  pub copies : ℕ
-  pub priority : ℕ
-  pub options : List ℕ
-  pub media : Option (List ℕ)
-  pub filters : List (List ℕ)
-  pub attempts : ℕ
-  pub pages : ℕ
-  pub size : ℕ
-  pub phase : Phase
+-- a job, without where its document lies
+abbrev pub Job : Type 0
+Job = JobRecord
 
--- a row without where its document lies
 abbrev pub job_of : JobRow → Job
-job_of r = record {
-  id = r.id;
-  queue = r.queue;
-  user = r.user;
-  title = r.title;
-  copies = r.copies;
-  priority = r.priority;
-  options = r.options;
-  media = r.media;
-  filters = r.filters;
-  attempts = r.attempts;
-  pages = r.pages;
-  size = r.size;
-  phase = r.phase;
-}
+job_of r = r.job
 
 abbrev pub Queues : Type 0
 Queues = map.FinMap (slice_cmp nat_cmp) QueueRow

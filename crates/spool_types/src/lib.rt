@@ -51,12 +51,12 @@ pub use kinds::{
     ReasonKind, Title, TitleKind, Uri, UriKind, UserName, UserNameKind,
 };
 pub use limits::{LONGEST_DOCUMENT, LONGEST_SEND, MOST_KEPT, MOST_QUEUES};
-pub use listing::{Head, ListedJob, Row};
+pub use listing::{Head, Row};
 pub use media::{MediaName, MediaType, MediaTypeKind};
 pub use numbers::{JobId, Moment};
 pub use phase::{AbortReason, Hold, HoldReason, Phase, Policy};
 pub use ranged::{AttemptNumber, Copies, Interval, Priority, Ranged, StageNumber};
 pub use refusal::Refusal;
-pub use rows::{JobRow, QueueRow, is_busy};
+pub use rows::{Job, JobRow, QueueRow, is_busy};
 pub use text::{Text, TextFault, TextKind};
 pub use warning::{Warning, WarningKind};

@@ -1,7 +1,7 @@
 //! Texts of commands that come in pieces, and a reply.
 ghost use Rattle.std.specs.Prelude.{◌<◌};
 
-use command_lines::{Answer, Command, Commands, print_reply};
+use command_lines::{Answer, Command, Commands, ShownQueue, print_reply};
 use sample_rows::sample_queue;
 use std::alloc::{AllocError, Global};
 use std::test::Fail;
@@ -103,17 +103,15 @@ fn every_command_is_read_however_it_is_cut(rt: HostRuntime) -> Result<(), Fail> 
 #[test]
 fn a_queue_is_listed(rt: HostRuntime) -> Result<(), Fail> {
     let alloc = rt.alloc();
-    let rows = [sample_queue(alloc, "spoolfile:/out")?];
-    let text = print_reply(
-        alloc,
-        &Answer::Queues {
-            rows: &rows,
-            jobs: &[],
-        },
-    )?;
+    let row = sample_queue(alloc, "spoolfile:/out")?;
+    let shown = [ShownQueue {
+        row: &row,
+        busy: true,
+    }];
+    let text = print_reply(alloc, &Answer::Queues(&shown))?;
     assert_eq!(rt;
         text.as_slice(),
-        b"queue lab 3 accepting application/x-prn abort-job 30 5 none \"\"\nok 1\n".as_slice()
+        b"queue lab 4 accepting application/x-prn abort-job 30 5 none \"\"\nok 1\n".as_slice()
     );
     Ok(())
 }

@@ -6,7 +6,7 @@ ghost use Rattle.job_table.specs.Contents.{HasNoMore, HasSamePlaces, KeepsPlaces
 ghost use Rattle.job_table.specs.Legal.{IsLegal};
 ghost use Rattle.row_effects.specs.Fold.{queue_after};
 ghost use Rattle.row_effects.specs.Room.{HasRoom};
-ghost use Rattle.spool_types.specs.State.{Job, job_of, queue_at, job_at};
+ghost use Rattle.spool_types.specs.State.{Job, queue_at, job_at};
 ghost use Rattle.job_table.specs.Step.{refusal_of, after, reply_to, phase_found};
 ghost use Rattle.spool_types.specs.declared.event.Event.{Event};
 ghost use Rattle.spool_types.specs.declared.rows.QueueRow.{QueueRow};
@@ -17,7 +17,7 @@ use super::row_changes::{add_pages, rule_queue_row, rule_row, start_row};
 use backend_codes::{Verdict, lost_verdict, verdict};
 use row_effects::{fold_queue, queues_stay_in_order};
 use spool_types::{
-    AttemptNumber, Effect, Exit, JobId, JobRow, Phase, QueueRow, Reply, StageEnd, StageNumber,
+    AttemptNumber, Effect, Exit, Job, JobId, Phase, QueueRow, Reply, StageEnd, StageNumber,
 };
 
 impl Store {
@@ -91,7 +91,7 @@ impl Store {
         let Ok(at) = job_place(&self.jobs, job) else {
             unreachable!()
         };
-        let Ok(queue_at) = queue_place(&self.queues, &self.jobs[at].queue) else {
+        let Ok(queue_at) = queue_place(&self.queues, &self.jobs[at].job.queue) else {
             unreachable!()
         };
         fold_queue(&mut self.queues[queue_at], &mut self.spare, effects);
@@ -113,7 +113,7 @@ impl Store {
         ensures { result ≡ is_processing_at (job_at self.now.state job) }
     {
         match self.job(job) {
-            Some(row) => row.phase.is_processing(),
+            Some(row) => row.job.phase.is_processing(),
             None => false,
         }
     }
@@ -123,9 +123,9 @@ impl Store {
         requires { IsSome (job_at self.now.state job) }
         ensures { (r : Job) (q : QueueRow) → job_at self.now.state job ≡ Some r → queue_at self.now.state r.queue ≡ Some q → result ≡ stage_verdict exit r q }
     {
-        let (row, queue) = self.with_queue(job);
-        let last_stage = is_last_stage(row.phase);
-        verdict(exit, last_stage, queue.policy, row.attempts, queue.limit)
+        let (job, queue) = self.with_queue(job);
+        let last_stage = is_last_stage(job.phase);
+        verdict(exit, last_stage, queue.policy, job.attempts, queue.limit)
     }
 
     // The verdict on an attempt whose end nobody saw, by the job's queue.
@@ -133,24 +133,24 @@ impl Store {
         requires { IsSome (job_at self.now.state job) }
         ensures { (r : Job) (q : QueueRow) → job_at self.now.state job ≡ Some r → queue_at self.now.state r.queue ≡ Some q → result ≡ lost_by r q }
     {
-        let (row, queue) = self.with_queue(job);
-        lost_verdict(queue.policy, row.attempts, queue.limit)
+        let (job, queue) = self.with_queue(job);
+        lost_verdict(queue.policy, job.attempts, queue.limit)
     }
 
     // A job that is there, and its queue, which is there too.
-    fn with_queue(&self, job: JobId) -> (&JobRow, &QueueRow)
+    fn with_queue(&self, job: JobId) -> (&Job, &QueueRow)
         requires { IsSome (job_at self.now.state job) }
-        ensures row { job_at self.now.state job ≡ Some (job_of result.0.now) }
+        ensures job { job_at self.now.state job ≡ Some result.0.now }
         ensures queue { queue_at self.now.state result.0.now.queue ≡ Some result.1.now }
     {
         let Ok(at) = job_place(&self.jobs, job) else {
             unreachable!()
         };
         let row = &self.jobs[at];
-        let Ok(queue_at) = queue_place(&self.queues, &row.queue) else {
+        let Ok(queue_at) = queue_place(&self.queues, &row.job.queue) else {
             unreachable!()
         };
-        (row, &self.queues[queue_at])
+        (&row.job, &self.queues[queue_at])
     }
 
     // Changes a job by a verdict on it, and stops its queue where the verdict says so. Answers the phase that the job has
@@ -168,7 +168,7 @@ impl Store {
         let Ok(at) = job_place(&self.jobs, job) else {
             unreachable!()
         };
-        let Ok(queue_at) = queue_place(&self.queues, &self.jobs[at].queue) else {
+        let Ok(queue_at) = queue_place(&self.queues, &self.jobs[at].job.queue) else {
             unreachable!()
         };
         let interval = self.queues[queue_at].interval;

@@ -1,23 +1,25 @@
 //! What an accepted event changes.
 ghost use Rattle.std.specs.Prelude.{◌≡◌, ◌+◌, ◌<◌, ◌^◌, None, Some, Ok};
+ghost use Rattle.job_table.specs.Changes.{change_job};
 ghost use Rattle.job_table.specs.Step.{refusal_of, step, after, reply_to};
+ghost use Rattle.job_table.specs.RowChanges.{meant, EndsInEnd, IsAsked};
 ghost use Rattle.job_table.specs.Contents.{IsPrepared, HasNoMore, HasPlace, KeepsPlaces, AddsPlaces, document_room};
 ghost use Rattle.spool_types.specs.Sent.{bytes_behind, sent_by};
 
 use super::Store;
 use super::lookup::{job_place, queue_place};
 use super::row_changes::{
-    add_bytes, close_row, end_row, hold_row, new_job_row, new_queue_row, set_accepting, set_notes,
+    RowChange, add_bytes, change_row, new_job_row, new_queue_row, set_accepting, set_notes,
     set_stopped,
 };
 use spool_types::{
-    Closing, Event, Hold, JobId, Moment, NewJob, NewQueue, Phase, Piece, QueueName, QueueNotes,
-    Reply,
+    Event, Hold, JobId, Moment, NewJob, NewQueue, Phase, Piece, QueueName, QueueNotes, Reply,
 };
 
 impl Store {
     /// Changes the rows by the event just prepared. It takes no memory and always succeeds. `at` is where the event's
     /// payload lies.
+    #[tactic(auto, using(crate::proofs::RowChanges::asked))]
     pub(crate) fn commit(&mut self, event: Event, at: u64) -> Reply
         requires prepared { IsPrepared self.old event }
         requires one { ¬ (event ≡ Event.Reopen) }
@@ -35,10 +37,12 @@ impl Store {
             Event::SetStop { queue, stopped } => self.set_stop(queue, stopped),
             Event::Create(job) => self.create(job),
             Event::Send { job, bytes } => Reply::Size(self.send(job, bytes, at)),
-            Event::Close(closing) => self.close(closing),
-            Event::Hold { job, until } => self.hold(job, until),
-            Event::Release(job) => self.release(job),
-            Event::Cancel(job) => self.cancel(job),
+            Event::Close(closing) => self.change_row(closing.job, RowChange::Close(closing)),
+            Event::Hold { job, until } => {
+                self.change_row(job, RowChange::Hold(Hold::until(until)))
+            }
+            Event::Release(job) => self.change_row(job, RowChange::Hold(Hold::Free)),
+            Event::Cancel(job) => self.change_row(job, RowChange::End(Phase::Canceled)),
             Event::Clock(moment) => self.clock(moment),
             Event::Start(job) => Reply::Phase(self.start(job)),
             Event::Stage(end) => Reply::Phase(self.end_stage(end)),
@@ -146,59 +150,19 @@ impl Store {
         }
     }
 
-    fn close(&mut self, closing: Closing) -> Reply
-        requires { refusal_of self.old.state (Event.Close closing) ≡ None }
-        ensures state { self.new.state ≡ after self.old.state (Event.Close closing) }
-        ensures reply { result ≡ reply_to self.old.state (Event.Close closing) }
+    // What an event that isn't refused changes in the row of its job, where it changes nothing else.
+    fn change_row(&mut self, job: JobId, change: RowChange) -> Reply
+        requires asked { IsAsked self.old.state job change }
+        requires ends { EndsInEnd change }
+        ensures state { self.new.state ≡ change_job self.old.state job (meant change) }
+        ensures reply { result ≡ Reply.Done }
         ensures room { HasNoMore self.old.room self.new.room }
         ensures places { KeepsPlaces self.old self.new }
     {
-        let Ok(at) = job_place(&self.jobs, closing.job) else {
-            unreachable!()
-        };
-        close_row(&mut self.jobs[at], closing);
-        Reply::Done
-    }
-
-    fn hold(&mut self, job: JobId, until: Option<Moment>) -> Reply
-        requires { refusal_of self.old.state (Event.Hold job until) ≡ None }
-        ensures state { self.new.state ≡ after self.old.state (Event.Hold job until) }
-        ensures reply { result ≡ reply_to self.old.state (Event.Hold job until) }
-        ensures room { HasNoMore self.old.room self.new.room }
-        ensures places { KeepsPlaces self.old self.new }
-    {
-        let Ok(at) = job_place(&self.jobs, job) else {
-            unreachable!()
-        };
-        hold_row(&mut self.jobs[at], Hold::until(until));
-        Reply::Done
-    }
-
-    fn release(&mut self, job: JobId) -> Reply
-        requires { refusal_of self.old.state (Event.Release job) ≡ None }
-        ensures state { self.new.state ≡ after self.old.state (Event.Release job) }
-        ensures reply { result ≡ reply_to self.old.state (Event.Release job) }
-        ensures room { HasNoMore self.old.room self.new.room }
-        ensures places { KeepsPlaces self.old self.new }
-    {
-        let Ok(at) = job_place(&self.jobs, job) else {
-            unreachable!()
-        };
-        hold_row(&mut self.jobs[at], Hold::Free);
-        Reply::Done
-    }
-
-    fn cancel(&mut self, job: JobId) -> Reply
-        requires { refusal_of self.old.state (Event.Cancel job) ≡ None }
-        ensures state { self.new.state ≡ after self.old.state (Event.Cancel job) }
-        ensures reply { result ≡ reply_to self.old.state (Event.Cancel job) }
-        ensures room { HasNoMore self.old.room self.new.room }
-        ensures places { KeepsPlaces self.old self.new }
-    {
-        let Ok(at) = job_place(&self.jobs, job) else {
-            unreachable!()
-        };
-        end_row(&mut self.jobs[at], Phase::Canceled);
+        match job_place(&self.jobs, job) {
+            Ok(at) => change_row(&mut self.jobs[at], change),
+            Err(_) => unreachable!(),
+        }
         Reply::Done
     }
 

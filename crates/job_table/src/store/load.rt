@@ -4,7 +4,7 @@ ghost use Rattle.std.specs.Ordering.{nat_cmp};
 ghost use Rattle.std.specs.Cmp.Lexicographic.{slice_cmp};
 ghost use Rattle.std.specs.FinMap as finite;
 ghost use Rattle.spool_types.specs.Limits.{greatest_number};
-ghost use Rattle.spool_types.specs.State.{nothing, job_of};
+ghost use Rattle.spool_types.specs.State.{nothing};
 ghost use Rattle.job_table.specs.Contents.{places_at, places_of};
 ghost use Rattle.job_table.specs.Legal.{IsLegal};
 ghost use Rattle.job_table.specs.Loading.{IsAbove, headed, with_queue, with_job};
@@ -44,7 +44,7 @@ impl Store {
         ensures absent { IsTrue result → places_at self.now id ≡ [] }
     {
         match self.jobs.last() {
-            Some(last) => last.id < id,
+            Some(last) => last.job.id < id,
             None => true,
         }
     }
@@ -62,10 +62,10 @@ impl Store {
 
     pub(crate) fn push_job(&mut self, row: JobRow)
         requires room { 0 < self.old.room.jobs }
-        requires above { IsAbove nat_cmp row.id (finite.keys self.old.state.jobs) }
-        requires legal { IsLegal (with_job self.old.state (job_of row)) }
+        requires above { IsAbove nat_cmp row.job.id (finite.keys self.old.state.jobs) }
+        requires legal { IsLegal (with_job self.old.state row.job) }
         requires holds { HoldsDocument row }
-        ensures state { self.new.state ≡ with_job self.old.state (job_of row) }
+        ensures state { self.new.state ≡ with_job self.old.state row.job }
         ensures places { (j : ℕ) → places_of self.new.places j ≡ places_of (place_entry row ∷ self.old.places) j }
     {
         self.jobs.push(row).unwrap();

@@ -33,7 +33,7 @@ impl Store {
         requires { at < length (finite.keys self.now.state.jobs) }
         ensures { result ≡ slice_index_or (finite.keys self.now.state.jobs) at 0 }
     {
-        self.jobs[at].id
+        self.jobs[at].job.id
     }
 }
 
@@ -49,8 +49,8 @@ pub(super) fn queue_place(queues: &[QueueRow], name: &QueueName) -> Result<usize
 // Where the job stands, or would go.
 pub(super) fn job_place(jobs: &[JobRow], id: JobId) -> Result<usize, usize>
     requires { IsTrue (finite.is_sorted nat_cmp (map job_entry jobs.now)) }
-    ensures found { IfOk result (IsPlace nat_cmp (λ r. r.id) jobs.now id) }
-    ensures absent { IfErr result (IsGap nat_cmp (λ r. r.id) jobs.now id) }
+    ensures found { IfOk result (IsPlace nat_cmp (λ r. r.job.id) jobs.now id) }
+    ensures absent { IfErr result (IsGap nat_cmp (λ r. r.job.id) jobs.now id) }
 {
-    jobs.binary_search_by_key(&id, |row| row.id)
+    jobs.binary_search_by_key(&id, |row| row.job.id)
 }

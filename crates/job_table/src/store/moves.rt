@@ -37,10 +37,10 @@ fn move_rows(rows: &mut [JobRow], mut noted: NewPlaces)
 fn move_row(row: &mut JobRow, noted: &mut NewPlaces)
     requires { HasNew noted.old.places row.old }
     ensures moved { IsMoved noted.old.places row.old row.new }
-    ensures others { (j : ℕ) → ¬ (j ≡ row.old.id) → finite.find nat_cmp j noted.new.places ≡ finite.find nat_cmp j noted.old.places }
+    ensures others { (j : ℕ) → ¬ (j ≡ row.old.job.id) → finite.find nat_cmp j noted.new.places ≡ finite.find nat_cmp j noted.old.places }
 {
-    if row.phase.has_ended() {
+    if row.job.phase.has_ended() {
         return;
     }
-    row.document = noted.take(row.id);
+    row.document = noted.take(row.job.id);
 }

@@ -4,17 +4,17 @@ ghost use Rattle.job_table.specs.Attempts.{started, with_pages, ruled, stops_que
 ghost use Rattle.spool_types.specs.Limits.{longest_document, greatest_attempts};
 ghost use Rattle.spool_types.specs.Phases.{has_ended, is_processing};
 ghost use Rattle.spool_types.specs.Sent.{bytes_behind, extent_behind};
-ghost use Rattle.spool_types.specs.State.{job_of};
 ghost use Rattle.job_table.specs.Losses.{HasNextStage};
 ghost use Rattle.job_table.specs.Changes.{new_queue, with_notes, with_accepting, with_stopped, new_job, with_bytes, ended, closed, held};
+ghost use Rattle.job_table.specs.RowChanges.{meant, EndsInEnd};
 ghost use Rattle.job_table.specs.Rows.{TakesNone, KeepsDocument};
 
 use crate::places::extent_behind;
 use backend_codes::Verdict;
 use row_effects::pages_after;
 use spool_types::{
-    AbortReason, Closing, Effect, Hold, Interval, Items, JobRow, Moment, NewJob, NewQueue, Phase,
-    Piece, QueueNotes, QueueRow, Text,
+    AbortReason, Closing, Effect, Hold, Interval, Items, Job, JobRow, Moment, NewJob, NewQueue,
+    Phase, Piece, QueueNotes, QueueRow, Text,
 };
 use std::alloc::Global;
 
@@ -60,24 +60,26 @@ pub(super) fn set_stopped(row: &mut QueueRow, stopped: bool)
 
 // A new job is incoming and free, and has no bytes.
 pub(super) fn new_job_row(alloc: Global, job: NewJob) -> JobRow
-    ensures row { job_of result ≡ new_job job }
+    ensures row { result.job ≡ new_job job }
     ensures room { vec_capacity result.document ≡ 0 }
     ensures places { result.document.items ≡ [] }
 {
     JobRow {
-        id: job.job,
-        queue: job.queue,
-        user: job.user,
-        title: job.title,
-        copies: job.copies,
-        priority: job.priority,
-        options: job.options,
-        media: None,
-        filters: Items::empty(alloc),
-        attempts: 0,
-        pages: 0,
-        size: 0,
-        phase: Phase::Incoming(Hold::Free),
+        job: Job {
+            id: job.job,
+            queue: job.queue,
+            user: job.user,
+            title: job.title,
+            copies: job.copies,
+            priority: job.priority,
+            options: job.options,
+            media: None,
+            filters: Items::empty(alloc),
+            attempts: 0,
+            pages: 0,
+            size: 0,
+            phase: Phase::Incoming(Hold::Free),
+        },
         document: Vec::new(alloc),
     }
 }
@@ -85,45 +87,69 @@ pub(super) fn new_job_row(alloc: Global, job: NewJob) -> JobRow
 // Adds the bytes of a send, whose payload is at this place, to the document, and answers its size.
 pub(super) fn add_bytes(row: &mut JobRow, bytes: Piece, at: u64) -> u32
     requires room { vec_len row.old.document < vec_capacity row.old.document }
-    requires short { row.old.size + length bytes ≤ longest_document }
-    requires live { has_ended row.old.phase ≡ false }
+    requires short { row.old.job.size + length bytes ≤ longest_document }
+    requires live { has_ended row.old.job.phase ≡ false }
     requires at { at + bytes_behind < 2 ^ 64 }
-    ensures row { job_of row.new ≡ with_bytes bytes (job_of row.old) }
-    ensures size { result ≡ row.old.size + length bytes }
+    ensures row { row.new.job ≡ with_bytes bytes row.old.job }
+    ensures size { result ≡ row.old.job.size + length bytes }
     ensures memory { TakesNone row.old row.new }
     ensures document { row.new.document.items ≡ row.old.document.items ++ extent_behind at (length bytes) ∷ [] }
 {
     let count = bytes.as_slice().len();
     row.document.push_reserved(extent_behind(at, count));
-    row.size += count as u32;
-    row.size
+    row.job.size += count as u32;
+    row.job.size
+}
+
+/// What an event changes in the row of its job, where it changes nothing else.
+#[derive(Drop)]
+pub(crate) enum RowChange {
+    /// It waits, or is still incoming, with this hold.
+    Hold(Hold),
+    /// It ends in this phase.
+    End(Phase),
+    Close(Closing),
+}
+
+pub(super) fn change_row(row: &mut JobRow, change: RowChange)
+    requires live { has_ended row.old.job.phase ≡ false }
+    requires ends { EndsInEnd change }
+    ensures row { row.new.job ≡ meant change row.old.job }
+    ensures memory { TakesNone row.old row.new }
+    ensures document { KeepsDocument row.old row.new }
+{
+    match change {
+        RowChange::Hold(hold) => hold_row(row, hold),
+        RowChange::End(phase) => end_row(row, phase),
+        RowChange::Close(closing) => close_row(row, closing),
+    }
 }
 
 // A job that ends loses its document.
-pub(super) fn end_row(row: &mut JobRow, phase: Phase)
+fn end_row(row: &mut JobRow, phase: Phase)
     requires { has_ended phase ≡ true }
-    ensures row { job_of row.new ≡ ended phase (job_of row.old) }
+    ensures row { row.new.job ≡ ended phase row.old.job }
     ensures memory { TakesNone row.old row.new }
-    ensures ended { has_ended row.new.phase ≡ true }
+    ensures ended { has_ended row.new.job.phase ≡ true }
 {
     let alloc = *row.document.allocator();
-    row.phase = phase;
+    row.job.phase = phase;
     row.document = Vec::new(alloc);
 }
 
 // A closed job waits with the hold that it had, or ends where no filters lead to its queue.
-pub(super) fn close_row(row: &mut JobRow, closing: Closing)
-    requires { has_ended row.old.phase ≡ false }
-    ensures row { job_of row.new ≡ closed closing (job_of row.old) }
+fn close_row(row: &mut JobRow, closing: Closing)
+    requires { has_ended row.old.job.phase ≡ false }
+    ensures row { row.new.job ≡ closed closing row.old.job }
     ensures memory { TakesNone row.old row.new }
     ensures document { KeepsDocument row.old row.new }
 {
-    row.media = Some(closing.media);
+    row.job.media = Some(closing.media);
     match closing.filters {
         Some(filters) => {
-            row.filters = filters;
-            row.phase = Phase::Waiting {
-                hold: row.phase.hold(),
+            row.job.filters = filters;
+            row.job.phase = Phase::Waiting {
+                hold: row.job.phase.hold(),
                 not_before: Moment::ZERO,
                 first: false,
             };
@@ -133,40 +159,40 @@ pub(super) fn close_row(row: &mut JobRow, closing: Closing)
 }
 
 // A job that waits or is still incoming gets this hold.
-pub(super) fn hold_row(row: &mut JobRow, hold: Hold)
-    ensures row { job_of row.new ≡ held hold (job_of row.old) }
+fn hold_row(row: &mut JobRow, hold: Hold)
+    ensures row { row.new.job ≡ held hold row.old.job }
     ensures memory { TakesNone row.old row.new }
     ensures document { row.new.document ≡ row.old.document }
 {
-    row.phase = row.phase.with_hold(hold);
+    row.job.phase = row.job.phase.with_hold(hold);
 }
 
 // Begins a further attempt: the first of the job's stages, its filters in order and then the backend.
 pub(super) fn start_row(row: &mut JobRow) -> Phase
-    requires more { row.old.attempts < greatest_attempts }
-    requires live { has_ended row.old.phase ≡ false }
-    ensures row { job_of row.new ≡ started (job_of row.old) }
-    ensures phase { result ≡ row.new.phase }
+    requires more { row.old.job.attempts < greatest_attempts }
+    requires live { has_ended row.old.job.phase ≡ false }
+    ensures row { row.new.job ≡ started row.old.job }
+    ensures phase { result ≡ row.new.job.phase }
     ensures memory { TakesNone row.old row.new }
     ensures document { row.new.document ≡ row.old.document }
 {
-    row.attempts += 1;
-    row.pages = 0;
-    row.phase = Phase::Processing {
-        attempt: row.attempts,
+    row.job.attempts += 1;
+    row.job.pages = 0;
+    row.job.phase = Phase::Processing {
+        attempt: row.job.attempts,
         stage: 1,
-        stages: row.filters.as_slice().len() as u8 + 1,
+        stages: row.job.filters.as_slice().len() as u8 + 1,
     };
-    row.phase
+    row.job.phase
 }
 
 // The pages that the effects of a stage tell.
 pub(super) fn add_pages(row: &mut JobRow, effects: &[Effect])
-    ensures row { job_of row.new ≡ with_pages effects.now (job_of row.old) }
+    ensures row { row.new.job ≡ with_pages effects.now row.old.job }
     ensures memory { TakesNone row.old row.new }
     ensures document { row.new.document ≡ row.old.document }
 {
-    row.pages = pages_after(row.pages, effects);
+    row.job.pages = pages_after(row.job.pages, effects);
 }
 
 // One verdict on a job stops its queue.
@@ -180,27 +206,31 @@ pub(super) fn rule_queue_row(row: &mut QueueRow, verdict: Verdict)
 
 // What a verdict makes of a job, at the moment now, where its queue tries a job again after the interval.
 pub(super) fn rule_row(row: &mut JobRow, verdict: Verdict, now: Moment, interval: Interval) -> Phase
-    requires next { verdict ≡ Verdict.NextStage → HasNextStage row.old.phase }
-    requires live { is_processing row.old.phase ≡ true }
-    ensures row { job_of row.new ≡ ruled now interval verdict (job_of row.old) }
-    ensures phase { result ≡ row.new.phase }
+    requires next { verdict ≡ Verdict.NextStage → HasNextStage row.old.job.phase }
+    requires live { is_processing row.old.job.phase ≡ true }
+    ensures row { row.new.job ≡ ruled now interval verdict row.old.job }
+    ensures phase { result ≡ row.new.job.phase }
     ensures memory { TakesNone row.old row.new }
     ensures document { KeepsDocument row.old row.new }
 {
     match verdict {
-        Verdict::NextStage => row.phase = next_stage(row.phase),
+        Verdict::NextStage => row.job.phase = next_stage(row.job.phase),
         Verdict::Completed => end_row(row, Phase::Completed),
         Verdict::Aborted(reason) => end_row(row, Phase::Aborted(reason)),
         Verdict::Canceled => end_row(row, Phase::Canceled),
-        Verdict::Held(reason) => row.phase = waiting(Hold::Indefinite(reason), Moment::ZERO, false),
-        Verdict::StopQueue => row.phase = waiting(Hold::Free, Moment::ZERO, false),
+        Verdict::Held(reason) => row.job.phase = waiting(
+            Hold::Indefinite(reason),
+            Moment::ZERO,
+            false,
+        ),
+        Verdict::StopQueue => row.job.phase = waiting(Hold::Free, Moment::ZERO, false),
         Verdict::RetryAt => {
             let not_before = now.plus(u64::from(interval.get()));
-            row.phase = waiting(Hold::Free, not_before, false);
+            row.job.phase = waiting(Hold::Free, not_before, false);
         }
-        Verdict::RetryFirst => row.phase = waiting(Hold::Free, Moment::ZERO, true),
+        Verdict::RetryFirst => row.job.phase = waiting(Hold::Free, Moment::ZERO, true),
     }
-    row.phase
+    row.job.phase
 }
 
 fn waiting(hold: Hold, not_before: Moment, first: bool) -> Phase

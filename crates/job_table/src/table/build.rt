@@ -8,7 +8,7 @@ ghost use Rattle.job_table.specs.Lanes.{AreBeside, IsAdvanced};
 ghost use Rattle.job_table.specs.Legal.{IsLegal};
 
 use super::Table;
-use crate::lane::{Draft, Lane, standing_of_row};
+use crate::lane::{Draft, Lane, standing_of};
 use crate::new_places::NewPlaces;
 use crate::store::Store;
 use spool_types::Moment;
@@ -39,10 +39,10 @@ fn drafts_of(alloc: Global, store: &Store) -> Result<Vec<Draft>, AllocError>
     let rows = store.jobs();
     let mut drafts = empty_drafts(alloc, store.queue_count())?;
     for row in rows {
-        let Ok(place) = store.queue_place(&row.queue) else {
+        let Ok(place) = store.queue_place(&row.job.queue) else {
             unreachable!()
         };
-        drafts[place].add(row.id, standing_of_row(row))?;
+        drafts[place].add(row.job.id, standing_of(&row.job))?;
     }
     Ok(drafts)
 }

@@ -6,13 +6,13 @@ ghost use Rattle.job_table.specs.Attempts.{busy_of, is_next, next_of};
 ghost use Rattle.job_table.specs.Legal.{IsLegal};
 ghost use Rattle.job_table.specs.Step.{refusal_of};
 ghost use Rattle.queue_sched.specs.Next.{IsNextJob, is_eligible};
-ghost use Rattle.spool_types.specs.State.{Job, job_of, queue_at, job_at};
+ghost use Rattle.spool_types.specs.State.{Job, queue_at, job_at};
 ghost use Rattle.spool_types.specs.declared.event.Event.{Event};
 ghost use Rattle.spool_types.specs.declared.rows.QueueRow.{QueueRow};
 
 use super::Table;
 use queue_sched::{index_law, order_law};
-use spool_types::{JobId, JobRow, QueueName};
+use spool_types::{Job, JobId, QueueName};
 
 impl Table {
     /// The job of the queue that is to be started next, if any may be: the eligible one that no other eligible job of
@@ -43,13 +43,13 @@ impl Table {
     }
 
     // Whether a job of this table is the next of its queue.
-    pub(super) fn is_next(&self, row: &JobRow) -> bool
-        requires { IsLegal self.now.state → job_at self.now.state row.now.id ≡ Some (job_of row.now) }
-        ensures { result ≡ is_next self.now.state (job_of row.now) }
+    pub(super) fn is_next(&self, job: &Job) -> bool
+        requires { IsLegal self.now.state → job_at self.now.state job.now.id ≡ Some job.now }
+        ensures { result ≡ is_next self.now.state job.now }
     {
         order_law();
-        match self.next(&row.queue) {
-            Some(job) => job == row.id,
+        match self.next(&job.queue) {
+            Some(next) => next == job.id,
             None => false,
         }
     }

@@ -1,16 +1,18 @@
 //! Why an event is refused: its causes in order, of which the first that stands decides.
 ghost use Rattle.std.specs.Prelude.{◌≡◌, Bool, true, false, not, List, [], ◌∷◌, Some, IfOk, IfErr};
+ghost use Rattle.std.specs.Result.{result_err};
 ghost use Rattle.spool_types.specs.declared.event.Closing.{Closing};
 ghost use Rattle.spool_types.specs.declared.refusal.Refusal.{Refusal};
 ghost use Rattle.spool_types.specs.Phases.{has_ended, is_incoming, is_processing, is_waiting};
-ghost use Rattle.spool_types.specs.State.{job_of, job_at};
-ghost use Rattle.job_table.specs.Step.{about_job, about_queue, first_cause, refusal_of, where_it};
+ghost use Rattle.spool_types.specs.State.{job_at};
+ghost use Rattle.job_table.specs.Shapes.{about_job, about_queue, where_it};
+ghost use Rattle.job_table.specs.Step.{first_cause, refusal_of};
 
 use super::Table;
 use crate::store::is_in_stage;
 use spool_types::{
-    Event, JobId, JobRow, LONGEST_DOCUMENT, MOST_QUEUES, Moment, NewJob, NewQueue, Piece,
-    QueueName, QueueNotes, Refusal, StageEnd,
+    Event, Job, JobId, LONGEST_DOCUMENT, MOST_QUEUES, NewJob, NewQueue, Piece, QueueName,
+    QueueNotes, Refusal, StageEnd,
 };
 
 impl Table {
@@ -26,13 +28,13 @@ impl Table {
             Event::Create(job) => self.create_refusal(job),
             Event::Send { job, bytes } => self.send_refusal(*job, bytes),
             Event::Close(closing) => self.close_refusal(closing.job),
-            Event::Hold { job, until } => self.hold_refusal(*job, *until),
+            Event::Hold { job, .. } => self.idle_job(*job).err(),
             Event::Release(job) => self.release_refusal(*job),
-            Event::Cancel(job) => self.cancel_refusal(*job),
+            Event::Cancel(job) => self.live_job(*job).err(),
             Event::Clock(_) | Event::Reopen => None,
             Event::Start(job) => self.start_refusal(*job),
             Event::Stage(end) => self.stage_refusal(end),
-            Event::Abandon(job) => self.abandon_refusal(*job),
+            Event::Abandon(job) => self.processing_job(*job).err(),
         }
     }
 
@@ -113,12 +115,6 @@ impl Table {
         self.incoming_job(job).err()
     }
 
-    fn hold_refusal(&self, job: JobId, until: Option<Moment>) -> Option<Refusal>
-        ensures { result ≡ refusal_of self.now.state (Event.Hold job until) }
-    {
-        self.idle_job(job).err()
-    }
-
     fn release_refusal(&self, job: JobId) -> Option<Refusal>
         ensures { result ≡ refusal_of self.now.state (Event.Release job) }
     {
@@ -127,12 +123,6 @@ impl Table {
             Ok(_) => Some(Refusal::NotHeld),
             Err(refusal) => Some(refusal),
         }
-    }
-
-    fn cancel_refusal(&self, job: JobId) -> Option<Refusal>
-        ensures { result ≡ refusal_of self.now.state (Event.Cancel job) }
-    {
-        self.live_job(job).err()
     }
 
     fn start_refusal(&self, job: JobId) -> Option<Refusal>
@@ -155,19 +145,14 @@ impl Table {
         }
     }
 
-    fn abandon_refusal(&self, job: JobId) -> Option<Refusal>
-        ensures { result ≡ refusal_of self.now.state (Event.Abandon job) }
-    {
-        self.processing_job(job).err()
-    }
-
     // The row of a job that is still incoming, or why there is none.
-    fn incoming_job(&self, job: JobId) -> Result<&JobRow, Refusal>
-        ensures found { IfOk result (λ r. job_at self.now.state job ≡ Some (job_of r.now)) }
+    fn incoming_job(&self, job: JobId) -> Result<&Job, Refusal>
+        ensures found { IfOk result (λ r. job_at self.now.state job ≡ Some r.now) }
         ensures live { IfOk result (λ r. has_ended r.now.phase ≡ false) }
         ensures incoming { IfOk result (λ r. is_incoming r.now.phase ≡ true) }
         ensures refused { (rest : List (Bool × Refusal)) → IfErr result (λ x. first_cause (about_job self.now.state job (
             where_it (job_at self.now.state job) (λ r. not (is_incoming r.phase)) Refusal.NotIncoming ∷ rest)) ≡ Some x) }
+        ensures told { result_err result ≡ first_cause (about_job self.now.state job (where_it (job_at self.now.state job) (λ r. not (is_incoming r.phase)) Refusal.NotIncoming ∷ [])) }
     {
         match self.live_job(job) {
             Ok(row) if !row.phase.is_incoming() => Err(Refusal::NotIncoming),
@@ -176,12 +161,13 @@ impl Table {
     }
 
     // The row of a job that waits or is still incoming, or why there is none.
-    fn idle_job(&self, job: JobId) -> Result<&JobRow, Refusal>
-        ensures found { IfOk result (λ r. job_at self.now.state job ≡ Some (job_of r.now)) }
+    fn idle_job(&self, job: JobId) -> Result<&Job, Refusal>
+        ensures found { IfOk result (λ r. job_at self.now.state job ≡ Some r.now) }
         ensures live { IfOk result (λ r. has_ended r.now.phase ≡ false) }
         ensures idle { IfOk result (λ r. is_processing r.now.phase ≡ false) }
         ensures refused { (rest : List (Bool × Refusal)) → IfErr result (λ x. first_cause (about_job self.now.state job (
             where_it (job_at self.now.state job) (λ r. is_processing r.phase) Refusal.NotWaiting ∷ rest)) ≡ Some x) }
+        ensures told { result_err result ≡ first_cause (about_job self.now.state job (where_it (job_at self.now.state job) (λ r. is_processing r.phase) Refusal.NotWaiting ∷ [])) }
     {
         match self.live_job(job) {
             Ok(row) if row.phase.is_processing() => Err(Refusal::NotWaiting),
@@ -190,8 +176,8 @@ impl Table {
     }
 
     // The row of a job that waits, or why there is none.
-    fn waiting_job(&self, job: JobId) -> Result<&JobRow, Refusal>
-        ensures found { IfOk result (λ r. job_at self.now.state job ≡ Some (job_of r.now)) }
+    fn waiting_job(&self, job: JobId) -> Result<&Job, Refusal>
+        ensures found { IfOk result (λ r. job_at self.now.state job ≡ Some r.now) }
         ensures live { IfOk result (λ r. has_ended r.now.phase ≡ false) }
         ensures waiting { IfOk result (λ r. is_waiting r.now.phase ≡ true) }
         ensures refused { (rest : List (Bool × Refusal)) → IfErr result (λ x. first_cause (about_job self.now.state job (
@@ -204,12 +190,13 @@ impl Table {
     }
 
     // The row of a job that is processing, or why there is none.
-    fn processing_job(&self, job: JobId) -> Result<&JobRow, Refusal>
-        ensures found { IfOk result (λ r. job_at self.now.state job ≡ Some (job_of r.now)) }
+    fn processing_job(&self, job: JobId) -> Result<&Job, Refusal>
+        ensures found { IfOk result (λ r. job_at self.now.state job ≡ Some r.now) }
         ensures live { IfOk result (λ r. has_ended r.now.phase ≡ false) }
         ensures processing { IfOk result (λ r. is_processing r.now.phase ≡ true) }
         ensures refused { (rest : List (Bool × Refusal)) → IfErr result (λ x. first_cause (about_job self.now.state job (
             where_it (job_at self.now.state job) (λ r. not (is_processing r.phase)) Refusal.NotProcessing ∷ rest)) ≡ Some x) }
+        ensures told { result_err result ≡ first_cause (about_job self.now.state job (where_it (job_at self.now.state job) (λ r. not (is_processing r.phase)) Refusal.NotProcessing ∷ [])) }
     {
         match self.live_job(job) {
             Ok(row) if !row.phase.is_processing() => Err(Refusal::NotProcessing),
@@ -218,15 +205,16 @@ impl Table {
     }
 
     // The row of a job that hasn't ended, or why there is none.
-    fn live_job(&self, job: JobId) -> Result<&JobRow, Refusal>
-        ensures found { IfOk result (λ r. job_at self.now.state job ≡ Some (job_of r.now)) }
+    fn live_job(&self, job: JobId) -> Result<&Job, Refusal>
+        ensures found { IfOk result (λ r. job_at self.now.state job ≡ Some r.now) }
         ensures live { IfOk result (λ r. has_ended r.now.phase ≡ false) }
         ensures refused { (rest : List (Bool × Refusal)) → IfErr result (λ x. first_cause (about_job self.now.state job rest) ≡ Some x) }
+        ensures told { result_err result ≡ first_cause (about_job self.now.state job []) }
     {
         match self.job(job) {
             None => Err(Refusal::NoJob),
-            Some(row) if row.phase.has_ended() => Err(Refusal::JobEnded),
-            Some(row) => Ok(row),
+            Some(row) if row.job.phase.has_ended() => Err(Refusal::JobEnded),
+            Some(row) => Ok(&row.job),
         }
     }
 }

@@ -7,7 +7,6 @@ ghost use Rattle.spool_disk.specs.Disk.{Blames, IsSynced, LeavesOnly};
 ghost use Rattle.event_codec.specs.RowSpelling.{IsLegalRow, IsOrderedQueue};
 ghost use Rattle.std.specs.List.{flat_map, AllByRecursion};
 ghost use Rattle.job_table.specs.Contents.{AreSized, HasNoMoves, HasOwnPlaces};
-ghost use Rattle.job_table.specs.Documents.{document_len};
 ghost use Rattle.job_table.specs.Listing.{listing, pieces};
 ghost use Rattle.job_table.specs.Legal.{IsLegal};
 ghost use Rattle.spool_core.specs.Image.{HasTable, HasDocuments};
@@ -17,11 +16,11 @@ ghost use Rattle.spool_core.specs.Checkpointing.{AreAdded, AreFramesOf, HasEpoch
 
 use super::filling::fill_documents;
 use super::{CheckpointFault, Spool};
-use event_codec::{encode_queue_onto, encode_row_onto};
-use job_table::{Table, listed, listings_are_loaded};
+use event_codec::{encode_job_onto, encode_queue_onto, encode_row_onto};
+use job_table::{Table, document_len, listings_are_loaded};
 use spool_areas::{AreaFault, Areas};
 use spool_disk::Disk;
-use spool_types::{JobId, JobRow, LONGEST_SEND, Piece, QueueRow, Row};
+use spool_types::{Job, JobId, JobRow, LONGEST_SEND, Piece, QueueRow, Row};
 use std::alloc::{AllocError, Global};
 
 impl<D: Disk> Spool<D> {
@@ -186,8 +185,8 @@ fn add_jobs(
     requires may { AllByRecursion MayBeListed (map job_of jobs.now) }
     ensures { OnOk result (AreAdded (flat_map blank_rows (map job_of jobs.now)) frames.old.items frames.new.items) }
 {
-    for job in jobs {
-        add_job(alloc, frames, zeros, job)?;
+    for row in jobs {
+        add_job(alloc, frames, zeros, &row.job)?;
     }
     Ok(())
 }
@@ -197,23 +196,28 @@ fn add_job(
     alloc: Global,
     frames: &mut Vec<Vec<u8>>,
     zeros: &[u8],
-    job: &JobRow,
+    job: &Job,
 ) -> Result<(), AllocError>
     requires zeros { zeros.now ≡ replicate longest_send 0 }
-    requires may { MayBeListed (job_of job.now) }
-    ensures { OnOk result (AreAdded (blank_rows (job_of job.now)) frames.old.items frames.new.items) }
+    requires may { MayBeListed job.now }
+    ensures { OnOk result (AreAdded (blank_rows job.now) frames.old.items frames.new.items) }
 {
-    // There are at most 15, so that a row can tell the stage.
-    let _filters = job.filters.as_slice();
-    add_owned(alloc, frames, Row::Job(listed(job)?))?;
+    add_job_row(alloc, frames, job)?;
     add_pieces(alloc, frames, zeros, job.id, document_len(job))
 }
 
-// How many bytes the document of a job has.
-pub(super) fn document_len(job: &JobRow) -> usize
-    ensures { result ≡ document_len (job_of job.now) }
+// Adds the frame of a job without its document.
+fn add_job_row(alloc: Global, frames: &mut Vec<Vec<u8>>, job: &Job) -> Result<(), AllocError>
+    requires { MayBeListed job.now }
+    ensures { OnOk result (AreAdded (RowOf.Job job.now ∷ []) frames.old.items frames.new.items) }
 {
-    job_table::document_len(job.phase, job.size)
+    // There are at most 15, so that a row can tell the stage.
+    let _filters = job.filters.as_slice();
+    let mut frame = Vec::from_slice(alloc, &[0; 4])?;
+    encode_job_onto(job, &mut frame)?;
+    frame.push(0)?;
+    frames.push(frame)?;
+    Ok(())
 }
 
 // Adds the frames of the pieces of a document of so many bytes.

@@ -3,7 +3,8 @@ ghost use Rattle.std.specs.Prelude.{◌≡◌, ◌<◌, ◌≤◌, ◌+◌, ◌^
 ghost use Rattle.spool_types.specs.State.{Job, job_at};
 ghost use Rattle.spool_areas.specs.Checkpoint.{frames_of, payloads_in, AreFrames};
 ghost use Rattle.gate_journal.specs.Entries.{records};
-ghost use Rattle.job_table.specs.Contents.{HasNoMoves, is_over, move_room, places_at};
+ghost use Rattle.job_table.specs.Contents.{HasNoMoves, move_room, places_at};
+ghost use Rattle.job_table.specs.Over.{is_over};
 ghost use Rattle.job_table.specs.Listing.{listing};
 ghost use Rattle.extents.specs.Extents.{size_of};
 ghost use Rattle.documents.specs.Documents.{LieIn};
@@ -13,9 +14,8 @@ ghost use Rattle.spool_core.specs.Seen.{IsStandingAt};
 ghost use Rattle.spool_core.specs.Standing.{len_at};
 ghost use Rattle.spool_core.specs.Filling.{HasGateBehind, HasMoveRoom, HasPieceAt, IsDue, IsPieceFilled, IsPieceNoted, IsDocumentFilled, IsDocumentNoted, AreDocumentsFilled, AreDocumentsNoted, IsReadOn, IsFrameFilled, IsBehind};
 
-use super::checkpoint::document_len;
 use documents::read_joined;
-use job_table::Table;
+use job_table::{Table, document_len};
 use spool_areas::{Areas, Extent, ReadFault};
 use spool_disk::Disk;
 use spool_types::{JobId, LONGEST_SEND};
@@ -50,7 +50,7 @@ pub(super) fn fill_documents<D: Disk>(
 {
     let mut cursor = behind(frames, first, 1 + table.queues().len());
     for at in 0..table.jobs().len() {
-        let job = table.jobs()[at].id;
+        let job = table.jobs()[at].job.id;
         cursor = fill_document(areas, table, job, frames, cursor)?;
     }
     Ok(())
@@ -107,7 +107,7 @@ fn fill_document<D: Disk>(
         IsDocumentNoted r cursor.gate table.old.moves table.new.moves) }
 {
     let len = match table.job(job) {
-        Some(row) => document_len(row),
+        Some(row) => document_len(&row.job),
         None => unreachable!(),
     };
     let mut cursor = next(frames, cursor);
@@ -132,7 +132,7 @@ fn fill_piece<D: Disk>(
 ) -> Result<Cursor, ReadFault>
     requires alive { areas.old.dead ≡ false }
     requires stands { IsStandingAt D.device areas.old table.old }
-    requires lives { is_over (job_at table.old.state job) ≡ false }
+    requires lives { is_over table.old.state job ≡ false }
     requires inside { at + count ≤ len_at table.old.state job }
     requires piece { HasPieceAt job count cursor.frame frames.old }
     requires short { cursor.gate + 14 + count < 2 ^ 64 }

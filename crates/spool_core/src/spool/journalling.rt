@@ -100,6 +100,8 @@ pub(super) fn journal_reopening<D: Disk>(
     ensures fixed { D.device.size areas.new.disk ≡ D.device.size areas.old.disk }
     ensures told { IsSome (D.device.bytes areas.new.disk) ↔ IsSome (D.device.bytes areas.old.disk) }
 
+    ensures epoch { areas.new.epoch ≡ areas.old.epoch }
+
     // The room that is left, without its record.
     ensures room { OnOk result (areas.new.end - areas.new.gate ≡ areas.old.end - areas.old.gate - record_len Event.Reopen) }
 

@@ -7,6 +7,7 @@ ghost use Rattle.spool_types.specs.declared.event.Event.TheVariants as Event;
 ghost use Rattle.spool_disk.specs.Disk.{Blames, LeavesOnly, ChangesNothing};
 ghost use Rattle.gate_journal.specs.Appends.{kept_room};
 ghost use Rattle.spool_core.specs.Image.{HasTable, HasDocuments, HasRoom, HasBeforeOrAfterEvent, IsReopenedFrom, IsMidway, IsFaultOf, IsReopeningFault};
+ghost use Rattle.spool_core.specs.Checkpointing.{HasEpoch};
 ghost use Rattle.spool_core.specs.Standing.{LeavesRoom, record_len};
 
 use super::Spool;
@@ -29,6 +30,7 @@ impl<D: Disk> Spool<D> {
         // theirs.
         ensures opened { IfOk result (λ spool. (r : List ℕ) → D.device.bytes disk ≡ Some r → IsReopenedFrom spool.state r) }
         ensures room { IfOk result (λ spool. (r : List ℕ) → D.device.bytes spool.disk ≡ Some r → HasRoom spool.room r) }
+        ensures epoch { IfOk result (λ spool. (r : List ℕ) → D.device.bytes disk ≡ Some r → HasEpoch spool.epoch r) }
         ensures fault { IfErr result (λ e. (r : List ℕ) → D.device.bytes disk ≡ Some r → IsFaultOf r e.fault) }
         ensures alive { IfOk result (λ spool. spool.dead ≡ false) }
         ensures counted { IfOk result (λ spool. D.device.failures spool.disk ≡ D.device.failures disk) }
@@ -53,8 +55,13 @@ impl<D: Disk> Spool<D> {
 
         // An error hands the disk back. But for a failed device it reads as before and has no new image.
         ensures back { IfErr result (λ e. ¬ (e.fault ≡ OpenFault.Disk) → (D.device.bytes e.disk ≡ D.device.bytes disk) × LeavesOnly D.device disk e.disk (D.device.image disk)) }
-        ensures failed { IfErr result (λ e. (D.device.size e.disk ≡ D.device.size disk)
-            × LeavesOnly D.device disk e.disk (λ c. D.device.image disk c ⊎ ((r : List ℕ) → D.device.bytes disk ≡ Some r → IsMidway r c))) }
+        ensures size_back { IfErr result (λ e. D.device.size e.disk ≡ D.device.size disk) }
+
+        // In the same order as above: before the first sync has answered what was handed over, and from then on an image
+        // midway.
+        ensures failed { IfErr result (λ e. LeavesOnly D.device disk e.disk (D.device.image disk)
+            ⊎ ((synced : D) × LeavesOnly D.device disk synced (D.device.image disk)
+            × LeavesOnly D.device synced e.disk (λ c. (r : List ℕ) → D.device.bytes disk ≡ Some r → IsMidway r c))) }
 
         // No attempt goes over a restart.
         ensures idle { IfOk result (λ spool. HasNoProcessing spool.state) }
@@ -82,6 +89,7 @@ impl<D: Disk> Spool<D> {
         // The table and the room are those of the bytes, and a fault of the bytes is theirs.
         ensures opened { IfOk result (λ spool. (r : List ℕ) → D.device.bytes disk ≡ Some r → HasTable spool.state r) }
         ensures room { IfOk result (λ spool. (r : List ℕ) → D.device.bytes disk ≡ Some r → HasRoom spool.room r) }
+        ensures epoch { IfOk result (λ spool. (r : List ℕ) → D.device.bytes disk ≡ Some r → HasEpoch spool.epoch r) }
         ensures fault { IfErr result (λ e. (r : List ℕ) → D.device.bytes disk ≡ Some r → IsFaultOf r e.fault) }
         ensures alive { IfOk result (λ spool. spool.dead ≡ false) }
         ensures counted { IfOk result (λ spool. D.device.failures spool.disk ≡ D.device.failures disk) }
@@ -145,6 +153,7 @@ impl<D: Disk> Spool<D> {
         ensures unchanged { IsErrOf result OpenFault.Memory → self.new ≡ self.old }
         ensures blames { Blames (D.device.failures self.old.disk) (D.device.failures self.new.disk) (IsErrOf result OpenFault.Disk) }
         ensures left { OnOk result (self.new.room ≡ self.old.room - record_len Event.Reopen) }
+        ensures epoch { self.new.epoch ≡ self.old.epoch }
         ensures fixed { D.device.size self.new.disk ≡ D.device.size self.old.disk }
         ensures told { IsSome (D.device.bytes self.new.disk) ↔ IsSome (D.device.bytes self.old.disk) }
         ensures any_moment { LeavesOnly D.device self.old.disk self.new.disk (λ c. IsSome (D.device.bytes self.old.disk) → HasBeforeOrAfterEvent self.old.state Event.Reopen c) }

@@ -1,9 +1,9 @@
 -- the lines of the queues so far
-use Rattle.std.proofs.Common.{◌≡◌, take, map}
+use Rattle.std.proofs.Common.{◌≡◌, take}
 use Rattle.std.specs.List.{flat_map}
-use Rattle.spool_types.specs.State.{job_of}
+use Rattle.command_lines.specs.declared.reply.ShownQueue.{ShownQueue}
 use Rattle.command_lines.specs.Replies.{queue_text}
 use Rattle.command_lines.proofs.reply.queues.Given as goal
 
-abbrev pub invariant-loop-row : goal.invariant-loop-row
-invariant-loop-row l = l.text.items ≡ flat_map (queue_text (map job_of l.jobs)) (take l.row-index l.rows)
+abbrev pub invariant-loop-queue : goal.invariant-loop-queue
+invariant-loop-queue l = l.text.items ≡ flat_map (λ (q : ShownQueue). queue_text q.busy q.row.now) (take l.queue-index l.queues)

@@ -1,11 +1,10 @@
 use Rattle.std.proofs.Common.{◌++◌, ap, map, string_bytes, ◌∙◌}
-use Rattle.spool_types.specs.State.{job_of}
 use Rattle.filter_args.specs.Environment.{document_variables, device_variables, place_variables, printer_variables, stage_variables}
 use Rattle.filter_args.proofs.variables.environment_of_stage.Goals as goal
 
 pub returns : goal.returns
 returns c =
-    let job = job_of c.args.job.now in
+    let job = c.args.job.now in
     let queue = c.args.queue.now in
     let place = c.args.place.now in
     c.in_ok-push_stage.ensures

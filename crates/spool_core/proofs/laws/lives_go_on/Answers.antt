@@ -1,14 +1,16 @@
 -- Each life is a list of events after the acknowledged ones of another.
 use Rattle.std.proofs.Common.{◌≡◌, ◌++◌, refl, sym, ap, ◌∙◌, subst, take}
-use Rattle.std.specs.Prelude.{IsSome}
+use Rattle.std.specs.Prelude.{IsSome, Some}
+use Rattle.std.proofs.Math.Logic.{⊎_elim}
 use Rattle.spool_types.specs.declared.event.Event.TheVariants.{Create, Reopen}
 use Rattle.spool_types.specs.State.{State, job_at, nothing}
 use Rattle.job_table.specs.Attempts.{reopened}
 use Rattle.job_table.specs.Fold.{after_all}
 use Rattle.job_table.specs.Legal.{IsLegal}
+use Rattle.job_table.specs.Over.{HasOver, late_refusal}
 use Rattle.job_table.specs.Step.{refusal_of}
 use Rattle.spool_core.specs.Driving.{documents_after}
-use Rattle.spool_core.specs.Image.{HasDocuments}
+use Rattle.spool_core.specs.Image.{HasTable, HasDocuments}
 use Rattle.spool_core.specs.Lives.{history_of}
 use Rattle.spool_core.proofs.DocumentLaws.{documents_stay}
 use Rattle.spool_core.proofs.ImageLaws.{over_after}
@@ -30,8 +32,27 @@ returns-clause-documents c s t documents events acknowledged most image has foun
       has.2,
       same,
       subst (λ (u : State). HasDocuments u documents_left image) (sym same)
-          (documents_stay left (reopened left) documents_left image (over_after left Reopen legal refl c.ended_jobs_stay.ensures.unchanged) has.3.1),
+          (documents_stay left (reopened left) documents_left image (over_after left Reopen legal refl c.ended_jobs_stay.ensures.accepted) has.3.1),
     )
+
+-- The policy twice is the policy once.
+pub returns-clause-cut : goal.returns-clause-cut
+returns-clause-cut c s t image left midway opened again =
+    let table = c.one_reading.ensures.table in
+    let begun : s ≡ reopened midway.table = opened.reopened_is ∙ ap reopened (table opened.table midway.table image opened.found midway.found) in
+    ⊎_elim
+    (λ (before : HasTable midway.table left). again.reopened_is ∙ ap reopened (table again.table midway.table left again.found before) ∙ sym begun)
+    (λ (after : HasTable (reopened midway.table) left).
+    again.reopened_is
+    ∙ ap reopened (table again.table (reopened midway.table) left again.found after)
+    ∙ c.reopening.ensures.twice midway.table (legal_found c.legal_tables_stay_legal.ensures.begins c.legal_tables_stay_legal.ensures.stays midway.table image midway.found)
+    ∙ sym begun)
+    midway.left
+
+pub returns-clause-cut_documents : goal.returns-clause-cut_documents
+returns-clause-cut_documents c s documents image left midway found has =
+    let same : s ≡ midway.table = c.one_reading.ensures.table s midway.table image found midway.found in
+    subst (λ (u : State). HasDocuments u documents left) (sym same) (midway.documents documents (subst (λ (u : State). HasDocuments u documents image) same has))
 
 pub returns-clause-history : goal.returns-clause-history
 returns-clause-history c s lives = one_history s lives
@@ -53,11 +74,16 @@ returns-clause-ended c s l lives j job keeps has =
     ∙ c.ended_jobs_stay.ensures.stays (after_all s (take l.acknowledged l.events)) j job (later_events l lives) has
 
 pub returns-clause-refused : goal.returns-clause-refused
-returns-clause-refused c s l lives more j job e keeps has about =
-    ap (λ (t : State). refusal_of t e) (further s l lives more keeps)
-    ∙ c.ended_jobs_stay.ensures.refused (after_all s (take l.acknowledged l.events)) j job (later_events l lives ++ more) e has about
+returns-clause-refused c s l lives more j e keeps has about =
+    subst (λ (t : State). refusal_of t e ≡ Some (late_refusal (job_at t j))) (sym (further s l lives more keeps))
+    (c.ended_jobs_stay.ensures.refused (after_all s (take l.acknowledged l.events)) j (later_events l lives ++ more) e has about)
+
+pub returns-clause-over : goal.returns-clause-over
+returns-clause-over c s l lives j keeps has =
+    subst (λ (t : State). HasOver t j) (sym (after_acknowledged s l lives keeps))
+    (c.ended_jobs_stay.ensures.over (after_all s (take l.acknowledged l.events)) j (later_events l lives) has)
 
 pub returns-clause-number : goal.returns-clause-number
-returns-clause-number c s l lives more j job n keeps has same =
+returns-clause-number c s l lives more j n keeps has same =
     subst (λ (t : State). IsSome (refusal_of t (Create n))) (sym (further s l lives more keeps))
-    (c.ended_jobs_stay.ensures.number (after_all s (take l.acknowledged l.events)) j job (later_events l lives ++ more) n has same)
+    (c.ended_jobs_stay.ensures.number (after_all s (take l.acknowledged l.events)) j (later_events l lives ++ more) n has same)

@@ -1,6 +1,7 @@
 -- The engine that was made is over the spool that was opened.
 use Rattle.std.proofs.Common.{◌≡◌, ◌∙◌, ℕ, List, Option, Some, false, ap}
 use Rattle.std.specs.FinMap as finite
+use Rattle.std.specs.String.{string_bytes}
 use Rattle.child_pipeline.specs.Told.{Told}
 use Rattle.filter_args.specs.declared.place.Place.{Place}
 use Rattle.print_rounds.specs.Courses.{course}
@@ -11,30 +12,33 @@ use Rattle.spool_core.specs.Image.{IsReopenedFrom}
 use Rattle.spool_core.specs.Standing.{Standing}
 use Rattle.spool_engine.specs.Mime.{Mime}
 use Rattle.spool_engine.specs.Runs.{Engine}
-use Rattle.spool_host.specs.Serving.{IsOpened}
+use Rattle.spool_host.specs.Serving.{IsOpened, database}
 use Rattle.spool_host.proofs.serving.open_engine.Goals as goal
 
-abbrev database : TypesValue → List Conversion → Mime
-database types convs = record { types = types; convs = convs }
+abbrev made_of : TypesValue → List Conversion → List ℕ → Mime
+made_of types convs locale = record { types = types; convs = convs; locale = locale }
 
-is_database : (m : Mime) (types : TypesValue) (convs : List Conversion) → m.types ≡ types → m.convs ≡ convs
-    → m ≡ database types convs
-is_database m types convs e f = ap (λ (t : TypesValue). database t m.convs) e ∙ ap (λ (k : List Conversion). database types k) f
+is_database : (m : Mime) (types : TypesValue) (convs : List Conversion) (place : Place) → m.types ≡ types → m.convs ≡ convs → m.locale ≡ string_bytes place.lang
+    → m ≡ database types convs place
+is_database m types convs place e f h =
+    ap (λ (t : TypesValue). made_of t m.convs m.locale) e
+    ∙ ap (λ (k : List Conversion). made_of types k m.locale) f
+    ∙ ap (λ (l : List ℕ). made_of types convs l) h
 
 opened_so : {D : Type 0} (device : DiskView D) (types : TypesValue) (convs : List Conversion) (place : Place) (told : Option Told) (disk : D)
-    (spool : Standing D) (engine : Engine D) → engine.mime.types ≡ types → engine.mime.convs ≡ convs → engine.place ≡ place
+    (spool : Standing D) (engine : Engine D) → engine.mime.types ≡ types → engine.mime.convs ≡ convs → engine.mime.locale ≡ string_bytes place.lang → engine.place ≡ place
     → engine.course ≡ course spool finite.empty told → ((r : List ℕ) → device.bytes disk ≡ Some r → IsReopenedFrom spool.state r)
-    → spool.dead ≡ false → IsOpened device (database types convs) place told disk engine
-opened_so {D} device types convs place told disk spool engine e f at course_is table alive = record {
+    → spool.dead ≡ false → IsOpened device (database types convs place) place told disk engine
+opened_so {D} device types convs place told disk spool engine e f h at course_is table alive = record {
   spool = spool;
   table = table;
   alive = alive;
   course_is = course_is;
-  rules_are = is_database engine.mime types convs e f;
+  rules_are = is_database engine.mime types convs place e f h;
   place_is = at;
 }
 
 pub returns-in-Ok-clause-opened : goal.returns-in-Ok-clause-opened
 returns-in-Ok-clause-opened g c =
-    opened_so _ _ _ _ _ _ c.in-Ok.spool c.new.result c.new.ensures.types c.new.ensures.convs c.new.ensures.place c.new.ensures.course
+    opened_so _ _ _ _ _ _ c.in-Ok.spool c.new.result c.new.ensures.types c.new.ensures.convs c.new.ensures.locale c.new.ensures.place c.new.ensures.course
     c.in-Ok.ensures.opened c.in-Ok.ensures.alive

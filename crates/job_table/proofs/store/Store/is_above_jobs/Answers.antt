@@ -15,30 +15,30 @@ pub returns-in-Some-clause-yes : goal.returns-in-Some-clause-yes
 returns-in-Some-clause-yes c = λ lt.
     let keys = ap (λ v. finite.keys v.state.jobs) (sym c.self.view_is) ∙ keys_jobs c.self.inside.jobs.items c.self.invariant.jobs in
     let item = rw c.deref.ensures.value at c.in-Some.ensures.item in
-    subst (IsAbove nat_cmp c.args.id) (sym keys) (above_yes nat_cmp nat_cmp_total (λ r. r.id) job_of c.args.id c.self.inside.jobs.items c.self.invariant.jobs c.in-Some.last.now item.3.0 item.1 (sym c.lt.ensures ∙ lt))
+    subst (IsAbove nat_cmp c.args.id) (sym keys) (above_yes nat_cmp nat_cmp_total (λ r. r.job.id) job_of c.args.id c.self.inside.jobs.items c.self.invariant.jobs c.in-Some.last.now item.3.0 item.1 (sym c.lt.ensures ∙ lt))
 
 pub returns-in-Some-clause-no : goal.returns-in-Some-clause-no
 returns-in-Some-clause-no c = λ lt above.
     let keys = ap (λ v. finite.keys v.state.jobs) (sym c.self.view_is) ∙ keys_jobs c.self.inside.jobs.items c.self.invariant.jobs in
     let item = rw c.deref.ensures.value at c.in-Some.ensures.item in
-    above_no nat_cmp nat_cmp_total (λ r. r.id) job_of c.args.id c.self.inside.jobs.items c.in-Some.last.now item.3.0 item.1 (sym c.lt.ensures ∙ lt) (subst (IsAbove nat_cmp c.args.id) keys above)
+    above_no nat_cmp nat_cmp_total (λ r. r.job.id) job_of c.args.id c.self.inside.jobs.items c.in-Some.last.now item.3.0 item.1 (sym c.lt.ensures ∙ lt) (subst (IsAbove nat_cmp c.args.id) keys above)
 
 pub returns-in-None-clause-yes : goal.returns-in-None-clause-yes
 returns-in-None-clause-yes c = λ _.
     let keys = ap (λ v. finite.keys v.state.jobs) (sym c.self.view_is) ∙ keys_jobs c.self.inside.jobs.items c.self.invariant.jobs in
     let item = rw c.deref.ensures.value at c.in-None.ensures.item in
-    subst (IsAbove nat_cmp c.args.id) (sym keys) (above_none nat_cmp nat_cmp_total (λ r. r.id) job_of c.args.id c.self.inside.jobs.items item.3)
+    subst (IsAbove nat_cmp c.args.id) (sym keys) (above_none nat_cmp nat_cmp_total (λ r. r.job.id) job_of c.args.id c.self.inside.jobs.items item.3)
 
 pub returns-in-Some-clause-absent : goal.returns-in-Some-clause-absent
 returns-in-Some-clause-absent c = λ lt.
     let item = rw c.deref.ensures.value at c.in-Some.ensures.item in
     ap (λ v. places_at v c.args.id) (sym c.self.view_is)
     ∙ above_places c.self.inside c.self.invariant c.args.id (subst (IsAbove nat_cmp c.args.id) (sym (keys_jobs c.self.inside.jobs.items c.self.invariant.jobs))
-    (above_yes nat_cmp nat_cmp_total (λ r. r.id) job_of c.args.id c.self.inside.jobs.items c.self.invariant.jobs c.in-Some.last.now item.3.0 item.1 (sym c.lt.ensures ∙ lt)))
+    (above_yes nat_cmp nat_cmp_total (λ r. r.job.id) job_of c.args.id c.self.inside.jobs.items c.self.invariant.jobs c.in-Some.last.now item.3.0 item.1 (sym c.lt.ensures ∙ lt)))
 
 pub returns-in-None-clause-absent : goal.returns-in-None-clause-absent
 returns-in-None-clause-absent c = λ _.
     let item = rw c.deref.ensures.value at c.in-None.ensures.item in
     ap (λ v. places_at v c.args.id) (sym c.self.view_is)
     ∙ above_places c.self.inside c.self.invariant c.args.id (subst (IsAbove nat_cmp c.args.id) (sym (keys_jobs c.self.inside.jobs.items c.self.invariant.jobs))
-    (above_none nat_cmp nat_cmp_total (λ r. r.id) job_of c.args.id c.self.inside.jobs.items item.3))
+    (above_none nat_cmp nat_cmp_total (λ r. r.job.id) job_of c.args.id c.self.inside.jobs.items item.3))

@@ -38,5 +38,5 @@ pub returns-in-Ok-clause-ended : goal.returns-in-Ok-clause-ended
 returns-in-Ok-clause-ended c =
     let row : JobRow = get_or c.self.inside.jobs.items c.in-Ok.at c.index.result.now in
     let holds = holds_at c.self.inside.jobs.items c.in-Ok.at c.index.result.now (rw c.deref.ensures.value at c.in-Ok.ensures.found).in_range c.self.invariant.documents in
-    subst (λ (r : JobRow). has_ended r.phase ≡ true → r.document.items ≡ []) (sym c.index.ensures)
+    subst (λ (r : JobRow). has_ended r.job.phase ≡ true → r.document.items ≡ []) (sym c.index.ensures)
     (λ over. let none = holds.freed over in nothing_of row.document.items (omega (arith, none, row.document.ok.0, row.document.ok.1)))

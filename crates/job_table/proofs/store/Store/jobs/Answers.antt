@@ -23,7 +23,7 @@ returns-clause-rows c =
 pub returns-clause-entries : goal.returns-clause-entries
 returns-clause-entries c =
     ap (map job_entry) c.deref.ensures.value
-    ∙ sym (entries_map nat_cmp nat_cmp_total (λ (r : JobRow). r.id) job_of c.self.inside.jobs.items c.self.invariant.jobs)
+    ∙ sym (entries_map nat_cmp nat_cmp_total (λ (r : JobRow). r.job.id) job_of c.self.inside.jobs.items c.self.invariant.jobs)
     ∙ ap (λ v. finite.entries v.state.jobs) c.self.view_is
 
 pub returns-clause-found : goal.returns-clause-found

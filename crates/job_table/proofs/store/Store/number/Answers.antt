@@ -12,7 +12,7 @@ index-requires c = subst (λ n. c.args.at < n) (ap (λ v. length (finite.keys v.
 
 pub returns : goal.returns
 returns c =
-    ap (λ (r : JobRow). r.id) c.index.ensures
-    ∙ sym (get_or-map (λ (r : JobRow). r.id) c.self.inside.jobs.items c.args.at c.index.result.now 0 (subst (λ n. c.args.at < n) (ap (λ v. length (finite.keys v.state.jobs)) (sym c.self.view_is) ∙ len_keys c.self.inside.jobs.items c.self.invariant.jobs) c.requires))
+    ap (λ (r : JobRow). r.job.id) c.index.ensures
+    ∙ sym (get_or-map (λ (r : JobRow). r.job.id) c.self.inside.jobs.items c.args.at c.index.result.now 0 (subst (λ n. c.args.at < n) (ap (λ v. length (finite.keys v.state.jobs)) (sym c.self.view_is) ∙ len_keys c.self.inside.jobs.items c.self.invariant.jobs) c.requires))
     ∙ ap (λ ks. get_or ks c.args.at 0) (sym (keys_jobs c.self.inside.jobs.items c.self.invariant.jobs))
     ∙ ap (λ v. get_or (finite.keys v.state.jobs) c.args.at 0) c.self.view_is

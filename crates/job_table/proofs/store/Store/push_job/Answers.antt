@@ -12,7 +12,7 @@ use Rattle.job_table.proofs.store.Store.push_job.Goals as goal
 
 pub invariant_of-self : goal.invariant_of-self
 invariant_of-self c = push_job_ordered c.self.inside c.self.invariant c.args.row c.push.new.self
-    (subst (λ v. IsAbove nat_cmp c.args.row.id (finite.keys v.state.jobs)) (sym c.self.view_is) c.requires.above)
+    (subst (λ v. IsAbove nat_cmp c.args.row.job.id (finite.keys v.state.jobs)) (sym c.self.view_is) c.requires.above)
     (rw c.unwrap.ensures at c.push.ensures.items)
     c.requires.holds
     (subst (λ v. IsLegal (with_job v.state (job_of c.args.row))) (sym c.self.view_is) c.requires.legal)
@@ -20,13 +20,13 @@ invariant_of-self c = push_job_ordered c.self.inside c.self.invariant c.args.row
 pub returns-clause-state : goal.returns-clause-state
 returns-clause-state c =
     push_job_state c.self.inside c.self.invariant c.args.row c.push.new.self
-    (subst (λ v. IsAbove nat_cmp c.args.row.id (finite.keys v.state.jobs)) (sym c.self.view_is) c.requires.above)
+    (subst (λ v. IsAbove nat_cmp c.args.row.job.id (finite.keys v.state.jobs)) (sym c.self.view_is) c.requires.above)
     (rw c.unwrap.ensures at c.push.ensures.items)
     ∙ ap (λ v. with_job v.state (job_of c.args.row)) c.self.view_is
 
 pub returns-clause-places : goal.returns-clause-places
 returns-clause-places c = λ j.
     push_job_places c.self.inside c.self.invariant c.args.row c.push.new.self
-    (subst (λ v. IsAbove nat_cmp c.args.row.id (finite.keys v.state.jobs)) (sym c.self.view_is) c.requires.above)
+    (subst (λ v. IsAbove nat_cmp c.args.row.job.id (finite.keys v.state.jobs)) (sym c.self.view_is) c.requires.above)
     (rw c.unwrap.ensures at c.push.ensures.items) j
     ∙ ap (λ v. places_of (place_entry c.args.row ∷ v.places) j) c.self.view_is

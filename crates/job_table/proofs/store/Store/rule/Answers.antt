@@ -23,8 +23,8 @@ unreachable-requires-in_default-queue_place c =
     let there : job_at (contents_of c.self.inside).state c.args.job ≡ Some (job_of c.index.result.now) =
     get_job c.self.inside.jobs.items c.self.invariant.jobs c.args.job c.in-Ok.at c.index.result.now (rw c.deref.ensures.value at c.in-Ok.ensures.found)
     ∙ ap (λ r. Some (job_of r)) (sym c.index.ensures) in
-    let none = get_no_queue c.self.inside.queues.items c.self.invariant.queues c.index.result.now.queue c.in_default-queue_place.field-0 (rw c.deref-2.ensures.value at c.in_default-queue_place.ensures.absent) in
-    needed_and_not _ _ (c.self.invariant.legal.jobs c.args.job (job_of c.index.result.now) there).queue none (λ i. finite.get (contents_of c.self.inside).state.queues c.index.result.now.queue)
+    let none = get_no_queue c.self.inside.queues.items c.self.invariant.queues c.index.result.now.job.queue c.in_default-queue_place.field-0 (rw c.deref-2.ensures.value at c.in_default-queue_place.ensures.absent) in
+    needed_and_not _ _ (c.self.invariant.legal.jobs c.args.job (job_of c.index.result.now) there).queue none (λ i. finite.get (contents_of c.self.inside).state.queues c.index.result.now.job.queue)
 
 pub rule_row-requires-clause-next : goal.rule_row-requires-clause-next
 rule_row-requires-clause-next c = next_needed c.self.inside c.self.invariant c.args.job c.in-Ok.at c.index.result.now c.index_mut-2.result.now c.index.ensures c.index_mut-2.ensures.value

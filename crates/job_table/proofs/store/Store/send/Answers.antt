@@ -37,7 +37,7 @@ add_bytes-requires-clause-live c =
     ap (λ v. finite.get v.state.jobs c.args.job) (sym c.self.view_is)
     ∙ get_job c.self.inside.jobs.items c.self.invariant.jobs c.args.job c.in-Ok.place c.index_mut.result.now (rw c.deref.ensures.value at c.in-Ok.ensures.found)
     ∙ ap (λ r. Some (job_of r)) (sym c.index_mut.ensures.value) in
-    not_ended c.index_mut.result.now.phase
+    not_ended c.index_mut.result.now.job.phase
     (job_must c.args.self.now.state (Send c.args.job c.args.bytes) c.args.job (λ r. is_incoming r.phase) _ _ (job_of c.index_mut.result.now) refl there c.requires.accepted)
 
 pub add_bytes-requires-clause-short : goal.add_bytes-requires-clause-short

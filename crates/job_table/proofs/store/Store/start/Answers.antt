@@ -39,7 +39,7 @@ start_row-requires-clause-live c =
     let there : job_at (contents_of c.self.inside).state c.args.job ≡ Some (job_of c.index_mut.result.now) =
     get_job c.self.inside.jobs.items c.self.invariant.jobs c.args.job c.in-Ok.at c.index_mut.result.now (rw c.deref.ensures.value at c.in-Ok.ensures.found)
     ∙ ap (λ r. Some (job_of r)) (sym c.index_mut.ensures.value) in
-    waiting_alive c.index_mut.result.now.phase
+    waiting_alive c.index_mut.result.now.job.phase
     (job_must (contents_of c.self.inside).state (Start c.args.job) c.args.job (λ r. is_waiting r.phase) _ _ (job_of c.index_mut.result.now) refl there (ap (λ v. refusal_of v.state (Start c.args.job)) c.self.view_is ∙ c.requires))
 
 pub invariant_of-self : goal.invariant_of-self

@@ -17,17 +17,17 @@ unreachable-requires-in_default-queue_place c =
     let there : job_at (contents_of c.self.inside).state c.args.job ≡ Some (job_of c.index-row.result.now) =
     get_job c.self.inside.jobs.items c.self.invariant.jobs c.args.job c.in-Ok.at c.index-row.result.now (rw c.deref.ensures.value at c.in-Ok.ensures.found)
     ∙ ap (λ r. Some (job_of r)) (sym c.index-row.ensures) in
-    let none = get_no_queue c.self.inside.queues.items c.self.invariant.queues c.index-row.result.now.queue c.in_default-queue_place.field-0 (rw c.deref-2.ensures.value at c.in_default-queue_place.ensures.absent) in
-    needed_and_not _ _ (c.self.invariant.legal.jobs c.args.job (job_of c.index-row.result.now) there).queue none (λ i. finite.get (contents_of c.self.inside).state.queues c.index-row.result.now.queue)
+    let none = get_no_queue c.self.inside.queues.items c.self.invariant.queues c.index-row.result.now.job.queue c.in_default-queue_place.field-0 (rw c.deref-2.ensures.value at c.in_default-queue_place.ensures.absent) in
+    needed_and_not _ _ (c.self.invariant.legal.jobs c.args.job (job_of c.index-row.result.now) there).queue none (λ i. finite.get (contents_of c.self.inside).state.queues c.index-row.result.now.job.queue)
 
-pub returns-clause-row : goal.returns-clause-row
-returns-clause-row c =
+pub returns-clause-job : goal.returns-clause-job
+returns-clause-job c =
     ap (λ v. finite.get v.state.jobs c.args.job) (sym c.self.view_is)
     ∙ get_job c.self.inside.jobs.items c.self.invariant.jobs c.args.job c.in-Ok.at c.index-row.result.now (rw c.deref.ensures.value at c.in-Ok.ensures.found)
     ∙ ap (λ r. Some (job_of r)) (sym c.index-row.ensures)
 
 pub returns-clause-queue : goal.returns-clause-queue
 returns-clause-queue c =
-    ap (λ v. finite.get v.state.queues c.index-row.result.now.queue) (sym c.self.view_is)
-    ∙ get_queue c.self.inside.queues.items c.self.invariant.queues c.index-row.result.now.queue c.in-Ok-queue_place.queue_at c.index.result.now (rw c.deref-2.ensures.value at c.in-Ok-queue_place.ensures.found)
+    ap (λ v. finite.get v.state.queues c.index-row.result.now.job.queue) (sym c.self.view_is)
+    ∙ get_queue c.self.inside.queues.items c.self.invariant.queues c.index-row.result.now.job.queue c.in-Ok-queue_place.queue_at c.index.result.now (rw c.deref-2.ensures.value at c.in-Ok-queue_place.ensures.found)
     ∙ ap Some (sym c.index.ensures)

@@ -9,10 +9,10 @@ use Rattle.job_table.proofs.store.lookup.job_place.Goals as goal
 
 pub returns-clause-found : goal.returns-clause-found
 returns-clause-found c =
-    let by_key = c.binary_search_by_key.ensures.position (λ r. r.id) (answers_always _ _ _ (λ f a r g called. search rules)) in
-    (searched nat_cmp nat_cmp_total (λ r. r.id) job_of c.args.jobs.now c.requires c.args.id _ c.binary_search_by_key.ensures.bound by_key).found
+    let by_key = c.binary_search_by_key.ensures.position (λ r. r.job.id) (answers_always _ _ _ (λ f a r g called. search rules)) in
+    (searched nat_cmp nat_cmp_total (λ r. r.job.id) job_of c.args.jobs.now c.requires c.args.id _ c.binary_search_by_key.ensures.bound by_key).found
 
 pub returns-clause-absent : goal.returns-clause-absent
 returns-clause-absent c =
-    let by_key = c.binary_search_by_key.ensures.position (λ r. r.id) (answers_always _ _ _ (λ f a r g called. search rules)) in
-    (searched nat_cmp nat_cmp_total (λ r. r.id) job_of c.args.jobs.now c.requires c.args.id _ c.binary_search_by_key.ensures.bound by_key).absent
+    let by_key = c.binary_search_by_key.ensures.position (λ r. r.job.id) (answers_always _ _ _ (λ f a r g called. search rules)) in
+    (searched nat_cmp nat_cmp_total (λ r. r.job.id) job_of c.args.jobs.now c.requires c.args.id _ c.binary_search_by_key.ensures.bound by_key).absent

@@ -36,6 +36,6 @@ loop-at-preserved c =
           (λ d. subst (λ (r : JobRow). IsMoved places r new) (get_or_default first at x d in_first) moved);
       rest = set_rest (IsMoved places) first now at new within c.loop-at.invariant.rest;
       left = λ i d le lt.
-          c.move_row.ensures.others (get_or first i d).id (λ one. ids_apart first c.requires.sorted at i d x (omega arith) lt (one ∙ ap (λ (r : JobRow). r.id) same))
+          c.move_row.ensures.others (get_or first i d).job.id (λ one. ids_apart first c.requires.sorted at i d x (omega arith) lt (one ∙ ap (λ (r : JobRow). r.job.id) same))
           ∙ c.loop-at.invariant.left i d (omega arith) lt;
     }

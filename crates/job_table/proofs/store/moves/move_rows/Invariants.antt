@@ -11,5 +11,5 @@ invariant-loop-at l = record {
   count : length l.rows ≡ length l.fn.rows;
   done : (i : ℕ) (d : JobRow) → i < l.at → IsMoved l.fn.noted.places (slice_index_or l.fn.rows i d) (slice_index_or l.rows i d);
   rest : (i : ℕ) (d : JobRow) → l.at ≤ i → slice_index_or l.rows i d ≡ slice_index_or l.fn.rows i d;
-  left : (i : ℕ) (d : JobRow) → l.at ≤ i → i < length l.fn.rows → finite.find nat_cmp (slice_index_or l.fn.rows i d).id l.noted.places ≡ finite.find nat_cmp (slice_index_or l.fn.rows i d).id l.fn.noted.places;
+  left : (i : ℕ) (d : JobRow) → l.at ≤ i → i < length l.fn.rows → finite.find nat_cmp (slice_index_or l.fn.rows i d).job.id l.noted.places ≡ finite.find nat_cmp (slice_index_or l.fn.rows i d).job.id l.fn.noted.places;
 }

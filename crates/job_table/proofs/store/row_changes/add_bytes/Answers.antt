@@ -16,8 +16,8 @@ returns-clause-memory c = record {
         let x = c.extent_behind.result in
         ap size_of c.push_reserved.ensures.items
         ∙ size_more was.document.items x
-        ∙ ap (λ n. n + x.len) (holds.sized ∙ ap (λ b. cond b 0 was.size) c.requires.live)
-        ∙ ap (λ (e : Extent). was.size + e.len) c.extent_behind.ensures
-        ∙ sym (ap (λ b. cond b 0 (was.size + length c.as_slice-count.result.now)) c.requires.live);
+        ∙ ap (λ n. n + x.len) (holds.sized ∙ ap (λ b. cond b 0 was.job.size) c.requires.live)
+        ∙ ap (λ (e : Extent). was.job.size + e.len) c.extent_behind.ensures
+        ∙ sym (ap (λ b. cond b 0 (was.job.size + length c.as_slice-count.result.now)) c.requires.live);
   };
 }

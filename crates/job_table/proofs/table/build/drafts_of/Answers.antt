@@ -20,7 +20,7 @@ add-requires-clause-alone c = λ busy.
     let this = row_stands c.args.store.now.state c.jobs-rows.result.now c.jobs-rows.ensures.rows c.loop-row.row-index c.row-item.result c.loop-row-test.true c.row-item.is in
     ap (λ d. d.processing) c.index_mut.ensures.value
     ∙ this_alone c.args.store.now.state c.jobs-rows.ensures.legal c.loop-row.row-index c.loop-row.drafts.items c.loop-row.invariant (job_of c.row-item.result) this
-    c.in-Ok.place c.in-Ok.ensures.found c.index_mut.result.now (sym c.standing_of_row.ensures ∙ busy)
+    c.in-Ok.place c.in-Ok.ensures.found c.index_mut.result.now (sym c.standing_of.ensures ∙ busy)
 
 pub add-requires-clause-few : goal.add-requires-clause-few
 add-requires-clause-few c =
@@ -35,7 +35,7 @@ loop-row-preserved c =
     begun_more c.args.store.now.state c.jobs-rows.ensures.legal c.loop-row.row-index c.loop-row.drafts.items c.loop-row.invariant (job_of c.row-item.result) this
     c.in-Ok.place c.in-Ok.ensures.found c.index_mut.result.now c.add.new.self
     (λ before after is ended seated. c.in_ok-add.ensures.draft before after (subst (IsDraft before) (sym c.index_mut.ensures.value) is) ended
-    (subst (IsReseated before after c.row-item.result.id) (sym c.standing_of_row.ensures) seated))
+    (subst (IsReseated before after c.row-item.result.job.id) (sym c.standing_of.ensures) seated))
     (subst (λ d. c.add.new.self.live ≤ d.live + 1) c.index_mut.ensures.value c.in_ok-add.ensures.live)
 
 pub returns-clause-drafts : goal.returns-clause-drafts

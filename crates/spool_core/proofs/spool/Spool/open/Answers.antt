@@ -1,5 +1,5 @@
 use Rattle.std.specs.Prelude.{IsSome}
-use Rattle.std.proofs.Common.{◌≡◌, ◌⊎◌, ◌-◌, ℕ, List, Some, Err, refl, sym, subst, ap, ◌∙◌}
+use Rattle.std.proofs.Common.{◌≡◌, ◌-◌, ℕ, List, Some, Err, inl, inr, refl, sym, subst, ap, ◌∙◌}
 use Rattle.job_table.specs.Attempts.{HasNoProcessing, reopened}
 use Rattle.job_table.specs.Legal.{IsLegal}
 use Rattle.spool_types.specs.State.{State}
@@ -12,7 +12,7 @@ use Rattle.spool_core.specs.Standing.{Standing, record_len}
 use Rattle.spool_core.proofs.DocumentLaws.{documents_stay}
 use Rattle.spool_core.proofs.ImageLaws.{over_after}
 use Rattle.spool_core.proofs.ReadingLaws.{one_table, one_room}
-use Rattle.spool_core.proofs.Restarts.{wants_memory, blames_disk, still, since_sync, since_start}
+use Rattle.spool_core.proofs.Restarts.{wants_memory, blames_disk, still, since_sync}
 use Rattle.spool_core.proofs.spool.Spool.open.Goals as goal
 
 pub returns-then-is_idle-clause-opened : goal.returns-then-is_idle-clause-opened
@@ -64,7 +64,7 @@ returns-in-Ok-reopen-clause-documents g c = λ r t documents tells found has ima
     (λ b. (r : List ℕ) (documents : ℕ → List ℕ) → disk.device.bytes loaded.disk ≡ Some r → HasDocuments loaded.state documents r → HasDocuments loaded.state documents b)
     c.reopen.ensures.documents image left r documents (c.in-Ok.ensures.same.bytes ∙ tells) (subst (λ (s : State). HasDocuments s documents r) same has) in
     subst (λ (s : State). HasDocuments s documents image) (sym c.in-Ok-reopen.ensures.state.0)
-    (documents_stay loaded.state (reopened loaded.state) documents image (over_after loaded.state Reopen legal refl c.ended_jobs_stay.ensures.unchanged) kept)
+    (documents_stay loaded.state (reopened loaded.state) documents image (over_after loaded.state Reopen legal refl c.ended_jobs_stay.ensures.accepted) kept)
 
 pub returns-in-Ok-reopen-clause-left : goal.returns-in-Ok-reopen-clause-left
 returns-in-Ok-reopen-clause-left g c = λ r t room tells has roomy.
@@ -74,6 +74,11 @@ returns-in-Ok-reopen-clause-left g c = λ r t room tells has roomy.
       idle = λ none. absurd (busy (subst HasNoProcessing same none));
       busy = λ some. c.in-Ok-reopen.ensures.left ∙ ap (λ (n : ℕ). n - record_len Reopen) (one_room r c.in-Ok.spool.room room (c.in-Ok.ensures.room r tells) roomy);
     }
+
+pub returns-in-Ok-reopen-clause-epoch : goal.returns-in-Ok-reopen-clause-epoch
+returns-in-Ok-reopen-clause-epoch g c = λ r tells.
+    let has = c.in-Ok.ensures.epoch r tells in
+    record { base = has.base; current = has.current; epoch_is = has.epoch_is ∙ sym c.reopen.ensures.epoch }
 
 pub returns-in-Ok-reopen-clause-unwritten : goal.returns-in-Ok-reopen-clause-unwritten
 returns-in-Ok-reopen-clause-unwritten g c = λ r t tells has idle.
@@ -111,9 +116,18 @@ pub returns-in-Err-reopen-clause-failed : goal.returns-in-Err-reopen-clause-fail
 returns-in-Err-reopen-clause-failed g c =
     let disk = g.D.Disk in
     let busy = subst (λ (v : Standing g.row.D.Denot). ¬ (HasNoProcessing v.state)) c.spool.view_is (c.if-is_idle.ensures.busy refl) in
-    let w = c.in-Ok.ensures.synced in (
-      ap disk.device.size c.into_disk-disk.ensures ∙ c.reopen.ensures.fixed ∙ c.in-Ok.ensures.same.size,
-      subst (λ d. LeavesOnly disk.device c.args.disk d (λ b. disk.device.image c.args.disk b ⊎ ((r : List ℕ) → disk.device.bytes c.args.disk ≡ Some r → IsMidway r b))) (sym c.into_disk-disk.ensures)
-          (since_start disk.device c.args.disk c.in-Ok.spool.disk w.0 c.in-Ok.spool.state c.in-Ok.ensures.opened c.in-Ok.ensures.same.bytes w.2
-          busy c.reopen.new.self.disk (both_runs disk.device c.in-Ok.spool.disk c.reopen.new.self.disk _ _ c.reopen.ensures.any_moment c.reopen.ensures.documents) w.1),
+    let w = c.in-Ok.ensures.synced in
+    inr (
+      w.0,
+      w.1,
+      subst (λ d. LeavesOnly disk.device w.0 d (λ b. (r : List ℕ) → disk.device.bytes c.args.disk ≡ Some r → IsMidway r b)) (sym c.into_disk-disk.ensures)
+          (since_sync disk.device c.args.disk c.in-Ok.spool.disk w.0 c.in-Ok.spool.state c.in-Ok.ensures.opened c.in-Ok.ensures.same.bytes w.2
+          busy c.reopen.new.self.disk (both_runs disk.device c.in-Ok.spool.disk c.reopen.new.self.disk _ _ c.reopen.ensures.any_moment c.reopen.ensures.documents)),
     )
+
+pub returns-in-Err-reopen-clause-size_back : goal.returns-in-Err-reopen-clause-size_back
+returns-in-Err-reopen-clause-size_back g c =
+    ap g.D.Disk.device.size c.into_disk-disk.ensures ∙ c.reopen.ensures.fixed ∙ c.in-Ok.ensures.same.size
+
+pub returns-in-Err-clause-failed : goal.returns-in-Err-clause-failed
+returns-in-Err-clause-failed g c = inl c.in-Err.ensures.back.images

@@ -5,7 +5,7 @@ use Rattle.spool_types.specs.State.{job_of}
 use Rattle.spool_core.specs.Checkpointing.{AreAdded, blank_rows}
 use Rattle.spool_core.proofs.spool.checkpoint.add_jobs.Given as goal
 
-abbrev pub invariant-loop-job : goal.invariant-loop-job
-invariant-loop-job l = record {
-  added : AreAdded (flat_map blank_rows (take l.job-index (map job_of l.fn.jobs))) l.fn.frames.items l.frames.items;
+abbrev pub invariant-loop-row : goal.invariant-loop-row
+invariant-loop-row l = record {
+  added : AreAdded (flat_map blank_rows (take l.row-index (map job_of l.fn.jobs))) l.fn.frames.items l.frames.items;
 }

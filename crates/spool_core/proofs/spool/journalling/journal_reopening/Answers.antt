@@ -119,7 +119,7 @@ returns-in-Ok-append_kept-clause-added g c = λ d next keeps.
     let idle : HasNoProcessing (reopened t.state) = c.reopening.ensures.none t.state c.requires.legal in
     stands_next v a c.append_kept.new.self t d Reopen _ _ payload next c.in-Ok-append_kept.ensures.appends.answer
     (λ j lives. keeps j lives ∙ ap (λ ps. places_of ps j) c.prepare-prepared.ensures.places)
-    (subst (StayOver t.state) (sym next) (over_after t.state Reopen c.requires.legal payload.accepted c.ended_jobs_stay.ensures.unchanged))
+    (subst (StayOver t.state) (sym next) (over_after t.state Reopen c.requires.legal payload.accepted c.ended_jobs_stay.ensures.accepted))
     stands c.requires.alive (told_before _ _ _ c.append_kept.ensures.appends.changes.bytes) c.append_kept.ensures.same.0 c.append_kept.ensures.same.1 c.append_kept.ensures.appends.changes.size
     (omega (arith, c.in-Ok-append_kept.ensures.appends.place, len, ap length payload.payload_is))
     (omega (arith, stands.roomy c.requires.busy, len, c.in-Ok-append_kept.ensures.appends.place, c.append_kept.ensures.same.1))

@@ -1,5 +1,6 @@
 -- a round of the printer, where what was found goes by another name
 use Rattle.std.proofs.Common.{List, ℕ, subst}
+use Rattle.std.specs.String.{string_bytes}
 use Rattle.spool_types.specs.declared.event.Event.{Event}
 use Rattle.spool_engine.specs.EventTurns.{setting}
 use Rattle.spool_engine.specs.Rounds.{IsRan}
@@ -9,4 +10,4 @@ use Rattle.spool_engine.proofs.engine.Engine.round.Goals as goal
 pub returns-clause-round : goal.returns-clause-round
 returns-clause-round g c =
     subst (λ (e : Engine g.row.D.Denot). (tried : List Event) × (documents : ℕ → List ℕ) × IsRan (setting g.D.Disk.device e.mime e.place) e.course (record { next = c.round.new.self; result = c.round.result; tried = tried; documents = documents })) c.self.view_is
-    (c.round.ensures c.self.inside.mime)
+    (c.round.ensures (record { types = c.self.inside.types; convs = c.self.inside.convs; locale = string_bytes c.self.inside.place.lang }))

@@ -1,0 +1,27 @@
+-- What an event changes in the row of its job, where it changes nothing else.
+use Rattle.std.specs.Prelude.{◌≡◌, ℕ, true, None}
+use Rattle.spool_types.specs.Phases.{has_ended}
+use Rattle.spool_types.specs.State.{State, Job}
+use Rattle.spool_types.specs.declared.event.Event.{Event}
+use Rattle.job_table.specs.Changes.{closed, ended, held}
+use Rattle.job_table.specs.Shapes.{OfJob}
+use Rattle.job_table.specs.Step.{change_by, refusal_of}
+use Rattle.job_table.specs.declared.store.row_changes.RowChange.{RowChange}
+use Rattle.job_table.specs.declared.store.row_changes.RowChange.TheVariants.{Hold, End, Close}
+
+-- what it makes of the job
+abbrev pub meant : RowChange → Job → Job
+meant (Hold hold) = held hold
+meant (End phase) = ended phase
+meant (Close closing) = closed closing
+
+-- a job ends in a phase of an end
+abbrev pub EndsInEnd : RowChange → Type 0
+EndsInEnd (End phase) = has_ended phase ≡ true
+EndsInEnd change = Unit {0}
+
+-- an event that isn't refused makes this change
+pub record IsAsked (s : State) (j : ℕ) (change : RowChange) : Type 0 where
+  pub event : Event
+  pub accepted : refusal_of s event ≡ None
+  pub changes : change_by event ≡ OfJob j (meant change)

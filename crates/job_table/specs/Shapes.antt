@@ -1,0 +1,95 @@
+-- Shapes of change: what an event changes, and the causes of refusal that go with it. A row an event is in `Step`.
+use Rattle.std.specs.Prelude.{ℕ, Bool, false, not, List, ◌∷◌, max, nat_le, Option, None, Some, is_none, is_some}
+use Rattle.std.specs.FinMap as map
+use Rattle.spool_types.specs.declared.effect.Effect.{Effect}
+use Rattle.spool_types.specs.declared.refusal.Refusal.{Refusal}
+use Rattle.spool_types.specs.declared.refusal.Refusal.TheVariants.{NoQueue, QueueExists, TooManyQueues, NotAccepting, NoJob, OldNumber, NoNumberLeft, JobEnded}
+use Rattle.spool_types.specs.declared.rows.QueueRow.{QueueRow}
+use Rattle.backend_codes.specs.declared.verdicts.Verdict.{Verdict}
+use Rattle.spool_types.specs.Limits.{most_queues, greatest_number}
+use Rattle.spool_types.specs.Phases.{has_ended}
+use Rattle.spool_types.specs.State.{State, Job, queue_at, job_at}
+use Rattle.job_table.specs.Attempts.{with_effects, rule_at, reopened}
+use Rattle.job_table.specs.Changes.{change_queue, change_job}
+
+-- a new queue, a change of a queue, a new job, a change of a job, a verdict on a job and its queue (behind the effects that
+-- were told, if any), the moment, or the policy on every processing job
+pub data Change : Type 0 where
+  NewQueueRow : QueueRow → Change
+  OfQueue : List ℕ → (QueueRow → QueueRow) → Change
+  NewJobRow : Job → Change
+  OfJob : ℕ → (Job → Job) → Change
+  OfBoth : ℕ → Option (List Effect) → (Job → QueueRow → Verdict) → Change
+  OfClock : ℕ → Change
+  OfAll : Change
+
+-- the table once the effects are told, if any are
+abbrev pub told : State → ℕ → Option (List Effect) → State
+told s j None = s
+told s j (Some effects) = with_effects s j effects
+
+-- the table after the change
+abbrev pub made : State → Change → State
+made s (NewQueueRow q) = record s { queues = map.insert s.queues q.name q }
+made s (OfQueue name f) = change_queue s name f
+made s (NewJobRow r) = record s { jobs = map.insert s.jobs r.id r; highest = r.id }
+made s (OfJob j f) = change_job s j f
+made s (OfBoth j effects verdict) = rule_at (told s j effects) j verdict
+made s (OfClock m) = record s { moment = max s.moment m }
+made s OfAll = reopened s
+
+-- ## What it is about
+
+-- the job that is there already and that it is about
+abbrev pub subject_of : Change → Option ℕ
+subject_of (OfJob j f) = Some j
+subject_of (OfBoth j effects verdict) = Some j
+subject_of change = None
+
+-- it is about a job or a queue that is there
+abbrev pub IsOfOne : Change → Type 0
+IsOfOne (OfQueue name f) = Unit {0}
+IsOfOne (OfJob j f) = Unit {0}
+IsOfOne (OfBoth j effects verdict) = Unit {0}
+IsOfOne change = ⊥
+
+-- ## Why it is refused
+
+-- whether there is a value, and it passes
+abbrev pub passes : {X : Type 0} → (X → Bool) → Option X → Bool
+passes p None = false
+passes p (Some x) = p x
+
+-- a cause that holds where there is this row, and it passes
+abbrev pub where_it : {X : Type 0} → Option X → (X → Bool) → Refusal → Bool × Refusal
+where_it found p refusal = (passes p found, refusal)
+
+-- the refusals of a change of a queue, and those that follow
+abbrev pub about_queue : State → List ℕ → List (Bool × Refusal) → List (Bool × Refusal)
+about_queue s name more =
+    (is_none (queue_at s name), NoQueue)
+    ∷ more
+
+-- the refusals of a change of a job, and those that follow
+abbrev pub about_job : State → ℕ → List (Bool × Refusal) → List (Bool × Refusal)
+about_job s j more =
+    (is_none (job_at s j), NoJob)
+    ∷ where_it (job_at s j) (λ r. has_ended r.phase) JobEnded
+    ∷ more
+
+-- the causes of the shape, and then the event's own
+abbrev pub causes_of : State → Change → List (Bool × Refusal) → List (Bool × Refusal)
+causes_of s (NewQueueRow q) own =
+    (is_some (queue_at s q.name), QueueExists)
+    ∷ (nat_le most_queues (map.len s.queues), TooManyQueues)
+    ∷ own
+causes_of s (OfQueue name f) own = about_queue s name own
+causes_of s (NewJobRow r) own = about_queue s r.queue (
+    where_it (queue_at s r.queue) (λ q. not q.accepting) NotAccepting
+    ∷ (nat_le greatest_number s.highest, NoNumberLeft)
+    ∷ (nat_le r.id s.highest, OldNumber)
+    ∷ own)
+causes_of s (OfJob j f) own = about_job s j own
+causes_of s (OfBoth j effects verdict) own = about_job s j own
+causes_of s (OfClock m) own = own
+causes_of s OfAll own = own
