@@ -5,13 +5,13 @@
 that on the built programs. This runs each of them, several side by side, each in folders of its own, and prints a line for
 each as it ends: its name, its seconds, and how it ended. With names it runs these alone, as `all.py syncs killed`.
 
-The programs have to be built before, by these commands in their folders: `rt run` in crates/spool_shell, crates/spool_tools
-and crates/error_report, and `rt test` in the folder of each crate that tests/allocations.py names. Which of them is missing
-is told first, with status 2.
+The programs have to be built before: `rt ci` leaves them in the folders of their crates. So do these commands there, but for
+what calls_without_memory.py runs: `rt run` in crates/spool_shell, crates/spool_tools and crates/error_report, and `rt test` in
+each crate that tests/allocations.py names. Which of them is missing is told first, with status 2.
 
 A part that wants what isn't installed, or another user, is left out, and told as `skipped`. Each file of this folder has to
 be in one of the tables below. The last line is `all N passed`, with how much was skipped, and status 0; or `N failed`, with
-status 1. It takes some ten minutes on four processors.
+status 1. It takes some two minutes on four calm processors, and may take ten on busy ones.
 """
 import concurrent.futures
 import os
@@ -40,6 +40,7 @@ SCRIPTS = {
     "syncs.py": [],
     "replies.py": [],
     "allocations.py": [],
+    "calls_without_memory.py": [],
     "children.py": [],
     "images.py": [],
     "events.py": [],
@@ -95,6 +96,8 @@ def wants():
         missing["children.py"] = (False, "what the system refuses (Debian's package strace)")
     elif os.geteuid():
         missing["children.py"] = (False, "a full folder (as root)")
+    if not shutil.which("valgrind"):
+        missing["calls_without_memory.py"] = (True, "valgrind (Debian's package valgrind)")
     if not shutil.which("gcc"):
         missing["allocations.py"] = (True, "a C compiler (Debian's package gcc)")
     return missing
@@ -113,6 +116,8 @@ def unbuilt(names):
     """What says how to build the programs that are missing."""
     missing = [name for name in PROGRAMS if not installed(os.path.join(ROOT, "crates", name, "out", name))]
     lines = [f"crates/{name}/out has no program: run `rt run` in crates/{name} first" for name in missing]
+    if "calls_without_memory.py" in names and not installed(os.path.join(ROOT, "crates", "spool_shell", "out", "spool_shell.by-rattle")):
+        lines.append("crates/spool_shell/out has no spool_shell.by-rattle: run `rt ci` first")
     if "allocations.py" in names:
         told = subprocess.run([sys.executable, os.path.join(HERE, "allocations.py"), "--programs"], capture_output=True, text=True)
         lines += told.stdout.splitlines() if told.returncode else []
@@ -121,7 +126,8 @@ def unbuilt(names):
 
 def run(name, room):
     """Runs a script: its seconds, its status, and all that it wrote."""
-    folder = os.path.join(room, name)
+    # A short name: the folder of a spool has 64 bytes at most.
+    folder = os.path.join(room, str(list(SCRIPTS).index(name)))
     os.mkdir(folder)
     words = [sys.executable, os.path.join(HERE, name), *SCRIPTS[name]]
     environment = {**os.environ, "TMPDIR": folder, "PYTHONDONTWRITEBYTECODE": "1"}
@@ -170,7 +176,7 @@ def main():
         print(f"{name:18} skipped{'' if missing[name][0] else ' in part'}: {missing[name][1]}", flush=True)
     names = [name for name in names if not missing.get(name, (False,))[0]]
     begun = time.monotonic()
-    room = tempfile.mkdtemp(prefix="tests-all-")
+    room = tempfile.mkdtemp(prefix="all-")
     failures += run_all([name for name in names if name not in ALONE], AT_ONCE, room)
     failures += run_all([name for name in names if name in ALONE], 1, room)
     for failure in failures:

@@ -63,9 +63,29 @@ AT_ONCE = 4
 SECONDS = 60
 
 # What a test ends with whose allocation was refused: the error of std, with the value given back or without it, that of a
-# crate, or the test's own word for the call that failed. Another fault, an assertion that fails, or no fault at all is an
+# crate or of hex, or the test's own word for the call that failed. Another fault, an assertion that fails, or no fault at all is an
 # answer that changed.
-REFUSED = re.compile(r'^error: (?:AllocError|AllocFailed \{ \.\. \}|(?:\w+\()*Memory\)*|".*")$', re.M)
+REFUSED = re.compile(r'^error: (?:AllocError|AllocFailed \{ \.\. \}|(?:\w+\()*Memory\)*|OutOfMemory|".*")$', re.M)
+
+# Tests that compare how a run ended, or what was read, and where want of memory is one more such answer: their own assertion
+# fails then. And one whose answer is the same whatever stops the run.
+BY_ANSWER = {
+    "a_dead_spool_leaves_the_bytes_of_the_reader",
+    "a_flood_ends_as_a_fault_of_the_reader",
+    "driven_until_it_is_full",
+    "nothing_is_driven_on_a_dead_spool",
+    "parts_are_read",
+    "three_thousand_events_are_kept",
+    "write_that_fails_leaves_any_bytes",
+}
+WHATEVER_STOPS_IT = {"cut_at_each_call"}
+
+
+def is_right(name, status, text):
+    """Whether a test may end so where an allocation is refused."""
+    if status == 0:
+        return name in WHATEVER_STOPS_IT
+    return bool(REFUSED.search(text)) or name in BY_ANSWER and "assertion" in text
 
 
 def program_of(crate):
@@ -96,10 +116,10 @@ class Counting:
             given.seek(0)
             return subprocess.run(words, stdin=given, env=environment, capture_output=True, cwd=self.room, timeout=SECONDS)
 
-    def calls(self, words, text=b""):
+    def calls(self, words, text=b"", refused=0):
         """How a program ends, and its calls in order: the allocations before each, its word, its file and its text."""
         log = self.fresh()
-        ended = self.run(words, text, 0, log)
+        ended = self.run(words, text, refused, log)
         with open(log, encoding="utf-8", errors="replace") as file:
             lines = [line.rstrip("\n").split(" ", 3) for line in file]
         os.remove(log)
@@ -132,9 +152,12 @@ def looked_at(counting, crate, test):
     differ = [f"{crate} {name}: {call} took memory {taken} times" for call, taken in marked if taken]
     count = calls[-1][0]
     for number in in_time([*range(1, min(count, FIRST) + 1), *range(FIRST + 1, count + 1, STEP)], seconds):
-        ended = counting.run(words, b"", number)
+        ended, refused = counting.calls(words, b"", number)
         text = (ended.stdout + ended.stderr).decode(errors="replace")
-        if ended.returncode == 0 or not REFUSED.search(text):
+        # A list that grows by a hint asks once more, for less.
+        if ended.returncode == 0 and refused[-1][0] > count:
+            continue
+        if not is_right(name, ended.returncode, text):
             differ.append(f"{crate} {name}: allocation {number} refused: status {ended.returncode} {text[-200:]!r}")
     return count, len(marked), differ
 
@@ -155,10 +178,10 @@ def crate_counts(counting, crate, pool):
 
 
 def serve(counting, name, text, root, refused=0):
-    """How the shell ends that serves a text as the script of this name in a fresh folder."""
-    ended = counting.run([SHELL, *scripts.words_of(name, root)], text, refused)
+    """How the shell ends that serves a text as the script of this name in a fresh folder, and how many allocations it makes."""
+    ended, calls = counting.calls([SHELL, *scripts.words_of(name, root)], text, refused)
     shutil.rmtree(root)
-    return ended
+    return ended, calls[-1][0]
 
 
 def form(reply):
@@ -231,18 +254,22 @@ class Commands:
 MEMORY = b"error memory\n"
 
 
-def refused_reply(counting, script, number, others):
-    """What differs where an allocation of a script is refused. The replies to the script without a command are kept."""
-    ended = serve(counting, script.name, script.text, counting.fresh(), number)
+def refused_reply(counting, script, number, others, usual):
+    """What differs where an allocation of a script is refused, beside how it ends where none is. The replies to the script
+    without a command are kept."""
+    ended, count = serve(counting, script.name, script.text, counting.fresh(), number)
     if ended.returncode:
-        if ended.stderr != b"spool: memory\n" or ended.stdout not in script.beginnings():
+        # The warnings of its files come before.
+        warned = ended.stderr.removesuffix(b"spool: memory\n")
+        if warned == ended.stderr or not usual[0].stderr.startswith(warned) or ended.stdout not in script.beginnings():
             return f"status {ended.returncode}, {ended.stderr[-100:]!r}, and then {ended.stdout[-100:]!r}"
         return None
     at = next((at for at in range(len(script.commands)) if ended.stdout[: len(script.before(at + 1))] != script.before(at + 1)), None)
     if at is None:
-        return "it is told nowhere"
+        # A list that grows by a hint asks once more, for less.
+        return None if count > usual[1] else "it is told nowhere"
     if at not in others:
-        others[at] = serve(counting, script.name, script.without(at), counting.fresh()).stdout
+        others[at] = serve(counting, script.name, script.without(at), counting.fresh())[0].stdout
     wanted = script.before(at) + MEMORY + others[at][len(script.before(at)) :]
     return None if ended.stdout == wanted else f"not {wanted[len(script.before(at)) :][:100]!r}, but {ended.stdout[len(script.before(at)) :][:100]!r}"
 
@@ -250,14 +277,12 @@ def refused_reply(counting, script, number, others):
 def script_refused(counting, name):
     """What differs where the allocations of a script are refused in turn."""
     script = Commands(name)
-    root = counting.fresh()
     begun = time.monotonic()
-    _, calls = counting.calls([SHELL, *scripts.words_of(name, root)], script.text)
+    usual = serve(counting, name, script.text, counting.fresh())
     seconds = time.monotonic() - begun
-    shutil.rmtree(root)
     others = {}
-    chosen = in_time(range(1, calls[-1][0] + 1), seconds)
-    faults = ((number, refused_reply(counting, script, number, others)) for number in chosen)
+    chosen = in_time(range(1, usual[1] + 1), seconds)
+    faults = ((number, refused_reply(counting, script, number, others, usual)) for number in chosen)
     return [f"{SHELL_NAME} {name}: allocation {number} refused: {fault}" for number, fault in faults if fault]
 
 

@@ -3,8 +3,7 @@
 
 An edit is a file of crates/NAME/must-fail, which the gate tries, or of crates/NAME/more-edits, which tests/more_edits.py
 tries. It has to name files below src/ of its crate, never a definition or a proof, and each text that it replaces has to
-stand there exactly once. The gate tries the wrong bodies that docs/PROMISES.md names, each in one crate, and at most one
-edit more of a crate.
+stand there exactly once. The gate tries the wrong bodies that docs/PROMISES.md names, each in one crate, and no other edit.
 
 It takes seconds and proves nothing. The last line is `none`, with status 0. Otherwise it prints what is wrong, and ends
 with status 1.
@@ -47,8 +46,6 @@ PROMISED = {
 }
 
 IN_GATE, ON_DEMAND = "must-fail", "more-edits"
-# How many edits of a crate the gate tries beside those of the promises.
-MOST_BESIDE = 1
 # rt reads no other name as an edit.
 NAME = re.compile(r"[A-Za-z0-9_-][A-Za-z0-9_.-]*\.edit")
 
@@ -117,8 +114,8 @@ def faults():
         names = {it.stem for it in edits_in(crate, IN_GATE)}
         places.update(names & PROMISED)
         beside = sorted(names - PROMISED)
-        if MOST_BESIDE < len(beside):
-            yield f"crates/{crate.name}/{IN_GATE}: {len(beside)} edits beside those of the promises: {' '.join(beside)}"
+        if beside:
+            yield f"crates/{crate.name}/{IN_GATE}: the promises don't name {' '.join(beside)}: {ON_DEMAND} is the place for others"
     for name in sorted(PROMISED):
         if places[name] != 1:
             yield f"{name}: it stands in {IN_GATE} of {places[name]} crates, and not of one"

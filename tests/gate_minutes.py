@@ -1,9 +1,9 @@
 #!/usr/bin/env python3
 """Measures the gate from nothing: gate_minutes.py [MINUTES]
 
-Runs `rt ci` in a clean clone of what is committed, and prints a table by crate: the processor minutes of its proof,
-of its tests and of its edits. The last line is `N processor minutes`, with status 0, or says that these are more than
-MINUTES (150 where no word is given), or that the gate failed, with status 1.
+Runs `rt ci --anew` in a clean clone of what is committed, so that nothing is taken from earlier runs, and prints a table
+by crate: the processor minutes of its proof, of its tests and of its edits. The last line is `N processor minutes`, with
+status 0, or says that these are more than MINUTES (150 where no word is given), or that the gate failed, with status 1.
 
 The sum is what the system counted for the gate and all that it started. The table is made of looks at the running
 provers, so its parts may lack half a second for each of them. Nothing else that wants the processors should run beside
@@ -52,7 +52,8 @@ class Looks:
             try:
                 seconds, start = used(process)
                 key = process, start
-                if key not in self.works:
+                # A prover may begin as the program that starts it.
+                if not self.works.get(key):
                     self.works[key] = work_of(process)
                 if self.works[key]:
                     self.seconds[key] = seconds
@@ -73,7 +74,7 @@ def gate(folder, looks):
     """Runs the gate in a folder. Its status, what it printed, and the processor seconds of all that it started."""
     log = os.path.join(folder, "gate.log")
     with open(log, "w", encoding="utf-8") as file:
-        begun = subprocess.Popen(["rt", "ci"], cwd=os.path.join(folder, "clone"), stdout=file, stderr=file)
+        begun = subprocess.Popen(["rt", "ci", "--anew"], cwd=os.path.join(folder, "clone"), stdout=file, stderr=file)
     done = threading.Event()
 
     def go_on_looking():

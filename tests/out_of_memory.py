@@ -19,7 +19,7 @@ import sys
 top = os.path.join(os.path.dirname(os.path.abspath(__file__)), "..")
 
 # The crates that serve tests alone, and those whose names end in _tests.
-OF_TESTS = {"disk_images", "sample_rows", "spool_scripts"}
+OF_TESTS = {"disk_images", "spool_scripts"}
 
 # A program whose library is another crate. Both are looked up in the tables under the library's name.
 LIBRARIES = {"spool_shell": "spool_host", "spool_tools": "stage_tools"}
@@ -37,7 +37,6 @@ PASSED_ON = {
     # A count of jobs that are held past the greatest usize: no memory holds so many.
     ("job_table", "reserve"): 1,
     ("print_rounds", "launch"): 1,
-    ("print_rounds", "read_document"): 1,
     ("print_rounds", "round"): 1,
     ("print_rounds", "start"): 1,
     ("print_rounds", "end_stage"): 1,
@@ -49,6 +48,7 @@ PASSED_ON = {
     ("spool_core", "journal"): 1,
     ("spool_core", "journal_reopening"): 1,
     ("spool_core", "read_payload"): 1,
+    ("spool_core", "read_whole"): 1,
     ("spool_core", "take_row"): 2,
     ("spool_engine", "answer"): 1,
     ("spool_engine", "close_typed"): 1,
@@ -108,7 +108,11 @@ NUMBERS = {
     ("spool_host", "next_call"): ["u64::MAX"],
     ("spool_host", "read_at_most"): ["u64::MAX"],
     ("spool_host", "shell_command"): ["4194304"],
+    ("stage_tools", "connect_seconds_of"): ["u32::MAX"],
+    ("stage_tools", "end_seconds_of"): ["u32::MAX"],
     ("stage_tools", "turns_of"): ["u32::MAX"],
+    ("stage_tools", "wait"): ["u64::MAX"],
+    ("stage_tools", "write"): ["u64::MAX"],
     ("stage_tools", "write_result"): ["u64::MAX"],
     ("whole_writes", "write_whole"): ["u64::MAX"],
 }

@@ -4,15 +4,17 @@
 SPOOL_TOOLS is the program, and crates/spool_tools/out/spool_tools (made by `rt run` in that folder) where none is
 given. Each case compares a tool's output, its standard error, its status and the files that it leaves: what each filter
 makes of some bytes, from standard input and from a file with several copies, also in little memory; what each backend
-leaves, by each of its options; the packets that pass on the side channel; and words that are refused, where nothing is
-written. With SLOW=1 in the environment the 20 turns of `meet` are waited for, too.
+leaves, by each of its options; the packets that pass on the side channel; printers that take a document, reset the
+connection, answer, stay silent or aren't there; and words that are refused, where nothing is written. With SLOW=1 in the
+environment the 20 turns of `meet` and the 90 seconds of `appsocket` are waited for, too.
 
-The last line is `N of N`, with status 0, or behind a line for each case that differs, with status 1. It takes some ten
-seconds.
+The last line is `N of N`, with status 0, or behind a line for each case that differs, with status 1. It takes some
+thirty seconds.
 """
 import os
 import resource
 import socket
+import struct
 import subprocess
 import sys
 import tempfile
@@ -24,7 +26,7 @@ built = os.path.join(here, "..", "crates", "spool_tools", "out", "spool_tools")
 tools = os.path.abspath(sys.argv[1] if len(sys.argv) > 1 else built)
 
 JOB = ["7", "ann", "First page", "3", "media=A4"]
-SECONDS = 60  # a tool that takes longer hangs
+SECONDS = 120  # a tool that takes longer hangs
 
 count = 0
 failures = []
@@ -295,16 +297,240 @@ def side(folder):
         check(f"side-end {path:.20}", run(["side-end", path]), (b"", b"", 1))
 
 
+class Printer(threading.Thread):
+    """Listens on the loopback address, and does with each connection what it is given."""
+
+    def __init__(self, serve, times=1, host="127.0.0.1"):
+        super().__init__(daemon=True)
+        family = socket.AF_INET6 if ":" in host else socket.AF_INET
+        self.listener = socket.create_server((host, 0), family=family)
+        self.listener.settimeout(SECONDS)
+        self.port = self.listener.getsockname()[1]
+        self.serve, self.times, self.got = serve, times, []
+        self.start()
+
+    def run(self):
+        for _ in range(self.times):
+            connection, _ = self.listener.accept()
+            connection.settimeout(SECONDS)
+            with connection:
+                try:
+                    self.got.append(self.serve(connection))
+                except OSError as error:
+                    self.got.append(error)
+        self.listener.close()
+
+    def all(self):
+        self.join(SECONDS)
+        return self.got
+
+
+def take(connection, most=1 << 30):
+    """What comes on a connection up to its end, or so many bytes of it."""
+    taken = bytearray()
+    while len(taken) < most and (piece := connection.recv(min(65_536, most - len(taken)))):
+        taken += piece
+    return bytes(taken)
+
+
+def reset(connection):
+    connection.setsockopt(socket.SOL_SOCKET, socket.SO_LINGER, struct.pack("ii", 1, 0))
+
+
+def reset_after(count):
+    """Resets the connection once so many bytes have come."""
+
+    def serve(connection):
+        taken = take(connection, count)
+        reset(connection)
+        return taken
+
+    return serve
+
+
+def reset_behind_all(connection):
+    """Takes all, and resets the connection in place of ending it."""
+    taken = take(connection)
+    reset(connection)
+    return taken
+
+
+def leave(connection):
+    """Ends at once, without a look at what comes."""
+
+
+def answer_before(connection):
+    """Says more than the system holds, and only then looks at what comes."""
+    connection.sendall(b"status\n" * 2_000_000)
+    return take(connection)
+
+
+def answer_after(connection):
+    taken = take(connection)
+    connection.sendall(b"printed\n")
+    return taken
+
+
+def end_before(connection):
+    """Closes its half first, and then takes all."""
+    connection.shutdown(socket.SHUT_WR)
+    return take(connection)
+
+
+def take_slowly(connection):
+    """Takes nothing for two seconds, in which the writer has to wait."""
+    time.sleep(2)
+    return take(connection)
+
+
+def stay(connection):
+    """Takes all, and neither ends nor resets before the writer has gone: what it says then meets nobody."""
+    taken = take(connection)
+    for _ in range(SECONDS * 10):
+        time.sleep(0.1)
+        connection.sendall(b".")
+    return taken
+
+
+SENT = (b"", b"", 0)
+
+
+def sent(printer, given, query="", words=JOB, name="127.0.0.1"):
+    return run(["appsocket", *words], given, uri=f"appsocket://{name}:{printer.port}/{query}")
+
+
+def appsocket(folder):
+    text = bytes(range(256)) * 79  # more than 20,000 bytes
+    large = text * 500  # some ten million, which no system takes at once
+    for length in (0, 1, 500, 20_000):
+        printer = Printer(take, 20)
+        ended = [sent(printer, text[:length]) for _ in range(20)]
+        check(f"a printer that takes {length} bytes", (ended, printer.all()), ([SENT] * 20, [text[:length]] * 20))
+    document = write(os.path.join(folder, "document"), text)
+    for given, words, serve, wanted in (
+        (text, [*JOB, document], take, text * 3),  # three copies
+        (large, JOB, take, large),
+        (large, JOB, take_slowly, large),
+        (large, JOB, answer_before, large),
+        (text, JOB, answer_before, text),
+        (text, JOB, answer_after, text),
+        (large, JOB, answer_after, large),
+        (text, JOB, end_before, text),
+        (large, JOB, end_before, large),
+    ):
+        printer = Printer(serve)
+        ended = sent(printer, given, words=words)
+        check(f"{serve.__name__}, {len(wanted)} bytes", (ended, printer.all() == [wanted]), (SENT, True))
+    for query in ("?contimeout=4294967295&endtimeout=4294967295", "?contimeout=0", "?contimeout=4294967296&endtimeout=-1"):
+        printer = Printer(answer_after)
+        check(f"a printer with {query}", (sent(printer, text, query), printer.all()), (SENT, [text]))
+    resets(text, large)
+    unreached(folder, text)
+    bounds(text)
+
+
+def resets(text, large):
+    """A reset is noticed wherever it comes: before the first byte is read, behind some, behind all."""
+    for length in (500, 20_000):
+        for serve, name in (
+            (reset_after(0), "at once"),
+            (reset_after(1), "behind a byte"),
+            (reset_after(length), "behind the last byte"),
+            (reset_behind_all, "behind the end"),
+            (leave, "by leaving unread"),
+        ):
+            printer = Printer(serve, 20)
+            ended = [sent(printer, text[:length]) for _ in range(20)]
+            told = {(out, errors) for out, errors, _ in ended}
+            statuses = [status for _, _, status in ended]
+            check(f"{length} bytes that are reset {name}", statuses, [1] * 20)
+            check(f"what is told of it, {name}", told <= {(b"", b"ERROR: cannot write\n"),
+                                                          (b"", b"ERROR: connection reset\n")}, True)
+            printer.all()
+    for count in (1, 100_000):
+        printer = Printer(reset_after(count))
+        ended = sent(printer, large)
+        check(f"a long document that is reset behind {count} bytes", ended, (b"", b"ERROR: cannot write\n", 1))
+        printer.all()
+
+
+def unreached(folder, text):
+    nobody = (b"", b"ERROR: cannot connect\n", 6)
+    with socket.create_server(("127.0.0.1", 0)) as listener:
+        port = listener.getsockname()[1]
+    for name, address in (
+        ("nobody listens", f"127.0.0.1:{port}"),
+        ("nobody listens, for 1 second", f"127.0.0.1:{port}/?contimeout=1"),
+        ("nobody listens, as long as the system tries", f"127.0.0.1:{port}/?contimeout=0"),
+        ("a name that nobody has", "nobody.invalid:9100"),
+    ):
+        check(name, run(["appsocket", *JOB], text, uri=f"appsocket://{address}"), nobody)
+    # A listener that is full takes no further connection: the system tries again and again.
+    with socket.socket() as full:
+        full.bind(("127.0.0.1", 0))
+        full.listen(0)
+        waiting = [socket.socket() for _ in range(8)]
+        for one in waiting:
+            one.setblocking(False)
+            one.connect_ex(full.getsockname())
+        time.sleep(0.2)
+        began = time.monotonic()
+        ended = run(["appsocket", *JOB], text, uri=f"appsocket://127.0.0.1:{full.getsockname()[1]}/?contimeout=2")
+        took = time.monotonic() - began
+        check("a printer that doesn't answer for 2 seconds", (ended, 1.9 < took < 4), (nobody, True))
+        for one in waiting:
+            one.close()
+    no_device = (b"", b"ERROR: no device\n", 1)
+    for name, uri in (("no URI", None), ("an empty URI", ""), ("no host", "appsocket:/a"), ("no scheme", "127.0.0.1"),
+                      ("a port too high", "appsocket://127.0.0.1:65536/"), ("an empty host", "appsocket:///a")):
+        check(f"appsocket with {name}", run(["appsocket", *JOB], text, uri=uri), no_device)
+    printer = Printer(take)
+    check("a document that isn't there", sent(printer, b"", words=[*JOB, os.path.join(folder, "none")]),
+          (b"", b"ERROR: cannot read\n", 1))
+    printer.all()
+    # The usual port, where it is free here; a name, and an address of the other kind.
+    for host, name in (("127.0.0.1", "localhost"), ("::1", "[::1]")):
+        try:
+            printer = Printer(take, host=host)
+        except OSError:
+            continue  # this machine has no such address
+        check(f"a printer named {name}", (sent(printer, text, name=name), printer.all()), (SENT, [text]))
+    try:
+        listener = socket.create_server(("127.0.0.1", 9100))
+    except OSError:
+        return
+    with listener:
+        child = subprocess.Popen([tools, "appsocket", *JOB], stdin=subprocess.DEVNULL, stdout=subprocess.PIPE,
+                                 stderr=subprocess.PIPE, env={"DEVICE_URI": "appsocket://127.0.0.1"})
+        connection, _ = listener.accept()
+        connection.close()
+        out, errors = child.communicate(timeout=SECONDS)
+        check("the usual port", (out, errors, child.returncode), SENT)
+
+
+def bounds(text):
+    """A printer that never ends is waited for as long as the option says."""
+    for query, least, most in (("?endtimeout=0", 0, 0.9), ("?endtimeout=2", 1.9, 3.9), ("?endtimeout=9&endtimeout=1", 0.9, 2.9),
+                               *([("", 89, 93)] if os.environ.get("SLOW") else [])):
+        printer = Printer(stay)
+        began = time.monotonic()
+        ended = sent(printer, text, query)
+        took = time.monotonic() - began
+        check(f"a printer that never ends {query}", (ended, least <= took < most), (SENT, True))
+        printer.all()
+
+
 def words(folder):
     out = os.path.join(folder, "refused")
-    for tool in ("spoolfile", "meet", "sideask"):
-        check(f"the device of {tool}", run([tool]), (f'file {tool} "Unknown" "{tool}"\n'.encode(), b"", 0))
+    for tool in ("spoolfile", "meet", "sideask", "appsocket"):
+        line = f'{"network" if tool == "appsocket" else "file"} {tool} "Unknown" "{tool}"\n'
+        check(f"the device of {tool}", run([tool]), (line.encode(), b"", 0))
         with open("/dev/full", "wb") as full:
             ended = subprocess.run([tools, tool], stdout=full, stderr=subprocess.PIPE)
         check(f"the device of {tool} on a full disk", (ended.stderr, ended.returncode), (b"", 1))
     refused = [[], [""], ["-"], ["--help"], ["other", *JOB], [*JOB], ["Spoolfile"], ["spoolfile "], ["spoolfil"]]
     refused += [["texttoprn"], ["prncount"], ["side-end"], ["side-end", "a", "b"], ["side-end", *JOB]]
-    for tool in ("texttoprn", "prncount", "spoolfile", "meet", "sideask"):
+    for tool in ("texttoprn", "prncount", "spoolfile", "meet", "sideask", "appsocket"):
         refused += [[tool, *JOB[:n]] for n in (1, 2, 3, 4)] + [[tool, *JOB, "x", "y"]]
         for copies in ("", "0", "00", "10000", "-1", "+1", " 1", "1 ", "x", "1.0", "0x1", "4294967297", "9" * 20):
             refused += [[tool, "1", "u", "t", copies, "o"], [tool, "1", "u", "t", copies, "o", "/dev/null"]]
@@ -316,7 +542,7 @@ def words(folder):
 
 
 with tempfile.TemporaryDirectory() as folder:
-    for part in (filters, bounded, spoolfile, meet, side, words):
+    for part in (filters, bounded, spoolfile, meet, side, appsocket, words):
         place = os.path.join(folder, part.__name__)
         os.mkdir(place)
         part(place)

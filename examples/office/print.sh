@@ -2,7 +2,7 @@
 # Prints a letter through a filter, and keeps its spool in a new folder: print.sh FOLDER [HOST:PORT]
 #
 # It goes into the file letter.prn of that folder, or to the printer that listens at HOST:PORT (mostly port 9100). The
-# latter is done by CUPS's backend `socket` (Debian's package cups).
+# latter is done by the backend `appsocket`, which notices a printer that resets the connection.
 #
 # The folder's name is absolute, of at most 58 bytes, without blanks, `=` and what a URI can't have.
 set -eu
@@ -11,7 +11,7 @@ printer=${2:-}
 here=$(cd "$(dirname "$0")" && pwd)
 crates=$(cd "$here/../../crates" && pwd)
 # A printer that is away for ten seconds is tried again by a later round.
-device=${printer:+socket://$printer/?waiteof=false\\&contimeout=10}
+device=${printer:+appsocket://$printer/?contimeout=10}
 mkdir "$folder" "$folder/spool"
 sed "s|TOOLS|$crates/spool_tools/out/spool_tools|" "$here/programs" > "$folder/programs"
 sed "s|DEVICE|${device:-spoolfile:$folder/letter.prn}|" "$here/letter.spool" |

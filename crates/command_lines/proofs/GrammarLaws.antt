@@ -1,5 +1,5 @@
 -- Values of words, and lines of another number of words.
-use Rattle.std.proofs.Common.{◌≡◌, ◌&&◌, ℕ, Bool, true, false, cond, List, [], ◌∷◌, length, map, refl, ap, sym, arith, ◌<◌, ◌≤◌, ◌∙◌, None, Some}
+use Rattle.std.proofs.Common.{◌≡◌, ℕ, List, [], ◌∷◌, length, map, refl, arith, ◌<◌, ◌≤◌, None}
 use Rattle.command_lines.specs.Grammar.{create_line, queue_line}
 
 -- a creation has six words behind its name

@@ -1,3 +1,4 @@
+pub mod Pieces
 pub mod LineLaws
 pub mod TextLaws
 pub mod StepLaws

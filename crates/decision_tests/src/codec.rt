@@ -1,8 +1,7 @@
 //! Events and rows of a listing that are read from their bytes, and spelled by them again.
 use event_codec::*;
 use spool_types::Row;
-use std::alloc::Global;
-use std::process::Abort;
+use std::alloc::{AllocError, Global};
 use std::test::Fail;
 
 // Events in hexadecimal, a line for each.
@@ -66,65 +65,140 @@ const ROWS: &str = "\
 42 00 00 00 01 00 01 71 00 01 75 00 00 00 01 32 00 00 00 01 00 01 66 00 00 00 02 00 00 00 03 00 10 00 00 05 03\n\
 42 00 00 00 01 00 01 71 00 01 75 00 00 00 01 32 00 00 00 01 00 01 66 00 00 00 02 00 00 00 03 00 10 00 00 05 04";
 
-// The bytes that a text in hexadecimal stands for.
+// Adds the bytes that a text in hexadecimal stands for.
+fn push_bytes(bytes: &mut Vec<u8>, text: &str) -> Result<(), Fail> {
+    for word in text.split_whitespace() {
+        match u8::from_str_radix(word, 16) {
+            Ok(byte) => bytes.push(byte)?,
+            Err(_) => return Err(Fail::from("not hexadecimal")),
+        }
+    }
+    Ok(())
+}
+
 fn bytes_of(alloc: Global, text: &str) -> Result<Vec<u8>, Fail> {
     let mut bytes = Vec::new(alloc);
-    for word in text.split_whitespace() {
-        bytes.push(u8::from_str_radix(word, 16).ok().ok_or("not hexadecimal")?)?;
-    }
+    push_bytes(&mut bytes, text)?;
     Ok(bytes)
 }
 
-// The event that bytes spell is spelled by them, also behind another byte.
-fn event_is_spelled_again(rt: &impl Abort, alloc: Global, bytes: &[u8]) -> Result<(), Fail> {
-    let mut added = Vec::from_slice(alloc, &[7])?;
+// How the event that bytes spell is spelled.
+fn event_spelled(alloc: Global, bytes: &[u8]) -> Result<Vec<u8>, Fail> {
     let event = decode(alloc, bytes)?;
     let spelled = encode(alloc, &event);
-    let add = encode_onto(&event, &mut added);
     // By name: let go at the end of its scope, it would split the proof into a case for each kind of event.
     drop(event);
-    add?;
-    assert_eq!(rt; spelled?.as_slice(), bytes);
-    assert_eq!(rt; added.split_first(), Some((&7, bytes)));
-    Ok(())
+    Ok(spelled?)
+}
+
+// Adds the spelling of that event.
+fn add_event(alloc: Global, bytes: &[u8], added: &mut Vec<u8>) -> Result<(), Fail> {
+    let event = decode(alloc, bytes)?;
+    let add = encode_onto(&event, added);
+    drop(event);
+    Ok(add?)
+}
+
+// The same behind another byte.
+fn event_added(alloc: Global, bytes: &[u8]) -> Result<Vec<u8>, Fail> {
+    let mut added = Vec::from_slice(alloc, &[7])?;
+    add_event(alloc, bytes, &mut added)?;
+    Ok(added)
+}
+
+// Whether the event that bytes spell is spelled by them, also behind another byte.
+fn event_is_spelled_again(alloc: Global, bytes: &[u8]) -> Result<bool, Fail> {
+    let spelled = event_spelled(alloc, bytes)?;
+    let added = event_added(alloc, bytes)?;
+    Ok(spelled.as_slice() == bytes && added.split_first() == Some((&7, bytes)))
+}
+
+// How the row that bytes spell is spelled.
+fn row_spelled(alloc: Global, bytes: &[u8]) -> Result<Vec<u8>, Fail> {
+    let row = decode_row(alloc, bytes)?;
+    let spelled = encode_row(alloc, &row);
+    drop(row);
+    Ok(spelled?)
+}
+
+fn encode_any(row: &Row, added: &mut Vec<u8>) -> Result<(), AllocError> {
+    match row {
+        Row::Queue(queue) => encode_queue_onto(queue, added),
+        _ => encode_row_onto(row, added),
+    }
+}
+
+// Adds the spelling of that row.
+fn add_row(alloc: Global, bytes: &[u8], added: &mut Vec<u8>) -> Result<(), Fail> {
+    let row = decode_row(alloc, bytes)?;
+    let add = encode_any(&row, added);
+    drop(row);
+    Ok(add?)
+}
+
+fn row_added(alloc: Global, bytes: &[u8]) -> Result<Vec<u8>, Fail> {
+    let mut added = Vec::from_slice(alloc, &[7])?;
+    add_row(alloc, bytes, &mut added)?;
+    Ok(added)
 }
 
 // The same of a row.
-fn row_is_spelled_again(rt: &impl Abort, alloc: Global, bytes: &[u8]) -> Result<(), Fail> {
-    let mut added = Vec::from_slice(alloc, &[7])?;
-    let row = decode_row(alloc, bytes)?;
-    let spelled = encode_row(alloc, &row);
-    let add = match &row {
-        Row::Queue(queue) => encode_queue_onto(queue, &mut added),
-        _ => encode_row_onto(&row, &mut added),
-    };
-    drop(row);
-    add?;
-    assert_eq!(rt; spelled?.as_slice(), bytes);
-    assert_eq!(rt; added.split_first(), Some((&7, bytes)));
+fn row_is_spelled_again(alloc: Global, bytes: &[u8]) -> Result<bool, Fail> {
+    let spelled = row_spelled(alloc, bytes)?;
+    let added = row_added(alloc, bytes)?;
+    Ok(spelled.as_slice() == bytes && added.split_first() == Some((&7, bytes)))
+}
+
+// Whether a line's event is spelled again.
+fn is_event(alloc: Global, line: &str) -> Result<bool, Fail> {
+    let bytes = bytes_of(alloc, line)?;
+    event_is_spelled_again(alloc, &bytes)
+}
+
+fn is_row(alloc: Global, line: &str) -> Result<bool, Fail> {
+    let bytes = bytes_of(alloc, line)?;
+    row_is_spelled_again(alloc, &bytes)
+}
+
+#[test]
+fn events_are_spelled_again(rt: HostRuntime) -> Result<(), Fail> {
+    for line in EVENTS.lines() {
+        assert!(rt; is_event(rt.alloc(), line)?, "{line}");
+    }
     Ok(())
 }
 
 #[test]
-fn bytes_are_spelled_again(rt: HostRuntime) -> Result<(), Fail> {
-    let alloc = rt.alloc();
-    for line in EVENTS.lines() {
-        event_is_spelled_again(&rt, alloc, &bytes_of(alloc, line)?)?;
-    }
+fn rows_are_spelled_again(rt: HostRuntime) -> Result<(), Fail> {
     for line in ROWS.lines() {
-        row_is_spelled_again(&rt, alloc, &bytes_of(alloc, line)?)?;
+        assert!(rt; is_row(rt.alloc(), line)?, "{line}");
     }
     Ok(())
 }
 
-// A stage with 1,820 effects of nine bytes each and one of four, 16,384 bytes in all.
+fn push_times(stage: &mut Vec<u8>, effect: &[u8], count: usize) -> Result<(), AllocError> {
+    for _ in 0..count {
+        stage.extend_from_slice(effect)?;
+    }
+    Ok(())
+}
+
+// Adds a stage with 1,820 effects of nine bytes each and one of four, 16,384 bytes in all.
+fn push_stage(stage: &mut Vec<u8>) -> Result<(), AllocError> {
+    stage.extend_from_slice(&[0x0D, 0, 0, 0, 1, 0, 0, 0, 1, 1, 1, 0, 0, 0, 0, 0x07, 0x1D])?;
+    push_times(stage, &[1, 0, 0, 0, 1, 0, 0, 0, 1], 1_820)?;
+    stage.extend_from_slice(&[7, 6, 0, 0])
+}
+
+fn full_stage(alloc: Global) -> Result<Vec<u8>, AllocError> {
+    let mut stage = Vec::new(alloc);
+    push_stage(&mut stage)?;
+    Ok(stage)
+}
+
 #[test]
 fn a_full_stage_is_spelled_again(rt: HostRuntime) -> Result<(), Fail> {
-    let alloc = rt.alloc();
-    let mut stage = bytes_of(alloc, "0D 00 00 00 01 00 00 00 01 01 01 00 00 00 00 07 1D")?;
-    for _ in 0..1_820 {
-        stage.extend_from_slice(&[1, 0, 0, 0, 1, 0, 0, 0, 1])?;
-    }
-    stage.extend_from_slice(&[7, 6, 0, 0])?;
-    event_is_spelled_again(&rt, alloc, &stage)
+    let stage = full_stage(rt.alloc())?;
+    assert!(rt; event_is_spelled_again(rt.alloc(), &stage)?);
+    Ok(())
 }

@@ -7,7 +7,7 @@ use Change::{Add, Bring, Take};
 use Held::{ForGood, Free, Until};
 use queue_sched::{Entry, Index};
 use spool_types::JobId;
-use std::alloc::Global;
+use std::alloc::{AllocError, Global};
 use std::test::Fail;
 
 // What is done to an index.
@@ -129,14 +129,31 @@ fn first_failure(index: &mut Index, rows: &[Row]) -> Result<usize, Fail> {
     Ok(0)
 }
 
+// The first row of an index without jobs that isn't so.
+fn first_failure_of(alloc: Global, rows: &[Row]) -> Result<usize, Fail> {
+    let mut index = Index::new(alloc);
+    first_failure(&mut index, rows)
+}
+
 #[test]
 fn an_index_follows_its_rows(rt: HostRuntime) -> Result<(), Fail> {
-    for rows in [&WORKED[..], &PLACES[..], &HELD[..]] {
-        let mut index = Index::new(rt.alloc());
-        index.reserve(0)?;
-        assert!(rt; has(&index, &[], 0));
-        assert_eq!(rt; first_failure(&mut index, rows)?, 0);
-    }
+    assert!(rt; first_failure_of(rt.alloc(), &WORKED)? == 0);
+    assert!(rt; first_failure_of(rt.alloc(), &PLACES)? == 0);
+    assert!(rt; first_failure_of(rt.alloc(), &HELD)? == 0);
+    Ok(())
+}
+
+// An index without jobs, in which room for none was made.
+fn empty(alloc: Global) -> Result<Index, AllocError> {
+    let mut index = Index::new(alloc);
+    index.reserve(0)?;
+    Ok(index)
+}
+
+#[test]
+fn an_index_begins_empty(rt: HostRuntime) -> Result<(), Fail> {
+    let index = empty(rt.alloc())?;
+    assert!(rt; has(&index, &[], 0));
     Ok(())
 }
 
@@ -153,20 +170,26 @@ fn disordered(alloc: Global) -> Result<Vec<Entry>, Fail>
     ]?)
 }
 
+// Their index at the moment 50.
+fn of_disordered(alloc: Global) -> Result<Index, Fail> {
+    let now = moment(50)?;
+    Ok(Index::of_entries(disordered(alloc)?, now)?)
+}
+
+const DISORDERED: [Row; 7] = [
+    (Bring(50), &[3, 5, 1, 2, 4], 1),
+    (Bring(51), &[3, 5, 1, 2, 4], 5),
+    (Take(5), &[3, 1, 2, 4], 1),
+    (Take(1), &[3, 2, 4], 2),
+    (Take(2), &[3, 4], 0),
+    (Bring(59), &[3, 4], 0),
+    (Bring(60), &[3, 4], 4),
+];
+
 #[test]
 fn an_index_of_a_list_is_that_of_its_jobs(rt: HostRuntime) -> Result<(), Fail> {
-    let entries = disordered(rt.alloc())?;
-    let mut index = Index::of_entries(entries, moment(50)?)?;
+    let mut index = of_disordered(rt.alloc())?;
     assert!(rt; has(&index, &[3, 5, 1, 2, 4], 1));
-    let rows: [Row; 7] = [
-        (Bring(50), &[3, 5, 1, 2, 4], 1),
-        (Bring(51), &[3, 5, 1, 2, 4], 5),
-        (Take(5), &[3, 1, 2, 4], 1),
-        (Take(1), &[3, 2, 4], 2),
-        (Take(2), &[3, 4], 0),
-        (Bring(59), &[3, 4], 0),
-        (Bring(60), &[3, 4], 4),
-    ];
-    assert_eq!(rt; first_failure(&mut index, &rows)?, 0);
+    assert!(rt; first_failure(&mut index, &DISORDERED)? == 0);
     Ok(())
 }

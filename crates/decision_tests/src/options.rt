@@ -2,16 +2,17 @@
 use filter_args::Options;
 use std::test::Fail;
 
+const WRITTEN: &str = "media=A4 nocollate duplex note='a b' media=\"it's\"";
+
+const PRINTED: &str = "media=it\\'s collate=false duplex=true note=a\\ b";
+
 #[test]
 fn options_are_read_and_printed(rt: HostRuntime) -> Result<(), Fail> {
-    let text = "media=A4 nocollate duplex note='a b' media=\"it's\"";
-    let options = Options::parse(rt.alloc(), text)?;
-    assert_eq!(rt; options.get("media"), Some("it's"));
-    assert_eq!(rt; options.get("side"), None);
-    let printed = options.print()?;
-    assert_eq!(rt;
-        printed.as_str(),
-        "media=it\\'s collate=false duplex=true note=a\\ b"
-    );
+    let options = Options::parse(rt.alloc(), WRITTEN)?;
+    assert!(rt; options.get("media") == Some("it's"));
+    assert!(rt; options.get("side").is_none());
+    let printed = options.print();
+    drop(options);
+    assert!(rt; printed?.as_str() == PRINTED);
     Ok(())
 }

@@ -1,7 +1,8 @@
 //! Payloads that are added to the current area of a spool, and read from it.
 ghost use Rattle.std.specs.Prelude.{◌≡◌, ◌<◌, ◌≤◌, IfOk};
 
-use spool_areas::{Areas, JournalFault, ReadFault, make};
+use crate::spools::{have_at, made, opened};
+use spool_areas::{Areas, JournalFault, ReadFault};
 use spool_disk::{FuseDisk, MemDisk};
 use std::alloc::Global;
 use std::test::Fail;
@@ -10,39 +11,67 @@ use std::test::Fail;
 const CALLS_OF_OPEN: u64 = 4;
 
 // The room of a reopening, in areas that have no more than that.
+fn keeps_room(areas: &mut Areas<MemDisk>) -> bool {
+    let mut reopen = [0, 0, 0, 0, 0x0F, 0];
+    areas.append(&mut reopen) == Err(JournalFault::Full)
+        && areas.append_kept(&mut reopen) == Ok(21)
+        && areas.append_kept(&mut reopen) == Err(JournalFault::Full)
+        && !areas.is_dead()
+}
+
 #[test]
 fn kept_room_holds_one_record_of_one_byte(rt: HostRuntime) -> Result<(), Fail> {
-    let mut disk = MemDisk::new(rt.alloc(), 46)?;
-    make(&mut disk).ok().ok_or("make")?;
-    let mut areas = Areas::open(rt.alloc(), disk).ok().ok_or("open")?.areas;
-    let mut reopen = [0, 0, 0, 0, 0x0F, 0];
-    assert_eq!(rt; areas.append(&mut reopen), Err(JournalFault::Full));
-    assert_eq!(rt; areas.append_kept(&mut reopen), Ok(21));
-    assert_eq!(rt; areas.append_kept(&mut reopen), Err(JournalFault::Full));
-    assert_eq!(rt; areas.is_dead(), false);
-    assert_eq!(rt;
-        &areas.into_disk().bytes()[16..23],
-        [0xA5, 0, 0, 0, 1, 0x0F, 0].as_slice()
-    );
+    let mut areas = opened(rt.alloc(), made(rt.alloc(), 46)?)?.areas;
+    assert!(rt; keeps_room(&mut areas));
+    let disk = areas.into_disk();
+    assert!(rt; have_at(disk.bytes(), 16, &[0xA5, 0, 0, 0, 1, 0x0F, 0]));
     Ok(())
 }
 
-// An empty spool of areas of 99 bytes, whose device fails after so many calls from its opening on. The closed gate and
-// the bytes from there on tell that the first area is the current one.
-fn failing_areas(alloc: Global, calls: u64) -> Result<Areas<FuseDisk<MemDisk>>, Fail>
+// A spool in areas of 99 bytes, of which the first is the current one.
+type Failing = Areas<FuseDisk<MemDisk>>;
+
+// An empty one, whose device fails after so many calls from its opening on. The closed gate and the bytes from there on tell
+// that the first area is the current one.
+fn failing_areas(alloc: Global, calls: u64) -> Result<Failing, Fail>
     requires { calls < 1000 }
     ensures { IfOk result (λ areas. (areas.base ≡ 0) × (99 ≤ areas.end)) }
 {
-    let mut disk = MemDisk::new(alloc, 198)?;
-    make(&mut disk).ok().ok_or("make")?;
-    let opened = Areas::open(alloc, FuseDisk::new(disk, CALLS_OF_OPEN + calls))
-        .ok()
-        .ok_or("open")?;
-    if opened.gate == 16 && opened.room == 83 {
-        Ok(opened.areas)
-    } else {
-        Err(Fail::from("another area"))
+    let disk = FuseDisk::new(made(alloc, 198)?, CALLS_OF_OPEN + calls);
+    match Areas::open(alloc, disk) {
+        Ok(opened) => {
+            if opened.gate == 16 && opened.room == 83 {
+                Ok(opened.areas)
+            } else {
+                Err(Fail::from("another area"))
+            }
+        }
+        Err(error) => Err(Fail::from(error.fault)),
     }
+}
+
+// How a byte is read, and which.
+fn read_at(areas: &mut Failing, place: u64) -> (Result<(), ReadFault>, u8)
+    requires base { areas.old.base ≡ 0 }
+    requires end { 99 ≤ areas.old.end }
+    requires behind { 16 ≤ place }
+    requires inside { place < 99 }
+    ensures base { areas.new.base ≡ 0 }
+    ensures end { 99 ≤ areas.new.end }
+{
+    let mut got = [7; 1];
+    let read = areas.read_extent(place, &mut got);
+    (read, got[0])
+}
+
+// Whether a payload of this byte is added, and lies at this place.
+fn adds(areas: &mut Failing, byte: u8, place: u64) -> bool
+    requires base { areas.old.base ≡ 0 }
+    requires end { 99 ≤ areas.old.end }
+    ensures base { areas.new.base ≡ 0 }
+    ensures end { 99 ≤ areas.new.end }
+{
+    areas.append(&mut [0, 0, 0, 0, byte, 0]) == Ok(place)
 }
 
 // Each append makes the next read one of the device; a read of what was read before takes no call. The read that fails
@@ -50,27 +79,42 @@ fn failing_areas(alloc: Global, calls: u64) -> Result<Areas<FuseDisk<MemDisk>>, 
 #[test]
 fn reads_on_in_one_block(rt: HostRuntime) -> Result<(), Fail> {
     let mut areas = failing_areas(rt.alloc(), 10)?;
-    let mut got = [7; 1];
-    assert_eq!(rt; (areas.read_extent(21, &mut got), got), (Ok(()), [0]));
-    assert_eq!(rt; areas.append(&mut [0, 0, 0, 0, 8, 0]), Ok(21));
-    assert_eq!(rt; (areas.read_extent(21, &mut got), got), (Ok(()), [8]));
-    assert_eq!(rt; areas.append(&mut [0, 0, 0, 0, 9, 0]), Ok(27));
-    assert_eq!(rt; (areas.read_extent(27, &mut got), got), (Ok(()), [9]));
-    assert_eq!(rt; (areas.read_extent(28, &mut got), got), (Ok(()), [0]));
-    assert_eq!(rt; areas.read_extent(21, &mut got), Err(ReadFault::Disk));
-    assert_eq!(rt; areas.append(&mut [0; 6]), Err(JournalFault::Dead));
-    assert_eq!(rt; areas.is_dead(), true);
+    assert!(rt; read_at(&mut areas, 21) == (Ok(()), 0));
+    assert!(rt; adds(&mut areas, 8, 21));
+    assert!(rt; read_at(&mut areas, 21) == (Ok(()), 8));
+    assert!(rt; adds(&mut areas, 9, 27));
+    assert!(rt; read_at(&mut areas, 27) == (Ok(()), 9));
+    assert!(rt; read_at(&mut areas, 28) == (Ok(()), 0));
+    assert!(rt; read_at(&mut areas, 21).0 == Err(ReadFault::Disk));
+    assert!(rt; areas.append(&mut [0; 6]) == Err(JournalFault::Dead));
+    assert!(rt; areas.is_dead());
     Ok(())
+}
+
+// Whether an append fails for the device, and each later call finds it dead.
+fn dies(areas: &mut Failing) -> bool
+    requires base { areas.old.base ≡ 0 }
+    requires end { 99 ≤ areas.old.end }
+{
+    let mut frame = [0; 6];
+    areas.append(&mut frame) == Err(JournalFault::Disk)
+        && areas.append(&mut frame) == Err(JournalFault::Dead)
+        && areas.append_kept(&mut frame) == Err(JournalFault::Dead)
+        && areas.is_dead()
 }
 
 #[test]
 fn failed_append_ends_it(rt: HostRuntime) -> Result<(), Fail> {
     let mut areas = failing_areas(rt.alloc(), 0)?;
-    let mut frame = [0; 6];
-    assert_eq!(rt; areas.append(&mut frame), Err(JournalFault::Disk));
-    assert_eq!(rt; areas.append(&mut frame), Err(JournalFault::Dead));
-    assert_eq!(rt; areas.append_kept(&mut frame), Err(JournalFault::Dead));
-    assert_eq!(rt; areas.read_extent(21, &mut frame), Err(ReadFault::Dead));
-    assert_eq!(rt; areas.is_dead(), true);
+    assert!(rt; dies(&mut areas));
+    Ok(())
+}
+
+// It is read no more.
+#[test]
+fn failed_append_ends_reading(rt: HostRuntime) -> Result<(), Fail> {
+    let mut areas = failing_areas(rt.alloc(), 0)?;
+    assert!(rt; !adds(&mut areas, 8, 21));
+    assert!(rt; read_at(&mut areas, 21).0 == Err(ReadFault::Dead));
     Ok(())
 }

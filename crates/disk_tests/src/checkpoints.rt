@@ -1,21 +1,15 @@
 //! Checkpoints, which put rows into the other area.
 ghost use Rattle.std.specs.Prelude.{◌≡◌, ◌<◌, IfOk, vec_len};
 
-use spool_areas::{Areas, make};
+use crate::spools::{have_at, made, opened};
+use spool_areas::Areas;
 use spool_disk::{Disk, FuseDisk, MemDisk};
-use std::alloc::Global;
+use std::alloc::{AllocError, Global};
 use std::slice;
 use std::test::Fail;
 
-// A spool of two areas of 99 bytes, without payloads.
-fn spool(alloc: Global) -> Result<MemDisk, Fail> {
-    let mut disk = MemDisk::new(alloc, 198)?;
-    make(&mut disk).ok().ok_or("make")?;
-    Ok(disk)
-}
-
 // The frame of a row: its kind and twelve zeros.
-fn head(alloc: Global) -> Result<Vec<u8>, Fail>
+fn head(alloc: Global) -> Result<Vec<u8>, AllocError>
     ensures { IfOk result (λ head. vec_len head ≡ 18) }
 {
     let mut head = Vec::new(alloc);
@@ -25,55 +19,106 @@ fn head(alloc: Global) -> Result<Vec<u8>, Fail>
 }
 
 // Puts this one row into the other area, and answers whether that went well.
-fn lists<D: Disk>(alloc: Global, areas: &mut Areas<D>) -> Result<bool, Fail> {
+fn lists<D: Disk>(alloc: Global, areas: &mut Areas<D>) -> Result<bool, AllocError> {
     let mut row = head(alloc)?;
     Ok(areas.checkpoint(slice::from_mut(&mut row)).is_ok())
 }
 
-// The header that a checkpoint leaves behind is open at the lower epoch, and the next checkpoint closes it first.
-#[test]
-fn checkpoints_take_turns(rt: HostRuntime) -> Result<(), Fail> {
-    let alloc = rt.alloc();
-    let mut areas = Areas::open(alloc, spool(alloc)?).ok().ok_or("open")?.areas;
-    assert_eq!(rt; areas.plan(&[13]), Ok(115));
-    assert!(rt; lists(alloc, &mut areas)?);
+// A disk after a checkpoint of what lies on it, or nothing where that fails.
+fn listed(alloc: Global, disk: MemDisk) -> Result<MemDisk, Fail> {
+    let mut areas = opened(alloc, disk)?.areas;
+    let done = lists(alloc, &mut areas);
     let disk = areas.into_disk();
-    assert_eq!(rt; disk.bytes().len(), 198);
-    assert_eq!(rt;
-        &disk.bytes()[99..134],
-        [
-            0xA5, 1, 0, 0, 0, 0, 0, 0, 0, 2, 0, 0, 0, 0, 0, 0, 0xA5, 0, 0, 0, 0x0D, 0x40, 0, 0, 0,
-            0, 0, 0, 0, 0, 0, 0, 0, 0, 0
-        ]
-        .as_slice()
-    );
-    assert_eq!(rt; disk.bytes()[0], 0xA5);
-    let opened = Areas::open(alloc, disk).ok().ok_or("open")?;
-    assert_eq!(rt; (opened.payloads.len(), opened.gate), (1, 133));
-    let mut areas = opened.areas;
-    assert!(rt; lists(alloc, &mut areas)?);
-    assert_eq!(rt; areas.plan(&[]), Ok(115));
-    let opened = Areas::open(alloc, areas.into_disk()).ok().ok_or("open")?;
-    assert_eq!(rt; (opened.payloads.len(), opened.gate), (1, 34));
+    if done? {
+        Ok(disk)
+    } else {
+        Err(Fail::from("no checkpoint"))
+    }
+}
+
+// An empty spool of two areas of 99 bytes after a checkpoint.
+fn listed_once(alloc: Global) -> Result<MemDisk, Fail> {
+    let disk = made(alloc, 198)?;
+    listed(alloc, disk)
+}
+
+fn listed_twice(alloc: Global) -> Result<MemDisk, Fail> {
+    let disk = listed_once(alloc)?;
+    listed(alloc, disk)
+}
+
+// How many payloads a disk has, and the gate behind them.
+fn found(alloc: Global, disk: MemDisk) -> Result<(usize, u64), Fail> {
+    let opened = opened(alloc, disk)?;
+    Ok((opened.payloads.len(), opened.gate))
+}
+
+// Where the payloads of a checkpoint end, whose rows have these lengths.
+fn planned(alloc: Global, disk: MemDisk, lengths: &[u64]) -> Result<u64, Fail> {
+    let areas = opened(alloc, disk)?.areas;
+    let end = areas.plan(lengths);
+    drop(areas);
+    Ok(end?)
+}
+
+const LISTED: [u8; 35] = [
+    0xA5, 1, 0, 0, 0, 0, 0, 0, 0, 2, 0, 0, 0, 0, 0, 0, 0xA5, 0, 0, 0, 0x0D, 0x40, 0, 0, 0, 0, 0, 0,
+    0, 0, 0, 0, 0, 0, 0,
+];
+
+#[test]
+fn a_checkpoint_is_planned(rt: HostRuntime) -> Result<(), Fail> {
+    let disk = made(rt.alloc(), 198)?;
+    assert!(rt; planned(rt.alloc(), disk, &[13])? == 115);
+    let disk = listed_twice(rt.alloc())?;
+    assert!(rt; planned(rt.alloc(), disk, &[])? == 115);
     Ok(())
 }
 
-// Whether a checkpoint is done where the device fails after so many calls, how many payloads there are then, and how many
-// after another one.
-fn stopped_after(alloc: Global, calls: u64) -> Result<(bool, usize, usize), Fail>
+// The header that a checkpoint leaves behind is open at the lower epoch.
+#[test]
+fn a_checkpoint_lists_its_rows(rt: HostRuntime) -> Result<(), Fail> {
+    let disk = listed_once(rt.alloc())?;
+    assert!(rt; disk.bytes().len() == 198);
+    assert!(rt; have_at(disk.bytes(), 99, &LISTED));
+    assert!(rt; have_at(disk.bytes(), 0, &[0xA5]));
+    assert!(rt; found(rt.alloc(), disk)? == (1, 133));
+    Ok(())
+}
+
+// The next checkpoint closes it first.
+#[test]
+fn checkpoints_take_turns(rt: HostRuntime) -> Result<(), Fail> {
+    let disk = listed_twice(rt.alloc())?;
+    assert!(rt; found(rt.alloc(), disk)? == (1, 34));
+    Ok(())
+}
+
+// A spool's disk after a checkpoint on a device that fails after so many calls, and whether that was done.
+fn stopped_after(alloc: Global, calls: u64) -> Result<(bool, MemDisk), Fail>
     requires { calls < 100 }
 {
-    let fuse = FuseDisk::new(spool(alloc)?, 4 + calls);
-    let mut areas = Areas::open(alloc, fuse).ok().ok_or("open")?.areas;
-    let done = lists(alloc, &mut areas)?;
+    let fuse = FuseDisk::new(made(alloc, 198)?, 4 + calls);
+    let mut areas = opened(alloc, fuse)?.areas;
+    let done = lists(alloc, &mut areas);
     let disk = areas.into_disk().into_disk();
-    let opened = Areas::open(alloc, disk).ok().ok_or("open")?;
-    let mut areas = opened.areas;
-    if !lists(alloc, &mut areas)? {
-        return Err("the other one")?;
-    }
-    let again = Areas::open(alloc, areas.into_disk()).ok().ok_or("open")?;
-    Ok((done, opened.payloads.len(), again.payloads.len()))
+    Ok((done?, disk))
+}
+
+// How many payloads a disk has, and how many after a checkpoint.
+fn counts(alloc: Global, disk: MemDisk) -> Result<(usize, usize), Fail> {
+    let opened = opened(alloc, disk)?;
+    let count = opened.payloads.len();
+    let disk = listed(alloc, opened.areas.into_disk())?;
+    Ok((count, found(alloc, disk)?.0))
+}
+
+// Whether a checkpoint that is stopped there is done or not, leaves so many payloads, and then lets another be made.
+fn leaves(alloc: Global, calls: u64, done: bool, count: usize) -> Result<bool, Fail>
+    requires { calls < 100 }
+{
+    let (is_done, disk) = stopped_after(alloc, calls)?;
+    Ok(is_done == done && counts(alloc, disk)? == (count, 1))
 }
 
 // A checkpoint of one row takes eleven calls: a read and a sync; the header, and a closed gate with its sync; four for the
@@ -82,9 +127,9 @@ fn stopped_after(alloc: Global, calls: u64) -> Result<(bool, usize, usize), Fail
 #[test]
 fn a_stopped_checkpoint_leaves_old_or_new(rt: HostRuntime) -> Result<(), Fail> {
     for calls in 0..10 {
-        assert_eq!(rt; stopped_after(rt.alloc(), calls)?, (false, 0, 1));
+        assert!(rt; leaves(rt.alloc(), calls, false, 0)?, "{calls} calls");
     }
-    assert_eq!(rt; stopped_after(rt.alloc(), 10)?, (false, 1, 1));
-    assert_eq!(rt; stopped_after(rt.alloc(), 11)?, (true, 1, 1));
+    assert!(rt; leaves(rt.alloc(), 10, false, 1)?);
+    assert!(rt; leaves(rt.alloc(), 11, true, 1)?);
     Ok(())
 }

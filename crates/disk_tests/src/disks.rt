@@ -1,50 +1,82 @@
 //! Disks in memory and in a file, and what fails of them.
+
 use spool_disk::{DeviceFault, Disk, FileDisk, FuseDisk, MemDisk};
 use std::fs;
 use std::fs::File;
 use std::test::Fail;
 
+// How three bytes are read from the second on, and which.
+fn read_three<D: Disk>(disk: &mut D) -> (Result<(), DeviceFault>, [u8; 3]) {
+    let mut got = [9; 3];
+    if disk.len() != 4 {
+        return (Err(DeviceFault), got);
+    }
+    let read = disk.read(1, &mut got);
+    (read, got)
+}
+
+// Whether these bytes are written there.
+fn writes<D: Disk>(disk: &mut D, at: u64, bytes: &[u8]) -> bool {
+    match disk.len().checked_sub(at) {
+        Some(room) => bytes.len() as u64 <= room && disk.write(at, bytes).is_ok(),
+        None => false,
+    }
+}
+
+fn holds<D: Disk>(disk: &mut D) -> bool {
+    writes(disk, 1, &[7, 8]) && disk.sync().is_ok() && read_three(disk) == (Ok(()), [7, 8, 0])
+}
+
+// Whether each call fails.
+fn fails<D: Disk>(disk: &mut D) -> bool {
+    !writes(disk, 1, &[9]) && disk.sync().is_err() && read_three(disk).0 == Err(DeviceFault)
+}
+
 // It holds what was written.
 #[test]
 fn fuse_passes_three_calls(rt: HostRuntime) -> Result<(), Fail> {
     let mut disk = FuseDisk::new(MemDisk::new(rt.alloc(), 4)?, 3);
-    let mut got = [9; 3];
-    assert_eq!(rt; disk.write(1, &[7, 8]), Ok(()));
-    assert_eq!(rt; disk.sync(), Ok(()));
-    assert_eq!(rt; disk.read(1, &mut got), Ok(()));
-    assert_eq!(rt; got, [7, 8, 0]);
-    assert_eq!(rt; disk.write(1, &[9]), Err(DeviceFault));
-    assert_eq!(rt; disk.sync(), Err(DeviceFault));
-    assert_eq!(rt; disk.read(1, &mut got), Err(DeviceFault));
-    assert_eq!(rt; (disk.len(), disk.faults()), (4, 3));
-    assert_eq!(rt; disk.into_disk().bytes(), [0, 7, 8, 0].as_slice());
+    assert!(rt; holds(&mut disk));
+    assert!(rt; fails(&mut disk));
+    assert!(rt; (disk.len(), disk.faults()) == (4, 3));
+    assert!(rt; disk.into_disk().bytes() == [0, 7, 8, 0].as_slice());
     Ok(())
 }
 
-// A file that holds what was written, and then is cut and can't be written.
-#[test]
-fn file_holds_what_was_written(rt: HostRuntime) -> Result<(), Fail> {
-    let name = "disk_tests.disk";
+const NAME: &str = "disk_tests.disk";
+
+// A file of four bytes.
+fn file(rt: &HostRuntime) -> Result<FileDisk, Fail> {
     let file = File::options()
         .read(true)
         .write(true)
         .create(true)
         .truncate(true)
-        .open(&rt, name)?;
+        .open(rt, NAME)?;
     file.set_len(4)?;
-    let mut disk = FileDisk::new(file)?;
-    assert_eq!(rt; disk.len(), 4);
-    assert_eq!(rt; disk.write(1, &[7, 8]), Ok(()));
-    assert_eq!(rt; disk.sync(), Ok(()));
-    let mut got = [0; 3];
-    assert_eq!(rt; disk.read(1, &mut got), Ok(()));
-    assert_eq!(rt; (got, disk.faults()), ([7, 8, 0], 0));
-    let mut disk = FileDisk::new(File::open(&rt, name)?)?;
-    assert_eq!(rt; disk.len(), 4);
-    File::options().write(true).open(&rt, name)?.set_len(2)?;
-    assert_eq!(rt; disk.write(0, &[7]), Err(DeviceFault));
-    assert_eq!(rt; disk.read(1, &mut got), Err(DeviceFault));
-    assert_eq!(rt; disk.faults(), 2);
-    fs::remove_file(&rt, name)?;
+    Ok(FileDisk::new(file)?)
+}
+
+// The same, which can't be written, and is cut once it is opened.
+fn cut_file(rt: &HostRuntime) -> Result<FileDisk, Fail> {
+    let disk = FileDisk::new(File::open(rt, NAME)?)?;
+    let file = File::options().write(true).open(rt, NAME)?;
+    file.set_len(2)?;
+    Ok(disk)
+}
+
+// A file that holds what was written, and then is cut and can't be written.
+#[test]
+fn file_holds_what_was_written(rt: HostRuntime) -> Result<(), Fail> {
+    let mut disk = file(&rt)?;
+    assert!(rt; holds(&mut disk));
+    assert!(rt; (disk.len(), disk.faults()) == (4, 0));
+    drop(disk);
+    let mut disk = cut_file(&rt)?;
+    assert!(rt; !writes(&mut disk, 0, &[7]));
+    assert!(rt; read_three(&mut disk).0 == Err(DeviceFault));
+    assert!(rt; (disk.len(), disk.faults()) == (4, 2));
+    drop(disk);
+    fs::remove_file(&rt, NAME)?;
     Ok(())
 }

@@ -21,17 +21,34 @@ impl Faults for FailsOnce {
     }
 }
 
+// How many bytes a disk has, and how many of its calls have failed.
+fn sizes(disk: &ImageDisk<FailsOnce>) -> (u64, u64) {
+    (disk.len(), disk.faults())
+}
+
+// How two bytes are written at a place.
+fn write(disk: &mut ImageDisk<FailsOnce>, at: u64, bytes: &[u8; 2]) -> Result<(), DeviceFault> {
+    match disk.len().checked_sub(at) {
+        Some(2..) => disk.write(at, bytes),
+        _ => Err(DeviceFault),
+    }
+}
+
+// Whether the disk has these four bytes.
+fn has(disk: &mut ImageDisk<FailsOnce>, bytes: &[u8; 4]) -> bool {
+    let mut got = [0; 4];
+    4 <= disk.len() && disk.read(0, &mut got).is_ok() && &got == bytes
+}
+
 // It holds what was written, and what failed leaves any bytes.
 #[test]
 fn write_that_fails_leaves_any_bytes(rt: HostRuntime) -> Result<(), Fail> {
     let mut disk = ImageDisk::new(rt.alloc(), 4, FailsOnce { passed: 2 })?;
-    assert_eq!(rt; (disk.len(), disk.faults()), (4, 0));
-    assert_eq!(rt; disk.write(1, &[7, 8]), Ok(()));
-    assert_eq!(rt; disk.sync(), Ok(()));
-    assert_eq!(rt; disk.write(2, &[9, 9]), Err(DeviceFault));
-    assert_eq!(rt; (disk.len(), disk.faults()), (4, 1));
-    let mut got = [0; 4];
-    assert_eq!(rt; disk.read(0, &mut got), Ok(()));
-    assert_eq!(rt; got, [0, 7, 0xEE, 0xEE]);
+    assert!(rt; sizes(&disk) == (4, 0));
+    assert!(rt; write(&mut disk, 1, &[7, 8]) == Ok(()));
+    assert!(rt; disk.sync() == Ok(()));
+    assert!(rt; write(&mut disk, 2, &[9, 9]) == Err(DeviceFault));
+    assert!(rt; sizes(&disk) == (4, 1));
+    assert!(rt; has(&mut disk, &[0, 7, 0xEE, 0xEE]));
     Ok(())
 }

@@ -1,56 +1,68 @@
 //! Documents whose bytes lie in several records.
 ghost use Rattle.std.specs.Prelude.{◌≡◌, ◌≤◌, ◌+◌, length};
 
+use crate::spools::{made, opened};
 use documents::read_joined;
-use event_codec::encode_onto;
-use spool_areas::{Areas, Extent, ReadFault, make};
+use spool_areas::{Areas, Extent, ReadFault};
 use spool_disk::{Disk, FuseDisk, MemDisk};
-use spool_types::{Event, JobId, Piece};
-use std::alloc::Global;
+use std::alloc::{AllocError, Global};
 use std::test::Fail;
 
 // The calls of a device that opening the spool of `three_sends` takes: a sync, two headers and two blocks.
 const CALLS_OF_OPEN: u64 = 5;
 
-fn send(alloc: Global, job: u32, bytes: &[u8]) -> Result<Event, Fail> {
-    Ok(Event::Send {
-        job: JobId::new(job).ok_or("no number")?,
-        bytes: Piece::new(Vec::from_slice(alloc, bytes)?)
-            .ok()
-            .ok_or("too many bytes")?,
-    })
+// Adds a payload to the current area, and answers where it begins, or 0.
+fn append(areas: &mut Areas<MemDisk>, frame: &mut [u8]) -> u64 {
+    if frame.len() < 5 || 100_000 < frame.len() {
+        return 0;
+    }
+    areas.append(frame).unwrap_or(0)
 }
 
-// Adds an event to the current area, and answers where its payload begins.
-fn add(alloc: Global, areas: &mut Areas<MemDisk>, event: Event) -> Result<u64, Fail> {
-    let mut frame = Vec::new(alloc);
+// Adds the bytes of a frame: four for its length, its payload in two parts, and its gate.
+fn push_frame(frame: &mut Vec<u8>, head: &[u8], bytes: &[u8]) -> Result<(), AllocError> {
     frame.extend_from_slice(&[0; 4])?;
-    encode_onto(&event, &mut frame)?;
-    frame.extend_from_slice(&[0])?;
-    Ok(areas.append(&mut frame).ok().ok_or("append")?)
+    frame.extend_from_slice(head)?;
+    frame.extend_from_slice(bytes)?;
+    frame.extend_from_slice(&[0])
 }
 
-// A spool with three sends to job 1. Before the second there is one to job 2 that is longer than a block, and before the
-// third another event.
+// Adds a payload of these two parts.
+fn add(
+    alloc: Global,
+    areas: &mut Areas<MemDisk>,
+    head: &[u8],
+    bytes: &[u8],
+) -> Result<u64, AllocError> {
+    let mut frame = Vec::new(alloc);
+    push_frame(&mut frame, head, bytes)?;
+    Ok(append(areas, &mut frame))
+}
+
+// Adds a send to job 2 that is longer than a block.
+fn add_long(alloc: Global, areas: &mut Areas<MemDisk>) -> Result<u64, AllocError> {
+    let bytes = vec![in alloc; b'x'; 65_536]?;
+    add(alloc, areas, &[6, 0, 0, 0, 2, 0, 1, 0, 0], &bytes)
+}
+
+// Adds three sends to job 1. Before the second there is the long one to job 2, and before the third the cancel of that job.
+fn add_all(alloc: Global, areas: &mut Areas<MemDisk>) -> Result<[u64; 5], AllocError> {
+    Ok([
+        add(alloc, areas, &[6, 0, 0, 0, 1, 0, 0, 0, 3], b"abc")?,
+        add_long(alloc, areas)?,
+        add(alloc, areas, &[6, 0, 0, 0, 1, 0, 0, 0, 5], b"defgh")?,
+        add(alloc, areas, &[10, 0, 0, 0, 2], b"")?,
+        add(alloc, areas, &[6, 0, 0, 0, 1, 0, 0, 0, 2], b"ij")?,
+    ])
+}
+
+// A spool that holds them.
 fn three_sends(alloc: Global) -> Result<MemDisk, Fail> {
-    let mut disk = MemDisk::new(alloc, 131_600)?;
-    make(&mut disk).ok().ok_or("make")?;
-    let mut areas = Areas::open(alloc, disk).ok().ok_or("open")?.areas;
-    let mut long = Vec::new(alloc);
-    long.resize(65_536, b'x')?;
-    let places = [
-        add(alloc, &mut areas, send(alloc, 1, b"abc")?)?,
-        add(alloc, &mut areas, send(alloc, 2, &long)?)?,
-        add(alloc, &mut areas, send(alloc, 1, b"defgh")?)?,
-        add(
-            alloc,
-            &mut areas,
-            Event::Cancel(JobId::new(2).ok_or("no number")?),
-        )?,
-        add(alloc, &mut areas, send(alloc, 1, b"ij")?)?,
-    ];
-    if places == [21, 38, 65_588, 65_607, 65_617] {
-        Ok(areas.into_disk())
+    let mut areas = opened(alloc, made(alloc, 131_600)?)?.areas;
+    let places = add_all(alloc, &mut areas);
+    let disk = areas.into_disk();
+    if places? == [21, 38, 65_588, 65_607, 65_617] {
+        Ok(disk)
     } else {
         Err(Fail::from("other places"))
     }
@@ -97,46 +109,44 @@ fn read_twice(
     if disk.len() != 131_600 {
         return Err(Fail::from("another length"));
     }
-    let opened = Areas::open(alloc, disk).ok().ok_or("open")?;
-    if opened.gate != 65_628 || opened.room != 172 {
-        return Err(Fail::from("another area"));
+    match Areas::open(alloc, disk) {
+        Ok(opened) => {
+            if opened.gate != 65_628 || opened.room != 172 {
+                return Err(Fail::from("another area"));
+            }
+            let mut areas = opened.areas;
+            Ok(read_both(&mut areas, at, into))
+        }
+        Err(error) => Err(Fail::from(error.fault)),
     }
-    let mut areas = opened.areas;
-    Ok(read_both(&mut areas, at, into))
 }
 
-// Whole, from within, over an end, at the last byte and behind it, with no more calls than these.
+// Whether these bytes are read from a place on, both times, with no more calls than these.
+fn reads(alloc: Global, calls: u64, at: u64, wanted: &[u8]) -> Result<bool, Fail> {
+    let mut got = [0; 10];
+    let len = wanted.len();
+    if 100 < calls || got.len() < len || ((got.len() - len) as u64) < at {
+        return Err(Fail::from("another row"));
+    }
+    let read = read_twice(alloc, calls, at, &mut got[..len])?;
+    Ok(read == (Ok(()), Ok(())) && &got[..len] == wanted)
+}
+
+// Whole, from within, over an end, at the last byte and behind it.
 #[test]
 fn document_is_read_from_any_place(rt: HostRuntime) -> Result<(), Fail> {
-    let rows: [(u64, u64, &[u8]); 5] = [
-        (4, 0, b"abcdefghij"),
-        (1, 5, b"fg"),
-        (4, 2, b"cdefghi"),
-        (1, 9, b"j"),
-        (0, 10, b""),
-    ];
-    for (calls, at, wanted) in rows {
-        let mut got = Vec::new(rt.alloc());
-        got.resize(wanted.len(), 0)?;
-        if calls > 100 || 10u64.saturating_sub(at) < got.len() as u64 {
-            return Err("another row")?;
-        }
-        assert_eq!(rt;
-            read_twice(rt.alloc(), calls, at, &mut got)?,
-            (Ok(()), Ok(()))
-        );
-        assert_eq!(rt; got.as_slice(), wanted);
-    }
+    assert!(rt; reads(rt.alloc(), 4, 0, b"abcdefghij")?);
+    assert!(rt; reads(rt.alloc(), 1, 5, b"fg")?);
+    assert!(rt; reads(rt.alloc(), 4, 2, b"cdefghi")?);
+    assert!(rt; reads(rt.alloc(), 1, 9, b"j")?);
+    assert!(rt; reads(rt.alloc(), 0, 10, b"")?);
     Ok(())
 }
 
 // The second extent takes another call of the device than the first.
 #[test]
 fn device_that_fails_within_a_document_ends_it(rt: HostRuntime) -> Result<(), Fail> {
-    let mut got = [0; 10];
-    assert_eq!(rt;
-        read_twice(rt.alloc(), 1, 0, &mut got)?,
-        (Err(ReadFault::Disk), Err(ReadFault::Dead))
-    );
+    let read = read_twice(rt.alloc(), 1, 0, &mut [0; 10])?;
+    assert!(rt; read == (Err(ReadFault::Disk), Err(ReadFault::Dead)));
     Ok(())
 }

@@ -1,6 +1,12 @@
 //! The journal of an area, and the window that reads it.
+ghost use Rattle.std.specs.Prelude.{◌≤◌};
+ghost use Rattle.gate_journal.specs.Window.{Holds};
+ghost use Rattle.gate_journal.specs.Journal.{end_of};
+
+use crate::spools::have_at;
 use gate_journal::{Found, Journal, JournalFault, Window, next_entry};
 use spool_disk::{DeviceFault, Disk, FuseDisk, MemDisk};
+use std::alloc::{AllocError, Global};
 use std::test::Fail;
 
 // The frame of the payload 0A 00 00 00 01, its free bytes not zero.
@@ -8,53 +14,109 @@ fn frame_of_five() -> [u8; 10] {
     [0xFF, 0xFF, 0xFF, 0xFF, 0x0A, 0, 0, 0, 1, 0xFF]
 }
 
+// That of the payload 0F.
+fn frame_of_one() -> [u8; 6] {
+    [0, 0, 0, 0, 0x0F, 0]
+}
+
 // The bytes of the area after the payloads 0A 00 00 00 01 and 0F.
 const TWO_ENTRIES: [u8; 20] = [
     0xA5, 0, 0, 0, 5, 0x0A, 0, 0, 0, 1, 0xA5, 0, 0, 0, 1, 0x0F, 0, 0, 0, 0,
 ];
 
+// Whether one of five bytes is appended, and then no empty one.
+fn takes_five<D: Disk>(journal: &mut Journal, disk: &mut D) -> bool
+    requires { end_of journal.old ≤ D.device.size disk.old }
+    ensures { end_of journal.new ≤ D.device.size disk.new }
+{
+    journal.append(disk, &mut frame_of_five()) == Ok(5)
+        && journal.append(disk, &mut [0; 5]) == Err(JournalFault::Full)
+}
+
+// Whether one of one byte is, in the room that is kept, and then no other.
+fn takes_one<D: Disk>(journal: &mut Journal, disk: &mut D) -> bool
+    requires { end_of journal.old ≤ D.device.size disk.old }
+{
+    journal.append_kept(disk, &mut frame_of_one()) == Ok(15)
+        && journal.append_kept(disk, &mut frame_of_one()) == Err(JournalFault::Full)
+}
+
 #[test]
 fn appends_until_it_is_full(rt: HostRuntime) -> Result<(), Fail> {
     let mut disk = MemDisk::new(rt.alloc(), 20)?;
-    let mut journal = Journal::begin(&mut disk, 0, 20).ok().ok_or("begin")?;
-    assert_eq!(rt; journal.append(&mut disk, &mut frame_of_five()), Ok(5));
-    assert_eq!(rt;
-        &disk.bytes()[..11],
-        [0xA5, 0, 0, 0, 5, 0x0A, 0, 0, 0, 1, 0].as_slice()
-    );
-    let mut empty = [0; 5];
-    assert_eq!(rt;
-        journal.append(&mut disk, &mut empty),
-        Err(JournalFault::Full)
-    );
-    let mut reopen = [0, 0, 0, 0, 0x0F, 0];
-    assert_eq!(rt; journal.append_kept(&mut disk, &mut reopen), Ok(15));
-    assert_eq!(rt;
-        journal.append_kept(&mut disk, &mut reopen),
-        Err(JournalFault::Full)
-    );
-    assert_eq!(rt; disk.bytes(), TWO_ENTRIES.as_slice());
+    let Ok(mut journal) = Journal::begin(&mut disk, 0, 20) else {
+        return Err(Fail::from("begin"));
+    };
+    assert!(rt; takes_five(&mut journal, &mut disk));
+    assert!(rt; have_at(disk.bytes(), 0, &[0xA5, 0, 0, 0, 5, 0x0A, 0, 0, 0, 1, 0]));
+    assert!(rt; takes_one(&mut journal, &mut disk));
+    assert!(rt; disk.bytes() == TWO_ENTRIES.as_slice());
     Ok(())
+}
+
+// How two appends end, and whether the device has failed then.
+fn twice<D: Disk>(
+    journal: &mut Journal,
+    disk: &mut D,
+) -> (Result<u64, JournalFault>, Result<u64, JournalFault>, bool)
+    requires { end_of journal.old ≤ D.device.size disk.old }
+{
+    let first = journal.append(disk, &mut frame_of_five());
+    let second = journal.append(disk, &mut frame_of_five());
+    (first, second, disk.sync().is_err())
+}
+
+// The same on a device that fails after so many calls from the beginning of the journal on.
+fn twice_after(
+    alloc: Global,
+    calls: u64,
+) -> Result<(Result<u64, JournalFault>, Result<u64, JournalFault>, bool), Fail> {
+    let mut disk = MemDisk::new(alloc, 20)?;
+    match Journal::begin(&mut disk, 0, 20) {
+        Ok(mut journal) => Ok(twice(&mut journal, &mut FuseDisk::new(disk, calls))),
+        Err(_) => Err(Fail::from("begin")),
+    }
 }
 
 // Each of its four calls of the device may fail.
 #[test]
 fn append_takes_four_device_calls(rt: HostRuntime) -> Result<(), Fail> {
-    for calls in 0..5 {
-        let mut disk = MemDisk::new(rt.alloc(), 20)?;
-        let mut journal = Journal::begin(&mut disk, 0, 20).ok().ok_or("begin")?;
-        let mut fuse = FuseDisk::new(disk, calls);
-        let mut frame = frame_of_five();
-        let (first, second) = if calls < 4 {
-            (Err(JournalFault::Disk), Err(JournalFault::Dead))
-        } else {
-            (Ok(5), Err(JournalFault::Full))
-        };
-        assert_eq!(rt; journal.append(&mut fuse, &mut frame), first);
-        assert_eq!(rt; journal.append(&mut fuse, &mut frame), second);
-        assert!(rt; fuse.sync().is_err());
+    let stopped = (Err(JournalFault::Disk), Err(JournalFault::Dead), true);
+    for calls in 0..4 {
+        assert!(rt; twice_after(rt.alloc(), calls)? == stopped);
     }
+    assert!(rt; twice_after(rt.alloc(), 4)? == (Ok(5), Err(JournalFault::Full), true));
     Ok(())
+}
+
+// Whether these bytes are written there.
+fn writes(disk: &mut MemDisk, at: u64, bytes: &[u8]) -> bool {
+    match disk.len().checked_sub(at) {
+        Some(room) => bytes.len() as u64 <= room && disk.write(at, bytes).is_ok(),
+        None => false,
+    }
+}
+
+// What is found in an area of twenty bytes at its begin, and at the tenth of them.
+fn found(
+    alloc: Global,
+    disk: &mut MemDisk,
+) -> Result<(Result<Found, DeviceFault>, Result<Found, DeviceFault>), AllocError> {
+    let mut window = Window::new(alloc)?;
+    if disk.len() < 20 {
+        return Ok((Err(DeviceFault), Err(DeviceFault)));
+    }
+    let first = next_entry(disk, &mut window, 20, 0);
+    let second = next_entry(disk, &mut window, 20, 10);
+    Ok((first, second))
+}
+
+// How one byte is appended at the tenth.
+fn resumed(disk: &mut MemDisk) -> Result<u64, JournalFault> {
+    if disk.len() < 20 {
+        return Err(JournalFault::Dead);
+    }
+    Journal::resume(0, 20, 10).append_kept(disk, &mut frame_of_one())
 }
 
 // A crash between the two writes leaves a record behind a closed gate: it is no entry, and the next append is written
@@ -62,54 +124,73 @@ fn append_takes_four_device_calls(rt: HostRuntime) -> Result<(), Fail> {
 #[test]
 fn resumes_at_a_gate_that_a_crash_left_closed(rt: HostRuntime) -> Result<(), Fail> {
     let mut disk = MemDisk::new(rt.alloc(), 20)?;
-    assert_eq!(rt; disk.write(0, &TWO_ENTRIES), Ok(()));
-    assert_eq!(rt; disk.write(10, &[0]), Ok(()));
-    let mut window = Window::new(rt.alloc())?;
-    assert_eq!(rt;
-        next_entry(&mut disk, &mut window, 20, 0),
-        Ok(Found::Entry(5, 5))
-    );
-    assert_eq!(rt; next_entry(&mut disk, &mut window, 20, 10), Ok(Found::End));
-    let mut journal = Journal::resume(0, 20, 10);
-    let mut reopen = [0, 0, 0, 0, 0x0F, 0];
-    assert_eq!(rt; journal.append_kept(&mut disk, &mut reopen), Ok(15));
-    assert_eq!(rt; disk.bytes(), TWO_ENTRIES.as_slice());
+    assert!(rt; writes(&mut disk, 0, &TWO_ENTRIES));
+    assert!(rt; writes(&mut disk, 10, &[0]));
+    assert!(rt; found(rt.alloc(), &mut disk)? == (Ok(Found::Entry(5, 5)), Ok(Found::End)));
+    assert!(rt; resumed(&mut disk) == Ok(15));
+    assert!(rt; disk.bytes() == TWO_ENTRIES.as_slice());
     Ok(())
+}
+
+// A disk of a block and 24 bytes, which has the entries from its byte 65,540 on.
+fn long_disk(alloc: Global) -> Result<MemDisk, Fail> {
+    let mut disk = MemDisk::new(alloc, 65_560)?;
+    if writes(&mut disk, 65_540, &TWO_ENTRIES) {
+        Ok(disk)
+    } else {
+        Err(Fail::from("write"))
+    }
+}
+
+// The two bytes at a place, unless the device fails.
+fn two_at<D: Disk>(window: &mut Window, disk: &mut D, place: u64) -> Option<[u8; 2]>
+    requires { Holds D.device disk.old window.old }
+    ensures { Holds D.device disk.new window.new }
+{
+    let mut got = [7; 2];
+    match disk.len().checked_sub(place) {
+        Some(2..) if window.read(disk, place, &mut got).is_ok() => Some(got),
+        _ => None,
+    }
 }
 
 // One call reads 65,536 bytes. After a fault the window has none.
 #[test]
 fn window_reads_a_block_in_one_call(rt: HostRuntime) -> Result<(), Fail> {
-    let mut disk = MemDisk::new(rt.alloc(), 65_560)?;
-    assert_eq!(rt; disk.write(65_540, &TWO_ENTRIES), Ok(()));
-    let mut fuse = FuseDisk::new(disk, 1);
+    let mut fuse = FuseDisk::new(long_disk(rt.alloc())?, 1);
     let mut window = Window::new(rt.alloc())?;
-    let mut got = [7; 2];
-    assert_eq!(rt; window.read(&mut fuse, 5, &mut got), Ok(()));
-    assert_eq!(rt; got, [0, 0]);
-    assert_eq!(rt; window.read(&mut fuse, 65_539, &mut got), Ok(()));
-    assert_eq!(rt; got, [0, 0xA5]);
-    assert_eq!(rt; window.read(&mut fuse, 65_540, &mut got), Err(DeviceFault));
-    assert_eq!(rt; fuse.len(), 65_560);
-    assert_eq!(rt; window.read(&mut fuse, 5, &mut got), Err(DeviceFault));
+    assert!(rt; two_at(&mut window, &mut fuse, 5) == Some([0, 0]));
+    assert!(rt; two_at(&mut window, &mut fuse, 65_539) == Some([0, 0xA5]));
+    assert!(rt; fuse.len() == 65_560);
+    assert!(rt; two_at(&mut window, &mut fuse, 65_540).is_none());
+    assert!(rt; two_at(&mut window, &mut fuse, 5).is_none());
     Ok(())
+}
+
+// Whether a block from the fifth byte on is read, whose last bytes are these.
+fn reads_block<D: Disk>(window: &mut Window, disk: &mut D, block: &mut [u8], last: &[u8]) -> bool
+    requires { Holds D.device disk.old window.old }
+    ensures { Holds D.device disk.new window.new }
+{
+    match disk.len().checked_sub(5) {
+        Some(room) => {
+            block.len() as u64 <= room
+                && window.read(disk, 5, block).is_ok()
+                && block.ends_with(last)
+        }
+        None => false,
+    }
 }
 
 // A read of a block or more takes one call each time, and the window stays as it is.
 #[test]
 fn window_passes_large_reads_on(rt: HostRuntime) -> Result<(), Fail> {
-    let mut disk = MemDisk::new(rt.alloc(), 65_560)?;
-    assert_eq!(rt; disk.write(65_540, &TWO_ENTRIES), Ok(()));
-    let mut fuse = FuseDisk::new(disk, 2);
+    let mut fuse = FuseDisk::new(long_disk(rt.alloc())?, 2);
+    let mut block = vec![in rt.alloc(); 7; 65_536]?;
     let mut window = Window::new(rt.alloc())?;
-    let mut got = [7; 2];
-    assert_eq!(rt; window.read(&mut fuse, 65_540, &mut got), Ok(()));
-    let mut all = vec![in rt.alloc(); 7; 65_536]?;
-    assert!(rt; all.len() as u64 + 5 <= fuse.len());
-    assert_eq!(rt; window.read(&mut fuse, 5, &mut all), Ok(()));
-    assert_eq!(rt; &all[65_534..], [0, 0xA5].as_slice());
-    assert_eq!(rt; fuse.len(), 65_560);
-    assert_eq!(rt; window.read(&mut fuse, 65_545, &mut got), Ok(()));
-    assert_eq!(rt; got, [0x0A, 0]);
+    assert!(rt; two_at(&mut window, &mut fuse, 65_540) == Some([0xA5, 0]));
+    assert!(rt; reads_block(&mut window, &mut fuse, &mut block, &[0, 0xA5]));
+    assert!(rt; fuse.len() == 65_560);
+    assert!(rt; two_at(&mut window, &mut fuse, 65_545) == Some([0x0A, 0]));
     Ok(())
 }

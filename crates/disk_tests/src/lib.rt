@@ -20,3 +20,5 @@ mod journals;
 mod making;
 #[cfg(test)]
 mod openings;
+#[cfg(test)]
+mod spools;

@@ -1,17 +1,22 @@
 //! A device that is made a spool.
 use spool_areas::{MakeFault, make};
 use spool_disk::{Disk, FuseDisk, MemDisk};
+use std::alloc::{AllocError, Global};
 use std::test::Fail;
+
+// How a device is made a spool that fails after so many calls, and whether it fails then.
+fn made_after(alloc: Global, calls: u64) -> Result<(Result<(), MakeFault>, bool), AllocError> {
+    let mut fuse = FuseDisk::new(MemDisk::new(alloc, 46)?, calls);
+    let made = make(&mut fuse);
+    Ok((made, fuse.sync().is_err()))
+}
 
 // Each of its eight calls of the device may fail.
 #[test]
 fn a_spool_is_made_in_eight_calls(rt: HostRuntime) -> Result<(), Fail> {
     for calls in 0..8 {
-        let mut fuse = FuseDisk::new(MemDisk::new(rt.alloc(), 46)?, calls);
-        assert_eq!(rt; make(&mut fuse), Err(MakeFault::Disk));
+        assert!(rt; made_after(rt.alloc(), calls)?.0 == Err(MakeFault::Disk));
     }
-    let mut fuse = FuseDisk::new(MemDisk::new(rt.alloc(), 46)?, 8);
-    assert_eq!(rt; make(&mut fuse), Ok(()));
-    assert!(rt; fuse.sync().is_err());
+    assert!(rt; made_after(rt.alloc(), 8)? == (Ok(()), true));
     Ok(())
 }

@@ -1,5 +1,6 @@
 //! Spools that are opened.
-use spool_areas::{Areas, Extent, OpenFault, make};
+use crate::spools::{made, opened};
+use spool_areas::{Areas, Extent, OpenFault};
 use spool_disk::{Disk, FuseDisk, MemDisk};
 use std::alloc::Global;
 use std::test::Fail;
@@ -65,64 +66,109 @@ const ROWS: [Row; 7] = [
 ];
 
 fn write(disk: &mut MemDisk, at: u64, bytes: &[u8]) -> Result<(), Fail> {
-    let room = disk.len().checked_sub(at).ok_or("behind the end")?;
-    if room < bytes.len() as u64 {
-        return Err("too long")?;
+    match disk.len().checked_sub(at) {
+        Some(room) if bytes.len() as u64 <= room => Ok(disk.write(at, bytes)?),
+        _ => Err(Fail::from("behind the end")),
     }
-    disk.write(at, bytes).ok().ok_or("write")?;
+}
+
+fn write_all(disk: &mut MemDisk, writes: Writes) -> Result<(), Fail> {
+    for (at, bytes) in writes {
+        write(disk, *at, bytes)?;
+    }
     Ok(())
 }
 
 fn disk_with(alloc: Global, writes: Writes) -> Result<MemDisk, Fail> {
     let mut disk = MemDisk::new(alloc, 198)?;
-    for (at, bytes) in writes {
-        write(&mut disk, *at, bytes)?;
-    }
+    write_all(&mut disk, writes)?;
     Ok(disk)
+}
+
+// Whether a row is so.
+fn opens(alloc: Global, row: Row) -> Result<bool, Fail> {
+    let (writes, payloads, damage, gate) = row;
+    let opened = opened(alloc, disk_with(alloc, writes)?)?;
+    Ok(opened.payloads.as_slice() == payloads && opened.damage == damage && opened.gate == gate)
 }
 
 #[test]
 fn a_spool_opens_at_its_current_area(rt: HostRuntime) -> Result<(), Fail> {
-    for (writes, payloads, damage, gate) in ROWS {
-        let disk = disk_with(rt.alloc(), writes)?;
-        let opened = Areas::open(rt.alloc(), disk).ok().ok_or("open")?;
-        assert_eq!(rt; opened.payloads.as_slice(), payloads);
-        assert_eq!(rt; (opened.damage, opened.gate), (damage, gate));
+    for row in ROWS {
+        assert!(rt; opens(rt.alloc(), row)?);
     }
     Ok(())
+}
+
+// The disk of an opening that fails as the device does, after so many calls.
+fn handed_back(alloc: Global, calls: u64) -> Result<MemDisk, Fail> {
+    let fuse = FuseDisk::new(disk_with(alloc, FIRST_AREA)?, calls);
+    match Areas::open(alloc, fuse) {
+        Ok(_) => Err(Fail::from("opened")),
+        Err(error) => {
+            if error.fault == OpenFault::Disk {
+                Ok(error.disk.into_disk())
+            } else {
+                Err(Fail::from(error.fault))
+            }
+        }
+    }
+}
+
+// Whether it is as it was.
+fn is_handed_back(alloc: Global, calls: u64) -> Result<bool, Fail> {
+    let before = disk_with(alloc, FIRST_AREA)?;
+    let disk = handed_back(alloc, calls)?;
+    Ok(disk.bytes() == before.bytes())
+}
+
+// How many payloads an opening finds on a device that fails after so many calls.
+fn payloads_after(alloc: Global, calls: u64) -> Result<usize, Fail> {
+    let fuse = FuseDisk::new(disk_with(alloc, FIRST_AREA)?, calls);
+    Ok(opened(alloc, fuse)?.payloads.len())
 }
 
 // A sync, two headers, and one block with all records: four calls. The disk is handed back as it was.
 #[test]
 fn each_device_call_of_an_opening_may_fail(rt: HostRuntime) -> Result<(), Fail> {
-    let before = disk_with(rt.alloc(), FIRST_AREA)?;
     for calls in 0..4 {
-        let fuse = FuseDisk::new(disk_with(rt.alloc(), FIRST_AREA)?, calls);
-        let error = Areas::open(rt.alloc(), fuse).err().ok_or("opened")?;
-        assert_eq!(rt; error.fault, OpenFault::Disk);
-        assert_eq!(rt; error.disk.into_disk().bytes(), before.bytes());
+        assert!(rt; is_handed_back(rt.alloc(), calls)?, "{calls} calls");
     }
-    assert!(rt; Areas::open(rt.alloc(), FuseDisk::new(before, 4)).is_ok());
+    assert!(rt; payloads_after(rt.alloc(), 4)? == 2);
     Ok(())
 }
 
-// 12,000 records of one byte are longer than a block: a sync, two headers and two blocks.
+// Whether 12,000 records of one byte are added.
+fn add_many(areas: &mut Areas<MemDisk>) -> bool {
+    for _ in 0..12_000 {
+        if areas.append(&mut [0, 0, 0, 0, 7, 0]).is_err() {
+            return false;
+        }
+    }
+    true
+}
+
+// A spool that has them.
+fn with_many(alloc: Global) -> Result<MemDisk, Fail> {
+    let mut areas = opened(alloc, made(alloc, 200_000)?)?.areas;
+    if add_many(&mut areas) {
+        Ok(areas.into_disk())
+    } else {
+        Err(Fail::from("append"))
+    }
+}
+
+// They are longer than a block: a sync, two headers and two blocks.
 #[test]
 fn a_journal_is_read_in_blocks(rt: HostRuntime) -> Result<(), Fail> {
-    let mut disk = MemDisk::new(rt.alloc(), 200_000)?;
-    assert_eq!(rt; make(&mut disk), Ok(()));
-    let mut areas = Areas::open(rt.alloc(), disk).ok().ok_or("open")?.areas;
-    for _ in 0..12_000 {
-        let _ = areas.append(&mut [0, 0, 0, 0, 7, 0]).ok().ok_or("append")?;
-    }
-    let fuse = FuseDisk::new(areas.into_disk(), 5);
-    let opened = Areas::open(rt.alloc(), fuse).ok().ok_or("open")?;
-    assert_eq!(rt; opened.payloads.len(), 12_000);
+    let fuse = FuseDisk::new(with_many(rt.alloc())?, 5);
+    let opened = opened(rt.alloc(), fuse)?;
     let last = Extent {
         place: 72_015,
         len: 1,
     };
-    assert_eq!(rt; opened.payloads.last(), Some(&last));
-    assert_eq!(rt; (opened.gate, opened.room), (72_016, 27_984));
+    assert!(rt; opened.payloads.len() == 12_000);
+    assert!(rt; opened.payloads.last() == Some(&last));
+    assert!(rt; (opened.gate, opened.room) == (72_016, 27_984));
     Ok(())
 }

@@ -16,7 +16,7 @@ use Rattle.field_codec.specs.declared.fault.CodecFault.{CodecFault}
 use Rattle.field_codec.specs.declared.fault.CodecFault.TheVariants.{Range}
 use Rattle.event_codec.specs.Spelling.{text_code, pages_code, words_code, attribute_code, level_number, message_code, effect_code, effects_code, IsIn, IsText, IsPages, AreWords, IsEffect}
 use Rattle.event_codec.specs.Reading.{Field, ◌>>=◌, number_at, ranged_at, text_at, list_at, pages_at, total_at, words_at, worded_at, attribute_at, level_of, level_at, message_at, kind_of_effect, effect_at, some_room, effect_within, listed_at, effects_at}
-use Rattle.event_codec.proofs.FieldLaws.{IsBytes, bind_ok, ok_is, Takes, Takes-then, Reads, got, again-step, again-last, wide16, wide32, reads_number, reads_ranged}
+use Rattle.event_codec.proofs.FieldLaws.{IsBytes, bind_ok, ok_is, Takes, Takes-then, Reads, got, again-step, again-last, wide16, wide32, reads_number, reads_ranged, ok_as}
 use Rattle.event_codec.proofs.TextLaws.{reads_reason, reads_attribute_name, reads_message}
 use Rattle.event_codec.proofs.ListLaws.{list_takes, list_again}
 use Rattle.event_codec.proofs.FilterLaws.{Anything, chosen, refused, reads_byte}
@@ -41,7 +41,7 @@ record Told (bytes : List ℕ) (x : Effect) (rest : List ℕ) : Type 0 where
 
 -- the effect that was read is the one that was meant
 told_as : (bytes : List ℕ) (y : Effect) (after : List ℕ) (x : Effect) (rest : List ℕ) → (let r : Result (Effect × List ℕ) CodecFault = Ok (y, after) in r) ≡ Ok (x, rest) → Told bytes y after → Told bytes x rest
-told_as bytes y after x rest same this = subst (λ (z : Effect × List ℕ). Told bytes z.0 z.1) (ok_is (y, after) (x, rest) same) this
+told_as bytes y after x rest same this = ok_as (λ (z : Effect × List ℕ). Told bytes z.0 z.1) (y, after) (x, rest) same this
 
 within_wide : (n : ℕ) → Wide n → IsIn 0 4294967295 n
 within_wide n h = record { at_least = omega arith; at_most = omega (arith, h) }
@@ -210,7 +210,7 @@ level_takes bytes p rest fits e =
     let s = got (number_at w8) (to_be_bytes w8) Byte reads_byte bytes (λ n. level_of n.0 >>= λ level. Ok (level, n.1)) (p, rest) fits e in
     let c = bind_ok (level_of s.value) (λ level. Ok (level, s.rest)) (p, rest) s.then in
     let taken : Takes bytes (level_code c.value) s.rest = subst (λ (n : ℕ). Takes bytes (to_be_bytes w8 n) s.rest) (level_of_ok s.value c.value c.was) s.taken in
-    subst (λ (x : Level × List ℕ). Takes bytes (level_code x.0) x.1 × Anything x.0) (ok_is (c.value, s.rest) (p, rest) c.then) (taken, tt)
+    ok_as (λ (x : Level × List ℕ). Takes bytes (level_code x.0) x.1 × Anything x.0) (c.value, s.rest) (p, rest) c.then (taken, tt)
 
 level_again : (p : Level) (rest : List ℕ) → Anything p → level_at (level_code p ++ rest) ≡ Ok (p, rest)
 unfolding level_at
@@ -315,7 +315,7 @@ within_takes room bytes x left rest fits e =
     let a = got effect_at effect_code IsLegal reads_effect bytes (λ effect. some_room (room_left (effect_size effect.0) room) >>= λ left. Ok (effect.0, (left, effect.1))) (x, (left, rest)) fits e in
     let b = bind_ok (some_room (room_left (effect_size a.value) room)) (λ left. Ok (a.value, (left, a.rest))) (x, (left, rest)) a.then in
     let this : OneWithin room bytes a.value b.value a.rest = record { taken = a.taken; legal = a.legal; fits = placed (effect_size a.value) room b.value (nat_le (effect_size a.value) room) refl b.was } in
-    subst (λ (z : Effect × (ℕ × List ℕ)). OneWithin room bytes z.0 z.1.0 z.1.1) (ok_is (a.value, (b.value, a.rest)) (x, (left, rest)) b.then) this
+    ok_as (λ (z : Effect × (ℕ × List ℕ)). OneWithin room bytes z.0 z.1.0 z.1.1) (a.value, (b.value, a.rest)) (x, (left, rest)) b.then this
 
 within_again : (room : ℕ) (x : Effect) (left : ℕ) (more rest : List ℕ) → IsLegal x → effect_size x + left ≡ room → effect_within (room, (effect_code x ++ more) ++ rest) ≡ Ok (x, (left, more ++ rest))
 unfolding effect_within
@@ -341,7 +341,7 @@ pub listed_takes : (n room : ℕ) (bytes : List ℕ) (es : List Effect) (left : 
 unfolding list_at
 listed_takes zero room bytes es left rest fits e =
     let none : Within zero room bytes [] room bytes = record { taken = record { parts = refl; rest_fits = fits }; count = refl; each = tt; enough = refl; fits = omega arith } in
-    subst (λ (y : List Effect × (ℕ × List ℕ)). Within zero room bytes y.0 y.1.0 y.1.1) (ok_is ([], (room, bytes)) (es, (left, rest)) e) none
+    ok_as (λ (y : List Effect × (ℕ × List ℕ)). Within zero room bytes y.0 y.1.0 y.1.1) ([], (room, bytes)) (es, (left, rest)) e none
 listed_takes (suc n) room bytes es left rest fits e =
     let a = bind_ok (effect_within (room, bytes)) (λ first. list_at effect_within n first.1 >>= λ others. Ok (first.0 ∷ others.0, others.1)) (es, (left, rest)) e in
     let x = a.value.0 in
@@ -358,7 +358,7 @@ listed_takes (suc n) room bytes es left rest fits e =
       enough = all_enough x b.value.0 one.legal.1 others.enough;
       fits = omega (arith, one.fits, others.fits);
     } in
-    subst (λ (y : List Effect × (ℕ × List ℕ)). Within (suc n) room bytes y.0 y.1.0 y.1.1) (ok_is (x ∷ b.value.0, (b.value.1.0, b.value.1.1)) (es, (left, rest)) b.then) this
+    ok_as (λ (y : List Effect × (ℕ × List ℕ)). Within (suc n) room bytes y.0 y.1.0 y.1.1) (x ∷ b.value.0, (b.value.1.0, b.value.1.1)) (es, (left, rest)) b.then this
 
 pub listed_again : (es : List Effect) (room left : ℕ) (rest : List ℕ) → AllByRecursion IsEffect es → list_all names_enough es ≡ true → effects_size es + left ≡ room → list_at effect_within (length es) (room, flat_map effect_code es ++ rest) ≡ Ok (es, (left, rest))
 unfolding list_at
@@ -392,7 +392,7 @@ numbered_take bytes count after es rest t e =
       taken = subst (λ (n : ℕ). Takes bytes (to_be_bytes w16 n ++ flat_map effect_code b.value.0) b.value.1.1) (sym w.count) both;
       legal = record { are = record { enough = w.enough; short = omega (arith, w.fits) }; each = w.each };
     } in
-    subst (λ (y : List Effect × List ℕ). Numbered bytes y.0 y.1) (ok_is (b.value.0, b.value.1.1) (es, rest) b.then) this
+    ok_as (λ (y : List Effect × List ℕ). Numbered bytes y.0 y.1) (b.value.0, b.value.1.1) (es, rest) b.then this
 
 abbrev reads_total : Reads (number_at w16) (to_be_bytes w16) (λ n. n < 2 ^ 16)
 reads_total = reads_number w16 (2 ^ 16) wide16

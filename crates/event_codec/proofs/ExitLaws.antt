@@ -7,7 +7,7 @@ use Rattle.spool_types.specs.declared.effect.Exit.TheVariants.{Code, Signal, NoS
 use Rattle.field_codec.specs.declared.fault.CodecFault.TheVariants.{Range}
 use Rattle.event_codec.specs.Spelling.{exit_code, IsIn, IsExit}
 use Rattle.event_codec.specs.Reading.{number_at, status_at, kind_of_exit, exit_at}
-use Rattle.event_codec.proofs.FieldLaws.{IsBytes, done, ok_is, Takes, Takes-then, Reads, got, again-then, again-last}
+use Rattle.event_codec.proofs.FieldLaws.{IsBytes, done, Takes, Takes-then, Reads, got, again-then, again-last, ok_as}
 use Rattle.event_codec.proofs.FilterLaws.{chosen, refused, reads_byte}
 
 abbrev pub Byte : ℕ → Type 0
@@ -25,7 +25,7 @@ of_byte bytes kind k after t e = subst (λ (n : ℕ). Takes bytes (to_be_bytes w
 bare : (bytes after : List ℕ) (y x : Exit) (rest : List ℕ) → Takes bytes (exit_code y) after → IsExit y → done {A = Exit × List ℕ} (y, after) ≡ Ok (x, rest) → Exited bytes x rest
 bare bytes after y x rest t legal same =
     let this : Exited bytes y after = record { taken = t; legal = legal } in
-    subst (λ (z : Exit × List ℕ). Exited bytes z.0 z.1) (ok_is (y, after) (x, rest) same) this
+    ok_as (λ (z : Exit × List ℕ). Exited bytes z.0 z.1) (y, after) (x, rest) same this
 
 -- an end with a status
 coded : (bytes after : List ℕ) (x : Exit) (rest : List ℕ) → Takes bytes (to_be_bytes w8 0) after → status_at after ≡ Ok (x, rest) → Exited bytes x rest
@@ -35,7 +35,7 @@ coded bytes after x rest t e =
     let both = Takes-then bytes (to_be_bytes w8 0) after (to_be_bytes w8 a.value) a.rest t a.taken in
     let within : IsIn 0 255 a.value = record { at_least = omega arith; at_most = omega (arith, a.legal) } in
     let this : Exited bytes (Code a.value) a.rest = record { taken = both; legal = within } in
-    subst (λ (z : Exit × List ℕ). Exited bytes z.0 z.1) (ok_is (Code a.value, a.rest) (x, rest) a.then) this
+    ok_as (λ (z : Exit × List ℕ). Exited bytes z.0 z.1) (Code a.value, a.rest) (x, rest) a.then this
 
 kind_take : (bytes : List ℕ) (kind : ℕ) (after : List ℕ) (x : Exit) (rest : List ℕ) → Takes bytes (to_be_bytes w8 kind) after → kind_of_exit kind after ≡ Ok (x, rest) → Exited bytes x rest
 unfolding kind_of_exit

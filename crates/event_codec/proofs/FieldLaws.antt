@@ -50,6 +50,14 @@ done x = Ok x
 pub ok_is : {A : Type 0} (x y : A) → done x ≡ done y → x ≡ y
 ok_is x y e = cc
 
+-- what holds of a value holds of one that is equal, with both written out
+pub subst_at : {A : Type 0} (P : A → Type 0) (x y : A) → x ≡ y → P x → P y
+subst_at P x y same this = subst P same this
+
+-- what holds of a value holds of the value that was read
+pub ok_as : {A : Type 0} (P : A → Type 0) (x y : A) → done x ≡ done y → P x → P y
+ok_as P x y e this = subst P (ok_is x y e) this
+
 -- what a reader took from the front
 pub record Takes (bytes text rest : List ℕ) : Type 0 where
   pub parts : bytes ≡ text ++ rest
@@ -101,8 +109,8 @@ reads_then {A = A} first code Legal second more Rest part reads others = record 
   takes = λ bytes b rest fits e.
       let a = got first code Legal reads bytes (λ a. second a.0 a.1) (b, rest) fits e in
       let s = (others a.value).takes a.rest b rest a.taken.rest_fits a.then in
-      let taken : Takes bytes (code (part b)) a.rest = subst (λ (v : A). Takes bytes (code v) a.rest) (sym s.1.0) a.taken in
-      (taken ⨾ s.0, (subst Legal (sym s.1.0) a.legal, s.1.1));
+      let taken : Takes bytes (code (part b)) a.rest = subst_at (λ (v : A). Takes bytes (code v) a.rest) a.value (part b) (sym s.1.0) a.taken in
+      (taken ⨾ s.0, (subst_at Legal a.value (part b) (sym s.1.0) a.legal, s.1.1));
   again = λ b rest legal. again-step first code Legal reads (part b) (more b) rest (λ a. second a.0 a.1) (Ok (b, rest)) legal.0 ((others (part b)).again b rest (refl, legal.1));
 }
 
@@ -182,7 +190,7 @@ number_takes w limit wide bytes n rest fits e =
     let p = part_takes (byte_len w) bytes s.value.0 s.value.1 fits s.was in
     let part_fits : IsBytes s.value.0 = rw p.front (IsBytes-take (byte_len w) bytes fits) in
     let first : Takes bytes (to_be_bytes w (from_be_bytes w s.value.0)) s.value.1 = rw (wide.back s.value.0 p.len part_fits) p.taken in
-    subst (λ (x : ℕ × List ℕ). Takes bytes (to_be_bytes w x.0) x.1 × (x.0 < limit)) (ok_is (from_be_bytes w s.value.0, s.value.1) (n, rest) s.then) (first, wide.below s.value.0 part_fits)
+    ok_as (λ (x : ℕ × List ℕ). Takes bytes (to_be_bytes w x.0) x.1 × (x.0 < limit)) (from_be_bytes w s.value.0, s.value.1) (n, rest) s.then (first, wide.below s.value.0 part_fits)
 
 number_again : (w : Width) (limit : ℕ) (wide : IsWide w limit) (n : ℕ) (rest : List ℕ) → n < limit → number_at w (to_be_bytes w n ++ rest) ≡ Ok (n, rest)
 unfolding number_at
@@ -205,7 +213,8 @@ ranged_takes least most w limit wide bytes n rest fits e =
     let c = bind_ok (ranged least most s.value) (λ number. Ok (number, s.rest)) (n, rest) s.then in
     let g = passed_ok (nat_le least s.value && nat_le s.value most) Range s.value c.value c.was in
     let h : IsIn least most s.value = within least most s.value g.0 in
-    subst (λ (x : ℕ × List ℕ). Takes bytes (to_be_bytes w x.0) x.1 × IsIn least most x.0) (ap (λ k. (k, s.rest)) g.1 ∙ ok_is (c.value, s.rest) (n, rest) c.then) (s.taken, h)
+    let first : Takes bytes (to_be_bytes w c.value) s.rest × IsIn least most c.value = subst_at (λ (k : ℕ). Takes bytes (to_be_bytes w k) s.rest × IsIn least most k) s.value c.value g.1 (s.taken, h) in
+    ok_as (λ (x : ℕ × List ℕ). Takes bytes (to_be_bytes w x.0) x.1 × IsIn least most x.0) (c.value, s.rest) (n, rest) c.then first
 
 ranged_again : (least most : ℕ) (w : Width) (limit : ℕ) (wide : IsWide w limit) → most < limit → (n : ℕ) (rest : List ℕ) → IsIn least most n → ranged_at least most w (to_be_bytes w n ++ rest) ≡ Ok (n, rest)
 unfolding ranged_at ranged checked

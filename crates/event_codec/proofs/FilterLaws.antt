@@ -10,7 +10,7 @@ use Rattle.field_codec.specs.declared.fault.CodecFault.{CodecFault}
 use Rattle.field_codec.specs.declared.fault.CodecFault.TheVariants.{Range}
 use Rattle.event_codec.specs.Spelling.{text_code, counted_code, policy_number, filters_code, IsIn, IsText, AreFilters}
 use Rattle.event_codec.specs.Reading.{◌>>=◌, number_at, ranged_at, policy_of, policy_at, text_at, list_at, filters_at, some_filters_at, flagged_filters_at, maybe_filters_at}
-use Rattle.event_codec.proofs.FieldLaws.{IsBytes, bind_ok, ok_is, Takes, Takes-then, Reads, got, again-then, again-last, wide8, reads_number, reads_ranged}
+use Rattle.event_codec.proofs.FieldLaws.{IsBytes, bind_ok, ok_is, Takes, Takes-then, Reads, got, again-then, again-last, wide8, reads_number, reads_ranged, ok_as}
 use Rattle.event_codec.proofs.ListLaws.{list_takes, list_again}
 use Rattle.event_codec.proofs.TextLaws.{reads_filter_name}
 
@@ -72,7 +72,7 @@ policy_takes bytes p rest fits e =
     let s = got (number_at w8) (to_be_bytes w8) (λ n. n < 2 ^ 8) reads_byte bytes (λ n. policy_of n.0 >>= λ policy. Ok (policy, n.1)) (p, rest) fits e in
     let c = bind_ok (policy_of s.value) (λ policy. Ok (policy, s.rest)) (p, rest) s.then in
     let taken : Takes bytes (policy_code c.value) s.rest = subst (λ (n : ℕ). Takes bytes (to_be_bytes w8 n) s.rest) (policy_of_ok s.value c.value c.was) s.taken in
-    subst (λ (x : Policy × List ℕ). Takes bytes (policy_code x.0) x.1 × Anything x.0) (ok_is (c.value, s.rest) (p, rest) c.then) (taken, tt)
+    ok_as (λ (x : Policy × List ℕ). Takes bytes (policy_code x.0) x.1 × Anything x.0) (c.value, s.rest) (p, rest) c.then (taken, tt)
 
 policy_again : (p : Policy) (rest : List ℕ) → Anything p → policy_at (policy_code p ++ rest) ≡ Ok (p, rest)
 unfolding policy_at
@@ -128,7 +128,7 @@ some_filters bytes flag after o rest t e h =
     let one_taken : Takes bytes (to_be_bytes w8 1) after = subst (λ (n : ℕ). Takes bytes (to_be_bytes w8 n) after) e t in
     let both = Takes-then bytes (to_be_bytes w8 1) after (counted_code c.value) c.rest one_taken c.taken in
     let some : Maybe bytes (Some c.value) c.rest = record { taken = both; legal = c.legal } in
-    subst (λ (x : Option (List (List ℕ)) × List ℕ). Maybe bytes x.0 x.1) (ok_is (Some c.value, c.rest) (o, rest) c.then) some
+    ok_as (λ (x : Option (List (List ℕ)) × List ℕ). Maybe bytes x.0 x.1) (Some c.value, c.rest) (o, rest) c.then some
 
 flagged_take : (bytes : List ℕ) (flag : ℕ) (after : List ℕ) (o : Option (List (List ℕ))) (rest : List ℕ) → Takes bytes (to_be_bytes w8 flag) after → flagged_filters_at flag after ≡ Ok (o, rest) → Maybe bytes o rest
 unfolding flagged_filters_at

@@ -6,7 +6,7 @@ use Rattle.spool_types.specs.Limits.{greatest_moment}
 use Rattle.field_codec.specs.declared.fault.CodecFault.TheVariants.{Range}
 use Rattle.event_codec.specs.Spelling.{flag_code, until_code, IsIn, IsMoment}
 use Rattle.event_codec.specs.Reading.{◌>>=◌, number_at, ranged_at, flag_of, flag_at, moment_at, flagged_until_at, until_at}
-use Rattle.event_codec.proofs.FieldLaws.{IsBytes, bind_ok, ok_is, Takes, Takes-then, Reads, got, again-then, again-last, wide64, reads_ranged}
+use Rattle.event_codec.proofs.FieldLaws.{IsBytes, bind_ok, ok_is, Takes, Takes-then, Reads, got, again-then, again-last, wide64, reads_ranged, ok_as}
 use Rattle.event_codec.proofs.FilterLaws.{Anything, chosen, refused, reads_byte}
 
 -- ---- flags
@@ -43,7 +43,7 @@ flag_takes bytes flag rest fits e =
     let s = got (number_at w8) (to_be_bytes w8) (λ n. n < 2 ^ 8) reads_byte bytes (λ n. flag_of n.0 >>= λ flag. Ok (flag, n.1)) (flag, rest) fits e in
     let c = bind_ok (flag_of s.value) (λ flag. Ok (flag, s.rest)) (flag, rest) s.then in
     let taken : Takes bytes (flag_code c.value) s.rest = subst (λ (n : ℕ). Takes bytes (to_be_bytes w8 n) s.rest) (flag_of_ok s.value c.value c.was) s.taken in
-    subst (λ (x : Bool × List ℕ). Takes bytes (flag_code x.0) x.1 × Anything x.0) (ok_is (c.value, s.rest) (flag, rest) c.then) (taken, tt)
+    ok_as (λ (x : Bool × List ℕ). Takes bytes (flag_code x.0) x.1 × Anything x.0) (c.value, s.rest) (flag, rest) c.then (taken, tt)
 
 flag_again : (flag : Bool) (rest : List ℕ) → Anything flag → flag_at (flag_code flag ++ rest) ≡ Ok (flag, rest)
 unfolding flag_at

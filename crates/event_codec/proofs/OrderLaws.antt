@@ -12,7 +12,7 @@ use Rattle.event_codec.specs.Spelling.{text_code, counted_code, attribute_code, 
 use Rattle.event_codec.specs.RowSpelling.{attributes_code, name_of, Ascend}
 use Rattle.event_codec.specs.Reading.{◌>>=◌, checked, ranged_at, text_at, list_at}
 use Rattle.event_codec.specs.RowReading.{last_of, is_above, Item, reason_after, attribute_after, ascending_at, reasons_at, attributes_at}
-use Rattle.event_codec.proofs.FieldLaws.{IsBytes, bind_ok, passed_ok, ok_is, Takes, Takes-then, Reads, got, again-then, again-last, wide8, reads_ranged}
+use Rattle.event_codec.proofs.FieldLaws.{IsBytes, bind_ok, passed_ok, ok_is, Takes, Takes-then, Reads, got, again-then, again-last, wide8, reads_ranged, ok_as}
 use Rattle.event_codec.proofs.TextLaws.{reads_reason, reads_attribute_name, reads_message}
 
 -- the last of texts that were pushed one by one
@@ -69,7 +69,7 @@ ordered_takes : {A : Type 0} (one : Option (List ℕ) × List ℕ → Item A) (k
     → IsBytes bytes → list_at one n (before, bytes) ≡ Ok (xs, (next, rest)) → Ordered key code Legal before n bytes xs rest
 unfolding list_at
 ordered_takes {A = A} one key code Legal reads zero before bytes xs next rest fits e =
-    subst (λ (y : List A × (Option (List ℕ) × List ℕ)). Ordered key code Legal before zero bytes y.0 y.1.1) (ok_is ([], (before, bytes)) (xs, (next, rest)) e) (record { taken = record { parts = refl; rest_fits = fits }; count = refl; legal = tt; ascend = tt })
+    ok_as (λ (y : List A × (Option (List ℕ) × List ℕ)). Ordered key code Legal before zero bytes y.0 y.1.1) ([], (before, bytes)) (xs, (next, rest)) e (record { taken = record { parts = refl; rest_fits = fits }; count = refl; legal = tt; ascend = tt })
 ordered_takes {A = A} one key code Legal reads (suc n) before bytes xs next rest fits e =
     let a = bind_ok (one (before, bytes)) (λ first. list_at one n first.1 >>= λ others. Ok (first.0 ∷ others.0, others.1)) (xs, (next, rest)) e in
     let f = reads.takes before bytes a.value.0 a.value.1.0 a.value.1.1 fits a.was in
@@ -77,7 +77,7 @@ ordered_takes {A = A} one key code Legal reads (suc n) before bytes xs next rest
     let others = ordered_takes one key code Legal reads n a.value.1.0 a.value.1.1 b.value.0 b.value.1.0 b.value.1.1 f.taken.rest_fits b.was in
     let both = Takes-then bytes (code a.value.0) a.value.1.1 (flat_map code b.value.0) b.value.1.1 f.taken others.taken in
     let ascend : AscendFrom key (Some (key a.value.0)) b.value.0 = subst (λ (k : Option (List ℕ)). AscendFrom key k b.value.0) f.next_is others.ascend in
-    subst (λ (y : List A × (Option (List ℕ) × List ℕ)). Ordered key code Legal before (suc n) bytes y.0 y.1.1) (ok_is (a.value.0 ∷ b.value.0, b.value.1) (xs, (next, rest)) b.then) (record { taken = rw flat_map-cons both; count = ap suc others.count; legal = (f.legal, others.legal); ascend = (f.above, ascend) })
+    ok_as (λ (y : List A × (Option (List ℕ) × List ℕ)). Ordered key code Legal before (suc n) bytes y.0 y.1.1) (a.value.0 ∷ b.value.0, b.value.1) (xs, (next, rest)) b.then (record { taken = rw flat_map-cons both; count = ap suc others.count; legal = (f.legal, others.legal); ascend = (f.above, ascend) })
 
 -- the key of the last item, or of the one before them all
 abbrev end_of : {A : Type 0} → (A → List ℕ) → Option (List ℕ) → List A → Option (List ℕ)
@@ -116,7 +116,7 @@ listed_takes {A = A} one key code Legal reads bytes xs rest fits e =
     let both = Takes-then bytes (to_be_bytes w8 a.value) a.rest (flat_map code b.value.0) b.value.1.1 a.taken o.taken in
     let whole : Takes bytes (listed_code code b.value.0) b.value.1.1 = subst (λ (k : ℕ). Takes bytes (to_be_bytes w8 k ++ flat_map code b.value.0) b.value.1.1) (sym o.count) both in
     let are : AreInOrder key Legal b.value.0 = record { few = omega (arith, o.count, a.legal.at_most); each = o.legal; ascend = o.ascend } in
-    subst (λ (y : List A × List ℕ). Takes bytes (listed_code code y.0) y.1 × AreInOrder key Legal y.0) (ok_is (b.value.0, b.value.1.1) (xs, rest) b.then) (whole, are)
+    ok_as (λ (y : List A × List ℕ). Takes bytes (listed_code code y.0) y.1 × AreInOrder key Legal y.0) (b.value.0, b.value.1.1) (xs, rest) b.then (whole, are)
 
 listed_again : {A : Type 0} (one : Option (List ℕ) × List ℕ → Item A) (key : A → List ℕ) (code : A → List ℕ) (Legal : A → Type 0) → ReadsAfter one key code Legal → (xs : List A) (rest : List ℕ) → AreInOrder key Legal xs → ascending_at one (listed_code code xs ++ rest) ≡ Ok (xs, rest)
 unfolding ascending_at

@@ -16,7 +16,7 @@ use Rattle.event_codec.specs.Spelling.{flag_code, IsIn}
 use Rattle.event_codec.specs.RowSpelling.{hold_reason_number, holding_code, abort_reason_number, waiting_code, phase_code, IsHolding, IsWaitingFor}
 use Rattle.event_codec.specs.Reading.{◌>>=◌, number_at, ranged_at, flag_at}
 use Rattle.event_codec.specs.RowReading.{hold_reason_of, indefinite_at, until_moment_at, kind_of_holding, holding_at, abort_reason_of, incoming_at, waiting_at, processing_at, aborted_at, kind_of_phase, phase_at}
-use Rattle.event_codec.proofs.FieldLaws.{IsBytes, bind_ok, done, ok_is, Takes, Takes-then, Reads, got, again-then, again-step, again-last}
+use Rattle.event_codec.proofs.FieldLaws.{IsBytes, bind_ok, done, ok_is, Takes, Takes-then, Reads, got, again-then, again-step, again-last, ok_as}
 use Rattle.event_codec.proofs.FilterLaws.{Anything, chosen, refused, reads_byte}
 use Rattle.event_codec.proofs.HoldLaws.{reads_flag, reads_moment}
 use Rattle.event_codec.proofs.ExitLaws.{Byte, of_byte}
@@ -96,7 +96,7 @@ record Held (bytes : List ℕ) (x : Hold) (rest : List ℕ) : Type 0 where
 
 -- the hold that was read is the one that was meant
 held_as : (bytes : List ℕ) (y : Hold) (after : List ℕ) (x : Hold) (rest : List ℕ) → done {A = Hold × List ℕ} (y, after) ≡ Ok (x, rest) → Held bytes y after → Held bytes x rest
-held_as bytes y after x rest same this = subst (λ (z : Hold × List ℕ). Held bytes z.0 z.1) (ok_is (y, after) (x, rest) same) this
+held_as bytes y after x rest same this = ok_as (λ (z : Hold × List ℕ). Held bytes z.0 z.1) (y, after) (x, rest) same this
 
 indefinite_take : (bytes after : List ℕ) (x : Hold) (rest : List ℕ) → Takes bytes (to_be_bytes w8 1) after → indefinite_at after ≡ Ok (x, rest) → Held bytes x rest
 unfolding indefinite_at
@@ -177,7 +177,7 @@ record Phased (attempts stages : ℕ) (bytes : List ℕ) (x : Phase) (rest : Lis
   legal : IsPhaseFor attempts stages x
 
 phased_as : (a n : ℕ) (bytes : List ℕ) (y : Phase) (after : List ℕ) (x : Phase) (rest : List ℕ) → done {A = Phase × List ℕ} (y, after) ≡ Ok (x, rest) → Phased a n bytes y after → Phased a n bytes x rest
-phased_as a n bytes y after x rest same this = subst (λ (z : Phase × List ℕ). Phased a n bytes z.0 z.1) (ok_is (y, after) (x, rest) same) this
+phased_as a n bytes y after x rest same this = ok_as (λ (z : Phase × List ℕ). Phased a n bytes z.0 z.1) (y, after) (x, rest) same this
 
 incoming_take : (a n : ℕ) (bytes after : List ℕ) (x : Phase) (rest : List ℕ) → Takes bytes (to_be_bytes w8 0) after → incoming_at after ≡ Ok (x, rest) → Phased a n bytes x rest
 unfolding incoming_at

@@ -1,8 +1,8 @@
 -- The laws of rows: what is read is spelled so, what is spelled so is read, and no row is spelled as an event is.
-use Rattle.std.proofs.Common.{◌≡◌, ℕ, suc, ◌+◌, ◌^◌, ◌<◌, ◌≤◌, cond, eqb, List, [], ◌∷◌, ◌++◌, length, Option, Some, None, Result, Ok, Err, refl, sym, ap, subst, ◌∙◌, arith, inl, inr}
+use Rattle.std.proofs.Common.{◌≡◌, ℕ, suc, ◌+◌, ◌^◌, ◌<◌, ◌≤◌, true, cond, eqb, ltb, List, [], ◌∷◌, ◌++◌, length, Option, Some, None, Result, Ok, Err, refl, sym, ap, subst, ◌∙◌, arith, inl, inr}
 use Rattle.std.specs.Prelude.{IfOk}
 use Rattle.std.specs.Int.{w8, w32, w64, to_be_bytes}
-use Rattle.std.proofs.lemmas.Bool.{eqb-true}
+use Rattle.std.proofs.lemmas.Bool.{eqb-true, ltb-true}
 use Rattle.std.proofs.lemmas.List.{append-nil, nil_from_length}
 use Rattle.spool_types.specs.declared.phase.Phase.{Phase}
 use Rattle.spool_types.specs.declared.phase.Phase.TheVariants.{Incoming, Waiting, Processing, Completed, Canceled, Aborted}
@@ -15,15 +15,17 @@ use Rattle.spool_types.specs.declared.rows.Job.{Job as JobOf}
 use Rattle.spool_types.specs.declared.listing.Head.{Head as HeadOf}
 use Rattle.spool_types.specs.declared.listing.Row.{Row}
 use Rattle.spool_types.specs.declared.listing.Row.TheVariants.{Head, Queue, Job, Piece}
+use Rattle.event_codec.specs.declared.row_reading.QueueState.{QueueState}
+use Rattle.event_codec.specs.declared.row_reading.JobState.{JobState}
 use Rattle.spool_types.specs.Limits.{greatest_number, greatest_moment, longest_document}
 use Rattle.spool_types.specs.Values.{is_queue_name, is_media_type, is_note, is_message}
 use Rattle.field_codec.specs.declared.fault.CodecFault.{CodecFault}
 use Rattle.field_codec.specs.declared.fault.CodecFault.TheVariants.{Kind, Length, Range}
 use Rattle.event_codec.specs.Spelling.{text_code, counted_code, flag_code, queue_code, ticket_code, send_code, spelling, IsIn, IsJobNumber, IsText, IsQueue, IsJob}
 use Rattle.event_codec.specs.RowSpelling.{phase_code, typed_code, attributes_code, head_code, new_queue_of, queue_state_code, queue_row_code, new_job_of, created_code, job_state_code, job_row_code, row_spelling, IsTyped, IsQueueState, IsJobState, IsOrderedQueue, HasMoments, IsPhaseOf, IsLegalJob, IsRowSpellable}
-use Rattle.event_codec.specs.Reading.{Field, Gives, number_at, ranged_at, text_at, flag_at, filters_at, new_queue_at, ticket_at, piece_at, whole}
-use Rattle.event_codec.specs.RowReading.{some_media_at, flagged_media_at, typed_at, reasons_at, attributes_at, phase_at, head_at, queue_state_at, listed_queue_at, queue_row_at, created_at, job_state_at, listed_job_at, job_row_at, piece_row_at, row_fields_at, row_at, row_reading}
-use Rattle.event_codec.proofs.FieldLaws.{IsBytes, bind_ok, passed_ok, done, ok_is, Takes, Takes-then, ◌⨾◌, Reads, reads_then, got, again-then, again-step, again-last, wide32, reads_ranged}
+use Rattle.event_codec.specs.Reading.{Field, ◌>>=◌, Gives, number_at, ranged_at, text_at, flag_at, filters_at, new_queue_at, ticket_at, piece_at, whole}
+use Rattle.event_codec.specs.RowReading.{some_media_at, flagged_media_at, typed_at, reasons_at, attributes_at, phase_at, head_at, queue_state_at, queue_row, listed_queue_at, queue_row_at, created_at, job_state_at, job_row, listed_job_at, job_row_at, piece_row_at, row_fields_at, row_at, row_reading}
+use Rattle.event_codec.proofs.FieldLaws.{IsBytes, bind_ok, passed_ok, done, ok_is, Takes, Takes-then, ◌⨾◌, Reads, reads_then, got, again-then, again-step, again-last, wide32, reads_ranged, ok_as}
 use Rattle.event_codec.proofs.TextLaws.{reads_queue_name, reads_media, reads_note, reads_message}
 use Rattle.event_codec.proofs.FilterLaws.{Anything, chosen, refused, reads_byte, AreFew, reads_few}
 use Rattle.event_codec.proofs.HoldLaws.{reads_flag, reads_moment}
@@ -51,7 +53,7 @@ head_takes bytes x fits e =
     let a = got (ranged_at 0 greatest_number w32) (to_be_bytes w32) (IsIn 0 greatest_number) reads_highest bytes _ x fits e in
     let b = got (ranged_at 0 greatest_moment w64) (to_be_bytes w64) (IsIn 0 greatest_moment) reads_moment a.rest _ x a.taken.rest_fits a.then in
     let h : HeadOf = record { highest = a.value; moment = b.value } in
-    subst (Spelled 0x40 bytes) (ok_is (Head h, b.rest) x b.then) (record { taken = behind 0x40 bytes (head_code h) b.rest (a.taken ⨾ b.taken); legal = record { fields = b.legal; legal = a.legal } })
+    ok_as (Spelled 0x40 bytes) (Head h, b.rest) x b.then (record { taken = behind 0x40 bytes (head_code h) b.rest (a.taken ⨾ b.taken); legal = record { fields = b.legal; legal = a.legal } })
 
 head_again : (h : HeadOf) (rest : List ℕ) → IsRowSpellable (Head h) → head_at (head_code h ++ rest) ≡ Ok (Head h, rest)
 unfolding head_at
@@ -65,23 +67,36 @@ head_again h rest is =
 abbrev HasState : QueueRow → Type 0
 HasState q = IsQueueState q × IsOrderedQueue q
 
-queue_state_takes : (n : NewQueue) (bytes : List ℕ) (m : QueueRow) (rest : List ℕ) → IsBytes bytes → queue_state_at n bytes ≡ Ok (m, rest) → Takes bytes (queue_state_code m) rest × ((new_queue_of m ≡ n) × HasState m)
+-- the row of a queue that was added so, by what became of it
+abbrev told_at : NewQueue → List ℕ → Field QueueRow
+told_at n bytes = queue_state_at bytes >>= λ state. Ok (queue_row n state.0, state.1)
+
+abbrev IsTold : NewQueue → List ℕ → QueueRow → List ℕ → Type 0
+IsTold n bytes m rest = Takes bytes (queue_state_code m) rest × ((new_queue_of m ≡ n) × HasState m)
+
+queue_state_takes : (n : NewQueue) (bytes : List ℕ) (x : QueueState × List ℕ) → IsBytes bytes → queue_state_at bytes ≡ Ok x → IsTold n bytes (queue_row n x.0) x.1
 unfolding queue_state_at
-queue_state_takes n bytes m rest fits e =
-    let a = got (text_at is_note) text_code (IsText is_note) reads_note bytes _ (m, rest) fits e in
-    let b = got (text_at is_note) text_code (IsText is_note) reads_note a.rest _ (m, rest) a.taken.rest_fits a.then in
-    let c = got flag_at flag_code Anything reads_flag b.rest _ (m, rest) b.taken.rest_fits b.then in
-    let d = got flag_at flag_code Anything reads_flag c.rest _ (m, rest) c.taken.rest_fits c.then in
-    let f = got (text_at is_message) text_code (IsText is_message) reads_message d.rest _ (m, rest) d.taken.rest_fits d.then in
-    let g = got reasons_at counted_code AreReasons reads_reasons f.rest _ (m, rest) f.taken.rest_fits f.then in
-    let h = got attributes_at attributes_code AreAttributes reads_attributes g.rest _ (m, rest) g.taken.rest_fits g.then in
-    let q : QueueRow = record { name = n.name; uri = n.uri; target = n.target; policy = n.policy; interval = n.interval; limit = n.limit; info = a.value; location = b.value; accepting = c.value; stopped = d.value; message = f.value; reasons = g.value; attributes = h.value } in
+queue_state_takes n bytes x fits e =
+    let a = got (text_at is_note) text_code (IsText is_note) reads_note bytes _ x fits e in
+    let b = got (text_at is_note) text_code (IsText is_note) reads_note a.rest _ x a.taken.rest_fits a.then in
+    let c = got flag_at flag_code Anything reads_flag b.rest _ x b.taken.rest_fits b.then in
+    let d = got flag_at flag_code Anything reads_flag c.rest _ x c.taken.rest_fits c.then in
+    let f = got (text_at is_message) text_code (IsText is_message) reads_message d.rest _ x d.taken.rest_fits d.then in
+    let g = got reasons_at counted_code AreReasons reads_reasons f.rest _ x f.taken.rest_fits f.then in
+    let h = got attributes_at attributes_code AreAttributes reads_attributes g.rest _ x g.taken.rest_fits g.then in
+    let s : QueueState = record { info = a.value; location = b.value; accepting = c.value; stopped = d.value; message = f.value; reasons = g.value; attributes = h.value } in
+    let q : QueueRow = queue_row n s in
     let state : IsQueueState q = record { info = a.legal; location = b.legal; message = f.legal; few_reasons = g.legal.few; reasons = g.legal.each; few_attributes = h.legal.few; attributes = h.legal.each } in
     let ordered : IsOrderedQueue q = record { reasons = g.legal.ascend; attributes = h.legal.ascend } in
     let taken = a.taken ⨾ b.taken ⨾ c.taken ⨾ d.taken ⨾ f.taken ⨾ g.taken ⨾ h.taken in
-    subst (λ (y : QueueRow × List ℕ). Takes bytes (queue_state_code y.0) y.1 × ((new_queue_of y.0 ≡ n) × HasState y.0)) (ok_is (q, h.rest) (m, rest) h.then) (taken, (refl, (state, ordered)))
+    ok_as (λ (y : QueueState × List ℕ). IsTold n bytes (queue_row n y.0) y.1) (s, h.rest) x h.then (taken, (refl, (state, ordered)))
 
-queue_state_again : (n : NewQueue) (q : QueueRow) (rest : List ℕ) → (new_queue_of q ≡ n) × HasState q → queue_state_at n (queue_state_code q ++ rest) ≡ Ok (q, rest)
+told_takes : (n : NewQueue) (bytes : List ℕ) (m : QueueRow) (rest : List ℕ) → IsBytes bytes → told_at n bytes ≡ Ok (m, rest) → IsTold n bytes m rest
+told_takes n bytes m rest fits e =
+    let told = bind_ok (queue_state_at bytes) (λ state. Ok (queue_row n state.0, state.1)) (m, rest) e in
+    ok_as (λ (y : QueueRow × List ℕ). IsTold n bytes y.0 y.1) (queue_row n told.value.0, told.value.1) (m, rest) told.then (queue_state_takes n bytes told.value fits told.was)
+
+queue_state_again : (n : NewQueue) (q : QueueRow) (rest : List ℕ) → (new_queue_of q ≡ n) × HasState q → told_at n (queue_state_code q ++ rest) ≡ Ok (q, rest)
 unfolding queue_state_at
 queue_state_again n q rest is =
     let state = is.1.0 in
@@ -91,29 +106,32 @@ queue_state_again n q rest is =
     let t3 = flag_code q.stopped ++ t4 in
     let t2 = flag_code q.accepting ++ t3 in
     let t1 = text_code q.location ++ t2 in
-    ap (λ (m : NewQueue). queue_state_at m (queue_state_code q ++ rest)) (sym is.0) ∙
-    ap (λ (t : List ℕ). queue_state_at (new_queue_of q) (t ++ rest)) (nested7 (text_code q.info) (text_code q.location) (flag_code q.accepting) (flag_code q.stopped) (text_code q.message) (counted_code q.reasons) (attributes_code q.attributes)) ∙
+    let s : QueueState = record { info = q.info; location = q.location; accepting = q.accepting; stopped = q.stopped; message = q.message; reasons = q.reasons; attributes = q.attributes } in
+    let again : queue_state_at (queue_state_code q ++ rest) ≡ Ok (s, rest) =
+    ap (λ (t : List ℕ). queue_state_at (t ++ rest)) (nested7 (text_code q.info) (text_code q.location) (flag_code q.accepting) (flag_code q.stopped) (text_code q.message) (counted_code q.reasons) (attributes_code q.attributes)) ∙
     again-step (text_at is_note) text_code (IsText is_note) reads_note q.info t1 rest _ _ state.info
     (again-step (text_at is_note) text_code (IsText is_note) reads_note q.location t2 rest _ _ state.location
     (again-step flag_at flag_code Anything reads_flag q.accepting t3 rest _ _ tt
     (again-step flag_at flag_code Anything reads_flag q.stopped t4 rest _ _ tt
     (again-step (text_at is_message) text_code (IsText is_message) reads_message q.message t5 rest _ _ state.message
     (again-step reasons_at counted_code AreReasons reads_reasons q.reasons (attributes_code q.attributes) rest _ _ (record { few = state.few_reasons; each = state.reasons; ascend = ordered.reasons })
-    (again-last attributes_at attributes_code AreAttributes reads_attributes q.attributes rest _ (record { few = state.few_attributes; each = state.attributes; ascend = ordered.attributes })))))))
+    (again-last attributes_at attributes_code AreAttributes reads_attributes q.attributes rest _ (record { few = state.few_attributes; each = state.attributes; ascend = ordered.attributes }))))))) in
+    ap (λ (m : NewQueue). told_at m (queue_state_code q ++ rest)) (sym is.0) ∙
+    ap (λ r. r >>= λ state. Ok (queue_row (new_queue_of q) state.0, state.1)) again
 
 abbrev IsListedQueue : QueueRow → Type 0
 IsListedQueue q = IsQueue (new_queue_of q) × HasState q
 
 reads_listed_queue : Reads listed_queue_at queue_row_code IsListedQueue
 unfolding listed_queue_at
-reads_listed_queue = reads_then new_queue_at queue_code IsQueue queue_state_at queue_state_code HasState new_queue_of reads_new_queue (λ n. record { takes = queue_state_takes n; again = queue_state_again n })
+reads_listed_queue = reads_then new_queue_at queue_code IsQueue told_at queue_state_code HasState new_queue_of reads_new_queue (λ n. record { takes = told_takes n; again = queue_state_again n })
 
 queue_row_takes : (bytes : List ℕ) (x : Row × List ℕ) → IsBytes bytes → queue_row_at bytes ≡ Ok x → Spelled 0x41 bytes x
 unfolding queue_row_at
 queue_row_takes bytes x fits e =
     let a = got listed_queue_at queue_row_code IsListedQueue reads_listed_queue bytes _ x fits e in
     let is : IsRowSpellable (Queue a.value) = record { fields = record { added = a.legal.0; state = a.legal.1.0 }; legal = a.legal.1.1 } in
-    subst (Spelled 0x41 bytes) (ok_is (Queue a.value, a.rest) x a.then) (record { taken = behind 0x41 bytes (queue_row_code a.value) a.rest a.taken; legal = is })
+    ok_as (Spelled 0x41 bytes) (Queue a.value, a.rest) x a.then (record { taken = behind 0x41 bytes (queue_row_code a.value) a.rest a.taken; legal = is })
 
 queue_row_again : (q : QueueRow) (rest : List ℕ) → IsRowSpellable (Queue q) → queue_row_at (queue_row_code q ++ rest) ≡ Ok (Queue q, rest)
 unfolding queue_row_at
@@ -149,7 +167,7 @@ record Typed (bytes : List ℕ) (o : Option (List ℕ)) (rest : List ℕ) : Type
   legal : IsTyped o
 
 typed_as : (bytes : List ℕ) (y : Option (List ℕ)) (after : List ℕ) (o : Option (List ℕ)) (rest : List ℕ) → done {A = Option (List ℕ) × List ℕ} (y, after) ≡ Ok (o, rest) → Typed bytes y after → Typed bytes o rest
-typed_as bytes y after o rest same this = subst (λ (z : Option (List ℕ) × List ℕ). Typed bytes z.0 z.1) (ok_is (y, after) (o, rest) same) this
+typed_as bytes y after o rest same this = ok_as (λ (z : Option (List ℕ) × List ℕ). Typed bytes z.0 z.1) (y, after) (o, rest) same this
 
 some_media_take : (bytes after : List ℕ) (o : Option (List ℕ)) (rest : List ℕ) → Takes bytes (to_be_bytes w8 1) after → some_media_at after ≡ Ok (o, rest) → Typed bytes o rest
 unfolding some_media_at
@@ -218,22 +236,35 @@ all_wide n lt = record { at_least = omega arith; at_most = omega (arith, lt) }
 abbrev HasBecome : JobOf → Type 0
 HasBecome r = IsJobState r × IsLegalJob r
 
-job_state_takes : (n : NewJob) (bytes : List ℕ) (m : JobOf) (rest : List ℕ) → IsBytes bytes → job_state_at n bytes ≡ Ok (m, rest) → Takes bytes (job_state_code m) rest × ((new_job_of m ≡ n) × HasBecome m)
+-- the row of a job that was created so, by what became of it
+abbrev become_at : NewJob → List ℕ → Field JobOf
+become_at n bytes = job_state_at bytes >>= λ state. Ok (job_row n state.0, state.1)
+
+abbrev IsBecome : NewJob → List ℕ → JobOf → List ℕ → Type 0
+IsBecome n bytes m rest = Takes bytes (job_state_code m) rest × ((new_job_of m ≡ n) × HasBecome m)
+
+job_state_takes : (n : NewJob) (bytes : List ℕ) (x : JobState × List ℕ) → IsBytes bytes → job_state_at bytes ≡ Ok x → IsBecome n bytes (job_row n x.0) x.1
 unfolding job_state_at
-job_state_takes n bytes m rest fits e =
-    let a = got typed_at typed_code IsTyped reads_typed bytes _ (m, rest) fits e in
-    let b = got filters_at counted_code AreFew reads_few a.rest _ (m, rest) a.taken.rest_fits a.then in
-    let c = got (number_at w32) (to_be_bytes w32) (λ k. k < 2 ^ 32) reads_dropped b.rest _ (m, rest) b.taken.rest_fits b.then in
-    let d = got (number_at w32) (to_be_bytes w32) (λ k. k < 2 ^ 32) reads_dropped c.rest _ (m, rest) c.taken.rest_fits c.then in
-    let f = got (ranged_at 0 longest_document w32) (to_be_bytes w32) (IsIn 0 longest_document) reads_size d.rest _ (m, rest) d.taken.rest_fits d.then in
-    let g = got (phase_at c.value (length b.value + 1)) phase_code (IsPhaseFor c.value (length b.value + 1)) (reads_phase c.value (length b.value + 1)) f.rest _ (m, rest) f.taken.rest_fits f.then in
-    let r : JobOf = record { id = n.job; queue = n.queue; user = n.user; title = n.title; copies = n.copies; priority = n.priority; options = n.options; media = a.value; filters = b.value; attempts = c.value; pages = d.value; size = f.value; phase = g.value } in
+job_state_takes n bytes x fits e =
+    let a = got typed_at typed_code IsTyped reads_typed bytes _ x fits e in
+    let b = got filters_at counted_code AreFew reads_few a.rest _ x a.taken.rest_fits a.then in
+    let c = got (number_at w32) (to_be_bytes w32) (λ k. k < 2 ^ 32) reads_dropped b.rest _ x b.taken.rest_fits b.then in
+    let d = got (number_at w32) (to_be_bytes w32) (λ k. k < 2 ^ 32) reads_dropped c.rest _ x c.taken.rest_fits c.then in
+    let f = got (ranged_at 0 longest_document w32) (to_be_bytes w32) (IsIn 0 longest_document) reads_size d.rest _ x d.taken.rest_fits d.then in
+    let g = got (phase_at c.value (length b.value + 1)) phase_code (IsPhaseFor c.value (length b.value + 1)) (reads_phase c.value (length b.value + 1)) f.rest _ x f.taken.rest_fits f.then in
+    let s : JobState = record { media = a.value; filters = b.value; attempts = c.value; pages = d.value; size = f.value; phase = g.value } in
+    let r : JobOf = job_row n s in
     let state : IsJobState r = record { media = a.legal; filters = b.legal; attempts = all_wide c.value c.legal; pages = all_wide d.value d.legal; phase = moments_of c.value (length b.value + 1) g.value g.legal } in
     let legal : IsLegalJob r = record { size = f.legal; phase = phase_of r g.value g.legal } in
     let taken = a.taken ⨾ b.taken ⨾ c.taken ⨾ d.taken ⨾ f.taken ⨾ g.taken in
-    subst (λ (y : JobOf × List ℕ). Takes bytes (job_state_code y.0) y.1 × ((new_job_of y.0 ≡ n) × HasBecome y.0)) (ok_is (r, g.rest) (m, rest) g.then) (taken, (refl, (state, legal)))
+    ok_as (λ (y : JobState × List ℕ). IsBecome n bytes (job_row n y.0) y.1) (s, g.rest) x g.then (taken, (refl, (state, legal)))
 
-job_state_again : (n : NewJob) (r : JobOf) (rest : List ℕ) → (new_job_of r ≡ n) × HasBecome r → job_state_at n (job_state_code r ++ rest) ≡ Ok (r, rest)
+become_takes : (n : NewJob) (bytes : List ℕ) (m : JobOf) (rest : List ℕ) → IsBytes bytes → become_at n bytes ≡ Ok (m, rest) → IsBecome n bytes m rest
+become_takes n bytes m rest fits e =
+    let told = bind_ok (job_state_at bytes) (λ state. Ok (job_row n state.0, state.1)) (m, rest) e in
+    ok_as (λ (y : JobOf × List ℕ). IsBecome n bytes y.0 y.1) (job_row n told.value.0, told.value.1) (m, rest) told.then (job_state_takes n bytes told.value fits told.was)
+
+job_state_again : (n : NewJob) (r : JobOf) (rest : List ℕ) → (new_job_of r ≡ n) × HasBecome r → become_at n (job_state_code r ++ rest) ≡ Ok (r, rest)
 unfolding job_state_at
 job_state_again n r rest is =
     let state = is.1.0 in
@@ -242,28 +273,31 @@ job_state_again n r rest is =
     let t3 = to_be_bytes w32 r.pages ++ t4 in
     let t2 = to_be_bytes w32 r.attempts ++ t3 in
     let t1 = counted_code r.filters ++ t2 in
-    ap (λ (m : NewJob). job_state_at m (job_state_code r ++ rest)) (sym is.0) ∙
-    ap (λ (t : List ℕ). job_state_at (new_job_of r) (t ++ rest)) (nested6 (typed_code r.media) (counted_code r.filters) (to_be_bytes w32 r.attempts) (to_be_bytes w32 r.pages) (to_be_bytes w32 r.size) (phase_code r.phase)) ∙
+    let s : JobState = record { media = r.media; filters = r.filters; attempts = r.attempts; pages = r.pages; size = r.size; phase = r.phase } in
+    let again : job_state_at (job_state_code r ++ rest) ≡ Ok (s, rest) =
+    ap (λ (t : List ℕ). job_state_at (t ++ rest)) (nested6 (typed_code r.media) (counted_code r.filters) (to_be_bytes w32 r.attempts) (to_be_bytes w32 r.pages) (to_be_bytes w32 r.size) (phase_code r.phase)) ∙
     again-step typed_at typed_code IsTyped reads_typed r.media t1 rest _ _ state.media
     (again-step filters_at counted_code AreFew reads_few r.filters t2 rest _ _ state.filters
     (again-step (number_at w32) (to_be_bytes w32) (λ k. k < 2 ^ 32) reads_dropped r.attempts t3 rest _ _ (omega (arith, state.attempts.at_most))
     (again-step (number_at w32) (to_be_bytes w32) (λ k. k < 2 ^ 32) reads_dropped r.pages t4 rest _ _ (omega (arith, state.pages.at_most))
     (again-step (ranged_at 0 longest_document w32) (to_be_bytes w32) (IsIn 0 longest_document) reads_size r.size (phase_code r.phase) rest _ _ legal.size
-    (again-last (phase_at r.attempts (length r.filters + 1)) phase_code (IsPhaseFor r.attempts (length r.filters + 1)) (reads_phase r.attempts (length r.filters + 1)) r.phase rest _ (phase_for r r.phase state.phase legal.phase))))))
+    (again-last (phase_at r.attempts (length r.filters + 1)) phase_code (IsPhaseFor r.attempts (length r.filters + 1)) (reads_phase r.attempts (length r.filters + 1)) r.phase rest _ (phase_for r r.phase state.phase legal.phase)))))) in
+    ap (λ (m : NewJob). become_at m (job_state_code r ++ rest)) (sym is.0) ∙
+    ap (λ field. field >>= λ state. Ok (job_row (new_job_of r) state.0, state.1)) again
 
 abbrev IsListedJob : JobOf → Type 0
 IsListedJob r = IsJob (new_job_of r) × HasBecome r
 
 reads_listed_job : Reads listed_job_at job_row_code IsListedJob
 unfolding listed_job_at
-reads_listed_job = reads_then created_at created_code IsJob job_state_at job_state_code HasBecome new_job_of reads_created (λ n. record { takes = job_state_takes n; again = job_state_again n })
+reads_listed_job = reads_then created_at created_code IsJob become_at job_state_code HasBecome new_job_of reads_created (λ n. record { takes = become_takes n; again = job_state_again n })
 
 job_row_takes : (bytes : List ℕ) (x : Row × List ℕ) → IsBytes bytes → job_row_at bytes ≡ Ok x → Spelled 0x42 bytes x
 unfolding job_row_at
 job_row_takes bytes x fits e =
     let a = got listed_job_at job_row_code IsListedJob reads_listed_job bytes _ x fits e in
     let is : IsRowSpellable (Job a.value) = record { fields = record { created = a.legal.0; state = a.legal.1.0 }; legal = a.legal.1.1 } in
-    subst (Spelled 0x42 bytes) (ok_is (Job a.value, a.rest) x a.then) (record { taken = behind 0x42 bytes (job_row_code a.value) a.rest a.taken; legal = is })
+    ok_as (Spelled 0x42 bytes) (Job a.value, a.rest) x a.then (record { taken = behind 0x42 bytes (job_row_code a.value) a.rest a.taken; legal = is })
 
 job_row_again : (r : JobOf) (rest : List ℕ) → IsRowSpellable (Job r) → job_row_at (job_row_code r ++ rest) ≡ Ok (Job r, rest)
 unfolding job_row_at
@@ -277,7 +311,7 @@ piece_row_takes bytes x fits e =
     let a = got (ranged_at 1 greatest_number w32) (to_be_bytes w32) IsJobNumber reads_job_number bytes _ x fits e in
     let b = got (piece_at 1) piece_code (IsPiece 1) (reads_piece 1) a.rest _ x a.taken.rest_fits a.then in
     let is : IsRowSpellable (Piece a.value b.value) = record { fields = record { job = a.legal; length = b.legal.at_most }; legal = b.legal.at_least } in
-    subst (Spelled 0x43 bytes) (ok_is (Piece a.value b.value, b.rest) x b.then) (record { taken = behind 0x43 bytes (send_code a.value b.value) b.rest (send_taken a.value b.value bytes a.rest b.rest a.taken b.taken); legal = is })
+    ok_as (Spelled 0x43 bytes) (Piece a.value b.value, b.rest) x b.then (record { taken = behind 0x43 bytes (send_code a.value b.value) b.rest (send_taken a.value b.value bytes a.rest b.rest a.taken b.taken); legal = is })
 
 piece_row_again : (j : ℕ) (bytes rest : List ℕ) → IsRowSpellable (Piece j bytes) → piece_row_at (send_code j bytes ++ rest) ≡ Ok (Piece j bytes, rest)
 unfolding piece_row_at
@@ -355,13 +389,18 @@ abbrev kind_of : List ℕ → ℕ
 kind_of [] = 0
 kind_of (kind ∷ rest) = kind
 
+kind_below : (n : ℕ) → ltb n 0x40 ≡ true → n < 0x40
+kind_below n e = ltb-true n 0x40 e
+
 event_kind : (e : Event) (rest : List ℕ) → kind_of (spelling e ++ rest) < 0x40
-event_kind events.Reopen rest = omega arith
-event_kind e rest = omega arith
+event_kind events.Reopen rest = kind_below 0x0F refl
+event_kind e rest = kind_below (kind_of (spelling e ++ rest)) refl
 
 row_kind : (row : Row) (rest : List ℕ) → 0x40 ≤ kind_of (row_spelling row ++ rest)
 row_kind (Head head) rest = omega arith
-row_kind row rest = omega arith
+row_kind (Queue q) rest = omega arith
+row_kind (Job r) rest = omega arith
+row_kind (Piece j bytes) rest = omega arith
 
 pub apart : (row : Row) (e : Event) (some more : List ℕ) → row_spelling row ++ some ≡ spelling e ++ more → ⊥
 apart row e some more same = absurd (omega (arith, event_kind e more, row_kind row some, ap kind_of same))

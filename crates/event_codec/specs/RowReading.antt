@@ -17,6 +17,8 @@ use Rattle.spool_types.specs.declared.event.NewJob.{NewJob}
 use Rattle.spool_types.specs.declared.rows.QueueRow.{QueueRow}
 use Rattle.spool_types.specs.declared.rows.Job.{Job as JobOf}
 use Rattle.spool_types.specs.declared.listing.Row.{Row}
+use Rattle.event_codec.specs.declared.row_reading.QueueState.{QueueState}
+use Rattle.event_codec.specs.declared.row_reading.JobState.{JobState}
 use Rattle.spool_types.specs.declared.listing.Row.TheVariants.{Head, Queue, Job, Piece}
 use Rattle.spool_types.specs.Limits.{greatest_number, greatest_moment, longest_document}
 use Rattle.spool_types.specs.Values.{is_queue_name, is_media_type, is_note, is_reason, is_attribute_name, is_message}
@@ -171,9 +173,9 @@ head_at bytes = do
   moment ← ranged_at 0 greatest_moment w64 highest.1
   Ok (Head (record { highest = highest.0; moment = moment.0 }), moment.1)
 
--- what is told of this queue, and what became of it
-unfoldable pub queue_state_at : NewQueue → List ℕ → Field QueueRow
-queue_state_at queue bytes = do
+-- what is told of a queue, and what became of it
+unfoldable pub queue_state_at : List ℕ → Field QueueState
+queue_state_at bytes = do
   info ← text_at is_note bytes
   location ← text_at is_note info.1
   accepting ← flag_at location.1
@@ -181,12 +183,17 @@ queue_state_at queue bytes = do
   message ← text_at is_message stopped.1
   reasons ← reasons_at message.1
   attributes ← attributes_at reasons.1
-  Ok (record { name = queue.name; uri = queue.uri; target = queue.target; policy = queue.policy; interval = queue.interval; limit = queue.limit; info = info.0; location = location.0; accepting = accepting.0; stopped = stopped.0; message = message.0; reasons = reasons.0; attributes = attributes.0 }, attributes.1)
+  Ok (record { info = info.0; location = location.0; accepting = accepting.0; stopped = stopped.0; message = message.0; reasons = reasons.0; attributes = attributes.0 }, attributes.1)
+
+-- the row of a queue that was added so, and became this
+abbrev pub queue_row : NewQueue → QueueState → QueueRow
+queue_row queue state = record { name = queue.name; uri = queue.uri; target = queue.target; policy = queue.policy; interval = queue.interval; limit = queue.limit; info = state.info; location = state.location; accepting = state.accepting; stopped = state.stopped; message = state.message; reasons = state.reasons; attributes = state.attributes }
 
 unfoldable pub listed_queue_at : List ℕ → Field QueueRow
 listed_queue_at bytes = do
   queue ← new_queue_at bytes
-  queue_state_at queue.0 queue.1
+  state ← queue_state_at queue.1
+  Ok (queue_row queue.0 state.0, state.1)
 
 unfoldable pub queue_row_at : List ℕ → Field Row
 queue_row_at bytes = do
@@ -199,21 +206,26 @@ created_at bytes = do
   queue ← text_at is_queue_name job.1
   ticket_at queue.0 job.0 queue.1
 
--- what became of this job
-unfoldable pub job_state_at : NewJob → List ℕ → Field JobOf
-job_state_at job bytes = do
+-- what became of a job
+unfoldable pub job_state_at : List ℕ → Field JobState
+job_state_at bytes = do
   media ← typed_at bytes
   filters ← filters_at media.1
   attempts ← number_at w32 filters.1
   pages ← number_at w32 attempts.1
   size ← ranged_at 0 longest_document w32 pages.1
   phase ← phase_at attempts.0 (length filters.0 + 1) size.1
-  Ok (record { id = job.job; queue = job.queue; user = job.user; title = job.title; copies = job.copies; priority = job.priority; options = job.options; media = media.0; filters = filters.0; attempts = attempts.0; pages = pages.0; size = size.0; phase = phase.0 }, phase.1)
+  Ok (record { media = media.0; filters = filters.0; attempts = attempts.0; pages = pages.0; size = size.0; phase = phase.0 }, phase.1)
+
+-- the row of a job that was created so, and became this
+abbrev pub job_row : NewJob → JobState → JobOf
+job_row job state = record { id = job.job; queue = job.queue; user = job.user; title = job.title; copies = job.copies; priority = job.priority; options = job.options; media = state.media; filters = state.filters; attempts = state.attempts; pages = state.pages; size = state.size; phase = state.phase }
 
 unfoldable pub listed_job_at : List ℕ → Field JobOf
 listed_job_at bytes = do
   job ← created_at bytes
-  job_state_at job.0 job.1
+  state ← job_state_at job.1
+  Ok (job_row job.0 state.0, state.1)
 
 unfoldable pub job_row_at : List ℕ → Field Row
 job_row_at bytes = do

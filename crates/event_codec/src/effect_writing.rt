@@ -5,7 +5,7 @@ ghost use Rattle.spool_types.specs.Effects.{AreEffects};
 ghost use Rattle.spool_types.specs.Values.{is_message};
 ghost use Rattle.event_codec.specs.Spelling.{pages_code, words_code, attribute_code, message_code, effect_code, effects_code, level_number, AreWords, IsAttribute, IsText, IsEffect};
 
-use crate::field_writing::{put, put_text, put_texts};
+use crate::field_writing::{put_text, put_texts, put_u8, put_u16, put_u32};
 use spool_types::{Attribute, Effect, Effects, Level, Message, Words};
 
 fn level_byte(level: Level) -> u8
@@ -28,8 +28,8 @@ fn put_pages(out: &mut Vec<u8>, page: u32, copies: u32)
     ensures len { vec_len out.new ≡ vec_len out.old + length (pages_code page copies) }
     ensures grown { vec_capacity out.old ≤ vec_capacity out.new }
 {
-    put(out, &page.to_be_bytes());
-    put(out, &copies.to_be_bytes());
+    put_u32(out, page);
+    put_u32(out, copies);
 }
 
 fn put_words(out: &mut Vec<u8>, words: &Words)
@@ -40,7 +40,7 @@ fn put_words(out: &mut Vec<u8>, words: &Words)
     ensures legal { AreWords words.now }
 {
     let words = words.as_slice();
-    put(out, &(words.len() as u16).to_be_bytes());
+    put_u16(out, words.len() as u16);
     put_texts(out, words);
 }
 
@@ -62,7 +62,7 @@ fn put_message(out: &mut Vec<u8>, level: Level, text: &Message)
     ensures grown { vec_capacity out.old ≤ vec_capacity out.new }
     ensures legal { IsText is_message text.now }
 {
-    put(out, &level_byte(level).to_be_bytes());
+    put_u8(out, level_byte(level));
     put_text(out, text);
 }
 
@@ -88,10 +88,10 @@ fn put_effect(out: &mut Vec<u8>, effect: &Effect)
     ensures grown { vec_capacity out.old ≤ vec_capacity out.new }
     ensures legal { IsEffect effect.now }
 {
-    put(out, &effect_byte(effect).to_be_bytes());
+    put_u8(out, effect_byte(effect));
     match effect {
         Effect::Pages { page, copies } => put_pages(out, *page, *copies),
-        Effect::TotalPages(pages) => put(out, &pages.to_be_bytes()),
+        Effect::TotalPages(pages) => put_u32(out, *pages),
         Effect::SetReasons(words) => put_words(out, words),
         Effect::AddReasons(words) => put_words(out, words),
         Effect::DropReasons(words) => put_words(out, words),
@@ -122,6 +122,6 @@ pub(crate) fn put_effects(out: &mut Vec<u8>, effects: &Effects)
     ensures each { AllByRecursion IsEffect effects.now }
 {
     let effects = effects.as_slice();
-    put(out, &(effects.len() as u16).to_be_bytes());
+    put_u16(out, effects.len() as u16);
     put_listed(out, effects);
 }

@@ -1,5 +1,6 @@
 //! Writing fields behind the bytes that are there already, in room that is there already.
 ghost use Rattle.std.specs.Prelude.{◌≡◌, ◌+◌, ◌*◌, ◌≤◌, ◌<◌, ◌^◌, ◌∷◌, ◌++◌, List, ℕ, [], true, length, vec_len, vec_capacity};
+ghost use Rattle.std.specs.Int.{w8, w16, w32, w64, to_be_bytes};
 ghost use Rattle.std.specs.List.{flat_map, AllByRecursion};
 ghost use Rattle.spool_types.specs.Values.{is_media_type};
 ghost use Rattle.event_codec.specs.Spelling.{text_code, counted_code, flag_code, IsText};
@@ -29,6 +30,46 @@ pub(crate) fn put_kind(out: &mut Vec<u8>, kind: u8)
     put(out, &[kind]);
 }
 
+/// A number in one byte.
+pub(crate) fn put_u8(out: &mut Vec<u8>, number: u8)
+    requires room { vec_len out.old + 1 ≤ vec_capacity out.old }
+    ensures written { out.new.items ≡ out.old.items ++ to_be_bytes w8 number }
+    ensures len { vec_len out.new ≡ vec_len out.old + 1 }
+    ensures grown { vec_capacity out.old ≤ vec_capacity out.new }
+{
+    put(out, &number.to_be_bytes());
+}
+
+/// A number in two bytes.
+pub(crate) fn put_u16(out: &mut Vec<u8>, number: u16)
+    requires room { vec_len out.old + 2 ≤ vec_capacity out.old }
+    ensures written { out.new.items ≡ out.old.items ++ to_be_bytes w16 number }
+    ensures len { vec_len out.new ≡ vec_len out.old + 2 }
+    ensures grown { vec_capacity out.old ≤ vec_capacity out.new }
+{
+    put(out, &number.to_be_bytes());
+}
+
+/// A number in four bytes.
+pub(crate) fn put_u32(out: &mut Vec<u8>, number: u32)
+    requires room { vec_len out.old + 4 ≤ vec_capacity out.old }
+    ensures written { out.new.items ≡ out.old.items ++ to_be_bytes w32 number }
+    ensures len { vec_len out.new ≡ vec_len out.old + 4 }
+    ensures grown { vec_capacity out.old ≤ vec_capacity out.new }
+{
+    put(out, &number.to_be_bytes());
+}
+
+/// A number in eight bytes.
+pub(crate) fn put_u64(out: &mut Vec<u8>, number: u64)
+    requires room { vec_len out.old + 8 ≤ vec_capacity out.old }
+    ensures written { out.new.items ≡ out.old.items ++ to_be_bytes w64 number }
+    ensures len { vec_len out.new ≡ vec_len out.old + 8 }
+    ensures grown { vec_capacity out.old ≤ vec_capacity out.new }
+{
+    put(out, &number.to_be_bytes());
+}
+
 fn put_str(out: &mut Vec<u8>, text: &str)
     requires short { length text.now < 2 ^ 16 }
     requires room { vec_len out.old + length (text_code text.now) ≤ vec_capacity out.old }
@@ -36,7 +77,7 @@ fn put_str(out: &mut Vec<u8>, text: &str)
     ensures len { vec_len out.new ≡ vec_len out.old + length (text_code text.now) }
     ensures grown { vec_capacity out.old ≤ vec_capacity out.new }
 {
-    put(out, &(text.len() as u16).to_be_bytes());
+    put_u16(out, text.len() as u16);
     put(out, text.as_bytes());
 }
 
@@ -67,7 +108,7 @@ pub(crate) fn put_flag(out: &mut Vec<u8>, flag: bool)
     ensures len { vec_len out.new ≡ vec_len out.old + length (flag_code flag) }
     ensures grown { vec_capacity out.old ≤ vec_capacity out.new }
 {
-    put(out, &u8::from(flag).to_be_bytes());
+    put_u8(out, u8::from(flag));
 }
 
 /// Texts in turn.
@@ -94,7 +135,7 @@ pub(crate) fn put_counted<K: TextKind>(out: &mut Vec<u8>, texts: &[Text<K>])
     ensures grown { vec_capacity out.old ≤ vec_capacity out.new }
     ensures are_texts { AllByRecursion (IsText K.allowed) texts.now }
 {
-    put(out, &(texts.len() as u8).to_be_bytes());
+    put_u8(out, texts.len() as u8);
     put_texts(out, texts);
 }
 

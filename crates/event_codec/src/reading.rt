@@ -4,7 +4,7 @@ ghost use Rattle.std.specs.Int.{w8, w16, w32};
 ghost use Rattle.spool_types.specs.declared.event.Event.{Event};
 ghost use Rattle.spool_types.specs.Values.{is_media_type, is_queue_name};
 ghost use Rattle.event_codec.specs.Spelling.{IsSpellable, spelling};
-ghost use Rattle.event_codec.specs.Reading.{Gives, MemoryOnly, text_at, flag_at, until_at, exit_at, policy_at, filters_at, maybe_filters_at, piece_at, new_queue_at, queue_at, notes_at, accept_at, stop_at, ticket_at, new_job_at, job_at, send_at, closing_at, hold_at, numbered_at, clock_at, stage_at, closing_copies, stage_copies, reaches_copy, whole, reading};
+ghost use Rattle.event_codec.specs.Reading.{Gives, MemoryOnly, text_at, flag_at, until_at, exit_at, policy_at, filters_at, maybe_filters_at, piece_at, new_queue_at, queue_at, notes_at, accept_at, stop_at, ticket_at, new_job_at, job_at, send_at, closing_at, hold_at, numbered_at, clock_at, stage_at, fields_at, closing_copies, stage_copies, fields_copy, reaches_copy, whole, reading};
 
 use crate::effect_reading::effects_at;
 use crate::fields::texts_at;
@@ -370,29 +370,40 @@ fn reopen_of(fields: &[u8]) -> Result<Event, CodecFault>
     Ok(Event::Reopen)
 }
 
-#[tactic(auto, unfolding(crate::specs::Reading::event_at, crate::specs::Reading::fields_at, field_codec::specs::Fields::whole, crate::specs::Reading::reaches_copy, crate::specs::Reading::fields_copy))]
+// The event of this kind that its fields tell.
+#[tactic(auto, unfolding(crate::specs::Reading::fields_at, field_codec::specs::Fields::whole, crate::specs::Reading::fields_copy))]
+fn event_of_kind(alloc: Global, kind: u8, fields: &[u8]) -> Result<Event, CodecFault>
+    ensures read { Gives (λ e. e) result (whole (fields_at kind fields.now)) }
+    ensures memory { IfErr result (MemoryOnly (fields_copy kind fields.now)) }
+{
+    match kind {
+        0x01 => new_queue_of(alloc, fields),
+        0x02 => notes_of(alloc, fields),
+        0x03 => accept_of(alloc, fields),
+        0x04 => stop_of(alloc, fields),
+        0x05 => job_of(alloc, fields),
+        0x06 => send_of(alloc, fields),
+        0x07 => closing_of(alloc, fields),
+        0x08 => hold_of(fields),
+        0x09 => Ok(Event::Release(only_job(fields)?)),
+        0x0A => Ok(Event::Cancel(only_job(fields)?)),
+        0x0B => clock_of(fields),
+        0x0C => Ok(Event::Start(only_job(fields)?)),
+        0x0D => stage_of(alloc, fields),
+        0x0E => Ok(Event::Abandon(only_job(fields)?)),
+        0x0F => reopen_of(fields),
+        _ => Err(CodecFault::Kind),
+    }
+}
+
+#[tactic(auto, unfolding(crate::specs::Reading::event_at, crate::specs::Reading::reaches_copy, field_codec::specs::Fields::whole))]
 fn event_of(alloc: Global, payload: &[u8]) -> Result<Event, CodecFault>
     ensures read { Gives (λ e. e) result (reading payload.now) }
     ensures memory { IfErr result (MemoryOnly (reaches_copy payload.now)) }
 {
     match payload {
         [] => Err(CodecFault::Length),
-        [0x01, fields @ ..] => new_queue_of(alloc, fields),
-        [0x02, fields @ ..] => notes_of(alloc, fields),
-        [0x03, fields @ ..] => accept_of(alloc, fields),
-        [0x04, fields @ ..] => stop_of(alloc, fields),
-        [0x05, fields @ ..] => job_of(alloc, fields),
-        [0x06, fields @ ..] => send_of(alloc, fields),
-        [0x07, fields @ ..] => closing_of(alloc, fields),
-        [0x08, fields @ ..] => hold_of(fields),
-        [0x09, fields @ ..] => Ok(Event::Release(only_job(fields)?)),
-        [0x0A, fields @ ..] => Ok(Event::Cancel(only_job(fields)?)),
-        [0x0B, fields @ ..] => clock_of(fields),
-        [0x0C, fields @ ..] => Ok(Event::Start(only_job(fields)?)),
-        [0x0D, fields @ ..] => stage_of(alloc, fields),
-        [0x0E, fields @ ..] => Ok(Event::Abandon(only_job(fields)?)),
-        [0x0F, fields @ ..] => reopen_of(fields),
-        [_, ..] => Err(CodecFault::Kind),
+        [kind, fields @ ..] => event_of_kind(alloc, *kind, fields),
     }
 }
 

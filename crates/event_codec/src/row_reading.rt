@@ -4,14 +4,14 @@ ghost use Rattle.spool_types.specs.declared.listing.Row.{Row};
 ghost use Rattle.spool_types.specs.Values.{is_queue_name};
 ghost use Rattle.event_codec.specs.Reading.{Gives, MemoryOnly, text_at, list_at, ticket_at, whole};
 ghost use Rattle.event_codec.specs.RowSpelling.{name_of, row_spelling, IsRowSpellable};
-ghost use Rattle.event_codec.specs.RowReading.{is_above, typed_at, reason_after, attribute_after, reasons_at, attributes_at, head_at, queue_state_at, listed_queue_at, queue_row_at, created_at, job_state_at, listed_job_at, job_row_at, piece_row_at, job_row_copies, row_reading, reaches_row_copy, last_of};
+ghost use Rattle.event_codec.specs.RowReading.{is_above, typed_at, reason_after, attribute_after, reasons_at, attributes_at, head_at, queue_state_at, queue_row, listed_queue_at, queue_row_at, created_at, job_state_at, job_row, listed_job_at, job_row_at, piece_row_at, job_row_copies, row_reading, reaches_row_copy, last_of};
 
 use crate::phase_reading::phase_at;
 use crate::reading::{filters_at, flag_at, media_at, new_queue_at, piece_at, ticket_at};
 use field_codec::{CodecFault, ended, job_id, moment, ranged, text_at, u8_at, u32_at, u64_at};
 use spool_types::{
-    Attribute, AttributeName, Attributes, Head, Job, JobId, MOST_KEPT, MediaType, NewJob, NewQueue,
-    QueueRow, Ranged, Reason, Reasons, Row,
+    Attribute, AttributeName, Attributes, Filters, Head, Job, JobId, MOST_KEPT, MediaType, Message,
+    NewJob, NewQueue, Note, Phase, QueueRow, Ranged, Reason, Reasons, Row,
 };
 use std::alloc::Global;
 
@@ -166,14 +166,21 @@ fn head_of(fields: &[u8]) -> Result<Row, CodecFault>
     }))
 }
 
-/// What is told of this queue, and what became of it.
+/// What is told of a queue, and what became of it.
+#[derive(Drop)]
+struct QueueState {
+    info: Note,
+    location: Note,
+    accepting: bool,
+    stopped: bool,
+    message: Message,
+    reasons: Reasons,
+    attributes: Attributes,
+}
+
 #[tactic(auto, unfolding(crate::specs::RowReading::queue_state_at))]
-fn queue_state_at(
-    alloc: Global,
-    queue: NewQueue,
-    bytes: &[u8],
-) -> Result<(QueueRow, &[u8]), CodecFault>
-    ensures read { Gives (λ x. (x.0, x.1.now)) result (queue_state_at queue bytes.now) }
+fn queue_state_at(alloc: Global, bytes: &[u8]) -> Result<(QueueState, &[u8]), CodecFault>
+    ensures read { Gives (λ x. (x.0, x.1.now)) result (queue_state_at bytes.now) }
 {
     let (info, rest) = text_at(alloc, bytes)?;
     let (location, rest) = text_at(alloc, rest)?;
@@ -182,13 +189,7 @@ fn queue_state_at(
     let (message, rest) = text_at(alloc, rest)?;
     let (reasons, rest) = reasons_at(alloc, rest)?;
     let (attributes, rest) = attributes_at(alloc, rest)?;
-    let row = QueueRow {
-        name: queue.name,
-        uri: queue.uri,
-        target: queue.target,
-        policy: queue.policy,
-        interval: queue.interval,
-        limit: queue.limit,
+    let state = QueueState {
         info,
         location,
         accepting,
@@ -197,17 +198,38 @@ fn queue_state_at(
         reasons,
         attributes,
     };
-    Ok((row, rest))
+    Ok((state, rest))
+}
+
+// The row of a queue that was added so, and became this.
+fn queue_row(queue: NewQueue, state: QueueState) -> QueueRow
+    ensures { result ≡ queue_row queue state }
+{
+    QueueRow {
+        name: queue.name,
+        uri: queue.uri,
+        target: queue.target,
+        policy: queue.policy,
+        interval: queue.interval,
+        limit: queue.limit,
+        info: state.info,
+        location: state.location,
+        accepting: state.accepting,
+        stopped: state.stopped,
+        message: state.message,
+        reasons: state.reasons,
+        attributes: state.attributes,
+    }
 }
 
 #[tactic(auto, unfolding(crate::specs::RowReading::listed_queue_at))]
 fn listed_queue_at(alloc: Global, bytes: &[u8]) -> Result<(QueueRow, &[u8]), CodecFault>
     ensures read { Gives (λ x. (x.0, x.1.now)) result (listed_queue_at bytes.now) }
-    ensures copied { OnOk result (IsTrue (is_ok (text_at is_queue_name bytes.now))) }
     ensures memory { IfErr result (MemoryOnly (is_ok (text_at is_queue_name bytes.now))) }
 {
     let (queue, rest) = new_queue_at(alloc, bytes)?;
-    queue_state_at(alloc, queue, rest)
+    let (state, rest) = queue_state_at(alloc, rest)?;
+    Ok((queue_row(queue, state), rest))
 }
 
 #[tactic(auto, unfolding(crate::specs::RowReading::queue_row_at, field_codec::specs::Fields::whole))]
@@ -233,10 +255,20 @@ fn created_at(alloc: Global, bytes: &[u8]) -> Result<(NewJob, &[u8]), CodecFault
     ticket_at(alloc, queue, job, rest)
 }
 
-/// What became of this job.
+/// What became of a job.
+#[derive(Drop)]
+struct JobState {
+    media: Option<MediaType>,
+    filters: Filters,
+    attempts: u32,
+    pages: u32,
+    size: u32,
+    phase: Phase,
+}
+
 #[tactic(auto, unfolding(crate::specs::RowReading::job_state_at, field_codec::specs::Fields::ranged_at))]
-fn job_state_at(alloc: Global, created: NewJob, bytes: &[u8]) -> Result<(Job, &[u8]), CodecFault>
-    ensures read { Gives (λ x. (x.0, x.1.now)) result (job_state_at created bytes.now) }
+fn job_state_at(alloc: Global, bytes: &[u8]) -> Result<(JobState, &[u8]), CodecFault>
+    ensures read { Gives (λ x. (x.0, x.1.now)) result (job_state_at bytes.now) }
 {
     let (media, rest) = typed_at(alloc, bytes)?;
     let (filters, rest) = filters_at(alloc, rest)?;
@@ -248,14 +280,7 @@ fn job_state_at(alloc: Global, created: NewJob, bytes: &[u8]) -> Result<(Job, &[
     // `?` isn't proved here: a phase, which may have a moment, stands beside a slice.
     match phase_at(attempts, stages, rest) {
         Ok((phase, rest)) => {
-            let row = Job {
-                id: created.job,
-                queue: created.queue,
-                user: created.user,
-                title: created.title,
-                copies: created.copies,
-                priority: created.priority,
-                options: created.options,
+            let state = JobState {
                 media,
                 filters,
                 attempts,
@@ -263,20 +288,41 @@ fn job_state_at(alloc: Global, created: NewJob, bytes: &[u8]) -> Result<(Job, &[
                 size: size.get(),
                 phase,
             };
-            Ok((row, rest))
+            Ok((state, rest))
         }
         Err(fault) => Err(fault),
+    }
+}
+
+// The row of a job that was created so, and became this.
+fn job_row(created: NewJob, state: JobState) -> Job
+    ensures { result ≡ job_row created state }
+{
+    Job {
+        id: created.job,
+        queue: created.queue,
+        user: created.user,
+        title: created.title,
+        copies: created.copies,
+        priority: created.priority,
+        options: created.options,
+        media: state.media,
+        filters: state.filters,
+        attempts: state.attempts,
+        pages: state.pages,
+        size: state.size,
+        phase: state.phase,
     }
 }
 
 #[tactic(auto, unfolding(crate::specs::RowReading::listed_job_at))]
 fn listed_job_at(alloc: Global, bytes: &[u8]) -> Result<(Job, &[u8]), CodecFault>
     ensures read { Gives (λ x. (x.0, x.1.now)) result (listed_job_at bytes.now) }
-    ensures copied { OnOk result (IsTrue (job_row_copies bytes.now)) }
     ensures memory { IfErr result (MemoryOnly (job_row_copies bytes.now)) }
 {
     let (created, rest) = created_at(alloc, bytes)?;
-    job_state_at(alloc, created, rest)
+    let (state, rest) = job_state_at(alloc, rest)?;
+    Ok((job_row(created, state), rest))
 }
 
 #[tactic(auto, unfolding(crate::specs::RowReading::job_row_at, field_codec::specs::Fields::whole))]

@@ -9,7 +9,8 @@ ghost use Rattle.spool_types.specs.declared.listing.Row.{Row};
 
 use crate::effect_writing::put_attribute;
 use crate::field_writing::{
-    counted_len, media_len, put, put_counted, put_flag, put_kind, put_media, put_text, text_len,
+    counted_len, media_len, put_counted, put_flag, put_kind, put_media, put_text, put_u8, put_u16,
+    put_u32, put_u64, text_len,
 };
 use crate::writing::{policy_byte, put_send};
 use spool_types::{
@@ -48,14 +49,14 @@ fn put_holding(out: &mut Vec<u8>, hold: Hold)
     ensures legal { IsHolding hold }
 {
     match hold {
-        Hold::Free => put(out, &0u8.to_be_bytes()),
+        Hold::Free => put_u8(out, 0),
         Hold::Indefinite(reason) => {
-            put(out, &1u8.to_be_bytes());
-            put(out, &hold_reason_byte(reason).to_be_bytes())
+            put_u8(out, 1);
+            put_u8(out, hold_reason_byte(reason))
         }
         Hold::Until(moment) => {
-            put(out, &2u8.to_be_bytes());
-            put(out, &moment.get().to_be_bytes())
+            put_u8(out, 2);
+            put_u64(out, moment.get())
         }
     }
 }
@@ -68,7 +69,7 @@ fn put_waiting(out: &mut Vec<u8>, hold: Hold, not_before: Moment, first: bool)
     ensures legal { IsWaitingFor hold not_before }
 {
     put_holding(out, hold);
-    put(out, &not_before.get().to_be_bytes());
+    put_u64(out, not_before.get());
     put_flag(out, first);
 }
 
@@ -93,7 +94,7 @@ fn put_phase(out: &mut Vec<u8>, phase: &Phase)
     ensures grown { vec_capacity out.old ≤ vec_capacity out.new }
     ensures legal { HasMoments phase.now }
 {
-    put(out, &phase_byte(phase).to_be_bytes());
+    put_u8(out, phase_byte(phase));
     match phase {
         Phase::Incoming(hold) => put_holding(out, *hold),
         Phase::Waiting {
@@ -101,9 +102,9 @@ fn put_phase(out: &mut Vec<u8>, phase: &Phase)
             not_before,
             first,
         } => put_waiting(out, *hold, *not_before, *first),
-        Phase::Processing { stage, .. } => put(out, &stage.to_be_bytes()),
+        Phase::Processing { stage, .. } => put_u8(out, *stage),
         Phase::Completed | Phase::Canceled => {}
-        Phase::Aborted(reason) => put(out, &abort_reason_byte(*reason).to_be_bytes()),
+        Phase::Aborted(reason) => put_u8(out, abort_reason_byte(*reason)),
     }
 }
 
@@ -115,9 +116,9 @@ fn put_typed(out: &mut Vec<u8>, media: &Option<MediaType>)
     ensures legal { IsTyped media.now }
 {
     match media {
-        None => put(out, &0u8.to_be_bytes()),
+        None => put_u8(out, 0),
         Some(media) => {
-            put(out, &1u8.to_be_bytes());
+            put_u8(out, 1);
             put_media(out, media)
         }
     }
@@ -144,7 +145,7 @@ fn put_attributes(out: &mut Vec<u8>, attributes: &Attributes)
     ensures legal { AllByRecursion IsAttribute attributes.now }
 {
     let attributes = attributes.as_slice();
-    put(out, &(attributes.len() as u8).to_be_bytes());
+    put_u8(out, attributes.len() as u8);
     put_each(out, attributes);
 }
 
@@ -155,8 +156,8 @@ fn put_head(out: &mut Vec<u8>, head: &Head)
     ensures grown { vec_capacity out.old ≤ vec_capacity out.new }
     ensures legal { IsIn 0 greatest_moment head.now.moment }
 {
-    put(out, &head.highest.to_be_bytes());
-    put(out, &head.moment.get().to_be_bytes());
+    put_u32(out, head.highest);
+    put_u64(out, head.moment.get());
 }
 
 // What a queue was added with.
@@ -170,9 +171,9 @@ fn put_added(out: &mut Vec<u8>, queue: &QueueRow)
     put_text(out, &queue.name);
     put_text(out, &queue.uri);
     put_media(out, &queue.target);
-    put(out, &policy_byte(queue.policy).to_be_bytes());
-    put(out, &queue.interval.get().to_be_bytes());
-    put(out, &queue.limit.to_be_bytes());
+    put_u8(out, policy_byte(queue.policy));
+    put_u32(out, queue.interval.get());
+    put_u16(out, queue.limit);
 }
 
 // What is told of a queue, and what became of it.
@@ -211,12 +212,12 @@ fn put_created(out: &mut Vec<u8>, job: &Job)
     ensures grown { vec_capacity out.old ≤ vec_capacity out.new }
     ensures legal { IsJob (new_job_of job.now) }
 {
-    put(out, &job.id.get().to_be_bytes());
+    put_u32(out, job.id.get());
     put_text(out, &job.queue);
     put_text(out, &job.user);
     put_text(out, &job.title);
-    put(out, &(job.copies.get() as u16).to_be_bytes());
-    put(out, &(job.priority.get() as u8).to_be_bytes());
+    put_u16(out, job.copies.get() as u16);
+    put_u8(out, job.priority.get() as u8);
     put_text(out, &job.options);
 }
 
@@ -230,9 +231,9 @@ fn put_job_state(out: &mut Vec<u8>, job: &Job)
 {
     put_typed(out, &job.media);
     put_counted(out, job.filters.as_slice());
-    put(out, &job.attempts.to_be_bytes());
-    put(out, &job.pages.to_be_bytes());
-    put(out, &job.size.to_be_bytes());
+    put_u32(out, job.attempts);
+    put_u32(out, job.pages);
+    put_u32(out, job.size);
     put_phase(out, &job.phase);
 }
 

@@ -8,7 +8,8 @@ ghost use Rattle.event_codec.specs.Spelling.{text_code, flag_code, until_code, f
 
 use crate::effect_writing::put_effects;
 use crate::field_writing::{
-    counted_len, media_len, put, put_counted, put_flag, put_kind, put_media, put_text, text_len,
+    counted_len, media_len, put, put_counted, put_flag, put_kind, put_media, put_text, put_u8,
+    put_u16, put_u32, put_u64, text_len,
 };
 use spool_types::{
     Closing, Event, Exit, Filters, JobId, MediaType, Moment, NewJob, NewQueue, Piece, Policy,
@@ -38,9 +39,9 @@ fn put_queue(out: &mut Vec<u8>, kind: u8, queue: &NewQueue)
     put_text(out, &queue.name);
     put_text(out, &queue.uri);
     put_media(out, &queue.target);
-    put(out, &policy_byte(queue.policy).to_be_bytes());
-    put(out, &queue.interval.get().to_be_bytes());
-    put(out, &queue.limit.to_be_bytes());
+    put_u8(out, policy_byte(queue.policy));
+    put_u32(out, queue.interval.get());
+    put_u16(out, queue.limit);
 }
 
 fn put_notes(out: &mut Vec<u8>, kind: u8, notes: &QueueNotes)
@@ -78,11 +79,11 @@ fn put_job(out: &mut Vec<u8>, kind: u8, job: &NewJob)
 {
     put_kind(out, kind);
     put_text(out, &job.queue);
-    put(out, &job.job.get().to_be_bytes());
+    put_u32(out, job.job.get());
     put_text(out, &job.user);
     put_text(out, &job.title);
-    put(out, &(job.copies.get() as u16).to_be_bytes());
-    put(out, &(job.priority.get() as u8).to_be_bytes());
+    put_u16(out, job.copies.get() as u16);
+    put_u8(out, job.priority.get() as u8);
     put_text(out, &job.options);
 }
 
@@ -95,8 +96,8 @@ pub(crate) fn put_send(out: &mut Vec<u8>, kind: u8, job: JobId, bytes: &Piece)
 {
     put_kind(out, kind);
     let bytes = bytes.as_slice();
-    put(out, &job.get().to_be_bytes());
-    put(out, &(bytes.len() as u32).to_be_bytes());
+    put_u32(out, job.get());
+    put_u32(out, bytes.len() as u32);
     put(out, bytes);
 }
 
@@ -108,9 +109,9 @@ fn put_filters(out: &mut Vec<u8>, filters: &Option<Filters>)
     ensures legal { AreFilters filters.now }
 {
     match filters {
-        None => put(out, &0u8.to_be_bytes()),
+        None => put_u8(out, 0),
         Some(filters) => {
-            put(out, &1u8.to_be_bytes());
+            put_u8(out, 1);
             put_counted(out, filters.as_slice());
         }
     }
@@ -124,7 +125,7 @@ fn put_closing(out: &mut Vec<u8>, kind: u8, closing: &Closing)
     ensures legal { IsClosing closing.now }
 {
     put_kind(out, kind);
-    put(out, &closing.job.get().to_be_bytes());
+    put_u32(out, closing.job.get());
     put_media(out, &closing.media);
     put_filters(out, &closing.filters);
 }
@@ -136,10 +137,10 @@ fn put_until(out: &mut Vec<u8>, until: Option<Moment>)
     ensures grown { vec_capacity out.old ≤ vec_capacity out.new }
 {
     match until {
-        None => put(out, &1u8.to_be_bytes()),
+        None => put_u8(out, 1),
         Some(moment) => {
-            put(out, &2u8.to_be_bytes());
-            put(out, &moment.get().to_be_bytes())
+            put_u8(out, 2);
+            put_u64(out, moment.get())
         }
     }
 }
@@ -152,7 +153,7 @@ fn put_hold(out: &mut Vec<u8>, kind: u8, job: JobId, until: Option<Moment>)
     ensures legal { IsHold job until }
 {
     put_kind(out, kind);
-    put(out, &job.get().to_be_bytes());
+    put_u32(out, job.get());
     put_until(out, until);
 }
 
@@ -165,12 +166,12 @@ fn put_exit(out: &mut Vec<u8>, exit: Exit)
 {
     match exit {
         Exit::Code(status) => {
-            put(out, &0u8.to_be_bytes());
-            put(out, &status.to_be_bytes())
+            put_u8(out, 0);
+            put_u8(out, status)
         }
-        Exit::Signal => put(out, &1u8.to_be_bytes()),
-        Exit::NoStart => put(out, &2u8.to_be_bytes()),
-        Exit::Lost => put(out, &3u8.to_be_bytes()),
+        Exit::Signal => put_u8(out, 1),
+        Exit::NoStart => put_u8(out, 2),
+        Exit::Lost => put_u8(out, 3),
     }
 }
 
@@ -182,11 +183,11 @@ fn put_stage(out: &mut Vec<u8>, kind: u8, end: &StageEnd)
     ensures legal { IsStageEnd end.now }
 {
     put_kind(out, kind);
-    put(out, &end.job.get().to_be_bytes());
-    put(out, &end.attempt.get().to_be_bytes());
-    put(out, &(end.stage.get() as u8).to_be_bytes());
+    put_u32(out, end.job.get());
+    put_u32(out, end.attempt.get());
+    put_u8(out, end.stage.get() as u8);
     put_exit(out, end.exit);
-    put(out, &end.dropped.to_be_bytes());
+    put_u32(out, end.dropped);
     put_effects(out, &end.effects);
 }
 
@@ -198,7 +199,7 @@ fn put_number(out: &mut Vec<u8>, kind: u8, job: JobId)
     ensures legal { IsJobNumber job }
 {
     put_kind(out, kind);
-    put(out, &job.get().to_be_bytes());
+    put_u32(out, job.get());
 }
 
 fn put_moment(out: &mut Vec<u8>, kind: u8, moment: Moment)
@@ -209,7 +210,7 @@ fn put_moment(out: &mut Vec<u8>, kind: u8, moment: Moment)
     ensures legal { IsIn 0 greatest_moment moment }
 {
     put_kind(out, kind);
-    put(out, &moment.get().to_be_bytes());
+    put_u64(out, moment.get());
 }
 
 fn put_event(out: &mut Vec<u8>, event: &Event)

@@ -68,6 +68,11 @@ module _ (ds : List NewDocument) (sorted : IsTrue (finite.is_sorted nat_cmp (map
       pub still_there : (k : ℕ) → IsSome (finite.find nat_cmp k (map new_entry ds)) → IsSome (finite.find nat_cmp k (map new_entry (set ds at new)))
       still_there k there = subst IsSome (sym (find_set (λ (d : NewDocument). d.extents.items) sorted k)) (some_either (eq_by_cmp nat_cmp k j) new.extents.items (finite.find nat_cmp k (map new_entry ds)) there)
 
+      pub spare_others : (k : ℕ) → (¬ (k ≡ j)) → unwrap_or (finite.find nat_cmp k (map spare_entry (set ds at new))) 0 ≡ unwrap_or (finite.find nat_cmp k (map spare_entry ds)) 0
+      spare_others k apart = ap (λ o. unwrap_or o 0)
+          (find_set new_spare sorted_spare k
+          ∙ ap (λ b. cond b (Some (new_spare new)) (finite.find nat_cmp k (map spare_entry ds))) (other_key k j apart))
+
       own_key : (k : ℕ) → (j == k) ≡ true → eq_by_cmp nat_cmp k j ≡ true
       own_key k e = subst (λ n. eq_by_cmp nat_cmp n j ≡ true) (same_by j k e) (same_itself j)
 

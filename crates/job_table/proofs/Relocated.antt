@@ -12,12 +12,12 @@ use Rattle.spool_types.specs.Limits.{longest_send}
 use Rattle.spool_types.specs.Phases.{has_ended}
 use Rattle.spool_types.specs.State.{State, Job, job_of, job_at}
 use Rattle.spool_types.specs.declared.rows.JobRow.{JobRow}
-use Rattle.job_table.specs.Contents.{Noted, HasMoves, places_at, places_of}
+use Rattle.job_table.specs.Contents.{Noted, HasMoves, document_room, move_room, places_at, places_of}
 use Rattle.job_table.specs.Documents.{document_len}
 use Rattle.job_table.specs.Lanes.{AreBeside}
 use Rattle.job_table.specs.Legal.{IsLegal}
 use Rattle.job_table.specs.Noted.{new_entry, new_spare, spare_entry, blank_entry, IsNewOf}
-use Rattle.job_table.specs.Rows.{job_entry, place_entry, HoldsDocument, HoldDocuments, HasNew, IsMoved}
+use Rattle.job_table.specs.Rows.{job_entry, place_entry, document_entry, document_spare, HoldsDocument, HoldDocuments, HasNew, IsMoved}
 use Rattle.job_table.specs.Seen.{contents_of, IsOrdered}
 use Rattle.job_table.specs.declared.new_places.NewDocument.{NewDocument}
 use Rattle.job_table.specs.declared.store.Store.TheInside.{Inside}
@@ -56,23 +56,23 @@ room_blank (x ∷ rs) (d ∷ ds) are j r there =
 
 -- ## Rows whose documents have moved
 
-module _ (places : List (ℕ × List Extent)) where
-  pub moved_entries : (xs ys : List JobRow) → AreBeside (IsMoved places) xs ys → map job_entry ys ≡ map job_entry xs
+module _ (noted : Noted) where
+  pub moved_entries : (xs ys : List JobRow) → AreBeside (IsMoved noted) xs ys → map job_entry ys ≡ map job_entry xs
   moved_entries [] [] are = refl
   moved_entries [] (y ∷ ys) are = absurd (omega (arith, are.count))
   moved_entries (x ∷ xs) [] are = absurd (omega (arith, are.count))
   moved_entries (x ∷ xs) (y ∷ ys) are =
-      let own = beside_first (IsMoved places) x xs y ys are in
-      λ i. ((own.row i).id, own.row i) ∷ moved_entries xs ys (beside_rest (IsMoved places) x xs y ys are) i
+      let own = beside_first (IsMoved noted) x xs y ys are in
+      λ i. ((own.row i).id, own.row i) ∷ moved_entries xs ys (beside_rest (IsMoved noted) x xs y ys are) i
 
   -- new places of the document's length
   abbrev pub HasWhole : JobRow → Type 0
-  HasWhole r = has_ended r.job.phase ≡ false → size_of (places_of places r.job.id) ≡ r.job.size
+  HasWhole r = has_ended r.job.phase ≡ false → size_of (places_of noted.places r.job.id) ≡ r.job.size
 
-  same_phase : (x y : JobRow) → IsMoved places x y → has_ended y.job.phase ≡ has_ended x.job.phase
+  same_phase : (x y : JobRow) → IsMoved noted x y → has_ended y.job.phase ≡ has_ended x.job.phase
   same_phase x y moved = ap (λ (r : Job). has_ended r.phase) moved.row
 
-  moved_holds : (x y : JobRow) → IsMoved places x y → HasWhole x → HoldsDocument x → HoldsDocument y
+  moved_holds : (x y : JobRow) → IsMoved noted x y → HasWhole x → HoldsDocument x → HoldsDocument y
   moved_holds x y moved whole holds = either (has_ended x.job.phase) refl
     where
       either : (b : Bool) → has_ended x.job.phase ≡ b → HoldsDocument y
@@ -82,33 +82,49 @@ module _ (places : List (ℕ × List Extent)) where
         sized = ap size_of (moved.lives e) ∙ whole e ∙ sym (ap (λ b. cond b 0 x.job.size) e) ∙ sym (ap document_len moved.row);
       }
 
-  pub moved_hold : (xs ys : List JobRow) → AreBeside (IsMoved places) xs ys → ((i : ℕ) (d : JobRow) → i < length xs → HasWhole (get_or xs i d)) → HoldDocuments xs → HoldDocuments ys
+  pub moved_hold : (xs ys : List JobRow) → AreBeside (IsMoved noted) xs ys → ((i : ℕ) (d : JobRow) → i < length xs → HasWhole (get_or xs i d)) → HoldDocuments xs → HoldDocuments ys
   moved_hold xs [] are whole holds = tt
   moved_hold [] (y ∷ ys) are whole holds = absurd (omega (arith, are.count))
   moved_hold (x ∷ xs) (y ∷ ys) are whole holds = (
-    moved_holds x y (beside_first (IsMoved places) x xs y ys are) (whole 0 x (omega arith)) holds.0,
-    moved_hold xs ys (beside_rest (IsMoved places) x xs y ys are) (λ i d lt. whole (suc i) d (omega arith)) holds.1,
+    moved_holds x y (beside_first (IsMoved noted) x xs y ys are) (whole 0 x (omega arith)) holds.0,
+    moved_hold xs ys (beside_rest (IsMoved noted) x xs y ys are) (λ i d lt. whole (suc i) d (omega arith)) holds.1,
   )
 
-  place_here : (b : Bool) (j : ℕ) (y : JobRow) (r : Job) (found : Option Job) (rest : Option (List Extent)) → (b ≡ true → has_ended y.job.phase ≡ false → y.document.items ≡ places_of places j) → cond b (Some (job_of y)) found ≡ Some r → has_ended r.phase ≡ false → (found ≡ Some r → unwrap_or rest [] ≡ places_of places j) → unwrap_or (cond b (Some y.document.items) rest) [] ≡ places_of places j
-  place_here true j y r found rest own is lives later = own refl (ap (λ (x : Job). has_ended x.phase) (some_same (job_of y) r is) ∙ lives)
-  place_here false j y r found rest own is lives later = later is
+  -- what is found at a number, where its job hasn't ended
+  found_here : {X : Type 0} (none value wanted : X) (b : Bool) (y : JobRow) (r : Job) (found : Option Job) (rest : Option X) → (b ≡ true → has_ended y.job.phase ≡ false → value ≡ wanted) → cond b (Some (job_of y)) found ≡ Some r → has_ended r.phase ≡ false → (found ≡ Some r → unwrap_or rest none ≡ wanted) → unwrap_or (cond b (Some value) rest) none ≡ wanted
+  found_here none value wanted true y r found rest own is lives later = own refl (ap (λ (x : Job). has_ended x.phase) (some_same (job_of y) r is) ∙ lives)
+  found_here none value wanted false y r found rest own is lives later = later is
 
-  pub moved_places : (xs ys : List JobRow) → AreBeside (IsMoved places) xs ys → (j : ℕ) (r : Job) → finite.find nat_cmp j (map job_entry ys) ≡ Some r → has_ended r.phase ≡ false → places_of (map place_entry ys) j ≡ places_of places j
+  module _ (x y : JobRow) (moved : IsMoved noted x y) (j : ℕ) (here : is_eq (nat_cmp j y.job.id) ≡ true) where
+    own_number : x.job.id ≡ j
+    own_number = sym (ap (λ (q : Job). q.id) moved.row) ∙ sym (same_number y.job.id j here)
+
+  pub moved_places : (xs ys : List JobRow) → AreBeside (IsMoved noted) xs ys → (j : ℕ) (r : Job) → finite.find nat_cmp j (map job_entry ys) ≡ Some r → has_ended r.phase ≡ false → places_of (map place_entry ys) j ≡ places_of noted.places j
   moved_places xs [] are j r there lives = absurd (cc)
   moved_places [] (y ∷ ys) are j r there lives = absurd (omega (arith, are.count))
   moved_places (x ∷ xs) (y ∷ ys) are j r there lives =
-      let own = beside_first (IsMoved places) x xs y ys are in
-      place_here (is_eq (nat_cmp j y.job.id)) j y r (finite.find nat_cmp j (map job_entry ys)) (finite.find nat_cmp j (map place_entry ys))
-      (λ here live. own.lives (sym (same_phase x y own) ∙ live) ∙ ap (places_of places) (sym (ap (λ (q : Job). q.id) own.row) ∙ sym (same_number y.job.id j here)))
+      let own = beside_first (IsMoved noted) x xs y ys are in
+      found_here [] y.document.items (places_of noted.places j) (is_eq (nat_cmp j y.job.id)) y r (finite.find nat_cmp j (map job_entry ys)) (finite.find nat_cmp j (map place_entry ys))
+      (λ here live. own.lives (sym (same_phase x y own) ∙ live) ∙ ap (places_of noted.places) (own_number x y own j here))
       there lives
-      (λ later. moved_places xs ys (beside_rest (IsMoved places) x xs y ys are) j r later lives)
+      (λ later. moved_places xs ys (beside_rest (IsMoved noted) x xs y ys are) j r later lives)
 
--- the same places for this job
-pub moved_as : (from to : List (ℕ × List Extent)) (x y : JobRow) → finite.find nat_cmp x.job.id from ≡ finite.find nat_cmp x.job.id to → IsMoved from x y → IsMoved to x y
-moved_as from to x y same moved = record {
+  pub moved_rooms : (xs ys : List JobRow) → AreBeside (IsMoved noted) xs ys → (j : ℕ) (r : Job) → finite.find nat_cmp j (map job_entry ys) ≡ Some r → has_ended r.phase ≡ false → unwrap_or (finite.find nat_cmp j (map document_entry ys)) 0 ≡ move_room noted j
+  moved_rooms xs [] are j r there lives = absurd (cc)
+  moved_rooms [] (y ∷ ys) are j r there lives = absurd (omega (arith, are.count))
+  moved_rooms (x ∷ xs) (y ∷ ys) are j r there lives =
+      let own = beside_first (IsMoved noted) x xs y ys are in
+      found_here 0 (document_spare y) (move_room noted j) (is_eq (nat_cmp j y.job.id)) y r (finite.find nat_cmp j (map job_entry ys)) (finite.find nat_cmp j (map document_entry ys))
+      (λ here live. own.spare (sym (same_phase x y own) ∙ live) ∙ ap (move_room noted) (own_number x y own j here))
+      there lives
+      (λ later. moved_rooms xs ys (beside_rest (IsMoved noted) x xs y ys are) j r later lives)
+
+-- the same places for this job, and the same room
+pub moved_as : (from to : Noted) (x y : JobRow) → finite.find nat_cmp x.job.id from.places ≡ finite.find nat_cmp x.job.id to.places → move_room from x.job.id ≡ move_room to x.job.id → IsMoved from x y → IsMoved to x y
+moved_as from to x y same room moved = record {
   row = moved.row;
   lives = λ e. moved.lives e ∙ ap (λ o. unwrap_or o []) same;
+  spare = λ e. moved.spare e ∙ room;
   over = moved.over;
 }
 
@@ -146,18 +162,18 @@ module _ (a : Inside) (ordered : IsOrdered a) (noted : Noted) (has : HasMoves (c
   pub each_new : (i : ℕ) (d : JobRow) → i < length a.jobs.items → HasNew noted.places (get_or a.jobs.items i d)
   each_new i d lt lives = (has (get_or a.jobs.items i d).job.id (job_of (get_or a.jobs.items i d)) (job_here i d lt) lives).0
 
-  each_whole : (i : ℕ) (d : JobRow) → i < length a.jobs.items → HasWhole noted.places (get_or a.jobs.items i d)
+  each_whole : (i : ℕ) (d : JobRow) → i < length a.jobs.items → HasWhole noted (get_or a.jobs.items i d)
   each_whole i d lt lives = (has (get_or a.jobs.items i d).job.id (job_of (get_or a.jobs.items i d)) (job_here i d lt) lives).1
 
-  module _ (new : List JobRow) (count : length new ≡ length a.jobs.items) (each : (i : ℕ) (d : JobRow) → i < length new → IsMoved noted.places (get_or a.jobs.items i d) (get_or new i d)) (vs : Vec JobRow Global) (items : vs.items ≡ new) where
-    beside : AreBeside (IsMoved noted.places) a.jobs.items new
+  module _ (new : List JobRow) (count : length new ≡ length a.jobs.items) (each : (i : ℕ) (d : JobRow) → i < length new → IsMoved noted (get_or a.jobs.items i d) (get_or new i d)) (vs : Vec JobRow Global) (items : vs.items ≡ new) where
+    beside : AreBeside (IsMoved noted) a.jobs.items new
     beside = record {
       count = count;
-      each = λ i k y lt. subst (λ x. IsMoved noted.places x (get_or new i y)) (get_or_default a.jobs.items i y k (omega (arith, lt, count))) (each i y lt);
+      each = λ i k y lt. subst (λ x. IsMoved noted x (get_or new i y)) (get_or_default a.jobs.items i y k (omega (arith, lt, count))) (each i y lt);
     }
 
     entries : map job_entry vs.items ≡ map job_entry a.jobs.items
-    entries = ap (map job_entry) items ∙ moved_entries noted.places a.jobs.items new beside
+    entries = ap (map job_entry) items ∙ moved_entries noted a.jobs.items new beside
 
     sorted_moved : IsTrue (finite.is_sorted nat_cmp (map job_entry vs.items))
     sorted_moved = subst (λ es. IsTrue (finite.is_sorted nat_cmp es)) (sym entries) ordered.jobs
@@ -170,14 +186,19 @@ module _ (a : Inside) (ordered : IsOrdered a) (noted : Noted) (has : HasMoves (c
       queues = ordered.queues;
       jobs = sorted_moved;
       highest = ordered.highest;
-      documents = subst HoldDocuments (sym items) (moved_hold noted.places a.jobs.items new beside each_whole ordered.documents);
+      documents = subst HoldDocuments (sym items) (moved_hold noted a.jobs.items new beside each_whole ordered.documents);
       legal = subst IsLegal (sym moved_state) ordered.legal;
     }
 
     pub moved_all : (j : ℕ) (r : Job) → job_at (contents_of (record a { jobs = vs })).state j ≡ Some r → has_ended r.phase ≡ false → places_at (contents_of (record a { jobs = vs })) j ≡ places_of noted.places j
     moved_all j r there lives =
         ap (λ ys. places_of (map place_entry ys) j) items
-        ∙ moved_places noted.places a.jobs.items new beside j r (subst (λ ys. finite.find nat_cmp j (map job_entry ys) ≡ Some r) items (find_job vs.items sorted_moved j ∙ there)) lives
+        ∙ moved_places noted a.jobs.items new beside j r (subst (λ ys. finite.find nat_cmp j (map job_entry ys) ≡ Some r) items (find_job vs.items sorted_moved j ∙ there)) lives
+
+    pub rooms_all : (j : ℕ) (r : Job) → job_at (contents_of (record a { jobs = vs })).state j ≡ Some r → has_ended r.phase ≡ false → document_room (contents_of (record a { jobs = vs })).room j ≡ move_room noted j
+    rooms_all j r there lives =
+        ap (λ ys. unwrap_or (finite.find nat_cmp j (map document_entry ys)) 0) items
+        ∙ moved_rooms noted a.jobs.items new beside j r (subst (λ ys. finite.find nat_cmp j (map job_entry ys) ≡ Some r) items (find_job vs.items sorted_moved j ∙ there)) lives
 
 -- the rows' entries are those of the table
 pub entry_found : (s : State) (rs : List JobRow) → map job_entry rs ≡ finite.entries s.jobs → (j : ℕ) (r : Job) → job_at s j ≡ Some r → finite.find nat_cmp j (map job_entry rs) ≡ Some r

@@ -22,7 +22,7 @@ abbrev pub spare_entry : NewDocument → ℕ × ℕ
 spare_entry d = (d.job, new_spare d)
 
 abbrev pub noted_of : Inside → Noted
-noted_of a = record { places = map new_entry a.documents.items; room = map spare_entry a.documents.items }
+noted_of a = record { places = map new_entry a.documents.items; room = map spare_entry a.documents.items; kept = vec_capacity a.documents }
 
 -- the jobs stand in ascending order, each once
 abbrev pub AreNoted : Inside → Type 0

@@ -1,5 +1,5 @@
 -- Rows by their keys.
-use Rattle.std.specs.Prelude.{◌≡◌, ℕ, ◌-◌, ◌≤◌, true, false, List, [], ◌∷◌, unwrap_or, IsSome, vec_len, vec_capacity}
+use Rattle.std.specs.Prelude.{◌≡◌, ℕ, ◌-◌, ◌≤◌, true, false, List, [], ◌∷◌, IsSome, vec_len, vec_capacity}
 use Rattle.std.specs.Ordering.{nat_cmp}
 use Rattle.std.specs.FinMap.{find}
 use Rattle.extents.specs.declared.extent.Extent.{Extent}
@@ -8,6 +8,7 @@ use Rattle.spool_types.specs.Phases.{has_ended}
 use Rattle.spool_types.specs.State.{Job}
 use Rattle.spool_types.specs.declared.rows.QueueRow.{QueueRow}
 use Rattle.spool_types.specs.declared.rows.JobRow.{JobRow}
+use Rattle.job_table.specs.Contents.{Noted, move_room, places_of}
 use Rattle.job_table.specs.Documents.{document_len}
 
 abbrev pub queue_entry : QueueRow → List ℕ × QueueRow
@@ -52,8 +53,10 @@ KeepsDocument old new = has_ended new.job.phase ≡ false → new.document.items
 abbrev pub HasNew : List (ℕ × List Extent) → JobRow → Type 0
 HasNew places r = has_ended r.job.phase ≡ false → IsSome (find nat_cmp r.job.id places)
 
--- the document lies at the new places, unless the job has ended, and nothing else has changed
-pub record IsMoved (places : List (ℕ × List Extent)) (old new : JobRow) : Type 0 where
+-- the document lies at the new places, with the room that is left there, unless the job has ended, and nothing else has
+-- changed
+pub record IsMoved (noted : Noted) (old new : JobRow) : Type 0 where
   pub row : new.job ≡ old.job
-  pub lives : has_ended old.job.phase ≡ false → new.document.items ≡ unwrap_or (find nat_cmp old.job.id places) []
+  pub lives : has_ended old.job.phase ≡ false → new.document.items ≡ places_of noted.places old.job.id
+  pub spare : has_ended old.job.phase ≡ false → document_spare new ≡ move_room noted old.job.id
   pub over : has_ended old.job.phase ≡ true → new ≡ old

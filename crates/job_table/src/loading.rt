@@ -10,7 +10,7 @@ ghost use Rattle.row_effects.specs.Keys.{is_ascending};
 ghost use Rattle.row_effects.specs.Reasons.{word_of};
 ghost use Rattle.row_effects.specs.Attributes.{name_of};
 ghost use Rattle.job_table.specs.Legal.{IsLegal, Fits, IsUntyped, IsStartable, IsStarted};
-ghost use Rattle.job_table.specs.Contents.{HasPlace, places_at, places_of};
+ghost use Rattle.job_table.specs.Contents.{HasPlace, no_moves, places_at, places_of};
 ghost use Rattle.job_table.specs.Documents.{document_len};
 ghost use Rattle.job_table.specs.Loading.{IsWhole, IsPlaced, IsNewQueue, IsNewJob, IsNextQueue, IsNextJob, IsNextPiece, IsPieceOf, begin_loading, loaded, with_job};
 ghost use Rattle.job_table.specs.Reading.{AddsPiece, HasSameParts, IsGrown, IsMeasured, MayGrow, part_of, with_last_place};
@@ -130,6 +130,7 @@ impl Loading {
         requires { IsWhole self.progress }
         ensures state { IfOk result (λ table. table.state ≡ self.progress.state) }
         ensures places { IfOk result (λ table. table.places ≡ self.places) }
+        ensures moves { IfOk result (λ table. table.moves ≡ no_moves) }
     {
         Table::of_rows(self.alloc, self.store)
     }

@@ -1,5 +1,5 @@
 //! New places for documents: they are noted one after another, and then taken for all documents at once.
-ghost use Rattle.std.specs.Prelude.{◌≡◌, ℕ, ◌-◌, ◌*◌, ◌==◌, ◌<◌, ◌≤◌, ◌++◌, ◌∷◌, [], Some, IsSome, IsTrue, IfOk, IfErr, map, if◌then◌else◌};
+ghost use Rattle.std.specs.Prelude.{◌≡◌, ℕ, ◌-◌, ◌*◌, ◌==◌, ◌<◌, ◌≤◌, ◌++◌, ◌∷◌, [], Some, IsSome, IsTrue, IfOk, IfErr, map, vec_capacity, vec_len, if◌then◌else◌};
 ghost use Rattle.std.specs.Ordering.{nat_cmp};
 ghost use Rattle.std.specs.FinMap as finite;
 ghost use Rattle.spool_types.specs.Limits.{longest_send};
@@ -86,7 +86,9 @@ impl NewPlaces {
     pub fn take(&mut self, job: JobId) -> Vec<Extent>
         requires { IsSome (finite.find nat_cmp job self.old.places) }
         ensures value { result.items ≡ places_of self.old.places job }
+        ensures room { vec_capacity result - vec_len result ≡ move_room self.old job }
         ensures others { (j : ℕ) → ¬ (j ≡ job) → finite.find nat_cmp j self.new.places ≡ finite.find nat_cmp j self.old.places }
+        ensures others_room { (j : ℕ) → ¬ (j ≡ job) → move_room self.new j ≡ move_room self.old j }
     {
         let alloc = *self.documents.allocator();
         match place(&self.documents, job) {

@@ -1,5 +1,5 @@
 -- The lines of a file, one after the other.
-use Rattle.std.proofs.Common.{◌≡◌, List, [], ◌∷◌, ◌++◌, length, map, refl, arith}
+use Rattle.std.proofs.Common.{◌≡◌, List, [], ◌∷◌, ◌++◌}
 use Rattle.std.proofs.lemmas.List.Elements.{filter_map-append}
 use Rattle.mime_lines.specs.JoinedLines.{Line}
 use Rattle.mime_rules.specs.Lines.{alternative_in, warning_in, outcome_of, alternatives_in, warnings_in}

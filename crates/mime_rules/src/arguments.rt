@@ -2,7 +2,7 @@
 ghost use Rattle.std.specs.Prelude.{◌≡◌, ◌<◌, ◌≤◌, ◌∷◌, ℕ, ◌+◌, ◌*◌, List, length, IfOk, true, false};
 ghost use Rattle.line_words.specs.Blanks.{is_blank};
 ghost use Rattle.mime_lines.specs.Numbers.{is_hex_digit, digit_value};
-ghost use Rattle.mime_rules.specs.Reading.{read, before, from, closed_by};
+ghost use Rattle.mime_rules.specs.Reading.{read, on, before, from, closed_by};
 ghost use Rattle.mime_rules.specs.Arguments.{is_close, is_mark, is_quote, is_closing, number_at, number_then, text_from, text_at, pair_at, value_at, text_of_width, bare, quoted, hex, width_of, most_of, value_bytes};
 ghost use Rattle.mime_rules.specs.Seen.{Told, Grown};
 
@@ -300,14 +300,28 @@ pub(crate) fn value_at<'a>(
         Some(Number::TooGreat) => Err(Stop::Fault(WarningKind::BadNumber)),
         Some(Number::Fits(n)) => {
             if n <= width.most() {
-                let behind = closed_by(rest, CLOSE)?;
-                let bytes = value_bytes(alloc, n, width)?;
-                Ok((bytes, behind))
+                closed_value(alloc, n, width, rest)
             } else {
                 Err(Stop::Fault(WarningKind::BadNumber))
             }
         }
     }
+}
+
+// The bytes of a number, and what follows its closing parenthesis, which must stand here.
+fn closed_value<'a>(
+    alloc: Global,
+    n: u32,
+    width: Width,
+    line: &'a [u8],
+) -> Result<(Vec<u8>, &'a [u8]), Stop>
+    requires { n ≤ most_of width }
+    ensures value { Told result (λ r. read r.0.items r.1.now) (on (λ _. read (value_bytes width n)) (closed_by 41 line.now)) }
+    ensures bound { IfOk result (λ r. length r.1.now < length line.now) }
+{
+    let behind = closed_by(line, CLOSE)?;
+    let bytes = value_bytes(alloc, n, width)?;
+    Ok((bytes, behind))
 }
 
 // A text that must have this width.

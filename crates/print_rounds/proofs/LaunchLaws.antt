@@ -163,7 +163,7 @@ one_launch place s numbers t old told j d Disk new told' (r, q, own, due, none, 
 one_launch place s numbers t old told j d Dead new told' (none, same, tells') tells rests =
     none_started t old j new told' (tells' ∙ tells) (λ k other. ap (λ m. finite.get m k) same) (ap (λ m. with_slot (finite.get m j) []) same ∙ rests)
 
-rest_same : (j : ℕ) (m n : Slots) → SameBut j m n → (js : List ℕ) → is_in j js ≡ false → AllRest m js → AllRest n js
+pub rest_same : (j : ℕ) (m n : Slots) → SameBut j m n → (js : List ℕ) → is_in j js ≡ false → AllRest m js → AllRest n js
 rest_same j m n same [] out rests = tt
 rest_same j m n same (k ∷ js) out rests =
     (subst IsTicketless (sym (same k (not_first (k == j) (is_in j js) out))) rests.0, rest_same j m n same js (not_second (k == j) (is_in j js) out) rests.1)

@@ -21,3 +21,6 @@ pub mod JoinLaws
 pub mod RoundLaws
 pub mod PrepareLaws
 pub mod ReadLaws
+pub mod PassLaws
+pub mod InputLaws
+pub mod HandLaws

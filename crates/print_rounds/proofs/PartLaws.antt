@@ -1,5 +1,5 @@
 -- What a part of a round leaves: the table of the events acknowledged in it.
-use Rattle.std.proofs.Common.{◌≡◌, ◌≤◌, ℕ, Bool, true, false, List, [], ◌∷◌, ◌++◌, Option, Some, None, Ok, Err, refl, sym, ap, subst, ◌∙◌, arith}
+use Rattle.std.proofs.Common.{◌≡◌, inl, inr, ◌≤◌, ℕ, Bool, true, false, List, [], ◌∷◌, ◌++◌, Option, Some, None, Ok, Err, refl, sym, ap, subst, ◌∙◌, append_assoc, append-nil, arith}
 use Rattle.std.specs.FinMap as finite
 use Rattle.std.specs.Prelude.{◌↔◌, IsSome}
 use Rattle.spool_disk.specs.Disk.{DiskView, IsLawful}
@@ -12,7 +12,7 @@ use Rattle.job_table.specs.Step.{refusal_of}
 use Rattle.spool_core.specs.Standing.{Standing, IsAnswer, IsDone}
 use Rattle.spool_core.specs.declared.spool.apply_fault.ApplyFault.TheVariants as faults
 use Rattle.child_pipeline.specs.Slots.{end_in}
-use Rattle.print_rounds.specs.Counts.{acknowledged_by, tried_by, start_events, start_tried, starting_events, starting_tried, report_events, report_tried, ending_events, ending_tried}
+use Rattle.print_rounds.specs.Counts.{AreAcknowledged, acknowledged_by, tried_by, start_events, start_tried, starting_events, starting_tried, report_events, report_tried, ending_events, ending_tried}
 use Rattle.print_rounds.specs.Courses.{Course, Answer, IsApplied, Starting, IsStartingOf, AreStartings, Launching, AreReads, Ending, IsEnding, IsEndingOf, AreEndings, IsReport, is_silent}
 use Rattle.print_rounds.specs.declared.outcome.Report.{Report}
 use Rattle.print_rounds.specs.declared.outcome.Report.TheVariants as reports
@@ -25,7 +25,9 @@ use Rattle.print_rounds.proofs.ReportLaws.{done_state, fault_state}
 pub record IsPart {D : Type 0} (device : DiskView D) (old : Standing D) (tried events : List Event) (new : Standing D) : Type 0 where
   pub table : new.state ≡ after_all old.state events
   pub acknowledged : new.dead ≡ false → tried ≡ events
+  pub in_hand : AreAcknowledged new.dead tried events
   pub dead : old.dead ≡ true → new ≡ old
+  pub none : old.dead ≡ true → (tried ≡ []) × (events ≡ [])
   pub counted : device.failures old.disk ≤ device.failures new.disk
   pub told : IsSome (device.bytes new.disk) ↔ IsSome (device.bytes old.disk)
 
@@ -35,7 +37,9 @@ module _ {D : Type 0} (device : DiskView D) where
   still old new same = record {
     table = ap (λ (x : Standing D). x.state) same;
     acknowledged = λ lives. refl;
+    in_hand = inl refl;
     dead = λ is. same;
+    none = λ died. (refl, refl);
     counted = subst (λ (x : Standing D). device.failures old.disk ≤ device.failures x.disk) (sym same) (omega arith);
     told = subst (λ (x : Standing D). IsSome (device.bytes x.disk) ↔ IsSome (device.bytes old.disk)) (sym same) (λ k. k, λ k. k);
   }
@@ -54,6 +58,27 @@ module _ {D : Type 0} (device : DiskView D) where
   module _ (old mid new : Standing D) (es fs xs ys : List Event) (first : IsPart device old es xs mid) (more : IsPart device mid fs ys new) where
     pub both_parts : IsPart device old (es ++ fs) (xs ++ ys) new
     both_parts = record {
+      in_hand = elim first.in_hand [
+        | inl all ↦ elim more.in_hand [
+          | inl rest ↦ inl (ap (λ l. l ++ fs) all ∙ ap (λ l. xs ++ l) rest)
+          | inr failed ↦ inr (failed.0, failed.1, ap (λ l. l ++ fs) all ∙ ap (λ l. xs ++ l) failed.2 ∙ sym (append_assoc xs ys (failed.1 ∷ [])))
+        ]
+        | inr failed ↦
+            let over = more.none failed.0 in
+            let same : new ≡ mid = more.dead failed.0 in inr (
+              ap (λ (x : Standing D). x.dead) same ∙ failed.0,
+              failed.1,
+              ap (λ l. l ++ fs) failed.2
+                  ∙ ap (λ l. (xs ++ failed.1 ∷ []) ++ l) over.0
+                  ∙ append-nil (xs ++ failed.1 ∷ [])
+                  ∙ ap (λ l. l ++ failed.1 ∷ []) (sym (append-nil xs) ∙ ap (λ l. xs ++ l) (sym over.1)),
+            )
+      ];
+      none = λ is.
+          let same : mid ≡ old = first.dead is in
+          let here = first.none is in
+          let there = more.none (ap (λ (x : Standing D). x.dead) same ∙ is) in
+          (ap (λ l. l ++ fs) here.0 ∙ there.0, ap (λ l. l ++ ys) here.1 ∙ there.1);
       table = more.table ∙ ap (λ s. after_all s ys) first.table ∙ sym (after_both old.state xs ys);
       acknowledged = λ lives. ap (λ l. l ++ fs) (first.acknowledged (alive_before mid new fs ys more lives)) ∙ ap (λ l. xs ++ l) (more.acknowledged lives);
       dead = λ is. let same : mid ≡ old = first.dead is in more.dead (ap (λ (x : Standing D). x.dead) same ∙ is) ∙ same;
@@ -89,10 +114,28 @@ module _ {D : Type 0} (device : DiskView D) where
   answer_dead old e (Err faults.Full) new is died = is.1
   answer_dead old e (Err faults.Disk) new is died = let alive = is.fits.alive in absurd (cc)
 
+  answer_hand : (old : Standing D) (e : Event) (a : Answer) (new : Standing D) → IsAnswer device old e a new → AreAcknowledged new.dead (tried_by e a) (acknowledged_by e a)
+  answer_hand old e (Ok reply) new is = inl refl
+  answer_hand old e (Err faults.Dead) new is = inl refl
+  answer_hand old e (Err (faults.Refused refusal)) new is = inl refl
+  answer_hand old e (Err faults.Memory) new is = inl refl
+  answer_hand old e (Err faults.Full) new is = inl refl
+  answer_hand old e (Err faults.Disk) new is = inr (is.dead, e, refl)
+
+  answer_none : (old : Standing D) (e : Event) (a : Answer) (new : Standing D) → IsAnswer device old e a new → old.dead ≡ true → (tried_by e a ≡ []) × (acknowledged_by e a ≡ [])
+  answer_none old e (Ok reply) new is died = let alive = is.fits.alive in absurd (cc)
+  answer_none old e (Err faults.Dead) new is died = (refl, refl)
+  answer_none old e (Err (faults.Refused refusal)) new is died = (refl, refl)
+  answer_none old e (Err faults.Memory) new is died = (refl, refl)
+  answer_none old e (Err faults.Full) new is died = (refl, refl)
+  answer_none old e (Err faults.Disk) new is died = let alive = is.fits.alive in absurd (cc)
+
   one_part : (old : Standing D) (e : Event) (a : Answer) (new : Standing D) → IsApplied device old e a new → IsPart device old (tried_by e a) (acknowledged_by e a) new
   one_part old e a new is = record {
     table = answer_table old e a new is.cause;
     acknowledged = answer_tried old e a new is.cause;
+    in_hand = answer_hand old e a new is.cause;
+    none = answer_none old e a new is.cause;
     dead = answer_dead old e a new is.cause;
     counted = is.counted;
     told = is.told;
@@ -120,6 +163,8 @@ module _ {D : Type 0} (device : DiskView D) where
       record {
         table = reads_state device old ts new reads;
         acknowledged = λ lives. refl;
+        in_hand = inl refl;
+        none = λ died. (refl, refl);
         dead = reads_over device old ts new reads;
         counted = reads_counted device old ts new reads;
         told = (λ k. subst IsSome same k, λ k. subst IsSome (sym same) k);

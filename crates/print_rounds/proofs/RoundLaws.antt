@@ -123,6 +123,7 @@ module _ {D : Type 0} (device : DiskView D) where
         launches = (refl, refl);
         reads = refl;
         launched = sym (ap (jobs_run mid) dead);
+        once = tt;
         ends = refl;
         ended = sym (ap (jobs_run mid) dead);
       };
@@ -133,6 +134,7 @@ module _ {D : Type 0} (device : DiskView D) where
       lasting = lasting device lawful old.spool mid ts starts [] mid refl slots old.told [] failed refl;
       works = λ none lived. starts_alive old.spool ts mid starts (all_begun device old.spool ts mid starts (or_first (starting_fault ts) None none)) lived;
       all_acknowledged = part.acknowledged;
+      in_hand = part.in_hand;
       turn = λ t tells quiet. failed_turn device laws old legal mid ts starts rests t tells alive;
       read = (λ j. [], tt);
       handed = λ bytes documents tells has. tt;
@@ -188,6 +190,7 @@ module _ {D : Type 0} (device : DiskView D) where
           launches = runs.starts;
           reads = runs.reads;
           launched = runs.started ∙ jobs ∙ sym (ap (jobs_run mid) alive);
+          once = subst AreDistinct (sym runs.started) distinct;
           ends = runs.ends;
           ended = runs.ended ∙ jobs ∙ sym (ap (jobs_run mid) alive);
         };
@@ -201,6 +204,7 @@ module _ {D : Type 0} (device : DiskView D) where
             ends_alive (course runs.read runs.slots runs.told) runs.endings new runs.ends (or_second (launching_fault runs.launchings) (ending_fault runs.endings) later)
             (reads_work mid runs.launchings runs.read runs.reads (or_first (launching_fault runs.launchings) (ending_fault runs.endings) later) alive);
         all_acknowledged = part.acknowledged;
+        in_hand = part.in_hand;
         turn = λ t tells quiet. live_turn device laws old legal mid ts starts place js new runs distinct rests rests_then t tells quiet lived;
         read = some_handed runs.launchings (subst AreDistinct (sym runs.started) distinct);
         handed = λ bytes documents tells has. handed device lawful old.spool mid ts starts runs.launchings runs.read runs.reads runs.slots runs.told runs.endings new runs.ends alive bytes documents tells has

@@ -1,6 +1,6 @@
 -- What the steps of a round come to: the children that were started, the ends that were told, the events that were
 -- acknowledged or tried, and the faults.
-use Rattle.std.specs.Prelude.{ℕ, cond, List, [], ◌∷◌, ◌++◌, Option, None, Some, Result, Ok, Err}
+use Rattle.std.specs.Prelude.{◌≡◌, ◌⊎◌, ℕ, Bool, true, cond, List, [], ◌∷◌, ◌++◌, Option, None, Some, Result, Ok, Err}
 use Rattle.std.specs.List.{flat_map, sum_by}
 use Rattle.std.specs.Option.{option_or}
 use Rattle.spool_types.specs.declared.event.Event.{Event}
@@ -119,6 +119,11 @@ report_events e (reports.Answered a) = acknowledged_by e a
 -- the events that were acknowledged among the ends
 abbrev pub ending_events : {D : Type 0} → List (Ending D) → List Event
 ending_events es = flat_map (λ e. report_events (Stage (end_in e.kept.slots e.job)) e.report) es
+
+-- These of the tried events were acknowledged: all of them or, where the device has failed by then, all but the last one, which
+-- was in hand when it failed. Where it failed at a read, or at a checkpoint, none was in hand.
+abbrev pub AreAcknowledged : Bool → List Event → List Event → Type 0
+AreAcknowledged dead tried acknowledged = (tried ≡ acknowledged) ⊎ ((dead ≡ true) × (hand : Event) × (tried ≡ acknowledged ++ hand ∷ []))
 
 -- An event is tried where it is acknowledged, or the device fails at it. After that none is.
 abbrev pub tried_by : Event → Answer → List Event

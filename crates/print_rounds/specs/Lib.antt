@@ -6,4 +6,5 @@ pub mod Counts
 pub mod Script
 pub mod Faultless
 pub mod World
+pub mod Inputs
 pub mod Rounds

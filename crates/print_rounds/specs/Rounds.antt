@@ -14,7 +14,8 @@ use Rattle.child_pipeline.specs.Slots.{Slots}
 use Rattle.child_pipeline.specs.Told.{Told}
 use Rattle.print_rounds.specs.Choice.{busy_jobs}
 use Rattle.print_rounds.specs.Courses.{Course, course, Starting, AreStartings, Launching, Ending, AreLaunchings, AreReads, AreHanded, AreEndings}
-use Rattle.print_rounds.specs.Counts.{starting_fault, stages_fault, counts_of, started_in, told_in, result_of, starting_events, ending_events, starting_tried, ending_tried}
+use Rattle.print_rounds.specs.Counts.{AreAcknowledged, starting_fault, stages_fault, counts_of, started_in, told_in, result_of, starting_events, ending_events, starting_tried, ending_tried}
+use Rattle.print_rounds.specs.Finished.{AreDistinct}
 use Rattle.print_rounds.specs.Script.{Play, current_slots, round_of}
 use Rattle.print_rounds.specs.World.{IsCallTurn}
 use Rattle.print_rounds.specs.declared.outcome.Round.{Round}
@@ -56,6 +57,7 @@ pub record IsRound {D : Type 0} (device : DiskView D) (place : Place) (old : Cou
   pub launches : AreLaunchings place steps.mid.state (current_slots old.spool.state old.slots) old.told steps.launchings steps.slots steps.told
   pub reads : AreReads device steps.mid steps.launchings steps.read
   pub launched : map (λ t. t.job) steps.launchings ≡ jobs_run steps.mid steps.mid.dead
+  pub once : AreDistinct (map (λ t. t.job) steps.launchings)
   pub ends : AreEndings device (course steps.read steps.slots steps.told) steps.endings new
   pub ended : map (λ e. e.job) steps.endings ≡ jobs_run steps.mid steps.mid.dead
 
@@ -99,6 +101,8 @@ pub record IsRoundOf {D : Type 0} (device : DiskView D) (place : Place) (old new
   pub works : fault_in steps ≡ None → old.spool.dead ≡ false → new.spool.dead ≡ false
   -- while the device works every event that was tried was acknowledged
   pub all_acknowledged : new.spool.dead ≡ false → tried_in old steps ≡ events_in old steps
+  -- and else all but the one in hand
+  pub in_hand : AreAcknowledged new.spool.dead (tried_in old steps) (events_in old steps)
   -- where the children tell it is a turn of World
   pub turn : (t : Told) → old.told ≡ Some t → t.running ≡ [] → IsCallTurn t old (events_in old steps) new
   -- What was read are documents of jobs, and where the disk tells its bytes they are those that the bytes have.

@@ -12,11 +12,10 @@ ghost use Rattle.print_rounds.specs.Launches.{IsMade, IsUnmade, IsPrepared, IsUn
 ghost use Rattle.print_rounds.specs.Finished.{AreDistinct, AllRest};
 
 use crate::outcome::{Launch, RoundFault};
-use crate::reading::{Unread, read_document};
 use child_pipeline::{Children, Content, Progress, Runner};
 use filter_args::Place;
 use job_table::Table;
-use spool_core::Spool;
+use spool_core::{Spool, Unread, read_whole};
 use spool_disk::Disk;
 use spool_types::{Job, JobId, Phase};
 use std::alloc::{AllocError, Global};
@@ -110,7 +109,10 @@ fn document<D: Disk, C: Children>(
     if has_output(runner, job) {
         return Ok(Content::empty(alloc));
     }
-    read_document(alloc, spool, job)
+    match read_whole(alloc, spool, job) {
+        Ok(bytes) => Ok(Content::new(bytes)),
+        Err(why) => Err(why),
+    }
 }
 
 // Starts the child of the stage that a job is in.

@@ -18,7 +18,7 @@
 //!   (`table`).
 //! - *A crash in a round*: unless the device had failed before, a crash at any moment of it leaves the table after the first of
 //!   the events that were tried in it, some or all (`any_moment`). These are the acknowledged ones and, behind them, the one at
-//!   which the device failed, if it did (`tried_in`, `all_acknowledged`). The documents stay as they are, in a crash
+//!   which the device failed, if it did (`tried_in`, `all_acknowledged`, `in_hand`). The documents stay as they are, in a crash
 //!   (`any_whole`) and at the end (`lasting`), since no event of a round sends anything. The count of the device's failures
 //!   doesn't fall (`later`), and a disk that tells its bytes goes on to tell them (`told`).
 //! - *ExactScript* for one round: where nothing failed and the children tell, the table, the slots, what is told, the events
@@ -31,7 +31,8 @@
 //! - *RightInput*: each start's order is exactly `order_in` of the job's slot, with the document that was read in a first stage
 //!   and the output in the slot in a later one (`Launched`). What was read is as long as the table says (`IsInput`), and where
 //!   the disk tells its bytes it is the document that these have for the job (`IsReadFor`, `handed`): what the accepted events
-//!   sent. A later stage that has no slot isn't started.
+//!   sent. A later stage that has no slot isn't started. Over rounds one after the other it is one law ([`rounds_hand_on`]): an
+//!   order has its document, or what the order of the stage before gave, whatever failed in between.
 //!
 //! # Faults and what they leave
 //!
@@ -39,8 +40,6 @@
 //! don't stop the others; what they hindered is done by the next round. After `Disk`, of an event or of a document that is read,
 //! no event is applied and nothing more is started, and all children that were started are still finished; the spool has to be
 //! opened again.
-//!
-//! [`read_document`] is what a round reads a document by. Whoever closes a job reads it so too.
 //!
 //! # Cost
 //!
@@ -53,15 +52,13 @@ mod ends;
 mod launches;
 mod laws;
 mod outcome;
-mod reading;
 mod rounds;
 mod slots;
 mod stages;
 mod starts;
 
-pub use laws::calls_join;
+pub use laws::{calls_join, rounds_hand_on};
 pub use outcome::{Launch, Report, Round, RoundFault};
-pub use reading::{Unread, read_document};
 pub use rounds::round;
 pub use stages::run_stages;
 pub use starts::start_jobs;

@@ -1,59 +1,85 @@
+ghost use Rattle.std.specs.Prelude.{◌<◌, IfOk};
+
 use child_pipeline::NoChildren;
 use log::{Level, Logged};
 use mime_costs::Convs;
 use mime_rules::Types;
 use spool_disk::FuseDisk;
 use spool_host::{ShellFault, ShellWords, WarningLines, memory_device, place_in, run, serve};
-use std::alloc::Global;
+use std::alloc::{AllocError, Global};
 use std::io;
 use std::io::{ErrorKind, Read};
 use std::test::Fail;
 
-// How a run over a disk in memory that breaks after so many calls ends: its replies, and then a word for its end.
+const SCRIPT: &str = concat!(
+    "queue lab file:/out text/plain abort-job\n",
+    "create lab ann \"\" 1 50 \"\"\n",
+    "cancel 1\n",
+);
+
+// No rules and no conversions.
+fn no_rules(alloc: Global) -> Result<(Types, Convs), AllocError> {
+    let (types, warnings) = Types::read(alloc, "")?;
+    drop(warnings);
+    let (convs, _) = Convs::read(alloc, "")?;
+    Ok((types, convs))
+}
+
+// Serves the script over a disk in memory that breaks after so many calls, and tells its end by a word.
+fn end_after(alloc: Global, calls: u64, told: &mut Vec<u8>) -> Result<&'static str, Fail> {
+    let disk = FuseDisk::new(memory_device(alloc, 4_096)?, calls);
+    let place = place_in(alloc, "", false)?;
+    let rules = no_rules(alloc)?;
+    let children = (NoChildren, place);
+    match serve(alloc, disk, children, rules, &mut SCRIPT.as_bytes(), told) {
+        Ok(()) => Ok("served\n"),
+        Err(ShellFault::Disk) => Ok("disk\n"),
+        Err(_) => Ok("other\n"),
+    }
+}
+
+// Its replies, and then that word.
 fn broken_after(alloc: Global, calls: u64) -> Result<Vec<u8>, Fail> {
-    let script = concat!(
-        "queue lab file:/out text/plain abort-job\n",
-        "create lab ann \"\" 1 50 \"\"\n",
-        "cancel 1\n",
-    );
-    let rules = (Types::read(alloc, "")?.0, Convs::read(alloc, "")?.0);
     let mut told = Vec::new(alloc);
-    let ended = serve(
-        alloc,
-        FuseDisk::new(memory_device(alloc, 4_096)?, calls),
-        (NoChildren, place_in(alloc, "", false)?),
-        rules,
-        &mut script.as_bytes(),
-        &mut told,
-    );
-    let word = match ended {
-        Ok(()) => "served\n",
-        Err(ShellFault::Disk) => "disk\n",
-        Err(_) => "other\n",
-    };
-    told.extend_from_slice(word.as_bytes())?;
+    push_end(&mut told, alloc, calls)?;
     Ok(told)
+}
+
+fn push_end(told: &mut Vec<u8>, alloc: Global, calls: u64) -> Result<(), Fail> {
+    let word = end_after(alloc, calls, told)?;
+    Ok(told.extend_from_slice(word.as_bytes())?)
+}
+
+// What is told in turn of disks that break after more and more calls.
+const TOLD: [&str; 5] = [
+    "disk\n",
+    "error disk\nerror dead\nerror dead\ndisk\n",
+    "ok\nerror disk\nerror dead\ndisk\n",
+    "ok\nok job 1\nerror disk\ndisk\n",
+    "ok\nok job 1\nok\nserved\n",
+];
+
+// The number of what is told after so many calls: the one of fewer calls, or the next.
+fn number_after(alloc: Global, calls: u64, number: usize) -> Result<usize, Fail>
+    ensures { IfOk result (λ n. n < 5) }
+{
+    let told = broken_after(alloc, calls)?;
+    for next in number..number.saturating_add(2).min(TOLD.len()) {
+        if told.as_slice() == TOLD[next].as_bytes() {
+            return Ok(next);
+        }
+    }
+    Err(Fail::from("other replies"))
 }
 
 #[test]
 fn a_run_whose_disk_fails_ends_with_disk(rt: HostRuntime) -> Result<(), Fail> {
-    let mut told = Vec::new(rt.alloc());
-    let mut last = Vec::new(rt.alloc());
+    assert!(rt; broken_after(rt.alloc(), 0)?.as_slice() == TOLD[0].as_bytes());
+    let mut number = 0;
     for calls in 0..64 {
-        let now = broken_after(rt.alloc(), calls)?;
-        if now.as_slice() != last.as_slice() {
-            told.extend_from_slice(now.as_slice())?;
-        }
-        last = now;
+        number = number_after(rt.alloc(), calls, number)?;
     }
-    let want = concat!(
-        "disk\n",
-        "error disk\nerror dead\nerror dead\ndisk\n",
-        "ok\nerror disk\nerror dead\ndisk\n",
-        "ok\nok job 1\nerror disk\ndisk\n",
-        "ok\nok job 1\nok\nserved\n",
-    );
-    assert_eq!(rt; told.as_slice(), want.as_bytes());
+    assert!(rt; number == 4);
     Ok(())
 }
 
@@ -67,31 +93,41 @@ impl Read for Broken {
     }
 }
 
-#[test]
-fn a_reader_or_a_writer_may_fail(rt: HostRuntime) -> Result<(), Fail> {
-    let words = ShellWords {
-        root: None,
-        types: None,
-        convs: None,
-        programs: None,
-        size: 4_096,
-        devices: false,
-    };
+// What no word asks for.
+const NOTHING: ShellWords<'static> = ShellWords {
+    root: None,
+    types: None,
+    convs: None,
+    programs: None,
+    size: 4_096,
+    devices: false,
+};
+
+// Whether a run whose reader fails behind the first command ends so, with its reply.
+fn reader_fails(rt: HostRuntime) -> bool {
     let logged = Logged::new(rt, Level::Warn, WarningLines(rt));
     let mut told = Vec::new(rt.alloc());
     let mut reader = b"queues\nqueues".as_slice().chain(Broken);
-    let ended = run(&logged, &rt, words, &mut reader, &mut told);
-    assert!(rt; matches!(ended, Err(ShellFault::Read)));
-    assert_eq!(rt; told.as_slice(), b"ok 0\n".as_slice());
+    let ended = run(&logged, &rt, NOTHING, &mut reader, &mut told);
+    matches!(ended, Err(ShellFault::Read)) && told.as_slice() == b"ok 0\n".as_slice()
+}
+
+// Whether a run whose writer takes seven bytes ends so, with them.
+fn writer_fails(rt: HostRuntime) -> bool {
+    let logged = Logged::new(rt, Level::Warn, WarningLines(rt));
     let mut room = [0; 7];
     let ended = run(
         &logged,
         &rt,
-        words,
+        NOTHING,
         &mut b"queues\nqueues\n".as_slice(),
         &mut room.as_mut_slice(),
     );
-    assert!(rt; matches!(ended, Err(ShellFault::Write)));
-    assert_eq!(rt; &room, b"ok 0\nok");
-    Ok(())
+    matches!(ended, Err(ShellFault::Write)) && &room == b"ok 0\nok"
+}
+
+#[test]
+fn a_reader_or_a_writer_may_fail(rt: HostRuntime) {
+    assert!(rt; reader_fails(rt));
+    assert!(rt; writer_fails(rt));
 }

@@ -82,9 +82,30 @@ impl Write for Full {
 
 const TEXT: &[u8] = b"a\n\x0cb\n";
 
+// How a document's copies are written to a writer with so much room.
+fn written<S: Source>(
+    alloc: Global,
+    form: Form,
+    source: &S,
+    copies: u32,
+    room: usize,
+) -> (Result<u64, ToolFault>, Vec<u8>) {
+    let mut writer = Full {
+        room,
+        written: Vec::new(alloc),
+    };
+    let counted = write_copies(alloc, form, source, copies, &mut writer);
+    (counted, writer.written)
+}
+
+// Whether the copies of a document in memory are these bytes, with so many form feeds.
+fn copies_are(alloc: Global, form: Form, copies: u32, wanted: &[u8], feeds: u64) -> bool {
+    let (counted, bytes) = written(alloc, form, &Memory(TEXT), copies, 100);
+    counted == Ok(feeds) && bytes.as_slice() == wanted
+}
+
 #[test]
-fn each_copy_is_written(rt: HostRuntime) -> Result<(), Fail> {
-    let alloc = rt.alloc();
+fn each_copy_is_written(rt: HostRuntime) {
     for (form, copies, wanted, feeds) in [
         (Form::Plain, 0, b"".as_slice(), 0),
         (Form::Plain, 1, b"a\n\x0cb\n", 1),
@@ -92,21 +113,32 @@ fn each_copy_is_written(rt: HostRuntime) -> Result<(), Fail> {
         (Form::Lines, 1, b"a\r\n\x0cb\r\n\x0c", 2),
         (Form::Lines, 2, b"a\r\n\x0cb\r\n\x0ca\r\n\x0cb\r\n\x0c", 4),
     ] {
-        let mut written = Vec::new(alloc);
-        let counted = write_copies(alloc, form, &Memory(TEXT), copies, &mut written);
-        assert_eq!(rt; counted, Ok(feeds), "{copies} copies give {wanted:?}");
-        assert_eq!(rt;
-            written.as_slice(),
-            wanted,
-            "{copies} copies give {wanted:?}"
+        assert!(rt;
+            copies_are(rt.alloc(), form, copies, wanted, feeds),
+            "{copies} copies"
         );
     }
-    Ok(())
+}
+
+// Whether two copies of lines of a slow document end so in so much room.
+fn copies_end(
+    alloc: Global,
+    fails: bool,
+    room: usize,
+    ended: Result<u64, ToolFault>,
+    wanted: &[u8],
+) -> bool {
+    let source = Slow {
+        rest: TEXT,
+        fails,
+        interrupted: false,
+    };
+    let (counted, bytes) = written(alloc, Form::Lines, &source, 2, room);
+    counted == ended && bytes.as_slice() == wanted
 }
 
 #[test]
-fn a_reader_or_a_writer_may_fail(rt: HostRuntime) -> Result<(), Fail> {
-    let alloc = rt.alloc();
+fn a_reader_or_a_writer_may_fail(rt: HostRuntime) {
     for (fails, room, ended, wanted) in [
         (
             false,
@@ -118,76 +150,75 @@ fn a_reader_or_a_writer_may_fail(rt: HostRuntime) -> Result<(), Fail> {
         (false, 10, Err(ToolFault::Write), b"a\r\n\x0cb\r\n\x0ca\r"),
         (false, 7, Err(ToolFault::Write), b"a\r\n\x0cb\r\n"),
     ] {
-        let source = Slow {
-            rest: TEXT,
-            fails,
-            interrupted: false,
-        };
-        let mut writer = Full {
-            room,
-            written: Vec::new(alloc),
-        };
-        let counted = write_copies(alloc, Form::Lines, &source, 2, &mut writer);
-        assert_eq!(rt; counted, ended, "fails {fails}, room {room}");
-        assert_eq!(rt;
-            writer.written.as_slice(),
-            wanted,
-            "fails {fails}, room {room}"
+        assert!(rt;
+            copies_end(rt.alloc(), fails, room, ended, wanted),
+            "room {room}"
+        );
+    }
+}
+
+// Whether a backend is told this path, this status, so many turns and this partner by a URI.
+fn tells(
+    alloc: Global,
+    uri: &str,
+    path: &str,
+    exit: u8,
+    turns: u32,
+    partner: Option<&str>,
+) -> Result<bool, ToolFault> {
+    let device = read_device(alloc, uri)?;
+    let options = device.options.as_slice();
+    Ok(
+        device.path.as_str() == path
+            && exit_of(options) == exit
+            && turns_of(options) == turns
+            && partner_of(options) == partner,
+    )
+}
+
+#[test]
+fn a_device_has_a_path_and_options(rt: HostRuntime) -> Result<(), Fail> {
+    for (uri, path, exit, turns, partner) in [
+        ("spoolfile:/out", "/out", 0, 20, None),
+        ("spoolfile:/a%20b?exit=6", "/a b", 6, 20, None),
+        ("spoolfile:/out?exit=6&exit=007", "/out", 7, 20, None),
+        ("spoolfile:/out?exit=256", "/out", 0, 20, None),
+        ("meet:/a?partner=/b%2Fc&turns=0", "/a", 0, 0, Some("/b/c")),
+        ("meet:/a?turns=4294967296", "/a", 0, 20, None),
+        ("meet:/a?turns=2&=x", "/a", 0, 20, None),
+    ] {
+        assert!(rt;
+            tells(rt.alloc(), uri, path, exit, turns, partner)?,
+            "{uri}"
         );
     }
     Ok(())
 }
 
-// What a backend is told by a URI.
-fn told(alloc: Global, uri: &str) -> Result<String, Fail> {
-    match read_device(alloc, uri) {
-        Ok(device) => {
-            let (path, options) = (device.path.as_str(), device.options.as_slice());
-            let (exit, turns) = (exit_of(options), turns_of(options));
-            let partner = partner_of(options).unwrap_or("none");
-            Ok(format!(in alloc; "{path} exit {exit} turns {turns} partner {partner}")?)
-        }
-        Err(fault) => Ok(format!(in alloc; "{fault:?}")?),
-    }
+fn is_no_device(alloc: Global, uri: &str) -> bool {
+    matches!(read_device(alloc, uri), Err(ToolFault::Device))
 }
 
 #[test]
-fn a_device_has_a_path_and_options(rt: HostRuntime) -> Result<(), Fail> {
-    for (uri, wanted) in [
-        ("spoolfile:/out", "/out exit 0 turns 20 partner none"),
-        (
-            "spoolfile:/a%20b?exit=6",
-            "/a b exit 6 turns 20 partner none",
-        ),
-        (
-            "spoolfile:/out?exit=6&exit=007",
-            "/out exit 7 turns 20 partner none",
-        ),
-        (
-            "spoolfile:/out?exit=256",
-            "/out exit 0 turns 20 partner none",
-        ),
-        (
-            "meet:/a?partner=/b%2Fc&turns=0",
-            "/a exit 0 turns 0 partner /b/c",
-        ),
-        (
-            "meet:/a?turns=4294967296",
-            "/a exit 0 turns 20 partner none",
-        ),
-        ("meet:/a?turns=2&=x", "/a exit 0 turns 20 partner none"),
-        ("meet:/%FF", "Device"),
-        ("/out", "Device"),
-    ] {
-        let got = told(rt.alloc(), uri)?;
-        assert_eq!(rt; got.as_str(), wanted, "{uri}");
-    }
-    Ok(())
+fn other_devices_have_none(rt: HostRuntime) {
+    assert!(rt; is_no_device(rt.alloc(), "meet:/%FF"));
+    assert!(rt; is_no_device(rt.alloc(), "/out"));
+}
+
+// Whether the device's id is asked for, and an answer tells this one, or none.
+fn asks(alloc: Global, answer: &[u8], wanted: Option<&[u8]>) -> bool {
+    let mut asked = Vec::new(alloc);
+    let mut reader = answer;
+    let got = ask_id(alloc, &mut reader, &mut asked);
+    let same = match &got {
+        Ok(packet) => id_in(packet) == wanted,
+        Err(_) => wanted.is_none(),
+    };
+    same && asked.as_slice() == b"\x04\0\0\0".as_slice()
 }
 
 #[test]
-fn the_side_channel_is_asked(rt: HostRuntime) -> Result<(), Fail> {
-    let alloc = rt.alloc();
+fn the_side_channel_is_asked(rt: HostRuntime) {
     for (answer, wanted) in [
         (
             b"\x04\x01\0\x06MFG:X;".as_slice(),
@@ -199,19 +230,14 @@ fn the_side_channel_is_asked(rt: HostRuntime) -> Result<(), Fail> {
         (b"\x04\x01\0\x06MFG", None),
         (b"", None),
     ] {
-        let mut asked = Vec::new(alloc);
-        let mut reader = answer;
-        let got = ask_id(alloc, &mut reader, &mut asked);
-        assert_eq!(rt; asked.as_slice(), b"\x04\0\0\0".as_slice());
-        let id = match &got {
-            Ok(packet) => id_in(packet),
-            Err(_) => None,
-        };
-        assert_eq!(rt; id, wanted, "{answer:?}");
+        assert!(rt; asks(rt.alloc(), answer, wanted), "{answer:?}");
     }
-    let mut ended = Vec::new(alloc);
-    let done = end_session(alloc, &mut ended);
-    assert_eq!(rt; done, Ok(()));
-    assert_eq!(rt; ended.as_slice(), b"\xFF\0\0\0".as_slice());
+}
+
+#[test]
+fn a_session_is_ended(rt: HostRuntime) -> Result<(), Fail> {
+    let mut ended = Vec::new(rt.alloc());
+    let done = end_session(rt.alloc(), &mut ended);
+    assert!(rt; done == Ok(()) && ended.as_slice() == b"\xFF\0\0\0".as_slice());
     Ok(())
 }

@@ -1,4 +1,5 @@
 use spool_host::{ShellFault, ShellWords, WordsFault, read_words};
+use std::alloc::{AllocError, Global};
 use std::test::Fail;
 
 const MOST: &str = "0123456789012345678901234567890123456789012345678901234567890123";
@@ -24,50 +25,59 @@ fn ask_the_same(a: &ShellWords<'_>, b: &ShellWords<'_>) -> bool {
         && a.devices == b.devices
 }
 
+// Adds the words of a run: the program's name, and those given.
+fn push_words<'a>(words: &mut Vec<&'a str>, given: &[&'a str]) -> Result<(), AllocError> {
+    words.extend_from_slice(&["spool_shell"])?;
+    words.extend_from_slice(given)
+}
+
+// Whether the words given ask for this.
+fn ask_for(alloc: Global, given: &[&str], wanted: &ShellWords<'_>) -> Result<bool, Fail> {
+    let mut words = Vec::new(alloc);
+    push_words(&mut words, given)?;
+    match read_words(alloc, words.as_slice()) {
+        Ok(found) => Ok(ask_the_same(&found, wanted)),
+        Err(_) => Err(Fail::from("refused")),
+    }
+}
+
+const ALL: ShellWords<'static> = ShellWords {
+    root: Some("/var/spool"),
+    types: Some("a.types"),
+    convs: Some("a.convs"),
+    programs: Some("a.programs"),
+    size: 4_096,
+    devices: true,
+};
+
+const ALL_GIVEN: [&str; 9] = [
+    "--convs",
+    "a.convs",
+    "--devices",
+    "--size",
+    "4096",
+    "--root=/var/spool",
+    "--types=a.types",
+    "--programs",
+    "a.programs",
+];
+
+const LONGEST: ShellWords<'static> = ShellWords {
+    root: Some(MOST),
+    ..NOTHING
+};
+
+const GREATEST: ShellWords<'static> = ShellWords {
+    size: 1_073_741_824,
+    ..NOTHING
+};
+
 #[test]
 fn words_ask_for_a_run(rt: HostRuntime) -> Result<(), Fail> {
-    let all = ShellWords {
-        root: Some("/var/spool"),
-        types: Some("a.types"),
-        convs: Some("a.convs"),
-        programs: Some("a.programs"),
-        size: 4_096,
-        devices: true,
-    };
-    let longest = ShellWords {
-        root: Some(MOST),
-        ..NOTHING
-    };
-    let greatest = ShellWords {
-        size: 1_073_741_824,
-        ..NOTHING
-    };
-    for (given, wanted) in [
-        ([""; 0].as_slice(), NOTHING),
-        (
-            &[
-                "--convs",
-                "a.convs",
-                "--devices",
-                "--size",
-                "4096",
-                "--root=/var/spool",
-                "--types=a.types",
-                "--programs",
-                "a.programs",
-            ],
-            all,
-        ),
-        (&["--root", MOST], longest),
-        (&["--size", "1073741824"], greatest),
-    ] {
-        let mut words = vec![in rt.alloc(); "spool_shell"]?;
-        words.extend_from_slice(given)?;
-        match read_words(rt.alloc(), words.as_slice()) {
-            Ok(found) => assert!(rt; ask_the_same(&found, &wanted), "{given:?}"),
-            Err(_) => return Err(Fail::from("refused")),
-        }
-    }
+    assert!(rt; ask_for(rt.alloc(), &[], &NOTHING)?);
+    assert!(rt; ask_for(rt.alloc(), &ALL_GIVEN, &ALL)?);
+    assert!(rt; ask_for(rt.alloc(), &["--root", MOST], &LONGEST)?);
+    assert!(rt; ask_for(rt.alloc(), &["--size", "1073741824"], &GREATEST)?);
     Ok(())
 }
 
@@ -100,20 +110,20 @@ fn other_words_are_refused(rt: HostRuntime) {
     }
 }
 
+fn is_told(alloc: Global, fault: ShellFault, word: &str) -> Result<bool, Fail> {
+    let text = format!(in alloc; "{fault}")?;
+    Ok(text.as_str() == word)
+}
+
 #[test]
 fn each_fault_has_its_word(rt: HostRuntime) -> Result<(), Fail> {
     let file = "a b.types".to_string(rt.alloc())?;
-    for (fault, word) in [
-        (ShellFault::File(file), "file a b.types"),
-        (ShellFault::NotASpool, "not-a-spool"),
-        (ShellFault::Damaged(16), "damaged 16"),
-        (ShellFault::Memory, "memory"),
-        (ShellFault::Disk, "disk"),
-        (ShellFault::Read, "read"),
-        (ShellFault::Write, "write"),
-    ] {
-        let text = format!(in rt.alloc(); "{fault}")?;
-        assert_eq!(rt; text.as_str(), word);
-    }
+    assert!(rt; is_told(rt.alloc(), ShellFault::File(file), "file a b.types")?);
+    assert!(rt; is_told(rt.alloc(), ShellFault::NotASpool, "not-a-spool")?);
+    assert!(rt; is_told(rt.alloc(), ShellFault::Damaged(16), "damaged 16")?);
+    assert!(rt; is_told(rt.alloc(), ShellFault::Memory, "memory")?);
+    assert!(rt; is_told(rt.alloc(), ShellFault::Disk, "disk")?);
+    assert!(rt; is_told(rt.alloc(), ShellFault::Read, "read")?);
+    assert!(rt; is_told(rt.alloc(), ShellFault::Write, "write")?);
     Ok(())
 }

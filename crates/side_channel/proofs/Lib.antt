@@ -1,3 +1,4 @@
 pub mod PacketLaws
 pub mod SessionLaws
 pub mod RequestLaws
+pub mod PieceLaws

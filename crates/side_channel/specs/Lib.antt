@@ -4,3 +4,5 @@ pub mod Sessions
 pub mod Streams
 pub mod Seen
 pub mod Requests
+pub mod Pieces
+pub mod Bytes

@@ -1,5 +1,5 @@
 //! What a device answers.
-ghost use Rattle.std.specs.Prelude.{◌≡◌};
+ghost use Rattle.std.specs.Prelude.{◌≡◌, ℕ, List};
 ghost use Rattle.side_channel.specs.Answers.{answer_of, row_of};
 ghost use Rattle.side_channel.specs.Seen.{reply_of, content_of};
 
@@ -13,13 +13,21 @@ use crate::streams::MOST_DATA;
 pub fn answer<'a>(device: &'a Device, packet: &Packet) -> Answer<'a>
     ensures { reply_of result ≡ answer_of device.now packet.now }
 {
-    let (status, body) = if usize::from(packet.length) <= MOST_DATA {
-        row(device, Command::from_byte(packet.command))
+    answer_to(device, packet.command, packet.length)
+}
+
+/// The answer to a request of this command with so many data: no more of it counts.
+pub(crate) fn answer_to(device: &Device, command: u8, length: u16) -> Answer<'_>
+    ensures { (status : ℕ) (body : List ℕ) → reply_of result ≡
+        answer_of device.now (record { command = command; status = status; length = length; body = body }) }
+{
+    let (status, body) = if usize::from(length) <= MOST_DATA {
+        row(device, Command::from_byte(command))
     } else {
         (Status::TooBig, AnswerBody::Empty)
     };
     Answer {
-        command: packet.command,
+        command,
         status,
         body,
     }

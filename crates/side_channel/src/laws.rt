@@ -1,11 +1,13 @@
 //! Laws of packets and sessions, which no call needs.
-ghost use Rattle.std.specs.Prelude.{◌≡◌, ℕ, ◌<◌, ◌^◌, List, [], ◌∷◌, ◌++◌, length, Ok, Err};
+ghost use Rattle.std.specs.Prelude.{◌≡◌, ℕ, ◌<◌, ◌^◌, List, [], ◌∷◌, ◌++◌, length, take, Ok, Err};
 ghost use Rattle.side_channel.specs.Packets.{spelling, kept, front_of, whole, cut};
 ghost use Rattle.side_channel.specs.Sessions.{session, ends, after};
 ghost use Rattle.side_channel.specs.Requests.{Request, AreAsked, asked, told};
+ghost use Rattle.side_channel.specs.Pieces.{Finished, TakesAll, Turn, to_come, told_in, took_in};
 ghost use Rattle.side_channel.specs.declared.devices.Device.{Device as AnyDevice};
 ghost use Rattle.side_channel.specs.declared.endings.Ending.TheVariants.{End, Stopped};
 ghost use Rattle.side_channel.specs.declared.endings.SideFault.TheVariants.{Cut};
+ghost use Rattle.side_channel.specs.declared.pieces.Held.{Held};
 
 /// A packet that is written is read again, whatever follows it.
 pub fn written_is_read()
@@ -24,4 +26,16 @@ pub fn answers_are_joined()
     ensures stopped { (d : AnyDevice) → session d [] ≡ ends (Ok Stopped) [] }
     ensures cut_short { (d : AnyDevice) (rest : List ℕ) →
         front_of rest ≡ cut → session d rest ≡ ends (Err Cut) [] }
+{}
+
+/// A session that began before any byte has the answers of all bytes that it took, however they were cut; and the end
+/// packet ends it as it ends the session of all of them.
+pub fn any_pieces()
+    ensures answers { (d : AnyDevice) (begun fed : Held) (turns : List Turn) (more : List ℕ) →
+        ((bytes : List ℕ) → to_come d begun bytes ≡ session d bytes) → TakesAll d begun turns fed →
+        session d (took_in turns ++ more) ≡ after (told_in turns) (to_come d fed more) }
+    ensures end { (d : AnyDevice) (begun fed over : Held) (turns : List Turn) (piece : List ℕ) (count : ℕ) (more : List ℕ) →
+        ((bytes : List ℕ) → to_come d begun bytes ≡ session d bytes) → TakesAll d begun turns fed →
+        Finished d fed piece count over →
+        session d (took_in turns ++ (take count piece ++ more)) ≡ after (told_in turns) (ends (Ok End) more) }
 {}

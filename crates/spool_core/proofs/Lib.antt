@@ -19,3 +19,6 @@ pub mod ListingLaws
 pub mod ListedLaws
 pub mod CheckpointLaws
 pub mod ChangeLaws
+pub mod Decided
+pub mod EachImage
+pub mod WholeLaws

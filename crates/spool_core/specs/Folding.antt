@@ -5,7 +5,7 @@ use Rattle.spool_types.specs.declared.event.Event.{Event}
 use Rattle.spool_types.specs.declared.listing.Row.{Row}
 use Rattle.spool_types.specs.State.{State}
 use Rattle.spool_types.specs.Sent.{sent_by}
-use Rattle.job_table.specs.Contents.{Contents, places_of, AddsPlaces}
+use Rattle.job_table.specs.Contents.{Contents, places_of, no_moves, AddsPlaces}
 use Rattle.job_table.specs.Over.{is_over}
 use Rattle.job_table.specs.Step.{refusal_of, after}
 use Rattle.documents.specs.Documents.{LieIn}
@@ -58,6 +58,11 @@ abbrev pub ReadLiesIn : ℕ → ℕ → Reading → Type 0
 ReadLiesIn low high (Rows l) = (j : ℕ) → LieIn low high (places_of l.places j)
 ReadLiesIn low high (Events t) = DocumentsLieIn low high t
 
+-- no new places of documents are noted yet
+abbrev pub HasNoneNoted : Reading → Type 0
+HasNoneNoted (Rows l) = ⊤
+HasNoneNoted (Events t) = t.moves ≡ no_moves
+
 -- the payload is the spelling of this row and of no other
 pub record IsRowIn (payload : List ℕ) (row : Row) : Type 0 where
   pub spellable : IsRowSpellable row
@@ -81,6 +86,7 @@ pub record IsAfterEvent (c : Contents) (payload : List ℕ) (place : ℕ) (t : C
   pub accepted : refusal_of c.state event ≡ None
   pub table : t.state ≡ after c.state event
   pub places : AddsPlaces place (sent_by event) c t
+  pub moves : t.moves ≡ c.moves
   pub lasting : StayOver c.state t.state
 
 abbrev pub IsNextEvent : Contents → List ℕ → ℕ → Reading → Type 0

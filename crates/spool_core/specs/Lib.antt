@@ -1,6 +1,7 @@
 pub mod History
 pub mod Image
 pub mod Standing
+pub mod Reading
 pub mod Seen
 pub mod Checkpointing
 pub mod Filling

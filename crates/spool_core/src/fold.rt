@@ -6,11 +6,11 @@ ghost use Rattle.spool_areas.specs.Payloads.{gate_after};
 ghost use Rattle.spool_areas.specs.Extents.{payloads_at, Follow};
 ghost use Rattle.job_table.specs.Step.{refusal_of, after};
 ghost use Rattle.spool_types.specs.Sent.{sent_by};
-ghost use Rattle.job_table.specs.Contents.{HasPlace, AddsPlaces, places_of};
+ghost use Rattle.job_table.specs.Contents.{HasPlace, AddsPlaces, no_moves, places_of};
 ghost use Rattle.documents.specs.Documents.{LieIn};
 ghost use Rattle.spool_core.specs.Seen.{DocumentsLieIn, HasHistory};
 ghost use Rattle.spool_core.specs.Image.{Begins};
-ghost use Rattle.spool_core.specs.Folding.{IsPayloadAt, IsRowOrNone, IsReadFault, IsTakeFault, IsNextEvent, IsEventFault, IsCommitFault, IsFinishFault, IsFoldFault, IsRead, AreRows, HasRead, ReadLiesIn, StayOver, decode_fault};
+ghost use Rattle.spool_core.specs.Folding.{IsPayloadAt, IsRowOrNone, IsReadFault, IsTakeFault, IsNextEvent, IsEventFault, IsCommitFault, IsFinishFault, IsFoldFault, IsRead, AreRows, HasNoneNoted, HasRead, ReadLiesIn, StayOver, decode_fault};
 
 use event_codec::{CodecFault, decode, decode_row};
 use gate_journal::HEAD_LEN;
@@ -45,6 +45,7 @@ pub(crate) fn fold<D: Disk>(
 
     // Also on a disk that tells nothing of its bytes the documents lie behind the header and before the gate.
     ensures lie { IfOk result (λ t. DocumentsLieIn (areas.old.base + header_len) areas.old.gate t) }
+    ensures unmoved { IfOk result (λ t. t.moves ≡ no_moves) }
     ensures gate { OnOk result ((r : List ℕ) → D.device.bytes areas.old.disk ≡ Some r → areas.old.gate ≡ gate_after areas.old.base (payloads_at r payloads.now)) }
     ensures fault { IfErr result (λ e. (r : List ℕ) → D.device.bytes areas.old.disk ≡ Some r → IsFoldFault areas.old.base payloads.now r e) }
     ensures blames { Blames (D.device.failures areas.old.disk) (D.device.failures areas.new.disk) (IsErrOf result OpenFault.Disk) }
@@ -105,6 +106,7 @@ fn take_payload(
     requires inside { extent.place + extent.len < 2 ^ 64 }
     ensures next { IfOk result (λ next. (base : ℕ) (payloads : List (List ℕ)) → HasRead base reading payloads → extent.place ≡ gate_after base payloads + 5 → HasRead base next (payloads ++ payload.now ∷ [])) }
     ensures lie { IfOk result (λ next. (low : ℕ) → low ≤ extent.place → ReadLiesIn low extent.place reading → ReadLiesIn low (extent.place + extent.len) next) }
+    ensures unmoved { IfOk result (λ next. HasNoneNoted reading → HasNoneNoted next) }
     ensures fault { IfErr result (λ e. (base : ℕ) (payloads : List (List ℕ)) → HasRead base reading payloads → IsTakeFault payloads payload.now extent e) }
     ensures never { ¬ (IsErrOf result OpenFault.Disk) }
 {
@@ -126,6 +128,7 @@ fn take_row(
     requires inside { extent.place + extent.len < 2 ^ 64 }
     ensures next { IfOk result (λ next. (base : ℕ) (payloads : List (List ℕ)) → AreRows base payloads loading → extent.place ≡ gate_after base payloads + 5 → HasRead base next (payloads ++ payload.now ∷ [])) }
     ensures lie { IfOk result (λ next. (low : ℕ) → low ≤ extent.place → ((j : ℕ) → LieIn low extent.place (places_of loading.places j)) → ReadLiesIn low (extent.place + extent.len) next) }
+    ensures unmoved { IfOk result HasNoneNoted }
     ensures fault { IfErr result (λ e. (payloads : List (List ℕ)) → Begins payloads loading.progress [] → IsTakeFault payloads payload.now extent e) }
     ensures never { ¬ (IsErrOf result OpenFault.Disk) }
 {
@@ -203,6 +206,7 @@ fn commit_event(table: &mut Table, event: Event, extent: Extent) -> Result<(), O
     ensures accepted { OnOk result (refusal_of table.old.state event ≡ None) }
     ensures table { OnOk result (table.new.state ≡ after table.old.state event) }
     ensures places { OnOk result (AddsPlaces extent.place (sent_by event) table.old table.new) }
+    ensures moves { OnOk result (table.new.moves ≡ table.old.moves) }
     ensures lasting { OnOk result (StayOver table.old.state table.new.state) }
     ensures fault { IfErr result (IsCommitFault table.old.state event extent) }
 {
@@ -223,6 +227,7 @@ fn commit_event(table: &mut Table, event: Event, extent: Extent) -> Result<(), O
 fn finish(reading: Reading, gate: u64) -> Result<Table, OpenFault>
     ensures table { IfOk result (λ t. (base : ℕ) (payloads : List (List ℕ)) → HasRead base reading payloads → HasHistory base payloads t) }
     ensures lie { IfOk result (λ t. (low high : ℕ) → ReadLiesIn low high reading → DocumentsLieIn low high t) }
+    ensures unmoved { IfOk result (λ t. HasNoneNoted reading → t.moves ≡ no_moves) }
     ensures fault { IfErr result (λ e. (base : ℕ) (payloads : List (List ℕ)) → HasRead base reading payloads → IsFinishFault payloads gate e) }
     ensures never { ¬ (IsErrOf result OpenFault.Disk) }
 {

@@ -1,6 +1,6 @@
 //! What is so of every image, and of spools that are opened again and again. The functions do nothing: their clauses are
 //! the laws.
-ghost use Rattle.std.specs.Prelude.{◌≡◌, ◌≤◌, ℕ, List, ◌∷◌, Some, IsSome, take};
+ghost use Rattle.std.specs.Prelude.{◌≡◌, ◌⊎◌, ◌≤◌, ℕ, List, ◌∷◌, Some, IsSome, take};
 ghost use Rattle.spool_types.specs.State.{State, Job, nothing, job_at};
 ghost use Rattle.spool_types.specs.declared.event.Event.{Event};
 ghost use Rattle.spool_types.specs.declared.event.Event.TheVariants.{Create};
@@ -12,16 +12,19 @@ ghost use Rattle.job_table.specs.Fold.{after_all};
 ghost use Rattle.job_table.specs.Legal.{IsLegal};
 ghost use Rattle.job_table.specs.Step.{refusal_of};
 ghost use Rattle.spool_core.specs.Driving.{HasPrefixTable, HasWholePrefix, documents_after};
-ghost use Rattle.spool_core.specs.Image.{HasTable, HasDocument, HasDocuments, HasRoom, HasFault, IsMidway, IsReopenedFrom};
+ghost use Rattle.spool_core.specs.Image.{AreBytes, HasTable, HasDocument, HasDocuments, HasRoom, HasFault, IsMidway, IsReopenedFrom};
 ghost use Rattle.spool_core.specs.Lives.{Life, KeepsAcknowledged, after_lives, documents_after_lives, history_of, next_documents, next_table};
 ghost use Rattle.spool_areas.specs.declared.fault.OpenFault.{OpenFault};
 
 use job_table::{ended_jobs_stay, legal_tables_stay_legal, reopening};
 
-/// An image has at most one table or one fault, and never both, and at most one room, so what an opening finds is
-/// determined by the bytes. So are the documents: a job's number has at most one, and where there is a table each job that
-/// hasn't ended has one.
+/// An image has one table or one fault, and never both, and at most one room, so what an opening finds is determined by the
+/// bytes. So are the documents: a job's number has at most one, and where there is a table each job that hasn't ended has one.
 pub fn one_reading()
+    // Bytes of any number have a table or a fault.
+    ensures some { (c : List ℕ) → AreBytes c → ((s : State) × HasTable s c) ⊎ ((f : OpenFault) × HasFault f c) }
+
+    // They have no other, and only one of them.
     ensures table { (s t : State) (c : List ℕ) → HasTable s c → HasTable t c → s ≡ t }
     ensures either { (s : State) (f : OpenFault) (c : List ℕ) → HasTable s c → ¬ (HasFault f c) }
     ensures fault { (f g : OpenFault) (c : List ℕ) → HasFault f c → HasFault g c → f ≡ g }

@@ -18,7 +18,8 @@
 //!    7 bytes aren't left.
 //! 4. A job has a *document* in it: what those rows and events have for it (`HasDocument`). What is said of documents speaks
 //!    of numbers that aren't over (`is_over` of `job_table`).
-//! 5. No image has two tables, two faults, one of each, two rooms, or two documents of a job ([`one_reading`]).
+//! 5. Each image has a table or a fault. None has two tables, two faults, one of each, two rooms, or two documents of a job
+//!    ([`one_reading`]).
 //!
 //! # Promises, on every disk that meets `Disk`
 //!
@@ -66,7 +67,8 @@
 //!   one answer without a cause that a clause can see. `make` is `Full` exactly where the device is too short (`full`), and a
 //!   document isn't read exactly where the spool is dead (`dead`).
 //! - *UnchangedAfterRefusal*: after `Dead`, `Refused`, `Memory` and `Full` the disk and the table are as before
-//!   (`answer`), and after `Full` from `make` the disk (`untouched`).
+//!   (`answer`), and after `Full` from `make` the disk (`untouched`). Whatever a checkpoint answers, its table keeps no memory for
+//!   new places of documents (`moves` of [`Spool::table`]).
 //!
 //! What is said of images and tables speaks of disks that tell their bytes; on any other the answers and their causes
 //! are the same.
@@ -97,7 +99,8 @@
 //!    room for the record of a reopening.
 //! 2. The documents that the table has places for lie between the header of the area and that gate.
 //! 3. As long as no device call has failed, each image has the table that is in memory, and the documents lie where its rows and
-//!    events have them (`IsStanding`).
+//!    events have them (`IsStandingAt`).
+//! 4. The table has noted no new places of documents (`IsStanding`). A checkpoint notes them, and lets them go before it answers.
 //!
 //! # Faults and what they leave
 //!
@@ -108,6 +111,8 @@
 //! - [`OpenError`] hands the disk back with an [`OpenFault`]. But for `Disk` it reads as before. `NotASpool` and `Damaged`
 //!   are faults of the bytes, which have no table. `Memory` and `Disk` say nothing of the bytes, and the disk may be
 //!   opened again.
+//! - [`Unread`], of [`read_whole`], which reads a document as long as the table says: after `Memory` nothing has changed, and after
+//!   `Disk` it is as after that fault of the device.
 //! - [`ReadFault`]: the table and what a crash leaves are as before. After `Disk`, which comes only where the device's count of
 //!   failures rose, the spool is dead.
 //! - [`MakeFault`]: after `Full` nothing has changed. After `Disk` the device may hold no spool, and is made anew.
@@ -117,12 +122,14 @@ mod driving;
 mod fold;
 mod laws;
 mod making;
+mod reading;
 mod replaying;
 mod spool;
 
 pub use driving::{Driven, Ending, drive};
 pub use laws::{lives_go_on, one_reading};
 pub use making::make;
+pub use reading::{Unread, read_whole};
 pub use replaying::replay;
 pub use spool::{ApplyFault, CheckpointFault, Spool};
 pub use spool_areas::{MakeFault, OpenError, OpenFault, ReadFault};

@@ -6,7 +6,7 @@ use extents::Extent;
 use job_table::{LoadFault, Loading, Table, document_len};
 use spool_core::replay;
 use spool_types::{Head, Job, JobId, Moment, Phase, Piece, QueueName, QueueRow, Row};
-use std::alloc::Global;
+use std::alloc::{AllocError, Global};
 use std::process::Abort;
 use std::test::*;
 
@@ -39,15 +39,23 @@ fn take(loading: &mut Loading, row: Row) -> Result<(), LoadFault> {
     loading.load(row, PAYLOAD)
 }
 
-// The row of a queue, spelled and read again.
-fn queue_row(alloc: Global, queue: &QueueRow) -> Result<Row, Fail> {
+// How the row of a queue is spelled.
+fn queue_spelled(alloc: Global, queue: &QueueRow) -> Result<Vec<u8>, AllocError> {
     let mut bytes = Vec::new(alloc);
     encode_queue_onto(queue, &mut bytes)?;
-    Ok(decode_row(alloc, &bytes)?)
+    Ok(bytes)
 }
 
+// The row of a queue, spelled and read again.
 fn take_queue(alloc: Global, loading: &mut Loading, queue: &QueueRow) -> Result<(), Fail> {
-    Ok(take(loading, queue_row(alloc, queue)?)?)
+    let bytes = queue_spelled(alloc, queue)?;
+    take_bytes(alloc, loading, &bytes)
+}
+
+// Loads the row that bytes spell.
+fn take_bytes(alloc: Global, loading: &mut Loading, bytes: &[u8]) -> Result<(), Fail> {
+    let row = decode_row(alloc, bytes)?;
+    Ok(take(loading, row)?)
 }
 
 // So many zeros.
@@ -58,22 +66,32 @@ fn zeros(alloc: Global, len: usize) -> Result<Piece, Fail> {
     }
 }
 
-// The row of a job, spelled and read again.
-fn listed_job(alloc: Global, job: &Job) -> Result<Row, Fail> {
+// How the row of a job is spelled.
+fn job_spelled(alloc: Global, job: &Job) -> Result<Vec<u8>, AllocError> {
     let mut bytes = Vec::new(alloc);
     encode_job_onto(job, &mut bytes)?;
-    Ok(decode_row(alloc, &bytes)?)
+    Ok(bytes)
+}
+
+// The row of a job, spelled and read again.
+fn take_listed(alloc: Global, loading: &mut Loading, job: &Job) -> Result<(), Fail> {
+    let bytes = job_spelled(alloc, job)?;
+    take_bytes(alloc, loading, &bytes)
+}
+
+// So many zeros as the document of a job.
+fn take_zeros(alloc: Global, loading: &mut Loading, job: JobId, len: usize) -> Result<(), Fail> {
+    let bytes = zeros(alloc, len)?;
+    Ok(take(loading, Row::Piece { job, bytes })?)
 }
 
 // The row of a job, and then its document as zeros, since a table has no bytes.
 fn take_job(alloc: Global, loading: &mut Loading, job: &Job) -> Result<(), Fail> {
-    take(loading, listed_job(alloc, job)?)?;
-    let len = document_len(job);
-    if 0 < len {
-        let bytes = zeros(alloc, len)?;
-        take(loading, Row::Piece { job: job.id, bytes })?;
+    take_listed(alloc, loading, job)?;
+    match document_len(job) {
+        0 => Ok(()),
+        len => take_zeros(alloc, loading, job.id, len),
     }
-    Ok(())
 }
 
 // Loads the rows of a table.

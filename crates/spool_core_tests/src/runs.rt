@@ -1,6 +1,6 @@
 //! Lists of events that are replayed, and driven on a spool.
 
-use crate::spelled::{CLOSE, CREATE, QUEUE, bytes_of, event, events, listing, lists};
+use crate::spelled::{CLOSE, CREATE, QUEUE, bytes_of, events, listing, lists, push_event};
 use crate::spools::{Device, OPENING, closed, driven, drives, made, open};
 use spool_core::{Ending, Spool, drive, replay};
 use spool_disk::{FuseDisk, MemDisk};
@@ -223,8 +223,7 @@ fn add_numbered(
     behind: &str,
 ) -> Result<(), Fail> {
     let text = format!(in alloc; "{before}{number:08x}{behind}")?;
-    events.push(event(alloc, text.as_str())?)?;
-    Ok(())
+    push_event(events, alloc, text.as_str())
 }
 
 // Adds a job of the queue, the cancel of it, and a clock, all of this number.
@@ -242,7 +241,7 @@ fn add_canceled(alloc: Global, events: &mut Vec<Event>, number: u32) -> Result<(
 
 // Adds the events of a queue, and of 1,000 jobs that are canceled.
 fn add_canceled_jobs(alloc: Global, events: &mut Vec<Event>) -> Result<(), Fail> {
-    events.push(event(alloc, QUEUE)?)?;
+    push_event(events, alloc, QUEUE)?;
     for number in 1..=1_000 {
         add_canceled(alloc, events, number)?;
     }

@@ -18,10 +18,20 @@ pub const CLOSE: &str = "07 00000001 0003612f62 01 00";
 /// The bytes that a text in hexadecimal stands for. It may have blanks between bytes.
 pub fn bytes_of(alloc: Global, text: &str) -> Result<Vec<u8>, Fail> {
     let mut bytes = Vec::new(alloc);
-    for word in text.split_whitespace() {
-        bytes.extend_from_slice(&hex::decode(alloc, word)?)?;
-    }
+    push_bytes(&mut bytes, alloc, text)?;
     Ok(bytes)
+}
+
+fn push_bytes(bytes: &mut Vec<u8>, alloc: Global, text: &str) -> Result<(), Fail> {
+    for word in text.split_whitespace() {
+        push_word(bytes, alloc, word)?;
+    }
+    Ok(())
+}
+
+fn push_word(bytes: &mut Vec<u8>, alloc: Global, word: &str) -> Result<(), Fail> {
+    let decoded = hex::decode(alloc, word)?;
+    Ok(bytes.extend_from_slice(&decoded)?)
 }
 
 /// The event that is spelled so.
@@ -32,10 +42,21 @@ pub fn event(alloc: Global, text: &str) -> Result<Event, Fail> {
 /// The events that are spelled so.
 pub fn events(alloc: Global, texts: &[&str]) -> Result<Vec<Event>, Fail> {
     let mut events = Vec::new(alloc);
-    for text in texts {
-        events.push(event(alloc, text)?)?;
-    }
+    push_events(&mut events, alloc, texts)?;
     Ok(events)
+}
+
+fn push_events(events: &mut Vec<Event>, alloc: Global, texts: &[&str]) -> Result<(), Fail> {
+    for text in texts {
+        push_event(events, alloc, text)?;
+    }
+    Ok(())
+}
+
+/// Adds the event that is spelled so.
+pub fn push_event(events: &mut Vec<Event>, alloc: Global, text: &str) -> Result<(), Fail> {
+    let event = event(alloc, text)?;
+    Ok(events.push(event)?)
 }
 
 fn add_head(table: &Table, bytes: &mut Vec<u8>) -> Result<(), AllocError> {
@@ -46,14 +67,19 @@ fn add_head(table: &Table, bytes: &mut Vec<u8>) -> Result<(), AllocError> {
 /// How the rows of a table are spelled, without their documents.
 pub fn listing(alloc: Global, table: &Table) -> Result<Vec<u8>, AllocError> {
     let mut bytes = Vec::new(alloc);
-    add_head(table, &mut bytes)?;
+    add_rows(table, &mut bytes)?;
+    Ok(bytes)
+}
+
+fn add_rows(table: &Table, bytes: &mut Vec<u8>) -> Result<(), AllocError> {
+    add_head(table, bytes)?;
     for queue in table.queues() {
-        encode_queue_onto(queue, &mut bytes)?;
+        encode_queue_onto(queue, bytes)?;
     }
     for row in table.jobs() {
-        encode_job_onto(&row.job, &mut bytes)?;
+        encode_job_onto(&row.job, bytes)?;
     }
-    Ok(bytes)
+    Ok(())
 }
 
 /// Whether the rows of a table are these bytes.

@@ -1,5 +1,5 @@
 -- A round, and a run, is a turn of World.
-use Rattle.std.proofs.Common.{◌≡◌, ◌⊎◌, inl, inr, ℕ, true, false, Bool, List, [], ◌∷◌, ◌++◌, Some, None, Option, Result, Ok, Err, refl, sym, ap, subst, ◌∙◌, append-nil}
+use Rattle.std.proofs.Common.{◌≡◌, ◌⊎◌, inl, inr, ℕ, true, false, Bool, List, [], ◌∷◌, ◌++◌, Some, None, Option, Result, Ok, Err, refl, sym, ap, subst, ◌∙◌, append_assoc, append-nil}
 use Rattle.std.specs.List.{flat_map}
 use Rattle.std.proofs.lemmas.Bool.{both_ways}
 use Rattle.spool_types.specs.declared.event.Event.{Event}
@@ -17,7 +17,9 @@ use Rattle.spool_core.specs.declared.spool.checkpoint_fault.CheckpointFault.TheV
 use Rattle.spool_disk.specs.Disk.{DiskView}
 use Rattle.command_lines.specs.declared.command.Command.{Command}
 use Rattle.child_pipeline.specs.Told.{Told}
+use Rattle.print_rounds.specs.Counts.{AreAcknowledged}
 use Rattle.print_rounds.specs.Courses.{Course}
+use Rattle.print_rounds.specs.Rounds.{events_in}
 use Rattle.print_rounds.specs.World.{IsEndedSlot, IsCallTurn}
 use Rattle.spool_engine.specs.EventTurns.{listed, tried_as, Setting, Outcome, served, no_memory, full, disk, dead, unread, unreadable, unlisted, IsTaken, IsLeft, IsServedBy, IsOutcome}
 use Rattle.spool_engine.specs.Rounds.{Ran, IsRoundWith, IsRan, AreRan, AreRunBy}
@@ -58,20 +60,32 @@ refused_alone : (s : State) (e : Event) (refusal : Refusal) (o : Option Refusal)
 refused_alone s e refusal None is = absurd (cc)
 refused_alone s e refusal (Some x) is = refl
 
+-- where none was tried none was acknowledged
+never_more : (xs : List Event) (x : Event) → [] ≡ xs ++ x ∷ [] → ⊥
+never_more [] x is = cc
+never_more (y ∷ xs) x is = cc
+
+none_acknowledged : (over : Bool) (tried acknowledged : List Event) → AreAcknowledged over tried acknowledged → tried ≡ [] → acknowledged ≡ []
+none_acknowledged over tried acknowledged hand none = elim hand [
+  | inl all ↦ sym all ∙ none
+  | inr failed ↦ absurd (never_more acknowledged failed.1 (sym none ∙ failed.2))
+]
+
 -- what is so of each legal table, and of calls
 pub record Laws (D : Type 0) : Type 0 where
   pub legal : (s : State) (events : List Event) → IsLegal s → IsLegal (after_all s events)
   pub left : (s : State) (k : Key) (events : List Event) → IsLegal s → IsIn s k → IsIn (after_all s events) k ⊎ IsSpent (after_all s events) k
   pub joined : (old mid new : Course D) (t : Told) (more further : List Event) (one : IsCallTurn t old more mid) → IsCallTurn one.now mid further new → IsCallTurn t old (more ++ further) new
 
-some_same : (x y : Told) → Some x ≡ Some y → x ≡ y
+pub some_same : (x y : Told) → Some x ≡ Some y → x ≡ y
 some_same x y e = cc
 
 module _ {D : Type 0} (laws : Laws D) (t : Told) (quiet : t.running ≡ []) where
   -- events without a round: the slots are as they were
-  plain_turn : (old new : Course D) (events : List Event) → IsLegal old.spool.state → old.told ≡ Some t → AreAccepted old.spool.state events → new.spool.state ≡ after_all old.spool.state events
-      → HasSlotsOf old new → (old.spool.dead ≡ true → new.spool.dead ≡ true) → IsQuietTurn t old events new
-  plain_turn old new events legal tells accepted_in table held over = (
+  plain_with : (old new : Course D) (events tried : List Event) → IsLegal old.spool.state → old.told ≡ Some t → AreAccepted old.spool.state events → new.spool.state ≡ after_all old.spool.state events
+      → HasSlotsOf old new → (old.spool.dead ≡ true → new.spool.dead ≡ true)
+      → ((acknowledged : List Event) × AreAcknowledged new.spool.dead tried acknowledged × (events ≡ accepted old.spool.state acknowledged)) → (old.spool.dead ≡ true → tried ≡ []) → IsQuietTurn t old tried new
+  plain_with old new events tried legal tells accepted_in table held over acknowledged none = (
     events,
     record {
       now = t;
@@ -96,15 +110,18 @@ module _ {D : Type 0} (laws : Laws D) (t : Told) (quiet : t.running ≡ []) wher
       after_over = λ died. (refl, over died);
     },
     quiet,
-    λ lives. sym (accepted_all old.spool.state events accepted_in),
+    acknowledged,
+    none,
   )
 
-  -- the same of other events that were tried
-  tried_too : (old new : Course D) (tried others : List Event) → (new.spool.dead ≡ false → accepted old.spool.state tried ≡ accepted old.spool.state others) → IsQuietTurn t old tried new → IsQuietTurn t old others new
-  tried_too old new tried others same (more, call, quiet_then, all) = (more, call, quiet_then, λ lives. all lives ∙ same lives)
+  -- all of them were acknowledged
+  plain_turn : (old new : Course D) (events : List Event) → IsLegal old.spool.state → old.told ≡ Some t → AreAccepted old.spool.state events → new.spool.state ≡ after_all old.spool.state events
+      → HasSlotsOf old new → (old.spool.dead ≡ true → new.spool.dead ≡ true) → (old.spool.dead ≡ true → events ≡ []) → IsQuietTurn t old events new
+  plain_turn old new events legal tells accepted_in table held over none =
+      plain_with old new events events legal tells accepted_in table held over (events, inl refl, sym (accepted_all old.spool.state events accepted_in)) none
 
   still_turn : (old new : Course D) → IsLegal old.spool.state → old.told ≡ Some t → new.spool ≡ old.spool → HasSlotsOf old new → IsQuietTurn t old [] new
-  still_turn old new legal tells same held = plain_turn old new [] legal tells tt (ap (λ (x : Standing D). x.state) same) held (λ died. ap (λ (x : Standing D). x.dead) same ∙ died)
+  still_turn old new legal tells same held = plain_turn old new [] legal tells tt (ap (λ (x : Standing D). x.state) same) held (λ died. ap (λ (x : Standing D). x.dead) same ∙ died) (λ died. refl)
 
   -- ## A command of one event, or of none
 
@@ -120,9 +137,10 @@ module _ {D : Type 0} (laws : Laws D) (t : Told) (quiet : t.running ≡ []) wher
   taken_turn : (old new : Course D) (e : Event) (answer : Result (State × Reply) Refusal) → step old.spool.state e ≡ answer → IsLegal old.spool.state → old.told ≡ Some t → HasSlotsOf old new → IsTaken old.spool e answer new.spool → IsQuietTurn t old (e ∷ []) new
   taken_turn old new e (Ok r) stepped legal tells held done =
       plain_turn old new (e ∷ []) legal tells (done.fits.accepted, tt) (done_state old.spool.state e new.spool.state r.1 done.fits.accepted done.step) held
-      (λ died. absurd (both_ways _ done.fits.alive died))
+      (λ died. absurd (both_ways _ done.fits.alive died)) (λ died. absurd (both_ways _ done.fits.alive died))
   taken_turn old new e (Err refusal) stepped legal tells held refused =
-      tried_too old new [] (e ∷ []) (λ lives. refused_alone old.spool.state e refusal (refusal_of old.spool.state e) stepped) (still_turn old new legal tells refused.1 held)
+      plain_with old new [] (e ∷ []) legal tells tt (ap (λ (x : Standing D). x.state) refused.1) held (λ died. ap (λ (x : Standing D). x.dead) refused.1 ∙ died)
+      (e ∷ [], inl refl, refused_alone old.spool.state e refusal (refusal_of old.spool.state e) stepped) (λ died. absurd (both_ways _ refused.0 died))
 
   -- ## A checkpoint
 
@@ -131,20 +149,20 @@ module _ {D : Type 0} (laws : Laws D) (t : Told) (quiet : t.running ≡ []) wher
   unlisted_turn device old new listing.EpochEnd legal tells held is = still_turn old new legal tells is.2 held
   unlisted_turn device old new listing.Memory legal tells held is = still_turn old new legal tells is.1 held
   unlisted_turn device old new listing.Full legal tells held is = still_turn old new legal tells is.2 held
-  unlisted_turn device old new listing.Disk legal tells held is = plain_turn old new [] legal tells tt is.state held (λ died. is.dead)
+  unlisted_turn device old new listing.Disk legal tells held is = plain_turn old new [] legal tells tt is.state held (λ died. is.dead) (λ died. refl)
 
   -- ## By its outcome
 
   left_turn : (device : DiskView D) (old new : Course D) (c : Command) → IsLegal old.spool.state → old.told ≡ Some t → HasSlotsOf old new → IsLeft device old.spool c new.spool → IsQuietTurn t old [] new
   left_turn device old new c legal tells held left = elim left [
     | inl same ↦ still_turn old new legal tells same held
-    | inr read ↦ plain_turn old new [] legal tells tt read.1.state held (λ died. read.1.dead ∙ died)
+    | inr read ↦ plain_turn old new [] legal tells tt read.1.state held (λ died. read.1.dead ∙ died) (λ died. refl)
   ]
 
   served_turn : (device : DiskView D) (old new : Course D) (w : Meaning) (reply : List ℕ) → IsLegal old.spool.state → old.told ≡ Some t → HasSlotsOf old new → IsServedBy device old.spool w reply new.spool → IsQuietTurn t old (listed (event_in w)) new
   served_turn device old new (says text) reply legal tells held is = still_turn old new legal tells is.1 held
   served_turn device old new (asks e line) reply legal tells held is = taken_turn old new e (step old.spool.state e) refl legal tells held is.1
-  served_turn device old new lists reply legal tells held is = plain_turn old new [] legal tells tt is.1.state held (λ died. absurd (both_ways _ is.1.may.alive died))
+  served_turn device old new lists reply legal tells held is = plain_turn old new [] legal tells tt is.1.state held (λ died. absurd (both_ways _ is.1.may.alive died)) (λ died. refl)
   served_turn device old new (runs most line) reply legal tells held is = absurd is
 
   outcome_turn : (v : Setting D) (old : Course D) (turn : Turn D) (o : Outcome) → IsLegal old.spool.state → old.told ≡ Some t → HasSlotsOf old turn.next → IsOutcome v old.spool (event_turn turn o) o → IsQuietTurn t old (tried_as (event_of v.mime old.spool.state turn.document turn.command) o) turn.next
@@ -152,64 +170,84 @@ module _ {D : Type 0} (laws : Laws D) (t : Told) (quiet : t.running ≡ []) wher
   outcome_turn v old turn no_memory legal tells held is = left_turn v.device old turn.next turn.command legal tells held is.cause.2
   outcome_turn v old turn full legal tells held is = left_turn v.device old turn.next turn.command legal tells held is.cause.1
   outcome_turn v old turn disk legal tells held is =
-      tried_too old turn.next [] (listed (event_of v.mime old.spool.state turn.document turn.command)) (λ lives. absurd (both_ways _ lives is.cause.dead)) (plain_turn old turn.next [] legal tells tt is.cause.state held (λ died. is.cause.dead))
+      plain_with old turn.next [] (listed (event_of v.mime old.spool.state turn.document turn.command)) legal tells tt is.cause.state held (λ died. is.cause.dead)
+      ([], inr (is.cause.dead, is.event, ap listed is.is), refl) (λ died. absurd (both_ways _ is.cause.fits.alive died))
   outcome_turn v old turn dead legal tells held is = still_turn old turn.next legal tells is.cause.1 held
   outcome_turn v old turn unread legal tells held is = still_turn old turn.next legal tells is.same held
-  outcome_turn v old turn unreadable legal tells held is = plain_turn old turn.next [] legal tells tt is.fails.cause.1.state held (λ died. is.fails.cause.1.dead)
+  outcome_turn v old turn unreadable legal tells held is = plain_turn old turn.next [] legal tells tt is.fails.cause.1.state held (λ died. is.fails.cause.1.dead) (λ died. refl)
   outcome_turn v old turn (unlisted fault) legal tells held is = unlisted_turn v.device old turn.next fault legal tells held is.cause
 
   -- ## A round
 
-  same_turn : (old new : Course D) → IsLegal old.spool.state → old.told ≡ Some t → new ≡ old → IsQuietTurn t old [] new
+  pub same_turn : (old new : Course D) → IsLegal old.spool.state → old.told ≡ Some t → new ≡ old → IsQuietTurn t old [] new
   same_turn old new legal tells same = still_turn old new legal tells (ap (λ (c : Course D). c.spool) same) (record { slots = ap (λ (c : Course D). c.slots) same; told = ap (λ (c : Course D). c.told) same })
 
   -- what is told after a round, whose children have all been finished
-  quiet_after : (v : Setting D) (old : Course D) (r : Ran D) → IsRan v old r → old.told ≡ Some t → (now : Told) → r.next.told ≡ Some now → now.running ≡ []
+  pub quiet_after : (v : Setting D) (old : Course D) (r : Ran D) → IsRan v old r → old.told ≡ Some t → (now : Told) → r.next.told ≡ Some now → now.running ≡ []
   quiet_after v old r is tells now tells' =
       let (js, once) = is.finished t tells quiet in
       ap (λ (u : Told). u.running) (some_same now once.now (sym tells' ∙ once.tells)) ∙ once.finished.running
 
   pub round_turn : (v : Setting D) (old : Course D) (r : Ran D) → IsLegal old.spool.state → old.told ≡ Some t → IsRan v old r → IsQuietTurn t old r.tried r.next
-  round_turn v old r legal tells is = by_death old.spool.dead is.round
+  round_turn v old r legal tells is = by_death old.spool.dead refl is.round
     where
-      by_death : (b : Bool) → IsRoundWith v.device v.place old b r → IsQuietTurn t old r.tried r.next
-      by_death true round = subst (λ l. IsQuietTurn t old l r.next) (sym round.1) (same_turn old r.next legal tells round.0.1)
-      by_death false round = elim round [
+      by_death : (b : Bool) → old.spool.dead ≡ b → IsRoundWith v.device v.place old b r → IsQuietTurn t old r.tried r.next
+      by_death true died round = subst (λ l. IsQuietTurn t old l r.next) (sym round.1) (same_turn old r.next legal tells round.0.1)
+      by_death false lives round = elim round [
         | inl unbegun ↦ subst (λ l. IsQuietTurn t old l r.next) (sym unbegun.1) (same_turn old r.next legal tells unbegun.0.1)
         | inr made ↦
-            let c = made.0.turn t tells quiet in (
-              _,
+            let c = made.0.turn t tells quiet in
+            let events : List Event = events_in old made.0.steps in (
+              events,
               c,
               quiet_after v old r is tells c.now c.tells,
-              λ lives. sym (accepted_all old.spool.state _ c.turn.accepted) ∙ ap (accepted old.spool.state) (sym (made.1 ∙ made.0.all_acknowledged lives)),
+              (events, subst (λ l. AreAcknowledged r.next.spool.dead l events) (sym made.1) made.0.in_hand, sym (accepted_all old.spool.state events c.turn.accepted)),
+              λ died. absurd (both_ways _ lives died),
             )
       ]
 
 -- ## Rounds, and turns, one after the other
 
 module _ {D : Type 0} (laws : Laws D) where
-  then_turn : (t : Told) (old mid new : Course D) (tried others : List Event) → (one : IsQuietTurn t old tried mid) → IsQuietTurn one.1.now mid others new → IsQuietTurn t old (tried ++ others) new
-  then_turn t old mid new tried others (more, one, quiet, all) (further, two, quiet_then, all_then) =
-      (more ++ further, laws.joined old mid new t more further one two, quiet_of, all_of)
+  pub then_turn : (t : Told) (old mid new : Course D) (tried others : List Event) → (one : IsQuietTurn t old tried mid) → IsQuietTurn one.1.now mid others new → IsQuietTurn t old (tried ++ others) new
+  then_turn t old mid new tried others (more, one, quiet, first, none) (further, two, quiet_then, second, none_then) =
+      (more ++ further, laws.joined old mid new t more further one two, quiet_of, all_of, none_of)
     where
-      lived : new.spool.dead ≡ false → (b : Bool) → mid.spool.dead ≡ b → mid.spool.dead ≡ false
-      lived lives true died = absurd (both_ways _ lives (two.after_over died).1)
-      lived lives false alive = alive
+      behind : AreAcknowledged new.spool.dead others second.0 → AreAcknowledged new.spool.dead (tried ++ others) (tried ++ second.0)
+      behind hand = elim hand [
+        | inl all ↦ inl (ap (λ l. tried ++ l) all)
+        | inr failed ↦ inr (failed.0, failed.1, ap (λ l. tried ++ l) failed.2 ∙ sym (append_assoc tried second.0 (failed.1 ∷ [])))
+      ]
 
-      all_of : new.spool.dead ≡ false → more ++ further ≡ accepted old.spool.state (tried ++ others)
-      all_of lives =
-          let first : more ≡ accepted old.spool.state tried = all (lived lives mid.spool.dead refl) in
-          let table : mid.spool.state ≡ after_all old.spool.state tried = one.turn.table ∙ ap (after_all old.spool.state) first ∙ skipped old.spool.state tried in
-          ap (λ l. l ++ further) first
-          ∙ ap (λ l. accepted old.spool.state tried ++ l) (all_then lives)
-          ∙ ap (λ s. accepted old.spool.state tried ++ accepted s others) table
-          ∙ sym (accepted_append old.spool.state tried others)
+      all_of : (acknowledged : List Event) × AreAcknowledged new.spool.dead (tried ++ others) acknowledged × (more ++ further ≡ accepted old.spool.state acknowledged)
+      all_of = elim first.1 [
+        | inl all ↦
+            let taken : more ≡ accepted old.spool.state tried = first.2 ∙ ap (accepted old.spool.state) (sym all) in
+            let table : mid.spool.state ≡ after_all old.spool.state tried = one.turn.table ∙ ap (after_all old.spool.state) taken ∙ skipped old.spool.state tried in (
+              tried ++ second.0,
+              behind second.1,
+              ap (λ l. l ++ further) taken
+                  ∙ ap (λ l. accepted old.spool.state tried ++ l) second.2
+                  ∙ ap (λ s. accepted old.spool.state tried ++ accepted s second.0) table
+                  ∙ sym (accepted_append old.spool.state tried second.0),
+            )
+        | inr failed ↦
+            let nothing : others ≡ [] = none_then failed.0 in
+            let empty : second.0 ≡ [] = none_acknowledged new.spool.dead others second.0 second.1 nothing in (
+              first.0,
+              inr ((two.after_over failed.0).1, failed.1, ap (λ l. tried ++ l) nothing ∙ append-nil tried ∙ failed.2),
+              ap (λ l. more ++ l) (second.2 ∙ ap (accepted mid.spool.state) empty) ∙ append-nil more ∙ first.2,
+            )
+      ]
+
+      none_of : old.spool.dead ≡ true → tried ++ others ≡ []
+      none_of died = ap (λ l. l ++ others) (none died) ∙ none_then (one.after_over died).1
 
       quiet_of : (laws.joined old mid new t more further one two).now.running ≡ []
       quiet_of = ap (λ (u : Told). u.running) (some_same (laws.joined old mid new t more further one two).now two.now (sym (laws.joined old mid new t more further one two).tells ∙ two.tells)) ∙ quiet_then
 
   pub legal_then : (t : Told) (old mid : Course D) (tried : List Event) → IsQuietTurn t old tried mid → IsLegal mid.spool.state
-  legal_then t old mid tried (more, one, quiet, all) = subst IsLegal (sym one.turn.table) (laws.legal old.spool.state more one.turn.legal)
+  legal_then t old mid tried (more, one, quiet, acknowledged, none) = subst IsLegal (sym one.turn.table) (laws.legal old.spool.state more one.turn.legal)
 
   rounds_turn : (v : Setting D) (rs : List (Ran D)) (t : Told) → t.running ≡ [] → (old new : Course D) → IsLegal old.spool.state → old.told ≡ Some t → AreRan v old rs new → IsQuietTurn t old (flat_map (λ r. r.tried) rs) new
   rounds_turn v [] t quiet old new legal tells same = same_turn laws t quiet old new legal tells same
@@ -223,7 +261,7 @@ module _ {D : Type 0} (laws : Laws D) where
   run_turn v lists t quiet old new rs reply legal tells is = absurd is
   run_turn v (runs most line) t quiet old new rs reply legal tells is = rounds_turn v rs t quiet old new legal tells is.each
 
-  how_turn : (v : Setting D) (t : Told) → t.running ≡ [] → (old : Course D) (turn : Turn D) (how : How D) → IsLegal old.spool.state → old.told ≡ Some t → IsHow v old turn how → IsQuietTurn t old (tried_by (event_of v.mime old.spool.state turn.document turn.command) how) turn.next
+  pub how_turn : (v : Setting D) (t : Told) → t.running ≡ [] → (old : Course D) (turn : Turn D) (how : How D) → IsLegal old.spool.state → old.told ≡ Some t → IsHow v old turn how → IsQuietTurn t old (tried_by (event_of v.mime old.spool.state turn.document turn.command) how) turn.next
   how_turn v t quiet old turn (replied outcome) legal tells is = outcome_turn laws t quiet v old turn outcome legal tells is.1 is.0
   how_turn v t quiet old turn (ran rs) legal tells is = run_turn v (meaning v.mime old.spool.state turn.document turn.command) t quiet old turn.next rs turn.text legal tells is
 

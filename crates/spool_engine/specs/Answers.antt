@@ -13,8 +13,8 @@ use Rattle.spool_core.specs.declared.spool.apply_fault.ApplyFault.{ApplyFault}
 use Rattle.spool_core.specs.declared.spool.apply_fault.ApplyFault.TheVariants.{Dead, Refused, Memory, Full, Disk}
 use Rattle.print_rounds.specs.Rounds.{LeavesDocuments}
 use Rattle.spool_engine.specs.EventTurns.{Setting, EventTurn, IsEventTurn, IsKept, IsStill, IsCut, IsDocumentOf, checkpoint_fault_line}
-use Rattle.print_rounds.specs.declared.reading.Unread.{Unread}
-use Rattle.print_rounds.specs.declared.reading.Unread.TheVariants as unread
+use Rattle.spool_core.specs.declared.reading.Unread.{Unread}
+use Rattle.spool_core.specs.declared.reading.Unread.TheVariants as unread
 
 -- the line for a fault
 abbrev pub fault_line : ApplyFault → List ℕ

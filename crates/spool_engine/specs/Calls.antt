@@ -1,20 +1,90 @@
--- A call of an engine as a turn: a round, or a run by its turns.
-use Rattle.std.specs.Prelude.{◌≡◌, false, List, [], ◌∷◌, ◌++◌}
+-- A call of an engine as a turn: a round, or a run by its turns. And the calls of an engine, one after the other.
+use Rattle.std.specs.Prelude.{◌≡◌, true, List, [], ◌∷◌, ◌++◌, map, Some}
 use Rattle.spool_types.specs.declared.event.Event.{Event}
 use Rattle.job_table.specs.Fold.{accepted}
+use Rattle.job_table.specs.Turns.{AreOnce}
 use Rattle.child_pipeline.specs.Told.{Told}
+use Rattle.child_pipeline.specs.declared.order.Placed.{Placed}
+use Rattle.print_rounds.specs.Counts.{AreAcknowledged}
 use Rattle.print_rounds.specs.Courses.{Course}
-use Rattle.print_rounds.specs.World.{IsCallTurn}
+use Rattle.print_rounds.specs.Inputs.{answered, AreRight, HaveDocuments}
+use Rattle.print_rounds.specs.World.{keys_in, IsCallTurn}
+use Rattle.spool_engine.specs.EventTurns.{Setting}
 use Rattle.spool_engine.specs.Mime.{Mime}
-use Rattle.spool_engine.specs.Runs.{Turn, tried_in}
+use Rattle.spool_engine.specs.Rounds.{Ran, IsRan}
+use Rattle.spool_engine.specs.Runs.{Turn, AreTurns, documents_left, last_course, last_documents, tried_in}
+use Rattle.spool_engine.specs.Script.{Documents}
 
 -- the events that were tried in turns
 abbrev pub tried_in_turns : {D : Type 0} → Mime → Course D → List (Turn D) → List Event
 tried_in_turns m s [] = []
 tried_in_turns m s (t ∷ ts) = tried_in m s t ++ tried_in_turns m t.next ts
 
--- A turn of World after which no child runs. While the device works its events are those of the tried ones that are
--- accepted, which are the acknowledged ones then.
+-- A turn of World after which no child runs. Its events are the accepted ones of those that were acknowledged: of all that
+-- were tried or, where the device failed at the last of them, of all but that one, which was in hand then. Where it had
+-- failed before none was tried.
 abbrev pub IsQuietTurn : {D : Type 0} → Told → Course D → List Event → Course D → Type 0
 IsQuietTurn t old tried new =
-    (more : List Event) × (c : IsCallTurn t old more new) × (c.now.running ≡ []) × (new.spool.dead ≡ false → more ≡ accepted old.spool.state tried)
+    (more : List Event) × (c : IsCallTurn t old more new) × (c.now.running ≡ [])
+    × ((acknowledged : List Event) × AreAcknowledged new.spool.dead tried acknowledged × (more ≡ accepted old.spool.state acknowledged))
+    × (old.spool.dead ≡ true → tried ≡ [])
+
+-- ## The calls of one engine
+
+pub data Call (D : Type 0) : Type 0 where
+  round_call : Ran D → Call D
+  run_call : List (Turn D) → Call D
+
+-- what a call leaves
+abbrev pub left_by : {D : Type 0} → Course D → Call D → Course D
+left_by s (round_call r) = r.next
+left_by s (run_call turns) = last_course s turns
+
+abbrev pub IsCall : {D : Type 0} → Setting D → Course D → Call D → Type 0
+IsCall v s (round_call r) = IsRan v s r
+IsCall v s (run_call turns) = AreTurns v s turns
+
+-- each call is one on what the one before left
+abbrev pub AreCalls : {D : Type 0} → Setting D → Course D → List (Call D) → Type 0
+AreCalls v s [] = Unit {0}
+AreCalls v s (c ∷ cs) = IsCall v s c × AreCalls v (left_by s c) cs
+
+-- what the last of them leaves
+abbrev pub last_by : {D : Type 0} → Course D → List (Call D) → Course D
+last_by s [] = s
+last_by s (c ∷ cs) = last_by (left_by s c) cs
+
+-- ## What their stages are handed
+
+-- The orders that are new behind what was told before, each with its child's answer: each first stage is handed a document,
+-- and each later one what the stage before it gave, in the same attempt.
+pub record HaveRightInput (t : Told) (now : Told) : Type 0 where
+  pub orders : List Placed
+  pub added : now.orders ≡ t.orders ++ orders
+  pub all : map (λ x. x.order) (answered t.starts t.finishes orders) ≡ map (λ p. p.order) orders
+  -- no two of them are for the same stage of an attempt
+  pub once : AreOnce (keys_in orders)
+  pub right : AreRight [] (answered t.starts t.finishes orders)
+
+-- of the orders that are new, each first stage is handed the document of its job
+abbrev pub HandsDocuments : {D : Type 0} → Documents → Course D → Course D → Type 0
+HandsDocuments documents old new = (t now : Told) (orders : List Placed) → old.told ≡ Some t → new.told ≡ Some now → now.orders ≡ t.orders ++ orders → HaveDocuments documents orders
+
+-- so it is in each of these turns, with what was sent before it
+abbrev pub TurnsHandDocuments : {D : Type 0} → Mime → Course D → Documents → List (Turn D) → Type 0
+TurnsHandDocuments m s documents [] = Unit {0}
+TurnsHandDocuments m s documents (t ∷ ts) = HandsDocuments documents s t.next × TurnsHandDocuments m t.next (documents_left m s documents t) ts
+
+abbrev pub CallHandsDocuments : {D : Type 0} → Mime → Course D → Documents → Call D → Type 0
+CallHandsDocuments m s documents (round_call r) = HandsDocuments documents s r.next
+CallHandsDocuments m s documents (run_call turns) = TurnsHandDocuments m s documents turns
+
+-- the documents behind a call
+abbrev pub documents_by : {D : Type 0} → Mime → Course D → Documents → Call D → Documents
+documents_by m s documents (round_call r) = documents
+documents_by m s documents (run_call turns) = last_documents m s documents turns
+
+-- and in each of these calls
+abbrev pub CallsHandDocuments : {D : Type 0} → Mime → Course D → Documents → List (Call D) → Type 0
+CallsHandDocuments m s documents [] = Unit {0}
+CallsHandDocuments m s documents (c ∷ cs) = CallHandsDocuments m s documents c × CallsHandDocuments m (left_by s c) (documents_by m s documents c) cs

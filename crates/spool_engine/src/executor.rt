@@ -12,6 +12,7 @@ ghost use Rattle.command_lines.specs.declared.command.Command.{Command};
 ghost use Rattle.filter_args.specs.declared.place.Place.{Place as PlaceOf};
 ghost use Rattle.print_rounds.specs.Courses.{course};
 ghost use Rattle.print_rounds.specs.Finished.{HasNoneRunning};
+ghost use Rattle.spool_core.specs.Reading.{IsDocumentRead as IsReadWhole};
 ghost use Rattle.spool_core.specs.declared.spool.apply_fault.ApplyFault.{ApplyFault};
 ghost use Rattle.spool_core.specs.declared.spool.checkpoint_fault.CheckpointFault.{CheckpointFault};
 ghost use Rattle.spool_engine.specs.Mime.{Mime as MimeDatabase};
@@ -30,8 +31,8 @@ use command_lines::{Answer, Creation, ShownQueue, print_reply};
 use device_uri::{DeviceUri, UriFault};
 use filter_args::Place;
 use job_table::Table;
-use print_rounds::{Round, RoundFault, Unread, read_document};
-use spool_core::{ApplyFault, CheckpointFault, Spool};
+use print_rounds::{Round, RoundFault};
+use spool_core::{ApplyFault, CheckpointFault, Spool, Unread, read_whole};
 use spool_disk::Disk;
 use spool_types::{
     Closing, Event, Filters, JobId, MediaType, NewJob, NewQueue, OptionText, QueueRow, Refusal,
@@ -168,7 +169,7 @@ impl<D: Disk> Executor<D> {
         requires lasts { is_over self.old.state job ≡ false }
         ensures { IsDocumentRead D.device self.old job result self.new }
     {
-        read_document(self.alloc, &mut self.spool, job)
+        read_content(self.alloc, &mut self.spool, job)
     }
 
     // Closes a job that has this document, and makes the text of its reply.
@@ -306,6 +307,18 @@ impl<D: Disk> Executor<D> {
     {
         let shown = shown_queues(self.alloc, self.table())?;
         print_reply(self.alloc, &Answer::Queues(&shown))
+    }
+}
+
+// The document of a job, whole.
+fn read_content<D: Disk>(alloc: Global, spool: &mut Spool<D>, job: JobId) -> Result<Content, Unread>
+    requires alive { spool.old.dead ≡ false }
+    requires there { IsSome (job_at spool.old.state job) }
+    ensures { IsReadWhole D.device spool.old job result spool.new }
+{
+    match read_whole(alloc, spool, job) {
+        Ok(bytes) => Ok(Content::new(bytes)),
+        Err(why) => Err(why),
     }
 }
 

@@ -42,6 +42,9 @@
 //!   text (`first`).
 //! - *EachFinishedOnce* (`finished` of each round): whatever failed, each child that was started is finished once when the
 //!   round returns, and every start came before the first finish.
+//! - *NoStageTwice* ([`calls_are_turns`]): each call is a turn of World, whose events are those that were acknowledged in it.
+//! - *RightInput* ([`stages_have_right_input`]): over any number of calls each later stage of an attempt is handed the whole output
+//!   of the stage before it, and each first stage its job's document.
 //! - *Crashes* (`crash` and `kept` of each turn): unless the device had failed before, a crash at any moment of a turn
 //!   leaves the table before its command or the one after it, and of rounds the table after some of the events that were
 //!   tried in them, the first of them. With the table it leaves the documents after the same events (`whole`). A crash after
@@ -77,4 +80,4 @@ mod printer;
 
 pub use engine::Engine;
 pub use fault::RunFault;
-pub use laws::{calls_are_turns, crashes_between_replies};
+pub use laws::{calls_are_turns, crashes_between_replies, stages_have_right_input};

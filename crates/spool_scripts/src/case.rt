@@ -120,11 +120,16 @@ fn text_of<R: Files<File = File> + AllocGlobal>(
     path: &str,
     ending: &str,
 ) -> Result<String, CaseFault> {
-    let Some(bytes) = file_of(rt, path, ending)? else {
-        return Ok(String::new(rt.alloc()));
-    };
-    match String::from_utf8(bytes) {
-        Ok(text) => Ok(text),
+    match file_of(rt, path, ending)? {
+        Some(bytes) => text_from(rt.alloc(), &bytes),
+        None => Ok(String::new(rt.alloc())),
+    }
+}
+
+// The text that these bytes are.
+fn text_from(alloc: Global, bytes: &[u8]) -> Result<String, CaseFault> {
+    match str::from_utf8(bytes) {
+        Ok(text) => Ok(String::from_str(alloc, text)?),
         Err(_) => Err(CaseFault::NoText),
     }
 }

@@ -4,10 +4,17 @@ use Rattle.stage_tools.specs.Results.{Copied}
 use Rattle.stage_tools.specs.declared.results.Form.TheVariants.{Plain}
 use Rattle.stage_tools.specs.Words.{backend_name}
 use Rattle.stage_tools.specs.declared.words.Backend.{Backend}
+use Rattle.stage_tools.specs.declared.words.Backend.TheVariants.{AppSocket, Meet, SideAsk, SpoolFile}
 
--- `file TOOL "Unknown" "TOOL"` and a line feed
+abbrev pub device_class : Backend → List ℕ
+device_class AppSocket = codes "network "
+device_class SpoolFile = codes "file "
+device_class Meet = codes "file "
+device_class SideAsk = codes "file "
+
+-- `CLASS TOOL "Unknown" "TOOL"` and a line feed
 abbrev pub device_line : Backend → List ℕ
-device_line tool = codes "file " ++ backend_name tool ++ codes " \"Unknown\" \"" ++ backend_name tool ++ 34 ∷ 10 ∷ []
+device_line tool = device_class tool ++ backend_name tool ++ codes " \"Unknown\" \"" ++ backend_name tool ++ 34 ∷ 10 ∷ []
 
 -- the copies were written as they are
 pub record Spooled (copies : ℕ) (known old new : Option (List ℕ)) : Type 0 where

@@ -1,11 +1,13 @@
--- The device that a URI names.
-use Rattle.std.specs.Prelude.{◌≡◌, ℕ, ◌⊎◌, List, IsUtf8}
+-- The device that a URI names: a file, or a printer of the network.
+use Rattle.std.specs.Prelude.{◌≡◌, ℕ, ◌⊎◌, List, None, Some, unwrap_or, IsUtf8}
 use Rattle.std.specs.String.{string_bytes}
 use Rattle.percent_encoding.specs.Percent.{percent_decode}
-use Rattle.url.specs.Parts.{Parts}
+use Rattle.url.specs.Host.{owned_host}
+use Rattle.url.specs.Parts.{Parts, nonempty_host}
 use Rattle.device_uri.specs.Devices.{IsBadUri, Reads}
 use Rattle.device_options.specs.Options.{options_or_none}
 use Rattle.stage_tools.specs.declared.device.Device.{Device}
+use Rattle.stage_tools.specs.declared.printer.Printer.{Printer}
 
 -- the file and the options are those of the URL that the text is
 pub record IsDevice (device : Device) (text : List ℕ) : Type 0 where
@@ -23,3 +25,21 @@ pub record HasNoPath (text : List ℕ) : Type 0 where
 -- the text is no URI of a device, or names no file
 abbrev pub IsNoDevice : List ℕ → Type 0
 IsNoDevice text = IsBadUri text ⊎ HasNoPath text
+
+-- the host, the port (9100 where none is given) and the options are those of the URL that the text is
+pub record IsPrinter (printer : Printer) (text : List ℕ) : Type 0 where
+  pub url : Parts
+  pub reads : Reads text url
+  pub host : nonempty_host url ≡ Some (owned_host printer.host)
+  pub port : printer.port ≡ unwrap_or url.port 9100
+  pub options : printer.options.items ≡ options_or_none url
+
+-- the text is a URL without a host
+pub record HasNoHost (text : List ℕ) : Type 0 where
+  pub url : Parts
+  pub reads : Reads text url
+  pub host : nonempty_host url ≡ None
+
+-- the text is no URI of a device, or names no host
+abbrev pub IsNoPrinter : List ℕ → Type 0
+IsNoPrinter text = IsBadUri text ⊎ HasNoHost text

@@ -6,9 +6,9 @@ use Rattle.stage_tools.specs.Backends as backends
 use Rattle.stage_tools.specs.Filters.{Filtered}
 use Rattle.stage_tools.specs.Words.{Printed, Request, filter, backend, device_line, side_end}
 use Rattle.stage_tools.specs.declared.fault.ToolFault.{ToolFault}
-use Rattle.stage_tools.specs.declared.fault.ToolFault.TheVariants.{Device, Memory, Partner, Read, Side, Write}
+use Rattle.stage_tools.specs.declared.fault.ToolFault.TheVariants.{Connect, Device, Memory, Partner, Read, Reset, Side, Write}
 use Rattle.stage_tools.specs.declared.words.Backend.{Backend}
-use Rattle.stage_tools.specs.declared.words.Backend.TheVariants.{SpoolFile}
+use Rattle.stage_tools.specs.declared.words.Backend.TheVariants.{AppSocket, SpoolFile}
 use Rattle.stage_tools.specs.declared.words.Filter.{Filter}
 
 -- ---- faults
@@ -19,6 +19,8 @@ message Write = codes "cannot write"
 message Device = codes "no device"
 message Side = codes "no answer"
 message Partner = codes "no partner"
+message Connect = codes "cannot connect"
+message Reset = codes "connection reset"
 message Memory = codes "out of memory"
 
 -- the line that tells a fault on standard error (filter(7))
@@ -29,10 +31,21 @@ error_line fault = codes "ERROR: " ++ message fault ++ 10 ∷ []
 abbrev pub Tells : ToolFault → Option (List ℕ) → Option (List ℕ) → Type 0
 Tells fault old new = Appends old new (error_line fault) ⊎ WroteSome old new (error_line fault)
 
--- the status that was asked for, and 1 after a fault
+-- the status of a fault: where nobody answers the job is to be tried again later (6, backend(7))
+abbrev pub fault_status : ToolFault → ℕ
+fault_status Connect = 6
+fault_status Read = 1
+fault_status Write = 1
+fault_status Device = 1
+fault_status Side = 1
+fault_status Partner = 1
+fault_status Reset = 1
+fault_status Memory = 1
+
+-- the status that was asked for, or that of the fault
 abbrev pub status_of : Result ℕ ToolFault → ℕ
 status_of (Ok status) = status
-status_of (Err fault) = 1
+status_of (Err fault) = fault_status fault
 
 -- ---- the end of the program, by what its words ask for
 
@@ -46,9 +59,16 @@ abbrev pub FilterEnds : Filter → Printed → Option (List ℕ) → Option (Lis
 FilterEnds tool d input out_old out_new err_old err_new status =
     ((status ≡ 0) × Filtered tool d.copies (known_of d.file input) out_old out_new err_old err_new) ⊎ (status ≡ 1)
 
--- Nothing is written on standard output. `spoolfile` tells its fault, and the others tell none.
+-- a fault is told, and its status is that of the fault
+pub record TellsFault (old new : Option (List ℕ)) (status : ℕ) : Type 0 where
+  pub fault : ToolFault
+  pub ended : status ≡ fault_status fault
+  pub tells : Tells fault old new
+
+-- Nothing is written on standard output. `spoolfile` and `appsocket` tell their faults, and the others tell none.
 abbrev pub BackendEnds : Backend → Option (List ℕ) → Option (List ℕ) → ℕ → Type 0
 BackendEnds SpoolFile err_old err_new status = Keeps err_old err_new ⊎ ((status ≡ 1) × Tells Write err_old err_new)
+BackendEnds AppSocket err_old err_new status = ((status ≡ 0) × Keeps err_old err_new) ⊎ TellsFault err_old err_new status
 BackendEnds _ err_old err_new status = (status ≤ 1) × Keeps err_old err_new
 
 -- the whole line is written, or it is 1 and the line is cut

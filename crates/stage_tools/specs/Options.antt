@@ -15,6 +15,14 @@ number_of name most default pairs = number_in most default (last_value name pair
 abbrev pub exit_of : List (List ℕ × List ℕ) → ℕ
 exit_of pairs = number_of (codes "exit") 255 0 pairs
 
+-- how many seconds `appsocket` tries to connect, and 0 for as many as the system does
+abbrev pub connect_seconds_of : List (List ℕ × List ℕ) → ℕ
+connect_seconds_of pairs = number_of (codes "contimeout") 4294967295 30 pairs
+
+-- how many seconds `appsocket` waits for the printer's end
+abbrev pub end_seconds_of : List (List ℕ × List ℕ) → ℕ
+end_seconds_of pairs = number_of (codes "endtimeout") 4294967295 90 pairs
+
 -- how many times `meet` looks for its partner
 abbrev pub turns_of : List (List ℕ × List ℕ) → ℕ
 turns_of pairs = number_of (codes "turns") 4294967295 20 pairs

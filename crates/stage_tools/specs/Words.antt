@@ -4,7 +4,7 @@ use Rattle.std.specs.Option.{option_map}
 use Rattle.std.specs.Str.{bytes_eq}
 use Rattle.stage_tools.specs.Numbers.{ranged}
 use Rattle.stage_tools.specs.declared.words.Backend.{Backend}
-use Rattle.stage_tools.specs.declared.words.Backend.TheVariants.{Meet, SideAsk, SpoolFile}
+use Rattle.stage_tools.specs.declared.words.Backend.TheVariants.{AppSocket, Meet, SideAsk, SpoolFile}
 use Rattle.stage_tools.specs.declared.words.Filter.{Filter}
 use Rattle.stage_tools.specs.declared.words.Filter.TheVariants.{PrnCount, TextToPrn}
 
@@ -18,6 +18,7 @@ abbrev pub backend_name : Backend → List ℕ
 backend_name SpoolFile = codes "spoolfile"
 backend_name Meet = codes "meet"
 backend_name SideAsk = codes "sideask"
+backend_name AppSocket = codes "appsocket"
 
 abbrev pub filter_of : List ℕ → Option Filter
 filter_of name =
@@ -30,7 +31,8 @@ backend_of name =
     cond (bytes_eq name (backend_name SpoolFile)) (Some SpoolFile)
     (cond (bytes_eq name (backend_name Meet)) (Some Meet)
     (cond (bytes_eq name (backend_name SideAsk)) (Some SideAsk)
-    None))
+    (cond (bytes_eq name (backend_name AppSocket)) (Some AppSocket)
+    None)))
 
 -- ---- the document of a job
 

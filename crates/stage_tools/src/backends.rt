@@ -28,6 +28,7 @@ pub fn device_line(backend: Backend) -> &'static str
         Backend::SpoolFile => "file spoolfile \"Unknown\" \"spoolfile\"\n",
         Backend::Meet => "file meet \"Unknown\" \"meet\"\n",
         Backend::SideAsk => "file sideask \"Unknown\" \"sideask\"\n",
+        Backend::AppSocket => "network appsocket \"Unknown\" \"appsocket\"\n",
     }
 }
 
@@ -107,8 +108,8 @@ fn given_device<H: Env + AllocGlobal>(rt: &H) -> Result<Device, ToolFault> {
     read_device(rt.alloc(), variable(rt, "DEVICE_URI")?.as_str())
 }
 
-// A variable that is there, as a text.
-fn variable<H: Env + AllocGlobal>(rt: &H, name: &str) -> Result<String, ToolFault> {
+/// A variable that is there, as a text.
+pub(crate) fn variable<H: Env + AllocGlobal>(rt: &H, name: &str) -> Result<String, ToolFault> {
     match env::var(rt, name) {
         Ok(value) => Ok(value),
         Err(VarError::OutOfMemory) => Err(ToolFault::Memory),

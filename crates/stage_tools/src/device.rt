@@ -1,7 +1,8 @@
-//! The device that a backend prints to.
+//! The file that a backend prints to.
 ghost use Rattle.std.specs.Prelude.{◌≡◌, ◌⊎◌, IfErr, IfOk, IsErrOf, IsUtf8};
 ghost use Rattle.std.specs.String.{string_bytes};
 ghost use Rattle.percent_encoding.specs.Percent.{percent_decode};
+ghost use Rattle.device_uri.specs.Devices.{IsBadUri, Reads};
 ghost use Rattle.stage_tools.specs.Devices.{IsDevice, IsNoDevice};
 
 use crate::fault::ToolFault;
@@ -25,14 +26,23 @@ pub fn read_device(alloc: Global, text: &str) -> Result<Device, ToolFault>
     ensures refused { IsErrOf result ToolFault.Device → IsNoDevice text.now }
     ensures faults { IfErr result (λ fault. (fault ≡ ToolFault.Device) ⊎ (fault ≡ ToolFault.Memory)) }
 {
-    let uri = match DeviceUri::parse(alloc, text) {
-        Ok(uri) => uri,
-        Err(UriFault::BadUri) => return Err(ToolFault::Device),
-        Err(UriFault::Memory) => return Err(ToolFault::Memory),
-    };
+    let uri = read_uri(alloc, text)?;
     let path = read_path(alloc, uri.path())?;
     let options = options_or_none(alloc, &uri)?;
     Ok(Device { path, options })
+}
+
+/// Reads the URI of a device of any kind.
+pub(crate) fn read_uri(alloc: Global, text: &str) -> Result<DeviceUri, ToolFault>
+    ensures value { IfOk result (λ uri. Reads text.now uri.url) }
+    ensures refused { IsErrOf result ToolFault.Device → IsBadUri text.now }
+    ensures faults { IfErr result (λ fault. (fault ≡ ToolFault.Device) ⊎ (fault ≡ ToolFault.Memory)) }
+{
+    match DeviceUri::parse(alloc, text) {
+        Ok(uri) => Ok(uri),
+        Err(UriFault::BadUri) => Err(ToolFault::Device),
+        Err(UriFault::Memory) => Err(ToolFault::Memory),
+    }
 }
 
 // The name of the file that a path stands for.

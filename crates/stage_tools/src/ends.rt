@@ -27,7 +27,7 @@ pub(crate) fn tell_end<E: Write>(errors: &mut E, ended: Result<u8, ToolFault>) -
         Ok(status) => ExitCode::from(status),
         Err(fault) => {
             let _ = write_whole(errors, fault.error_line().as_bytes());
-            ExitCode::FAILURE
+            ExitCode::from(fault.status())
         }
     }
 }

@@ -1,12 +1,12 @@
-//! Why a tool ends with status 1.
+//! Why a tool fails.
 ghost use Rattle.std.specs.Prelude.{◌≡◌};
-ghost use Rattle.stage_tools.specs.Ending.{error_line};
+ghost use Rattle.stage_tools.specs.Ending.{error_line, fault_status};
 ghost use Rattle.stage_tools.specs.declared.fault.ToolFault.TheVariants.{Memory, Write};
 
 use std::alloc::AllocError;
 use whole_writes::WriteFault;
 
-/// Why a tool ends with status 1.
+/// Why a tool fails.
 #[derive(Clone, Copy, Debug, PartialEq, Eq)]
 pub enum ToolFault {
     /// The document can't be read.
@@ -19,6 +19,10 @@ pub enum ToolFault {
     Side,
     /// The partner didn't come.
     Partner,
+    /// The printer can't be reached, or its name isn't known.
+    Connect,
+    /// The connection to the printer was reset, or is lost.
+    Reset,
     /// There was no memory.
     Memory,
 }
@@ -34,7 +38,21 @@ impl ToolFault {
             ToolFault::Device => "ERROR: no device\n",
             ToolFault::Side => "ERROR: no answer\n",
             ToolFault::Partner => "ERROR: no partner\n",
+            ToolFault::Connect => "ERROR: cannot connect\n",
+            ToolFault::Reset => "ERROR: connection reset\n",
             ToolFault::Memory => "ERROR: out of memory\n",
+        }
+    }
+}
+
+impl ToolFault {
+    /// The status to end with: 6 where a later try may reach the printer (backend(7)), and else 1.
+    pub fn status(self) -> u8
+        ensures { result ≡ fault_status self }
+    {
+        match self {
+            ToolFault::Connect => 6,
+            _ => 1,
         }
     }
 }

@@ -5,12 +5,14 @@
 //! | `exit` | `spoolfile` | the status that it ends with, 0 to 255 | 0 |
 //! | `partner` | `meet` | the name of the file that it looks for | none |
 //! | `turns` | `meet` | how many times it looks, up to 4,294,967,295 | 20 |
+//! | `contimeout` | `appsocket` | for how many seconds it tries to connect, up to 4,294,967,295, and 0 for as many as the system does | 30 |
+//! | `endtimeout` | `appsocket` | for how many seconds it waits for the printer's end, up to 4,294,967,295 | 90 |
 //!
 //! Of two options with one name the last counts. A value that is no number of its range is the default.
 ghost use Rattle.std.specs.Prelude.{◌≡◌, codes, unwrap_or};
 ghost use Rattle.std.specs.Option.{option_map};
 ghost use Rattle.device_options.specs.Options.{last_value};
-ghost use Rattle.stage_tools.specs.Options.{exit_of, number_of, turns_of};
+ghost use Rattle.stage_tools.specs.Options.{connect_seconds_of, end_seconds_of, exit_of, number_of, turns_of};
 
 use crate::numbers::ranged;
 use device_options::last_value;
@@ -28,6 +30,20 @@ pub fn turns_of(options: &[DeviceOption]) -> u32
     ensures { result ≡ turns_of options.now }
 {
     number_of(options, "turns", u32::MAX, 20)
+}
+
+/// For how many seconds `appsocket` tries to connect, and 0 for as many as the system does.
+pub fn connect_seconds_of(options: &[DeviceOption]) -> u32
+    ensures { result ≡ connect_seconds_of options.now }
+{
+    number_of(options, "contimeout", u32::MAX, 30)
+}
+
+/// For how many seconds `appsocket` waits for the printer's end.
+pub fn end_seconds_of(options: &[DeviceOption]) -> u32
+    ensures { result ≡ end_seconds_of options.now }
+{
+    number_of(options, "endtimeout", u32::MAX, 90)
 }
 
 /// The file that `meet` looks for.

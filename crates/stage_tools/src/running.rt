@@ -13,6 +13,7 @@ use crate::backends::{device_line, meet, side_ask, side_end, spool_file};
 use crate::ends::{end_silently, tell_end};
 use crate::fault::ToolFault;
 use crate::filters::run_filter;
+use crate::network::app_socket;
 use crate::results::Source;
 use crate::sources::DocumentFile;
 use crate::words::{Asked, Backend, Document, Filter, read_words};
@@ -103,6 +104,10 @@ fn run_backend<H: Files<File = File> + Env + Clock + Net + AllocGlobal, I: Sourc
         }
         Backend::Meet => end_silently(meet(rt)),
         Backend::SideAsk => end_silently(side_ask(rt)),
+        Backend::AppSocket => {
+            let ended = send(rt, document, input);
+            tell_end(errors, ended)
+        }
     }
 }
 
@@ -118,6 +123,21 @@ fn spool<H: Files<File = File> + Env + AllocGlobal, I: Source>(
         Some(name) => spool_file(rt, &DocumentFile { rt, name }, document.copies),
         None => spool_file(rt, input, document.copies),
     }
+}
+
+// Sends the document to the printer.
+fn send<H: Files<File = File> + Env + Clock + Net + AllocGlobal, I: Source>(
+    rt: &H,
+    document: Document<'_>,
+    input: &I,
+) -> Result<u8, ToolFault>
+    ensures { IfOk result (λ status. status ≡ 0) }
+{
+    match document.file {
+        Some(name) => app_socket(rt, &DocumentFile { rt, name }, document.copies)?,
+        None => app_socket(rt, input, document.copies)?,
+    }
+    Ok(0)
 }
 
 // Tells of the backend's device.

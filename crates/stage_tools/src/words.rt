@@ -26,6 +26,8 @@ pub enum Backend {
     Meet,
     /// Asks the side channel for the device's id.
     SideAsk,
+    /// Sends the document to a printer of the network.
+    AppSocket,
 }
 
 /// What a stage prints.
@@ -72,6 +74,8 @@ impl Backend {
             Some(Backend::Meet)
         } else if name == "sideask" {
             Some(Backend::SideAsk)
+        } else if name == "appsocket" {
+            Some(Backend::AppSocket)
         } else {
             None
         }

@@ -1,35 +1,58 @@
-//! Files of programs, of rules and of conversions.
+//! Files of programs, of rules and of conversions. What they mean is told by facts: here each call that takes memory runs once.
 use mime_costs::Convs;
 use mime_rules::Types;
-use program_lists::{ListFault, ProgramList};
-use spool_types::{MediaType, WarningKind};
+use program_lists::{ListFault, ListedProgram, ProgramList};
+use spool_types::{FilterName, MediaType, Warning, WarningKind};
 use std::alloc::{AllocError, Global};
 use std::test::Fail;
 
 const PROGRAMS: &str = "filter a /1\nfilter b /2 w # b\n\nbackend b /3\nside /4\n";
 
+// Whether a program is there, has this path, and has this word or none.
+fn is_program(found: Option<&ListedProgram>, path: &str, word: Option<&str>) -> bool {
+    match found {
+        Some(program) => {
+            let first = program.word.as_ref();
+            program.path.as_str() == path && first.map(|word| word.as_str()) == word
+        }
+        None => false,
+    }
+}
+
+fn has_filters(list: &ProgramList) -> bool {
+    is_program(list.filter("a"), "/1", None)
+        && is_program(list.filter("b"), "/2", Some("w"))
+        && list.filter("c").is_none()
+}
+
+fn has_others(list: &ProgramList) -> bool {
+    is_program(list.backend("b"), "/3", None)
+        && list.backend("a").is_none()
+        && list.backends().len() == 1
+        && is_program(list.side(), "/4", None)
+}
+
 #[test]
 fn a_name_finds_its_own_program(rt: HostRuntime) -> Result<(), Fail> {
-    let alloc = rt.alloc();
-    let Ok(list) = ProgramList::read(alloc, PROGRAMS) else {
-        return Err(Fail::from("not read"));
-    };
-    for (found, path, word) in [
-        (list.filter("a"), Some("/1"), None),
-        (list.filter("b"), Some("/2"), Some("w")),
-        (list.filter("c"), None, None),
-        (list.backend("b"), Some("/3"), None),
-        (list.backend("a"), None, None),
-        (list.side(), Some("/4"), None),
-        (ProgramList::empty(alloc).filter("a"), None, None),
-    ] {
-        assert_eq!(rt; found.map(|program| program.path.as_str()), path);
-        let first = found.and_then(|program| program.word.as_ref());
-        assert_eq!(rt; first.map(|word| word.as_str()), word);
+    let list = ProgramList::read(rt.alloc(), PROGRAMS)?;
+    assert!(rt; has_filters(&list));
+    assert!(rt; has_others(&list));
+    Ok(())
+}
+
+// Whether a file isn't read.
+fn is_unread(alloc: Global, file: &str) -> Result<bool, AllocError> {
+    match ProgramList::read(alloc, file) {
+        Ok(_) => Ok(false),
+        Err(ListFault::Unread) => Ok(true),
+        Err(ListFault::Memory) => Err(AllocError),
     }
-    assert_eq!(rt; list.backends().len(), 1);
-    let refused = ProgramList::read(alloc, "side /s\nside /s");
-    assert!(rt; matches!(refused, Err(ListFault::Unread)));
+}
+
+#[test]
+fn a_line_twice_is_not_read(rt: HostRuntime) -> Result<(), Fail> {
+    assert!(rt; is_unread(rt.alloc(), "side /s\nside /s")?);
+    assert!(rt; ProgramList::empty(rt.alloc()).filter("a").is_none());
     Ok(())
 }
 
@@ -60,30 +83,68 @@ const DOCUMENTS: [(&str, &str, &[u8], Option<&str>); 8] = [
     ("b/b x\na/b \\\nx", "n.x", b"", Some("a/b")),
 ];
 
+// A file of lines of which none can be read, and why.
 const FAULTS: &str =
     "a/a regex(0,\"x\")\nimage gif\na/b \\\npriority(201)\na/c string(0,<F>)\na/d (x";
 
+const KINDS: [Warning; 5] = [
+    Warning {
+        line: 1,
+        kind: WarningKind::UnknownRule,
+    },
+    Warning {
+        line: 2,
+        kind: WarningKind::BadType,
+    },
+    Warning {
+        line: 3,
+        kind: WarningKind::BadNumber,
+    },
+    Warning {
+        line: 5,
+        kind: WarningKind::BadText,
+    },
+    Warning {
+        line: 6,
+        kind: WarningKind::BadRule,
+    },
+];
+
+// The rules of a file without a fault.
+fn rules(alloc: Global, file: &str) -> Result<Types, Fail> {
+    let (types, warnings) = Types::read(alloc, file)?;
+    if warnings.is_empty() {
+        Ok(types)
+    } else {
+        Err(Fail::from("warnings"))
+    }
+}
+
+// Whether a document is of this type, or of none.
+fn is_typed(
+    alloc: Global,
+    file: &str,
+    name: &str,
+    bytes: &[u8],
+    want: Option<&str>,
+) -> Result<bool, Fail> {
+    let types = rules(alloc, file)?;
+    let found = types.type_of(name, bytes, "de");
+    Ok(found.map(|media| media.as_str()) == want)
+}
+
 #[test]
 fn documents_are_typed_by_rules(rt: HostRuntime) -> Result<(), Fail> {
-    let alloc = rt.alloc();
     for (file, name, bytes, want) in DOCUMENTS {
-        let (types, warnings) = Types::read(alloc, file)?;
-        assert!(rt; warnings.is_empty(), "{file}");
-        let found = types.type_of(name, bytes, "de");
-        assert_eq!(rt; found.map(|media| media.as_str()), want, "{file}");
+        assert!(rt; is_typed(rt.alloc(), file, name, bytes, want)?, "{file}");
     }
-    let (_types, warnings) = Types::read(alloc, FAULTS)?;
-    assert_eq!(rt; warnings.len(), 5);
-    for (warning, (line, kind)) in warnings.iter().zip([
-        (1, WarningKind::UnknownRule),
-        (2, WarningKind::BadType),
-        (3, WarningKind::BadNumber),
-        (5, WarningKind::BadText),
-        (6, WarningKind::BadRule),
-    ]) {
-        assert_eq!(rt; warning.line, line);
-        assert_eq!(rt; warning.kind, kind);
-    }
+    Ok(())
+}
+
+#[test]
+fn each_fault_of_a_rule_is_told(rt: HostRuntime) -> Result<(), Fail> {
+    let (_, warnings) = Types::read(rt.alloc(), FAULTS)?;
+    assert!(rt; warnings.as_slice() == KINDS.as_slice());
     Ok(())
 }
 
@@ -103,23 +164,71 @@ fn named(
     Ok(names)
 }
 
-#[test]
-fn filters_are_those_of_the_best_chain(rt: HostRuntime) -> Result<(), Fail> {
-    let alloc = rt.alloc();
-    let file = "c/c d/d 1 last\nb/b c/c 1\nb/b c/c 1 -\n*/* b/b 1 first\n";
-    let (convs, warnings) = Convs::read(alloc, file)?;
-    assert_eq!(rt; warnings.len(), 1);
-    assert_eq!(rt; warnings[0].kind, WarningKind::BadLine);
+fn are_two(filters: &[FilterName], first: &str, second: &str) -> bool {
+    filters.len() == 2 && filters[0].as_str() == first && filters[1].as_str() == second
+}
+
+// Whether `first` and `last` run.
+fn two_run(convs: &Convs, from: &MediaType, to: &MediaType) -> Result<bool, AllocError> {
+    match convs.filters(from, to)? {
+        Some(filters) => Ok(are_two(filters.as_slice(), "first", "last")),
+        None => Ok(false),
+    }
+}
+
+fn are_apart(convs: &Convs, from: &MediaType, to: &MediaType) -> Result<bool, AllocError> {
+    let filters = convs.filters(from, to)?;
+    Ok(filters.is_none())
+}
+
+const CONVERSIONS: &str = "c/c d/d 1 last\nb/b c/c 1\nb/b c/c 1 -\n*/* b/b 1 first\n";
+
+// Their conversions; the second line can't be read.
+fn conversions(alloc: Global) -> Result<Convs, Fail> {
+    let (convs, warnings) = Convs::read(alloc, CONVERSIONS)?;
+    if warnings.as_slice() == [SECOND_LINE].as_slice() {
+        Ok(convs)
+    } else {
+        Err(Fail::from("other warnings"))
+    }
+}
+
+const SECOND_LINE: Warning = Warning {
+    line: 2,
+    kind: WarningKind::BadLine,
+};
+
+// Whether the two filters of the chain stand in its order, and nothing leads back.
+fn run_in_order(convs: &Convs, from: &MediaType, to: &MediaType) -> Result<bool, AllocError> {
+    let there = two_run(convs, from, to)?;
+    let apart = are_apart(convs, to, from)?;
+    Ok(there && apart)
+}
+
+fn are_those_of_the_chain(
+    alloc: Global,
+    convs: &Convs,
+    from: &MediaType,
+    to: &MediaType,
+) -> Result<bool, AllocError> {
+    let names = named(alloc, convs, from, to)?;
+    Ok(names.as_slice() == b"first-last".as_slice())
+}
+
+// The same of the chain between these types.
+fn lead(alloc: Global, convs: &Convs) -> Result<bool, Fail> {
     let from = MediaType::read(alloc, "a/a")?;
     let to = MediaType::read(alloc, "d/d")?;
-    assert_eq!(rt;
-        named(alloc, &convs, &from, &to)?.as_slice(),
-        b"first-last".as_slice()
-    );
-    let filters = convs.filters(&from, &to)?.ok_or("no walk")?;
-    assert_eq!(rt; filters.as_slice().len(), 2);
-    assert_eq!(rt; filters.as_slice()[0].as_str(), "first");
-    assert_eq!(rt; filters.as_slice()[1].as_str(), "last");
-    assert!(rt; convs.filters(&to, &from)?.is_none());
+    let lines = are_those_of_the_chain(alloc, convs, &from, &to);
+    let order = run_in_order(convs, &from, &to);
+    drop(from);
+    drop(to);
+    Ok(lines? && order?)
+}
+
+#[test]
+fn filters_are_those_of_the_best_chain(rt: HostRuntime) -> Result<(), Fail> {
+    let convs = conversions(rt.alloc())?;
+    assert!(rt; lead(rt.alloc(), &convs)?);
     Ok(())
 }

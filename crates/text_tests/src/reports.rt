@@ -1,49 +1,83 @@
 //! Standard error that comes in pieces.
+ghost use Rattle.std.specs.Prelude.{◌<◌};
+
 use std::alloc::{AllocError, Global};
 use std::test::Fail;
 use stderr_lines::Lines;
 
-// How many effects are reported of a text that is fed in these pieces, and how many are left out.
-fn counts(alloc: Global, pieces: &[&[u8]]) -> Result<(usize, u32), AllocError> {
-    let mut reader = Lines::new(alloc);
+const PRINTED: &[u8] = b"STATE: +media-empty,toner-low\nPAGE: 1 2\nPAGE: total 9\nhello";
+
+// Whether three effects are reported, and none is left out.
+fn has_three(reader: Lines) -> Result<bool, AllocError> {
+    match reader.finish() {
+        Ok(report) => Ok(report.effects.len() == 3 && report.dropped == 0),
+        Err(failed) => Err(AllocError::from(failed)),
+    }
+}
+
+fn feed_all(reader: &mut Lines, pieces: &[&[u8]]) -> Result<(), AllocError> {
     for piece in pieces {
         reader.feed(piece)?;
     }
-    let report = reader.finish().map_err(AllocError::from)?;
-    Ok((report.effects.len(), report.dropped))
+    Ok(())
 }
 
-const PRINTED: &[u8] = b"STATE: +media-empty,toner-low\nPAGE: 1 2\nPAGE: total 9\nhello";
+fn feed_in_sizes(reader: &mut Lines, size: usize) -> Result<(), AllocError>
+    requires { 0 < size }
+{
+    for piece in PRINTED.chunks(size) {
+        reader.feed(piece)?;
+    }
+    Ok(())
+}
+
+// Whether they are reported of the text in these pieces.
+fn reports(alloc: Global, pieces: &[&[u8]]) -> Result<bool, AllocError> {
+    let mut reader = Lines::new(alloc);
+    match feed_all(&mut reader, pieces) {
+        Ok(()) => has_three(reader),
+        Err(error) => Err(error),
+    }
+}
+
+// The same of pieces of this size.
+fn reports_in_sizes(alloc: Global, size: usize) -> Result<bool, AllocError>
+    requires { 0 < size }
+{
+    let mut reader = Lines::new(alloc);
+    match feed_in_sizes(&mut reader, size) {
+        Ok(()) => has_three(reader),
+        Err(error) => Err(error),
+    }
+}
+
+// Whether they are reported of the text that is cut at this place, and at each place from there on.
+fn reports_from(alloc: Global, first: usize) -> Result<bool, AllocError> {
+    for second in first..PRINTED.len() {
+        let pieces = [
+            &PRINTED[..first],
+            &PRINTED[first..second],
+            &PRINTED[second..],
+        ];
+        if !reports(alloc, &pieces)? {
+            return Ok(false);
+        }
+    }
+    Ok(true)
+}
 
 #[test]
 fn a_text_is_cut_anywhere(rt: HostRuntime) -> Result<(), Fail> {
-    let alloc = rt.alloc();
     for first in 0..PRINTED.len() {
-        for second in first..PRINTED.len() {
-            let pieces = [
-                &PRINTED[..first],
-                &PRINTED[first..second],
-                &PRINTED[second..],
-            ];
-            assert_eq!(rt;
-                counts(alloc, &pieces)?,
-                (3, 0),
-                "cut at {first} and {second}"
-            );
-        }
+        assert!(rt; reports_from(rt.alloc(), first)?, "cut at {first}");
     }
     Ok(())
 }
 
 #[test]
 fn a_text_comes_in_pieces_of_any_size(rt: HostRuntime) -> Result<(), Fail> {
-    let alloc = rt.alloc();
     for size in 1..70 {
-        let mut pieces = Vec::new(alloc);
-        for piece in PRINTED.chunks(size) {
-            pieces.push(piece)?;
-        }
-        assert_eq!(rt; counts(alloc, &pieces)?, (3, 0), "in pieces of {size}");
+        assert!(rt; reports_in_sizes(rt.alloc(), size)?, "in pieces of {size}");
     }
     Ok(())
 }

@@ -1,38 +1,24 @@
 //! A reader and a writer that are slow or fail, and the writing of whole texts.
 ghost use Rattle.std.specs.Prelude.{◌≤◌, IfOk};
 
-use std::alloc::Global;
+use std::alloc::{AllocError, Global};
 use std::io;
 use std::io::{ErrorKind, Read, Write};
 use std::test::Fail;
-use whole_writes::{WriteFault, write_whole};
+use whole_writes::write_whole;
 
-/// It moves at most `piece` bytes at once, and is interrupted before each. Once it has moved `most` bytes, it fails, or moves
-/// none.
-#[derive(Drop)]
-pub struct Slow<'a> {
-    pub rest: &'a [u8],
-    pub written: Vec<u8>,
+/// How bytes are moved: at most `piece` at once, with an interruption before each. Once `most` are moved, the next call fails, or
+/// moves none.
+#[derive(Clone, Copy)]
+pub struct Pace {
     piece: usize,
-    most: usize,
-    fails: bool,
+    pub most: usize,
+    pub fails: bool,
     interrupts: bool,
 }
 
-impl<'a> Slow<'a> {
-    /// One that has these bytes to read.
-    pub fn new(alloc: Global, rest: &'a [u8], piece: usize, most: usize, fails: bool) -> Slow<'a> {
-        Slow {
-            rest,
-            written: Vec::new(alloc),
-            piece,
-            most,
-            fails,
-            interrupts: false,
-        }
-    }
-
-    // How many of these bytes the next call moves.
+impl Pace {
+    // How many of so many bytes the next call moves.
     fn next(&mut self, len: usize) -> io::Result<usize>
         ensures { IfOk result (λ n. n ≤ len) }
     {
@@ -49,16 +35,45 @@ impl<'a> Slow<'a> {
     }
 }
 
-impl Read for Slow<'_> {
+/// The pace of one of some cases: of each most there are six.
+pub fn case(number: usize) -> Pace {
+    let piece = match number % 3 {
+        0 => 1,
+        1 => 3,
+        _ => 100,
+    };
+    Pace {
+        piece,
+        most: number / 6,
+        fails: number / 3 % 2 == 0,
+        interrupts: false,
+    }
+}
+
+/// A reader of these bytes.
+#[derive(Drop)]
+pub struct SlowReader<'a> {
+    pub rest: &'a [u8],
+    pub pace: Pace,
+}
+
+impl Read for SlowReader<'_> {
     fn read(&mut self, buf: &mut [u8]) -> io::Result<usize> {
-        let count = self.next(buf.len())?;
+        let count = self.pace.next(buf.len())?;
         self.rest.read(&mut buf[..count])
     }
 }
 
-impl Write for Slow<'_> {
+/// A writer, and what it has taken.
+#[derive(Drop)]
+pub struct SlowWriter {
+    pub written: Vec<u8>,
+    pub pace: Pace,
+}
+
+impl Write for SlowWriter {
     fn write(&mut self, buf: &[u8]) -> io::Result<usize> {
-        let count = self.next(buf.len())?;
+        let count = self.pace.next(buf.len())?;
         self.written.extend_from_slice(&buf[..count])?;
         Ok(count)
     }
@@ -68,27 +83,37 @@ impl Write for Slow<'_> {
     }
 }
 
-/// How many bytes the next of some cases moves at once, how many at most, and whether it fails then: of each most, six cases.
-pub fn case(number: usize) -> (usize, usize, bool) {
-    let piece = match number % 3 {
-        0 => 1,
-        1 => 3,
-        _ => 100,
+/// A writer at this pace, with room for so many bytes.
+pub fn writer(alloc: Global, pace: Pace, room: usize) -> Result<SlowWriter, AllocError> {
+    let mut written = Vec::new(alloc);
+    written.reserve(room)?;
+    Ok(SlowWriter { written, pace })
+}
+
+const TEXT: &[u8] = b"ok bytes 5\n";
+
+// Whether the text is written at this pace, or as much of it as may be.
+fn is_written(alloc: Global, pace: Pace) -> Result<bool, AllocError> {
+    let mut writer = writer(alloc, pace, TEXT.len())?;
+    let ended = write_whole(&mut writer, TEXT);
+    let count = pace.most.min(TEXT.len());
+    Ok(ended.is_ok() == (TEXT.len() <= pace.most) && writer.written.as_slice() == &TEXT[..count])
+}
+
+// Whether no bytes are written where none may be.
+fn nothing_is_written(alloc: Global) -> bool {
+    let mut nowhere = SlowWriter {
+        written: Vec::new(alloc),
+        pace: case(0),
     };
-    (piece, number / 6, number / 3 % 2 == 0)
+    write_whole(&mut nowhere, b"").is_ok()
 }
 
 #[test]
 fn all_bytes_or_a_prefix_are_written(rt: HostRuntime) -> Result<(), Fail> {
-    let text = b"ok bytes 5\n";
     for number in 0..78 {
-        let (piece, most, fails) = case(number);
-        let mut writer = Slow::new(rt.alloc(), &[], piece, most, fails);
-        let wanted = if most < 11 { Err(WriteFault) } else { Ok(()) };
-        assert_eq!(rt; write_whole(&mut writer, text), wanted, "{piece} of {most}");
-        assert_eq!(rt; writer.written.as_slice(), &text[..most.min(11)]);
+        assert!(rt; is_written(rt.alloc(), case(number))?, "case {number}");
     }
-    let mut nowhere = Slow::new(rt.alloc(), &[], 1, 0, true);
-    assert_eq!(rt; write_whole(&mut nowhere, b""), Ok(()));
+    assert!(rt; nothing_is_written(rt.alloc()));
     Ok(())
 }

@@ -1,8 +1,30 @@
 //! URIs of devices, their options, and the lines by which backends report devices.
 use device_options::{last_value, options_or_none};
-use device_uri::{DeviceUri, Field, LineFault, read_device_line};
+use device_uri::{
+    DeviceLine, DeviceOption, DeviceUri, Field, LineFault, OptionsFault, UriFault, read_device_line,
+};
 use std::alloc::{AllocError, Global};
 use std::test::Fail;
+
+// A piece so many times.
+fn push_times(text: &mut String, piece: &str, count: usize) -> Result<(), AllocError> {
+    for _ in 0..count {
+        text.push_str(piece)?;
+    }
+    Ok(())
+}
+
+fn push_padded(
+    text: &mut String,
+    front: &str,
+    piece: &str,
+    count: usize,
+    end: &str,
+) -> Result<(), AllocError> {
+    text.push_str(front)?;
+    push_times(text, piece, count)?;
+    text.push_str(end)
+}
 
 // A front, a piece so many times, and an end.
 fn padded(
@@ -12,107 +34,155 @@ fn padded(
     count: usize,
     end: &str,
 ) -> Result<String, AllocError> {
-    let mut text = String::from_str(alloc, front)?;
-    for _ in 0..count {
-        text.push_str(piece)?;
-    }
-    text.push_str(end)?;
+    let mut text = String::new(alloc);
+    push_padded(&mut text, front, piece, count, end)?;
     Ok(text)
 }
 
-// The options of a URI, a line for each, or the fault's name.
-fn shown(alloc: Global, text: &str) -> Result<String, Fail> {
-    let mut lines = String::new(alloc);
-    let uri = match DeviceUri::parse(alloc, text) {
-        Ok(uri) => uri,
-        Err(fault) => {
-            write!(lines, "{fault:?}")?;
-            return Ok(lines);
-        }
-    };
-    writeln!(lines, "{} {}", uri.scheme(), uri.path())?;
-    match uri.options() {
-        Ok(options) => {
-            for option in &options {
-                writeln!(lines, "{}={}", option.name(), option.value())?;
-            }
-        }
-        Err(fault) => write!(lines, "{fault:?}")?,
-    }
-    Ok(lines)
+// Adds an option behind a stroke.
+fn push_option(text: &mut String, option: &DeviceOption) -> Result<(), AllocError> {
+    text.push('|')?;
+    text.push_str(option.name())?;
+    text.push('=')?;
+    text.push_str(option.value())
 }
+
+fn push_options(text: &mut String, options: &[DeviceOption]) -> Result<(), AllocError> {
+    for option in options {
+        push_option(text, option)?;
+    }
+    Ok(())
+}
+
+// Adds a URI's options, or their fault.
+fn push_options_of(text: &mut String, uri: &DeviceUri) -> Result<(), AllocError> {
+    match uri.options() {
+        Ok(options) => push_options(text, &options),
+        Err(OptionsFault::BadOption) => text.push_str(" bad option"),
+        Err(OptionsFault::Memory) => Err(AllocError),
+    }
+}
+
+// Adds its scheme and its path too.
+fn push_uri(text: &mut String, uri: &DeviceUri) -> Result<(), AllocError> {
+    text.push_str(uri.scheme())?;
+    text.push(' ')?;
+    text.push_str(uri.path())?;
+    push_options_of(text, uri)
+}
+
+// Adds what a URI has, or that it is none.
+fn push_shown(shown: &mut String, alloc: Global, text: &str) -> Result<(), AllocError> {
+    match DeviceUri::parse(alloc, text) {
+        Ok(uri) => push_uri(shown, &uri),
+        Err(UriFault::BadUri) => shown.push_str("bad uri"),
+        Err(UriFault::Memory) => Err(AllocError),
+    }
+}
+
+fn shown(alloc: Global, text: &str) -> Result<String, AllocError> {
+    let mut shown = String::new(alloc);
+    push_shown(&mut shown, alloc, text)?;
+    Ok(shown)
+}
+
+fn is_shown(alloc: Global, text: &str, want: &str) -> Result<bool, AllocError> {
+    Ok(shown(alloc, text)?.as_str() == want)
+}
+
+// A URI, and what it has.
+const URIS: [(&str, &str); 12] = [
+    (
+        "spoolfile:/tmp/out?exit=6&id=A%20B",
+        "spoolfile /tmp/out|exit=6|id=A B",
+    ),
+    ("lpt1", "bad uri"),
+    ("SOCKET://10.0.0.2:9100", "socket "),
+    ("ipp://host/a%20b?", "ipp /a%20b"),
+    ("IPP://Host/a/../b", "ipp /b"),
+    ("usb:/x?a=&b&&c=+1%2B", "usb /x|a=|b=|c= 1+"),
+    ("usb:/x?a=%FF#f", "usb /x|a=\u{FFFD}"),
+    ("usb:/x?a=1&=2", "usb /x bad option"),
+    ("usb:/x?=", "usb /x bad option"),
+    ("usb:/a b", "bad uri"),
+    ("", "bad uri"),
+    ("http://[", "bad uri"),
+];
 
 #[test]
 fn a_uri_has_a_scheme_a_path_and_options(rt: HostRuntime) -> Result<(), Fail> {
-    let alloc = rt.alloc();
-    for (text, want) in [
-        (
-            "spoolfile:/tmp/out?exit=6&id=A%20B",
-            "spoolfile /tmp/out\nexit=6\nid=A B\n",
-        ),
-        ("lpt1", "BadUri"),
-        ("SOCKET://10.0.0.2:9100", "socket \n"),
-        ("ipp://host/a%20b?", "ipp /a%20b\n"),
-        ("IPP://Host/a/../b", "ipp /b\n"),
-        ("usb:/x?a=&b&&c=+1%2B", "usb /x\na=\nb=\nc= 1+\n"),
-        ("usb:/x?a=%FF#f", "usb /x\na=\u{FFFD}\n"),
-        ("usb:/x?a=1&=2", "usb /x\nBadOption"),
-        ("usb:/x?=", "usb /x\nBadOption"),
-        ("usb:/a b", "BadUri"),
-        ("", "BadUri"),
-        ("http://[", "BadUri"),
-    ] {
-        assert_eq!(rt; shown(alloc, text)?.as_str(), want);
+    for (text, want) in URIS {
+        assert!(rt; is_shown(rt.alloc(), text, want)?, "{text}");
     }
-    let uri = DeviceUri::parse(alloc, "IPP://Host/a/../b")?;
-    assert_eq!(rt; uri.text(), "IPP://Host/a/../b");
     Ok(())
+}
+
+#[test]
+fn a_uri_keeps_its_text(rt: HostRuntime) -> Result<(), Fail> {
+    let uri = DeviceUri::parse(rt.alloc(), "IPP://Host/a/../b")?;
+    assert!(rt; uri.text() == "IPP://Host/a/../b");
+    Ok(())
+}
+
+// How long is what is shown of a URI with a piece so many times: `bad uri`, or a path and options.
+fn shown_len(alloc: Global, front: &str, piece: &str, count: usize) -> Result<usize, AllocError> {
+    let uri = padded(alloc, front, piece, count, "")?;
+    Ok(shown(alloc, uri.as_str())?.len())
 }
 
 #[test]
 fn a_uri_has_at_most_1023_bytes_and_64_options(rt: HostRuntime) -> Result<(), Fail> {
-    let alloc = rt.alloc();
-    // A front, how often a piece comes behind it, and how long the text is that is shown: `BadUri`, or a path and options.
-    for (front, piece, count, len) in [
-        ("usb:/", "x", 1_018, 1_024),
-        ("usb:/", "x", 1_019, 6),
-        ("usb:/x?", "&a=1", 64, 263),
-        ("usb:/x?", "&a=1", 65, 16),
-    ] {
-        let uri = padded(alloc, front, piece, count, "")?;
-        assert_eq!(rt; shown(alloc, uri.as_str())?.len(), len);
-    }
+    assert!(rt; shown_len(rt.alloc(), "usb:/", "x", 1_018)? == 1_023);
+    assert!(rt; shown_len(rt.alloc(), "usb:/", "x", 1_019)? == 7);
+    assert!(rt; shown_len(rt.alloc(), "usb:/x?", "&a=1", 64)? == 262);
+    assert!(rt; shown_len(rt.alloc(), "usb:/x?", "&a=1", 65)? == 17);
     Ok(())
 }
 
-// How many options a backend takes of a URI, and the last value of a name among them, or a hyphen.
-fn last_shown(alloc: Global, uri: &str, name: &str) -> Result<String, Fail> {
-    let uri = DeviceUri::parse(alloc, uri)?;
-    let options = options_or_none(alloc, &uri)?;
-    let mut text = String::new(alloc);
-    write!(text, "{} ", options.len())?;
-    text.push_str(last_value(&options, name).unwrap_or("-"))?;
-    Ok(text)
+// How many options a backend takes of a URI.
+fn options_of(alloc: Global, text: &str) -> Result<Vec<DeviceOption>, Fail> {
+    let uri = DeviceUri::parse(alloc, text)?;
+    Ok(options_or_none(alloc, &uri)?)
+}
+
+// Whether there are so many, and the last one of this name has this value, or a hyphen stands for none.
+fn has_last(alloc: Global, uri: &str, name: &str, count: usize, want: &str) -> Result<bool, Fail> {
+    let options = options_of(alloc, uri)?;
+    Ok(options.len() == count && last_value(&options, name).unwrap_or("-") == want)
+}
+
+// A URI, how many options it has, and the last value of `exit`.
+const LAST: [(&str, usize, &str); 6] = [
+    ("spoolfile:/out?exit=6", 1, "6"),
+    ("spoolfile:/out?exit=6&turns=2&exit=7", 3, "7"),
+    ("spoolfile:/out?exit=6&exit=", 2, ""),
+    ("spoolfile:/out?EXIT=6&exits=7", 2, "-"),
+    ("spoolfile:/out", 0, "-"),
+    ("spoolfile:/out?exit=6&=7", 0, "-"),
+];
+
+// The same of a URI with so many options.
+fn has_last_of(alloc: Global, pieces: usize, count: usize, want: &str) -> Result<bool, Fail> {
+    let uri = padded(alloc, "usb:/x?", "&a=1", pieces, "")?;
+    has_last(alloc, uri.as_str(), "a", count, want)
 }
 
 #[test]
 fn the_last_value_counts(rt: HostRuntime) -> Result<(), Fail> {
-    let alloc = rt.alloc();
-    for (uri, name, want) in [
-        ("spoolfile:/out?exit=6", "exit", "1 6"),
-        ("spoolfile:/out?exit=6&turns=2&exit=7", "exit", "3 7"),
-        ("spoolfile:/out?exit=6&exit=", "exit", "2 "),
-        ("spoolfile:/out?EXIT=6&exits=7", "exit", "2 -"),
-        ("spoolfile:/out?id=MFG%3AX%3B", "id", "1 MFG:X;"),
-        ("spoolfile:/out", "exit", "0 -"),
-        ("spoolfile:/out?exit=6&=7", "exit", "0 -"),
-    ] {
-        assert_eq!(rt; last_shown(alloc, uri, name)?.as_str(), want);
+    for (uri, count, want) in LAST {
+        assert!(rt; has_last(rt.alloc(), uri, "exit", count, want)?, "{uri}");
     }
-    for (count, want) in [(64, "64 1"), (65, "0 -")] {
-        let uri = padded(alloc, "usb:/x?", "&a=1", count, "")?;
-        assert_eq!(rt; last_shown(alloc, uri.as_str(), "a")?.as_str(), want);
-    }
+    assert!(rt;
+        has_last(
+            rt.alloc(),
+            "spoolfile:/out?id=MFG%3AX%3B",
+            "id",
+            1,
+            "MFG:X;"
+        )?
+    );
+    assert!(rt; has_last_of(rt.alloc(), 64, 64, "1")?);
+    assert!(rt; has_last_of(rt.alloc(), 65, 0, "-")?);
     Ok(())
 }
 
@@ -120,27 +190,42 @@ fn the_last_value_counts(rt: HostRuntime) -> Result<(), Fail> {
 fn push_field(text: &mut Vec<u8>, field: Option<&Field>) -> Result<(), AllocError> {
     text.push(b'|')?;
     match field {
-        Some(field) => text.extend_from_slice(field.as_slice())?,
-        None => text.push(b'-')?,
+        Some(field) => text.extend_from_slice(field.as_slice()),
+        None => text.extend_from_slice(b"-"),
     }
-    Ok(())
 }
 
-// The fields of a line, or the fault's name.
-fn fields_shown(alloc: Global, line: &str) -> Result<Vec<u8>, Fail> {
-    let fields = match read_device_line(alloc, line) {
-        Ok(fields) => fields,
-        Err(LineFault::BadLine) => return Ok(Vec::from_slice(alloc, b"bad")?),
-        Err(LineFault::Memory) => return Err(Fail::from("no memory")),
-    };
-    let mut text = Vec::from_slice(alloc, fields.class.as_str().as_bytes())?;
+fn push_fields(text: &mut Vec<u8>, line: &DeviceLine) -> Result<(), AllocError> {
+    text.extend_from_slice(line.class.as_str().as_bytes())?;
     text.push(b'|')?;
-    text.extend_from_slice(fields.uri.as_str().as_bytes())?;
-    push_field(&mut text, Some(&fields.make))?;
-    push_field(&mut text, Some(&fields.info))?;
-    push_field(&mut text, fields.id.as_ref())?;
-    push_field(&mut text, fields.location.as_ref())?;
+    text.extend_from_slice(line.uri.as_str().as_bytes())?;
+    push_field(text, Some(&line.make))?;
+    push_field(text, Some(&line.info))?;
+    push_field(text, line.id.as_ref())?;
+    push_field(text, line.location.as_ref())
+}
+
+// Adds the fields of a line, or that it is none.
+fn push_line(text: &mut Vec<u8>, alloc: Global, line: &str) -> Result<(), AllocError> {
+    match read_device_line(alloc, line) {
+        Ok(fields) => {
+            let pushed = push_fields(text, &fields);
+            drop(fields);
+            pushed
+        }
+        Err(LineFault::BadLine) => text.extend_from_slice(b"bad"),
+        Err(LineFault::Memory) => Err(AllocError),
+    }
+}
+
+fn fields_shown(alloc: Global, line: &str) -> Result<Vec<u8>, AllocError> {
+    let mut text = Vec::new(alloc);
+    push_line(&mut text, alloc, line)?;
     Ok(text)
+}
+
+fn has_fields(alloc: Global, line: &str, want: &str) -> Result<bool, AllocError> {
+    Ok(fields_shown(alloc, line)?.as_slice() == want.as_bytes())
 }
 
 // A line, and its fields.
@@ -180,22 +265,18 @@ const LINES: [(&str, &str); 21] = [
     ("direct usb:/x \"A\" \"B\" \"C\" \"D\" \"E\"", "bad"),
 ];
 
+// Whether a line with a field of so many bytes is one.
+fn is_line_of(alloc: Global, count: usize) -> Result<bool, AllocError> {
+    let line = padded(alloc, "direct usb:/x \"A\" \"", "\\\"", count, "\"")?;
+    Ok(fields_shown(alloc, line.as_str())?.as_slice() != b"bad".as_slice())
+}
+
 #[test]
 fn device_lines_have_four_to_six_fields(rt: HostRuntime) -> Result<(), Fail> {
-    let alloc = rt.alloc();
     for (line, want) in LINES {
-        assert_eq!(rt;
-            fields_shown(alloc, line)?.as_slice(),
-            want.as_bytes(),
-            "{line}"
-        );
+        assert!(rt; has_fields(rt.alloc(), line, want)?, "{line}");
     }
-    for (count, fits) in [(1_023, true), (1_024, false)] {
-        let line = padded(alloc, "direct usb:/x \"A\" \"", "\\\"", count, "\"")?;
-        assert_eq!(rt;
-            fields_shown(alloc, line.as_str())?.as_slice() != b"bad".as_slice(),
-            fits
-        );
-    }
+    assert!(rt; is_line_of(rt.alloc(), 1_023)?);
+    assert!(rt; !is_line_of(rt.alloc(), 1_024)?);
     Ok(())
 }

@@ -1,44 +1,87 @@
 //! Words and lines that take memory.
 use line_words::{Word, push_escaped, read_quoted};
-use mime_lines::{LineText, joined_lines};
+use mime_lines::{JoinedLine, LineText, joined_lines};
+use std::alloc::{AllocError, Global};
 use std::test::Fail;
+
+fn push_behind(text: &mut Vec<u8>, mark: u8, behind: &[u8]) -> Result<(), AllocError> {
+    text.push(mark)?;
+    text.extend_from_slice(behind)
+}
+
+// The bytes of a quoted word, a plus where they are copied, and what is behind it; or nothing, where no quote closes it.
+fn quoted(alloc: Global, line: &[u8]) -> Result<Vec<u8>, AllocError> {
+    let Some((word, behind)) = read_quoted(alloc, line)? else {
+        return Ok(Vec::new(alloc));
+    };
+    let mark = if matches!(&word, Word::Owned(_)) {
+        b'+'
+    } else {
+        b'-'
+    };
+    let mut text = word.into_bytes(alloc)?;
+    push_behind(&mut text, mark, behind)?;
+    Ok(text)
+}
+
+fn is_quoted(alloc: Global, line: &[u8], want: &[u8]) -> Result<bool, AllocError> {
+    Ok(quoted(alloc, line)?.as_slice() == want)
+}
 
 #[test]
 fn only_a_text_with_a_backslash_is_copied(rt: HostRuntime) -> Result<(), Fail> {
-    let alloc = rt.alloc();
-    for (line, want, behind, copies) in [
-        (
-            b"a b\" c".as_slice(),
-            b"a b".as_slice(),
-            b" c".as_slice(),
-            false,
-        ),
-        (b"a\\\"\\\\b\\n\"", b"a\"\\b\\n", b"", true),
-    ] {
-        let (word, rest) = read_quoted(alloc, line)?.ok_or("nothing closes it")?;
-        assert_eq!(rt; matches!(&word, Word::Owned(_)), copies);
-        assert_eq!(rt; word.bytes(), want);
-        assert_eq!(rt; word.into_bytes(alloc)?.as_slice(), want);
-        assert_eq!(rt; rest, behind);
-    }
-    assert!(rt; read_quoted(alloc, b"a\\\"")?.is_none());
-    let mut text = Vec::new(alloc);
-    push_escaped(&mut text, b'"')?;
-    push_escaped(&mut text, b'n')?;
-    assert_eq!(rt; text.as_slice(), b"\"\\n".as_slice());
+    assert!(rt; is_quoted(rt.alloc(), b"a b\" c", b"a b- c")?);
+    assert!(rt; is_quoted(rt.alloc(), b"a\\\"\\\\b\\n\"", b"a\"\\b\\n+")?);
+    assert!(rt; is_quoted(rt.alloc(), b"a\\\"", b"")?);
     Ok(())
+}
+
+fn push_two(text: &mut Vec<u8>) -> Result<(), AllocError> {
+    push_escaped(text, b'"')?;
+    push_escaped(text, b'n')
+}
+
+fn escaped(alloc: Global) -> Result<Vec<u8>, AllocError> {
+    let mut text = Vec::new(alloc);
+    push_two(&mut text)?;
+    Ok(text)
+}
+
+#[test]
+fn a_backslash_stays_before_a_letter(rt: HostRuntime) -> Result<(), Fail> {
+    let text = escaped(rt.alloc())?;
+    assert!(rt; text.as_slice() == b"\"\\n".as_slice());
+    Ok(())
+}
+
+// Adds lines, each behind a plus where it is copied.
+fn push_lines(seen: &mut Vec<u8>, lines: &[JoinedLine]) -> Result<(), AllocError> {
+    for line in lines {
+        let mark = match &line.text {
+            LineText::Joined(_) => b"+",
+            _ => b"-",
+        };
+        seen.extend_from_slice(mark)?;
+        seen.extend_from_slice(line.text.bytes())?;
+    }
+    Ok(())
+}
+
+// Adds the lines of a file.
+fn push_file(seen: &mut Vec<u8>, alloc: Global, file: &str) -> Result<(), AllocError> {
+    let lines = joined_lines(alloc, file)?;
+    push_lines(seen, &lines)
+}
+
+fn joined(alloc: Global, file: &str) -> Result<Vec<u8>, AllocError> {
+    let mut seen = Vec::new(alloc);
+    push_file(&mut seen, alloc, file)?;
+    Ok(seen)
 }
 
 #[test]
 fn only_a_joined_line_is_copied(rt: HostRuntime) -> Result<(), Fail> {
-    let mut seen = Vec::new(rt.alloc());
-    for line in joined_lines(rt.alloc(), "# x\na \\\nb\\\n# c\nd\\")?.iter() {
-        if matches!(&line.text, LineText::Joined(_)) {
-            seen.push(b'+')?;
-        }
-        seen.extend_from_slice(line.text.bytes())?;
-        seen.push(b'|')?;
-    }
-    assert_eq!(rt; seen.as_slice(), b"+a  b # c|d|".as_slice());
+    let seen = joined(rt.alloc(), "# x\na \\\nb\\\n# c\nd\\")?;
+    assert!(rt; seen.as_slice() == b"+a  b # c-d".as_slice());
     Ok(())
 }

@@ -4,7 +4,7 @@ ghost use Rattle.std.specs.Ordering.{nat_cmp};
 ghost use Rattle.std.specs.FinMap as finite;
 ghost use Rattle.spool_types.specs.Phases.{has_ended};
 ghost use Rattle.spool_types.specs.State.{Job, job_at};
-ghost use Rattle.job_table.specs.Contents.{HasMoves, places_at, places_of};
+ghost use Rattle.job_table.specs.Contents.{HasMoves, document_room, move_room, places_at, places_of};
 ghost use Rattle.job_table.specs.Rows.{job_entry, HasNew, IsMoved};
 
 use super::Store;
@@ -17,6 +17,8 @@ impl Store {
         requires { HasMoves self.old.state noted }
         ensures state { self.new.state ≡ self.old.state }
         ensures places { (j : ℕ) (r : Job) → job_at self.new.state j ≡ Some r → has_ended r.phase ≡ false → places_at self.new j ≡ places_of noted.places j }
+        ensures room { self.new.room ≡ record self.old.room { documents = self.new.room.documents } }
+        ensures documents { (j : ℕ) (r : Job) → job_at self.new.state j ≡ Some r → has_ended r.phase ≡ false → document_room self.new.room j ≡ move_room noted j }
     {
         move_rows(&mut self.jobs, noted);
     }
@@ -26,7 +28,7 @@ fn move_rows(rows: &mut [JobRow], mut noted: NewPlaces)
     requires sorted { IsTrue (finite.is_sorted nat_cmp (map job_entry rows.old)) }
     requires there { (i : ℕ) (d : JobRow) → i < length rows.old → HasNew noted.places (slice_index_or rows.old i d) }
     ensures count { length rows.new ≡ length rows.old }
-    ensures each { (i : ℕ) (d : JobRow) → i < length rows.new → IsMoved noted.places (slice_index_or rows.old i d) (slice_index_or rows.new i d) }
+    ensures each { (i : ℕ) (d : JobRow) → i < length rows.new → IsMoved noted (slice_index_or rows.old i d) (slice_index_or rows.new i d) }
 {
     for at in 0..rows.len() {
         move_row(&mut rows[at], &mut noted);
@@ -36,8 +38,9 @@ fn move_rows(rows: &mut [JobRow], mut noted: NewPlaces)
 // The document of a job that hasn't ended goes to its new places.
 fn move_row(row: &mut JobRow, noted: &mut NewPlaces)
     requires { HasNew noted.old.places row.old }
-    ensures moved { IsMoved noted.old.places row.old row.new }
+    ensures moved { IsMoved noted.old row.old row.new }
     ensures others { (j : ℕ) → ¬ (j ≡ row.old.job.id) → finite.find nat_cmp j noted.new.places ≡ finite.find nat_cmp j noted.old.places }
+    ensures room { (j : ℕ) → ¬ (j ≡ row.old.job.id) → move_room noted.new j ≡ move_room noted.old j }
 {
     if row.job.phase.has_ended() {
         return;

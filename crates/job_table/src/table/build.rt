@@ -3,6 +3,7 @@
 ghost use Rattle.std.specs.Prelude.{◌≡◌, length, IfOk};
 ghost use Rattle.std.specs.List.{All};
 ghost use Rattle.queue_sched.specs.Index.{HasEachOnce};
+ghost use Rattle.job_table.specs.Contents.{no_moves};
 ghost use Rattle.job_table.specs.Drafts.{drafted, AreDrafts, IsBlank};
 ghost use Rattle.job_table.specs.Lanes.{AreBeside, IsAdvanced};
 ghost use Rattle.job_table.specs.Legal.{IsLegal};
@@ -19,6 +20,7 @@ impl Table {
     pub(crate) fn of_rows(alloc: Global, store: Store) -> Result<Table, AllocError>
         ensures state { IfOk result (λ table. table.state ≡ store.state) }
         ensures places { IfOk result (λ table. table.places ≡ store.places) }
+        ensures moves { IfOk result (λ table. table.moves ≡ no_moves) }
     {
         let drafts = drafts_of(alloc, &store)?;
         let lanes = lanes_of(alloc, drafts, store.now())?;

@@ -7,7 +7,7 @@ ghost use Rattle.spool_types.specs.Limits.{longest_send};
 ghost use Rattle.spool_types.specs.Phases.{has_ended};
 ghost use Rattle.spool_types.specs.Sent.{bytes_behind, with_placed};
 ghost use Rattle.spool_types.specs.State.{Job, job_at};
-ghost use Rattle.job_table.specs.Contents.{HasMoves, HasNoMoves, move_room, no_moves, places_at, places_of};
+ghost use Rattle.job_table.specs.Contents.{HasMoves, HasNoMoves, document_room, move_room, no_moves, places_at, places_of};
 ghost use Rattle.job_table.specs.Documents.{document_len};
 
 use super::Table;
@@ -49,12 +49,27 @@ impl Table {
         self.new_places.note(job, extent_behind(at, count));
     }
 
+    /// Forgets the new places that are noted, and gives back their memory.
+    pub fn forget_moves(&mut self)
+        ensures none { self.new.moves ≡ no_moves }
+        ensures same { self.new.state ≡ self.old.state }
+        ensures places { self.new.places ≡ self.old.places }
+        ensures reserved { self.new.room ≡ self.old.room }
+    {
+        let alloc = *self.lanes.allocator();
+        self.new_places = NewPlaces::none(alloc);
+    }
+
     /// The document of each job that hasn't ended goes to the places that were noted for it. It takes no memory.
     pub fn commit_moves(&mut self)
         requires { HasMoves self.old.state self.old.moves }
         ensures same { self.new.state ≡ self.old.state }
         ensures places { (j : ℕ) (r : Job) → job_at self.new.state j ≡ Some r → has_ended r.phase ≡ false → places_at self.new j ≡ places_of self.old.moves.places j }
         ensures none { self.new.moves ≡ no_moves }
+
+        // All other room stays, and a document that has moved has what is left of the room at its new places.
+        ensures reserved { self.new.room ≡ record self.old.room { documents = self.new.room.documents } }
+        ensures documents { (j : ℕ) (r : Job) → job_at self.new.state j ≡ Some r → has_ended r.phase ≡ false → document_room self.new.room j ≡ move_room self.old.moves j }
     {
         let alloc = *self.lanes.allocator();
         let noted = mem::replace(&mut self.new_places, NewPlaces::none(alloc));

@@ -46,7 +46,10 @@ impl<D: Disk> Spool<D> {
         ensures kept { OnOk result (IsSome (D.device.bytes self.old.disk) → (c : List ℕ) → D.device.image self.new.disk c → HasTable self.new.state c) }
         ensures durable { OnOk result (IsSynced D.device self.new.disk) }
     {
-        change_areas(*self.frame.allocator(), &mut self.areas, &mut self.table)
+        let changed = change_areas(*self.frame.allocator(), &mut self.areas, &mut self.table);
+        // The new places are taken, or of no use any more.
+        self.table.forget_moves();
+        changed
     }
 }
 

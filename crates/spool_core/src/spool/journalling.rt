@@ -33,6 +33,7 @@ pub(super) fn journal<D: Disk>(
     ensures answer { IsJournalled D.device (standing_at areas.old table.old.state) event.now result (standing_at areas.new table.old.state) }
     ensures same { table.new.state ≡ table.old.state }
     ensures places { table.new.places ≡ table.old.places }
+    ensures moves { table.new.moves ≡ table.old.moves }
     ensures prepared { OnOk result (IsPrepared table.new event.now) }
     ensures at { IfOk result (λ place. HasPlace place (sent_by event.now)) }
     ensures later { D.device.failures areas.old.disk ≤ D.device.failures areas.new.disk }
@@ -92,6 +93,7 @@ pub(super) fn journal_reopening<D: Disk>(
 
     ensures same { table.new.state ≡ table.old.state }
     ensures places { table.new.places ≡ table.old.places }
+    ensures moves { table.new.moves ≡ table.old.moves }
     ensures prepared { OnOk result (IsPrepared table.new Event.Reopen) }
     ensures alive { OnOk result (areas.new.dead ≡ false) }
     ensures fault { IfErr result IsReopeningFault }

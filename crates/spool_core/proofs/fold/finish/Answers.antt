@@ -1,6 +1,6 @@
 -- Rows that are a whole listing, or events behind one.
 use Rattle.std.proofs.Common.{◌≡◌, refl, sym, subst, false, true}
-use Rattle.spool_core.specs.Folding.{HasRead, ReadLiesIn}
+use Rattle.spool_core.specs.Folding.{HasNoneNoted, HasRead, ReadLiesIn}
 use Rattle.documents.specs.Documents.{LieIn}
 use Rattle.job_table.specs.Contents.{places_of}
 use Rattle.spool_core.proofs.FoldLaws.{rows_finished, events_finished}
@@ -29,3 +29,6 @@ returns-in-Events-clause-table c = λ base payloads has.
 
 pub returns-in-Events-clause-lie : goal.returns-in-Events-clause-lie
 returns-in-Events-clause-lie c = λ low high lie. subst (ReadLiesIn low high) c.in-Events.is lie
+
+pub returns-in-Events-clause-unmoved : goal.returns-in-Events-clause-unmoved
+returns-in-Events-clause-unmoved c = λ none. subst HasNoneNoted c.in-Events.is none

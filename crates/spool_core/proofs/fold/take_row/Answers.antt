@@ -4,7 +4,7 @@ use Rattle.documents.specs.Documents.{LieIn}
 use Rattle.job_table.specs.Contents.{places_of}
 use Rattle.spool_core.specs.Folding.{IsRowOrNone}
 use Rattle.spool_types.specs.Sent.{piece_of}
-use Rattle.spool_core.proofs.FoldLaws.{if_ok, if_err, row_read, row_lies, piece_long, has_place, event_lies, misplaced, early, first_read, first_fault}
+use Rattle.spool_core.proofs.FoldLaws.{if_ok, if_err, row_read, row_lies, piece_long, has_place, event_lies, misplaced, early, first_read, first_fault, none_noted}
 use Rattle.spool_core.proofs.fold.take_row.Goals as goal
 
 never : false ≡ true → ⊥
@@ -46,3 +46,7 @@ returns-in-Ok-into_table-clause-fault c = if_err c.add_event.result c.add_event.
 pub returns-in-Ok-None-clause-fault : goal.returns-in-Ok-None-clause-fault
 returns-in-Ok-None-clause-fault c = λ payloads begins.
     (refl, early payloads c.args.payload.now c.args.loading.progress begins (subst (IsRowOrNone c.args.payload.now) c.in-Ok-None.field-0-is c.in-Ok-None.ensures.row) (λ whole. never (c.if-is_whole.ensures.1 whole)))
+
+pub returns-in-Ok-into_table-clause-unmoved : goal.returns-in-Ok-into_table-clause-unmoved
+returns-in-Ok-into_table-clause-unmoved c = if_ok c.add_event.result c.add_event.ensures.next
+    (λ next is. none_noted c.in-Ok-into_table.table c.args.payload.now c.args.extent.place next is c.in-Ok-into_table.ensures.moves)

@@ -1,6 +1,10 @@
+use Rattle.spool_core.proofs.EachImage.{table_or_fault_there}
 use Rattle.spool_core.proofs.ReadingLaws.{one_table, table_or_fault, one_fault, one_room}
 use Rattle.spool_core.proofs.DocumentLaws.{one_document, documents_of}
 use Rattle.spool_core.proofs.laws.one_reading.Goals as goal
+
+pub returns-clause-some : goal.returns-clause-some
+returns-clause-some f c are = table_or_fault_there c are
 
 pub returns-clause-table : goal.returns-clause-table
 returns-clause-table f s t c a b = one_table c s t a b

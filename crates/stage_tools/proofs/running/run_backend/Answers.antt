@@ -1,6 +1,6 @@
-use Rattle.std.proofs.Common.{◌≡◌, ℕ, List, Option, Result, Ok, Err, IfErr, OnOk, inl, inr, subst}
+use Rattle.std.proofs.Common.{◌≡◌, ℕ, List, Option, Result, Ok, Err, IfErr, OnOk, inl, inr, ap, ◌∙◌, subst}
 use Rattle.std.specs.Io.KnownBytes.{Keeps}
-use Rattle.stage_tools.specs.Ending.{BackendEnds, Tells, status_of}
+use Rattle.stage_tools.specs.Ending.{BackendEnds, Tells, fault_status, status_of}
 use Rattle.stage_tools.specs.declared.fault.ToolFault.{ToolFault}
 use Rattle.stage_tools.specs.declared.fault.ToolFault.TheVariants.{Write}
 use Rattle.stage_tools.specs.declared.words.Backend.TheVariants.{SpoolFile}
@@ -11,7 +11,7 @@ spooled : (ended : Result ℕ ToolFault) (status : ℕ) (old new : Option (List 
     → IfErr ended (λ fault. fault ≡ Write) → status ≡ status_of ended → OnOk ended (Keeps old new) → IfErr ended (λ fault. Tells fault old new)
     → BackendEnds SpoolFile old new status
 spooled (Ok given) status old new only is quiet told = inl quiet
-spooled (Err fault) status old new only is quiet told = inr (is, subst (λ f. Tells f old new) only told)
+spooled (Err fault) status old new only is quiet told = inr (is ∙ ap fault_status only, subst (λ f. Tells f old new) only told)
 
 pub returns-in-SpoolFile : goal.returns-in-SpoolFile
 returns-in-SpoolFile g c =

@@ -1,6 +1,6 @@
 -- the lanes stay, as no row says anything else
 use Rattle.std.proofs.Common.{sym, ap, subst, ◌∙◌}
-use Rattle.job_table.specs.Contents.{Contents, Noted, HasMoves, places_of}
+use Rattle.job_table.specs.Contents.{Contents, Noted, HasMoves, move_room, places_of}
 use Rattle.job_table.specs.Lanes.{AreLanes}
 use Rattle.job_table.specs.Legal.{IsLegal}
 use Rattle.job_table.proofs.table.Table.commit_moves.Goals as goal
@@ -21,3 +21,9 @@ returns-clause-places c = λ j r there lives.
     c.move_documents.ensures.places j r there lives
     ∙ ap (λ (m : Noted). places_of m.places j) c.replace-noted.ensures.value
     ∙ ap (λ (v : Contents). places_of v.moves.places j) c.self.view_is
+
+pub returns-clause-documents : goal.returns-clause-documents
+returns-clause-documents c = λ j r there lives.
+    c.move_documents.ensures.documents j r there lives
+    ∙ ap (λ (m : Noted). move_room m j) c.replace-noted.ensures.value
+    ∙ ap (λ (v : Contents). move_room v.moves j) c.self.view_is

@@ -1,0 +1,30 @@
+-- A text that grows by one piece for each item of a list.
+use Rattle.std.proofs.Common.{◌≡◌, ℕ, ◌+◌, ◌<◌, List, [], ◌∷◌, ◌++◌, length, get_or, take, map, refl, sym, ap, ◌∙◌, append_assoc}
+use Rattle.std.specs.List.{flat_map}
+use Rattle.std.proofs.lemmas.List.{append-nil, take_more}
+use Rattle.std.proofs.lemmas.List.Concat.{flat_map-cons}
+use Rattle.std.proofs.lemmas.Grind.{flat_map-append}
+
+-- the pieces of one item more
+pub one_piece_more : {A : Type 0} (piece : A → List ℕ) (items : List A) (i : ℕ) (item : A) → item ≡ get_or items i item → i < length items → flat_map piece (take (i + 1) items) ≡ flat_map piece (take i items) ++ piece item
+one_piece_more {A = A} piece items i item is lt =
+    let taken : take (i + 1) items ≡ take i items ++ item ∷ [] = take_more items i item lt ∙ ap (λ (x : A). take i items ++ x ∷ []) (sym is) in
+    ap (flat_map piece) taken
+    ∙ flat_map-append piece (take i items) (item ∷ [])
+    ∙ ap (λ (l : List ℕ). flat_map piece (take i items) ++ l) (flat_map-cons piece item [] ∙ append-nil (piece item))
+
+-- the next piece was added
+pub next_piece : {A : Type 0} (piece : A → List ℕ) (items : List A) (i : ℕ) (item : A) (start before after : List ℕ) → item ≡ get_or items i item → i < length items → before ≡ start ++ flat_map piece (take i items) → after ≡ before ++ piece item → after ≡ start ++ flat_map piece (take (i + 1) items)
+next_piece piece items i item start before after is lt so_far added =
+    added
+    ∙ ap (λ (l : List ℕ). l ++ piece item) so_far
+    ∙ append_assoc start (flat_map piece (take i items)) (piece item)
+    ∙ ap (λ (l : List ℕ). start ++ l) (sym (one_piece_more piece items i item is lt))
+
+-- the pieces of items as they are seen
+pub pieces_seen : {A B : Type 0} (piece : B → List ℕ) (seen : A → B) (items : List A) → flat_map piece (map seen items) ≡ flat_map (λ item. piece (seen item)) items
+pieces_seen piece seen [] = refl
+pieces_seen piece seen (item ∷ items) =
+    flat_map-cons piece (seen item) (map seen items)
+    ∙ ap (λ (l : List ℕ). piece (seen item) ++ l) (pieces_seen piece seen items)
+    ∙ sym (flat_map-cons (λ item. piece (seen item)) item items)

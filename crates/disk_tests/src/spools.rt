@@ -1,0 +1,27 @@
+//! Spools on disks in memory.
+use spool_areas::{Areas, Opened, make};
+use spool_disk::{Disk, MemDisk};
+use std::alloc::Global;
+use std::test::Fail;
+
+/// An empty spool of so many bytes.
+pub fn made(alloc: Global, len: usize) -> Result<MemDisk, Fail> {
+    let mut disk = MemDisk::new(alloc, len)?;
+    match make(&mut disk) {
+        Ok(()) => Ok(disk),
+        Err(fault) => Err(Fail::from(fault)),
+    }
+}
+
+/// A disk that is opened as a spool.
+pub fn opened<D: Disk + Drop>(alloc: Global, disk: D) -> Result<Opened<D>, Fail> {
+    match Areas::open(alloc, disk) {
+        Ok(opened) => Ok(opened),
+        Err(error) => Err(Fail::from(error.fault)),
+    }
+}
+
+/// Whether bytes have these among them at this place.
+pub fn have_at(bytes: &[u8], at: usize, wanted: &[u8]) -> bool {
+    at <= bytes.len() && wanted.len() <= bytes.len() - at && &bytes[at..at + wanted.len()] == wanted
+}

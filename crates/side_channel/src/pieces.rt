@@ -1,0 +1,215 @@
+//! A session whose bytes come in pieces.
+ghost use Rattle.std.specs.Prelude.{◌≡◌, [], ◌∷◌, List, ℕ};
+ghost use Rattle.side_channel.specs.Bytes.{Comes, IsOn, Reaches, after_head};
+ghost use Rattle.side_channel.specs.Pieces.{Feeds, answer_for, to_come};
+ghost use Rattle.side_channel.specs.Sessions.{after, ends, session};
+ghost use Rattle.side_channel.specs.declared.devices.Device.{Device as AnyDevice};
+
+use crate::answers::answer_to;
+use crate::devices::Device;
+use crate::endings::{Ending, SideFault};
+use crate::replies::Answer;
+use std::marker::Model;
+
+/// What a piece came to.
+#[derive(Clone, Copy)]
+pub enum Fed<'a> {
+    /// The first `count` bytes of the piece end a request, and this answers it. What comes after them was not taken.
+    Answer { count: usize, answer: Answer<'a> },
+    /// The whole piece was taken, and no request in it is whole.
+    Wants,
+    /// The first `count` bytes of the piece end the session. What comes after them is no part of it.
+    End { count: usize },
+}
+
+/// What is held between two pieces.
+#[derive(Clone, Copy)]
+pub(crate) enum Held {
+    /// No byte of a request.
+    Nothing,
+    One { command: u8 },
+    Two { command: u8, status: u8 },
+    Three { command: u8, status: u8, high: u8 },
+    /// A request, of whose data `left` bytes are still to come.
+    Data { command: u8, length: u16, left: u16 },
+    /// The session has ended.
+    Over,
+}
+
+// What the bytes so far came to.
+#[derive(Clone, Copy)]
+enum Came {
+    // No request is whole.
+    Part,
+    // A request is whole, with so many data.
+    Request { command: u8, length: u16 },
+    // The session ends.
+    End,
+}
+
+// What is held behind the first bytes of a piece, and what they came to.
+#[derive(Clone, Copy)]
+struct Reached {
+    held: Held,
+    count: usize,
+    came: Came,
+}
+
+/// A session that is fed its bytes in pieces of any length, as they come. It waits for nothing and takes no memory: of a
+/// request it holds the first bytes, and then only how many of its data are still to come.
+#[derive(Drop)]
+pub struct Session {
+    held: Held,
+}
+
+impl Model for Session {
+    ghost use Rattle.side_channel.specs.declared.pieces.Held.{Held as AnyHeld};
+    ghost use Rattle.side_channel.specs.Bytes.{IsHeld};
+
+    ghost Value = { AnyHeld };
+
+    ghost view = { λ a. a.held };
+
+    ghost invariant = { λ a. IsHeld a.held };
+}
+
+impl Session {
+    /// A session before any byte.
+    pub fn new() -> Session
+        ensures { (d : AnyDevice) (bytes : List ℕ) → to_come d result bytes ≡ session d bytes }
+    {
+        Session {
+            held: Held::Nothing,
+        }
+    }
+
+    /// Takes the bytes of a piece up to the end of its first request, and gives the answer. What comes after them is fed
+    /// next. Once the session has ended, no byte is taken.
+    pub fn feed<'a>(&mut self, piece: &[u8], device: &'a Device) -> Fed<'a>
+        ensures { Feeds device.now self.old piece.now result self.new }
+    {
+        if let Held::Over = self.held {
+            return Fed::End { count: 0 };
+        }
+        let reached = reach(self.held, piece);
+        self.held = reached.held;
+        let count = reached.count;
+        match reached.came {
+            Came::Part => Fed::Wants,
+            Came::Request { command, length } => Fed::Answer {
+                count,
+                answer: answer_to(device, command, length),
+            },
+            Came::End => Fed::End { count },
+        }
+    }
+
+    /// How the session ends where no further byte comes. It has no further answer then.
+    pub fn ending(&self) -> Result<Ending, SideFault>
+        ensures { (d : AnyDevice) → to_come d self.now [] ≡ ends result [] }
+    {
+        match self.held {
+            Held::Nothing => Ok(Ending::Stopped),
+            Held::Over => Ok(Ending::End),
+            _ => Err(SideFault::Cut),
+        }
+    }
+}
+
+// Takes bytes of a piece until a request is whole or the session ends.
+fn reach(held: Held, piece: &[u8]) -> Reached
+    requires { IsOn held }
+    ensures { Reaches held piece.now result.count result.came result.held }
+{
+    let mut held = held;
+    let mut count = 0;
+    'bytes: while count < piece.len() {
+        let (next, came) = take_byte(held, piece[count]);
+        held = next;
+        count += 1;
+        match came {
+            Came::Part => {}
+            came => return Reached { held, count, came },
+        }
+    }
+    Reached {
+        held,
+        count,
+        came: Came::Part,
+    }
+}
+
+// Takes a byte.
+fn take_byte(held: Held, byte: u8) -> (Held, Came)
+    requires { IsOn held }
+    ensures { Comes (λ d more. to_come d held (byte ∷ more)) result.1 result.0 }
+{
+    match held {
+        Held::Nothing => (Held::One { command: byte }, Came::Part),
+        Held::One { command } => {
+            let status = byte;
+            (Held::Two { command, status }, Came::Part)
+        }
+        Held::Two { command, status } => {
+            let high = byte;
+            (
+                Held::Three {
+                    command,
+                    status,
+                    high,
+                },
+                Came::Part,
+            )
+        }
+        Held::Three {
+            command,
+            status,
+            high,
+        } => take_head(command, status, u16::from_be_bytes([high, byte])),
+        Held::Data {
+            command,
+            length,
+            left,
+        } => take_data(command, length, left - 1),
+        Held::Over => (Held::Over, Came::End),
+    }
+}
+
+// A request's first four bytes were taken.
+fn take_head(command: u8, status: u8, length: u16) -> (Held, Came)
+    ensures { Comes (after_head command status length) result.1 result.0 }
+{
+    if length != 0 {
+        let left = length;
+        (
+            Held::Data {
+                command,
+                length,
+                left,
+            },
+            Came::Part,
+        )
+    } else if command == 0xFF && status == 0 {
+        (Held::Over, Came::End)
+    } else {
+        (Held::Nothing, Came::Request { command, length })
+    }
+}
+
+// A byte of a request's data was taken, and so many are left.
+fn take_data(command: u8, length: u16, left: u16) -> (Held, Came)
+    ensures { Comes (λ d more. to_come d (Held.Data command length left) more) result.1 result.0 }
+{
+    if left == 0 {
+        (Held::Nothing, Came::Request { command, length })
+    } else {
+        (
+            Held::Data {
+                command,
+                length,
+                left,
+            },
+            Came::Part,
+        )
+    }
+}

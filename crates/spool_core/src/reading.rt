@@ -1,0 +1,54 @@
+//! Reading a job's document whole.
+ghost use Rattle.std.specs.Prelude.{◌≡◌, false, IfOk, IfErr, IsSome};
+ghost use Rattle.spool_types.specs.State.{job_at};
+ghost use Rattle.spool_core.specs.Standing.{len_at};
+ghost use Rattle.spool_core.specs.Reading.{IsDocument, IsReading, IsUnreadFor};
+
+use crate::spool::Spool;
+use job_table::{Table, document_len};
+use spool_areas::ReadFault;
+use spool_disk::Disk;
+use spool_types::JobId;
+use std::alloc::Global;
+
+/// Why a document wasn't read.
+#[derive(Clone, Copy, Debug, PartialEq, Eq)]
+pub enum Unread {
+    /// There is no memory for it, and no device was called.
+    Memory,
+    /// The device has failed, and the spool is dead.
+    Disk,
+}
+
+fn len_of(table: &Table, job: JobId) -> usize
+    ensures { result ≡ len_at table.now.state job }
+{
+    match table.job(job) {
+        Some(row) => document_len(&row.job),
+        None => 0,
+    }
+}
+
+/// Reads the document of a job whole, from the device. That of a job that has ended is empty.
+pub fn read_whole<D: Disk>(
+    alloc: Global,
+    spool: &mut Spool<D>,
+    job: JobId,
+) -> Result<Vec<u8>, Unread>
+    requires alive { spool.old.dead ≡ false }
+    requires there { IsSome (job_at spool.old.state job) }
+    ensures document { IfOk result (λ bytes. IsDocument D.device spool.old job bytes.items) }
+    ensures reading { IfOk result (λ bytes. IsReading D.device spool.old ⊥ spool.new) }
+    ensures unread { IfErr result (λ why. IsUnreadFor D.device spool.old why spool.new) }
+{
+    let len = len_of(spool.table(), job);
+    let mut bytes = match Vec::from_elem(alloc, 0, len) {
+        Ok(bytes) => bytes,
+        Err(_) => return Err(Unread::Memory),
+    };
+    match spool.read_document(job, 0, &mut bytes) {
+        Ok(()) => Ok(bytes),
+        Err(ReadFault::Disk) => Err(Unread::Disk),
+        Err(ReadFault::Dead) => unreachable!(),
+    }
+}

@@ -1,0 +1,19 @@
+use Rattle.spool_engine.specs.EventTurns.{setting}
+use Rattle.spool_engine.proofs.InputLaws.{first_right, later_right}
+use Rattle.spool_engine.proofs.laws.stages_have_right_input.Goals as goal
+
+pub returns-clause-later : goal.returns-clause-later
+returns-clause-later g c = λ mime place s calls t legal none tells quiet are. later_right
+    (record {
+      legal = c.legal_tables_stay_legal.ensures.stays;
+      left = c.spent_stages_stay_spent.ensures.left;
+      joined = c.calls_join.ensures;
+    }) (setting g.D.Disk.device mime place) g.met.D.Disk.lawful c.rounds_hand_on.ensures s calls t legal none tells quiet are
+
+pub returns-clause-first : goal.returns-clause-first
+returns-clause-first g c = λ mime place s documents calls t legal none tells quiet some leaves are. first_right
+    (record {
+      legal = c.legal_tables_stay_legal.ensures.stays;
+      left = c.spent_stages_stay_spent.ensures.left;
+      joined = c.calls_join.ensures;
+    }) (setting g.D.Disk.device mime place) g.met.D.Disk.lawful c.rounds_hand_on.ensures s documents calls t legal none tells quiet some leaves are

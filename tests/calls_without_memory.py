@@ -1,0 +1,157 @@
+#!/usr/bin/env python3
+"""Sees that the calls which take no memory take none, in a run of the program: calls_without_memory.py [PROGRAM]
+
+No clause can say that a call takes no memory. This runs the shell under valgrind's callgrind, once for each call of CALLS,
+which collects only from the call's begin to its end. Whoever allocates then is in what it collected. The run prints two
+documents with real children, through a filter and a side channel, makes a checkpoint while a job waits with its document, and
+opens the spool again with a job in its second stage.
+
+PROGRAM is the shell as Rattle's own compiler builds it: crates/spool_shell/out/spool_shell.by-rattle, which `rt ci` makes, where
+none is given. Beside it spool_tools has to be there. That compiler puts fewer functions into their callers than LLVM does. Of
+those that it does (`push_move`, `Engine::new`, `answer`, `read_extent`) nothing can be told so.
+
+Two controls have to be seen to allocate: `Table::prepare` and `Executor::create`. A call that isn't in the program, or isn't made
+in the run, is a fault. The last line is `none`, with status 0, or `N of M calls`, with status 1. It takes a quarter of a minute.
+"""
+import concurrent.futures
+import os
+import re
+import subprocess
+import sys
+import tempfile
+
+HERE = os.path.dirname(os.path.realpath(__file__))
+CRATES = os.path.join(HERE, "..", "crates")
+SHELL = os.path.join(CRATES, "spool_shell", "out", "spool_shell.by-rattle")
+TOOLS = os.path.join(CRATES, "spool_tools", "out", "spool_tools")
+
+# The calls. What stands for `append` of a journal is `add`, for `advance` of a slot the exchanges that it is made of, for a
+# verdict `stage_verdict`, for `type_of` the truth of its rules, and for the list of a queue's waiting jobs its two changes.
+CALLS = [
+    "job_table::table::Table::commit",
+    "job_table::table::Table::commit_moves",
+    "job_table::table::Table::next",
+    "job_table::store::Store::stage_verdict",
+    "queue_sched::index::Index::insert",
+    "queue_sched::index::Index::remove",
+    "gate_journal::add::add",
+    "child_pipeline::runner::Runner::exchange",
+    "child_pipeline::runner::Runner::exchange_progress",
+    "child_pipeline::runner::Runner::release",
+    "mime_rules::meaning::holds",
+]
+
+# Calls that do take memory in this run: a look that doesn't see it sees nothing.
+CONTROLS = ["job_table::table::Table::prepare", "spool_engine::executor::Executor::create"]
+
+# What takes memory, or more of it.
+ALLOCATES = re.compile(r"^(?:rattle_alloc|rattle_realloc|malloc|calloc|realloc|aligned_alloc|posix_memalign|memalign)\b")
+
+AT_ONCE = 4
+SECONDS = 120
+
+TYPES = "text/plain txt printable(0,1024)\n"
+CONVS = "text/plain application/x-prn 10 texttoprn\n"
+PROGRAMS = "filter texttoprn TOOLS texttoprn\nbackend spoolfile TOOLS spoolfile\nbackend sideask TOOLS sideask\nside TOOLS side-end\n"
+
+FIRST = """queue hall spoolfile:FOLDER/letter.prn application/x-prn retry-job 0
+queue lab sideask:FOLDER/id?id=MFG:X; text/plain retry-current-job
+create hall ann "A letter" 1 50 "media=A4"
+send 1 4
+abcd
+close 1 letter.txt
+create lab ann "A question" 1 50 ""
+send 2 4
+efgh
+close 2 a.txt
+hold 2 indefinite
+create lab bo "Waits" 1 60 ""
+send 3 4
+ijkl
+checkpoint
+release 2
+round
+round
+close 3 b.txt
+drain 9
+create hall bo "Lost" 1 50 ""
+send 4 4
+mnop
+close 4 c.txt
+round
+jobs
+"""
+SECOND = "jobs\ndrain 9\njobs\n"
+
+
+def symbols_of(program):
+    told = subprocess.run(["nm", program], check=True, capture_output=True, text=True)
+    return [line.split(" ", 2)[2] for line in told.stdout.splitlines() if len(line.split(" ", 2)) == 3]
+
+
+def functions_of(call, symbols):
+    """The functions of a call: itself, or what is made of it for each type."""
+    return [it for it in symbols if it == call or it.startswith(call + "::<")]
+
+
+def collected(profile):
+    """The names of all functions that a profile has, and whether anything was collected."""
+    with open(profile, encoding="utf-8", errors="replace") as file:
+        text = file.read()
+    names = re.findall(r"^c?fn=\(\d+\) (.+)$", text, re.M)
+    return {re.sub(r"'\d+$", "", it) for it in names}
+
+
+def serve(program, folder, functions, script, number):
+    """Serves a script while only these functions are looked at, and gives the names of all that ran within them."""
+    profile = os.path.join(folder, f"profile.{number}")
+    words = ["valgrind", "--tool=callgrind", f"--callgrind-out-file={profile}"]
+    words += [f"--toggle-collect={it}" for it in functions]
+    words += [program, "--root", os.path.join(folder, "spool")]
+    for name in ("types", "convs", "programs"):
+        words += [f"--{name}", os.path.join(folder, name)]
+    ended = subprocess.run(words, input=script.encode(), capture_output=True, timeout=SECONDS)
+    if ended.returncode:
+        raise SystemExit(f"the program ended with {ended.returncode}: {ended.stderr[-600:].decode(errors='replace')}")
+    return collected(profile), ended.stdout.decode()
+
+
+def look(program, call, symbols):
+    """What is to say of a call: that it allocated, by which function, or wasn't made."""
+    functions = functions_of(call, symbols)
+    if not functions:
+        return "isn't in the program"
+    with tempfile.TemporaryDirectory(prefix="calls-") as folder:
+        os.mkdir(os.path.join(folder, "spool"))
+        for name, text in (("types", TYPES), ("convs", CONVS), ("programs", PROGRAMS)):
+            with open(os.path.join(folder, name), "w", encoding="utf-8") as file:
+                file.write(text.replace("TOOLS", os.path.realpath(TOOLS)))
+        names, replies = serve(program, folder, functions, FIRST.replace("FOLDER", folder), 1)
+        if "job 3 lab 9 job-completed-successfully" not in replies or "job 4 hall 5" not in replies:
+            raise SystemExit(f"the run went otherwise:\n{replies}")
+        more, replies = serve(program, folder, functions, SECOND, 2)
+        if "job 4 hall 9" not in replies:
+            raise SystemExit(f"the second run went otherwise:\n{replies}")
+    names |= more
+    if not any(it in names for it in functions):
+        return "wasn't made in the run"
+    taken = sorted(it for it in names if ALLOCATES.match(it))
+    return f"takes memory by {' and '.join(taken)}" if taken else ""
+
+
+def main():
+    program = os.path.realpath(sys.argv[1] if len(sys.argv) > 1 else SHELL)
+    for path in (program, TOOLS):
+        if not os.path.exists(path):
+            print(f"{path} isn't there: run `rt ci` first")
+            sys.exit(2)
+    symbols = symbols_of(program)
+    with concurrent.futures.ThreadPoolExecutor(AT_ONCE) as pool:
+        found = dict(zip(CALLS + CONTROLS, pool.map(lambda it: look(program, it, symbols), CALLS + CONTROLS)))
+    faults = [f"{call} {found[call]}" for call in CALLS if found[call]]
+    faults += [f"{call}, which takes memory, isn't seen to: {found[call] or 'nothing'}" for call in CONTROLS if not found[call].startswith("takes")]
+    print("\n".join(faults + [f"{len(faults)} of {len(found)} calls" if faults else "none"]))
+    sys.exit(1 if faults else 0)
+
+
+main()
