@@ -10,13 +10,17 @@ missing: a full folder is a file system that is mounted (as root), and what the 
 The last line is `N of N`, with status 0, or the first difference, with status 1. The folder of that test stays then, and is
 named. The whole takes about a minute.
 """
+import fcntl
 import os
+import re
 import resource
 import shutil
 import signal
+import socket
 import subprocess
 import sys
 import tempfile
+import threading
 import time
 
 here = os.path.dirname(os.path.abspath(__file__))
@@ -60,6 +64,10 @@ line = socket.socket(socket.AF_UNIX, socket.SOCK_STREAM)
 line.connect(sys.argv[-1])
 line.sendall(b"\\xff\\0\\0\\0")
 """
+
+
+# What is told of a stage, or of a program of the file.
+TOLD = re.compile(r"spool: (job \d+ attempt \d+ stage \d+ \S+|filter \S+|backend \S+|side program): .")
 
 
 class Difference(Exception):
@@ -113,11 +121,13 @@ class Folder:
         files = [word for name in ("types", "convs", "programs") for word in (f"--{name}", name)]
         return [shell, "--root", self.root, "--size", "16777216", *files]
 
-    def run(self, script, status=0, **how):
-        """The replies to a script."""
+    def run(self, script, status=0, told=None, **how):
+        """The replies to a script. Standard error is `told`, or else has lines of stages and of programs alone."""
         text = script if isinstance(script, bytes) else "".join(line + "\n" for line in script).encode()
         run = subprocess.run(self.words(), input=text, cwd=self.path, stdout=subprocess.PIPE, stderr=subprocess.PIPE, timeout=120, **how)
-        same("status", (run.returncode, run.stderr), (status, b""))
+        same("status", run.returncode, status)
+        lines = run.stderr.decode().splitlines()
+        same("standard error", lines, told if told is not None else [line for line in lines if TOLD.match(line)])
         return run.stdout.decode().splitlines()
 
     def report(self, name):
@@ -216,6 +226,9 @@ def signals(folder):
         same(f"signal of {number}", stage_event(number, 1, 1, b"\x01") in journal, True)
 
 
+JUNK = "neither a script nor a program"
+
+
 def programs_that_cannot_run(folder):
     folder.program("backend", "there", "#!/bin/sh\nexit 0\n")
     folder.lines.append(f"backend absent {folder.at('absent')}")
@@ -224,17 +237,30 @@ def programs_that_cannot_run(folder):
     folder.lines.append(f"backend plain {folder.at('plain')}")
     folder.write("broken", "#!/no/such/shell\n", 0o755)
     folder.lines.append(f"backend broken {folder.at('broken')}")
+    # What the system can't run, a shell would: an empty file as if it had printed.
+    folder.write("empty", "", 0o755)
+    folder.lines.append(f"backend empty {folder.at('empty')}")
+    folder.write("junk", "exit 0\n", 0o755)
+    folder.lines.append(f"backend junk {folder.at('junk')}")
+    folder.lines.append(f"backend dos {folder.at('there')}\r")
     script = b""
     for number, scheme in enumerate(["absent", "folder", "plain", "unlisted", "broken", "there"], 1):
         script += printed(scheme, f"{scheme}:/x", number=number)
-    script += printed("filtered", "there:/x", "b/b", number=7)
-    replies = folder.run(script + b"round\njobs\n")
+    script += printed("filtered", "there:/x", "b/b", number=7) + printed("m-empty", "empty:/x", number=8) + printed("n-junk", "junk:/x", number=9)
+    at_start = {"absent": "not there", "folder": "no file", "plain": "not executable", "empty": JUNK, "junk": JUNK, "dos": "a carriage return at its end"}
+    told = [f"spool: backend {name}: {cause}" for name, cause in at_start.items()]
+    ended = {1: "absent", 7: "first", 2: "folder", 8: "empty", 9: "junk", 3: "plain", 4: "unlisted"}
+    # They are started in the order of the queues' names.
+    causes = {**at_start, "first": "not in the file of programs", "unlisted": "not in the file of programs"}
+    told += [f"spool: job {number} attempt 1 stage 1 {name}: {causes[name]}" for number, name in ended.items()]
+    told.append("spool: job 5 attempt 1 stage 1 broken: ended with status 127, and told no cause")
+    replies = folder.run(script + b"round\njobs\n", told=told)
     # `env` ends with 127 where it finds no shell for the program.
-    same("round", "ok started 2 finished 7" in replies, True)
-    wanted = {number: "8 backend-failed" for number in range(1, 6)}
+    same("round", "ok started 2 finished 9" in replies, True)
+    wanted = {number: "8 backend-failed" for number in (1, 2, 3, 4, 5, 8, 9)}
     same("jobs", states(replies), {**wanted, 6: "9 job-completed-successfully", 7: "8 filter-failed"})
     journal = folder.read("spool/spool.disk")
-    for number in (1, 2, 3, 4, 7):
+    for number in (1, 2, 3, 4, 7, 8, 9):
         same(f"end of {number}", stage_event(number, 1, 1, b"\x02") in journal, True)
     same("end of 5", stage_event(5, 1, 1, b"\x00\x7f") in journal, True)
     same("files", folder.left(), ["spool.disk"])
@@ -265,19 +291,27 @@ def refused_by_the_system(folder):
     folder.program("backend", "says", "#!/bin/sh\necho said\necho told >&2\nexit 3\n")
     root = os.path.realpath(folder.at(folder.root))
     no_process = ["-e", "inject=clone,clone3,fork,vfork:error=EAGAIN"]
+    some_processes = ["-e", "inject=clone,clone3,fork,vfork:error=EAGAIN:when=1..3"]
     no_output = ["-P", f"{root}/out-2-1-1", "-e", "inject=read,pread64,readv:error=EIO"]
     no_errors = ["-P", f"{root}/err-3-1-1", "-e", "inject=read,pread64,readv:error=EIO"]
     script = b"queue lab says:/x a/a abort-job\n"
-    for number, (refusal, end) in enumerate([(no_process, b"\x02"), (no_output, b"\x03"), (no_errors, b"\x03")], 1):
+    unread = "what it wrote can't be read"
+    refusals = [(no_process, b"\x02", "not started, for want of processes"), (no_output, b"\x03", unread), (no_errors, b"\x03", unread)]
+    for number, (refusal, end, cause) in enumerate(refusals, 1):
         script += b'create lab ann "" 1 50 ""\nclose %d page.txt\nround\njobs\n' % number
         words = [strace, "-qq", "-o", folder.at("calls"), *refusal, *folder.words()]
         run = subprocess.run(words, input=script, cwd=folder.path, capture_output=True, timeout=60)
-        same("status", (run.returncode, run.stderr), (0, b""))
+        told = f"spool: job {number} attempt 1 stage 1 says: {cause}\n".encode()
+        same("status", (run.returncode, run.stderr), (0, told))
         same(f"job {number}", states(run.stdout.decode().splitlines())[number], "8 backend-failed")
         same(f"end of {number}", stage_event(number, 1, 1, end) in folder.read("spool/spool.disk"), True)
         same("files", folder.left(), ["spool.disk"])
         script = b""
-    same("none is refused any more", states(folder.run(b'create lab ann "" 1 50 ""\nclose 4 page.txt\nround\njobs\n'))[4], "4 held-by-backend")
+    script = b'create lab ann "" 1 50 ""\nclose %d page.txt\nround\njobs\n'
+    # Three times there is no process, and then there is.
+    run = subprocess.run([strace, "-qq", "-o", folder.at("calls"), *some_processes, *folder.words()], input=script % 4, cwd=folder.path, capture_output=True, timeout=60)
+    same("a process in a moment", states(run.stdout.decode().splitlines())[4], "4 held-by-backend")
+    same("none is refused any more", states(folder.run(script % 5))[5], "4 held-by-backend")
 
 
 # ---- what children are given
@@ -294,7 +328,7 @@ for n in range(256):
     except OSError:
         pass
 report(repr(open_ones), "descriptors")
-report(os.readlink("/proc/self/fd/4"), "descriptors")
+report(" ".join(os.readlink(f"/proc/self/fd/{n}") for n in (3, 4)), "descriptors")
 report(repr(os.read(0, 100)), "input")
 root = os.environ["TMPDIR"]
 for name in sorted(os.listdir(root)):
@@ -325,7 +359,7 @@ def given(folder):
         wanted += ["PATH=/usr/bin:/bin", "PRINTER=lab", "PRINTER_INFO=Front", "PRINTER_LOCATION=Room 1", "TMPDIR=spool"]
         wanted += ["SPOOL_ATTEMPT=1", "SPOOL_SIDE=", f"SPOOL_STAGE={stage}"]
         same("environment", folder.report("environment")[stage - 1], repr(wanted))
-    same("descriptors", folder.report("descriptors"), ["[0, 1, 2, 4]", "/dev/null"] * 2)
+    same("descriptors", folder.report("descriptors"), ["[0, 1, 2, 3, 4]", "/dev/null /dev/null"] * 2)
     same("input", folder.report("input"), ["b''", repr(b"from one\n")])
     same("document", folder.report("document"), [repr(b"hello")])
     files = [f"{name}-1-1-{stage} 600 True" for stage in (1, 2) for name in ("err", "in", "out")]
@@ -537,7 +571,7 @@ def stage_with_side(folder):
     folder.side(word="a-word")
     replies = folder.run(printed("a", "last:/x") + printed("b", "kill:/x", number=2) + b"round\njobs\n")
     same("jobs", states(replies), {1: "3 retry-later", 2: "8 backend-failed"})
-    same("descriptors", folder.report("descriptors"), ["[0, 1, 2, 4]", "/dev/null"])
+    same("descriptors", folder.report("descriptors"), ["[0, 1, 2, 3, 4]", "/dev/null /dev/null"])
     same("side", "'SPOOL_SIDE=spool/side-1-1-1'" in folder.report("environment")[0], True)
     same("socket", folder.report("socket"), ["0o140600"])
     same("status of a signal", stage_event(2, 1, 1, b"\x00\x89") in folder.read("spool/spool.disk"), True)
@@ -596,12 +630,17 @@ def devices(folder):
     # The line behind the first 1,048,576 bytes is not looked at, and who prints without end is ended by the closed pipe.
     folder.program("backend", "much", "#!/bin/sh\necho 'file much:/early \"A\" \"B\"'\nhead -c 1048576 /dev/zero | tr '\\0' x\necho\necho 'file much:/late \"A\" \"B\"'\n")
     folder.program("backend", "endless", "#!/bin/sh\necho 'file endless:/ \"A\" \"B\"'\nexec yes\n")
+    # What a backend leaves running keeps its end of the pipe.
+    folder.program("backend", "daemon", "#!/bin/sh\necho 'file daemon:/ \"A\" \"B\"'\nsleep 60 &\nsleep 0.3\necho 'file daemon:/late \"A\" \"B\"'\n")
     folder.side()
+    begun = time.monotonic()
     for root in ("spool", "absent"):
         run = subprocess.run([*folder.words()[:1], "--root", root, "--programs", "programs", "--devices"], cwd=folder.path, input=b"jobs\n", capture_output=True, timeout=60)
         same("devices", (run.returncode, run.stderr), (0, b""))
         wanted = b'direct one:/x "A B" "C" "MFG:X;" ""\nnetwork  a "Unknown" "A"\nfile c "Unknown" "C"\nfile much:/early "A" "B"\nfile endless:/ "A" "B"\n'
+        wanted += b'file daemon:/ "A" "B"\nfile daemon:/late "A" "B"\n'
         same("devices", run.stdout, wanted)
+    same("seconds", time.monotonic() - begun < 20, True)
     same("words", folder.read("backend-one.words"), b"1a-word\n")
     same("environment", folder.read("backend-one.environment"), b"")
     same("spool", folder.left(), [])
@@ -631,15 +670,269 @@ def full_folder(folder):
                     pass
             except OSError:
                 pass
-        replies = folder.run(["round", "jobs"])
+        begun = time.monotonic()
+        replies = folder.run(["round", "jobs"], told=["spool: job 1 attempt 1 stage 1 keep: not started, for want of room"])
         same("a full folder", (replies[0], states(replies)), ("ok started 0 finished 1", {1: "3 none"}))
+        seconds = time.monotonic() - begun
+        same("it is tried for a while", (seconds, 1.5 < seconds < 20), (seconds, True))
         same("what is left", folder.left(), ["filler", "spool.disk"])
-        os.remove(os.path.join(root, "filler"))
+        # There is room again while it is tried.
+        threading.Timer(0.7, os.remove, [os.path.join(root, "filler")]).start()
         replies = folder.run(["round", "jobs"])
         same("with room", (replies[0], states(replies)), ("ok started 1 finished 1", {1: "9 job-completed-successfully"}))
         same("what it printed", folder.read("kept") == document, True)
     finally:
         subprocess.run(["umount", root], check=True)
+
+
+FILLS = """#!/bin/sh
+cat /dev/zero >"$TMPDIR/filler" 2>/dev/null
+echo hello
+echo "INFO: hello" >&2
+exit 0
+"""
+
+
+def no_room_at_the_end(folder):
+    """A filter whose output found no room isn't taken for one that gave nothing."""
+    root = folder.at(folder.root)
+    mounted = subprocess.run(["mount", "-t", "tmpfs", "-o", "size=20m", "none", root], capture_output=True)
+    if mounted.returncode:
+        print("no_room_at_the_end: left out, since it may not mount a file system (it wants root)")
+        return
+    try:
+        folder.program("filter", "first", FILLS)
+        folder.program("backend", "keep", '#!/bin/sh\ncat >"$0.kept"\n')
+        folder.program("backend", "quiet", '#!/bin/sh\ncat /dev/zero >"$TMPDIR/filler" 2>/dev/null\nexit 0\n')
+        cut = "spool: job 1 attempt 1 stage 1 first: the folder has no room, so what it wrote may be cut off"
+        replies = folder.run(printed("lab", "keep:/x", "b/b") + b"drain 5\njobs\n", told=[cut])
+        same("a filter", states(replies), {1: "8 filter-failed"})
+        same("what was printed", os.path.exists(folder.at("backend-keep.kept")), False)
+        same("its end", stage_event(1, 1, 1, b"\x03") in folder.read("spool/spool.disk"), True)
+        os.remove(os.path.join(root, "filler"))
+        # A backend that wrote nothing lost nothing.
+        told = ["spool: job 2 attempt 1 stage 1 quiet: the folder has no room left at its end"]
+        replies = folder.run(printed("next", "quiet:/x", number=2) + b"drain 5\njobs\n", told=told)
+        same("a backend", states(replies)[2], "9 job-completed-successfully")
+    finally:
+        subprocess.run(["umount", root], check=True)
+
+
+# ---- what a child can't do to the spooler
+
+ANSWERED_PRINTER = """#!/usr/bin/python3 -ES
+import os, socket, sys
+line = socket.create_connection(("127.0.0.1", int(os.environ["DEVICE_URI"].rpartition(":")[2])))
+data = sys.stdin.buffer.read()
+line.sendall(data[:500000])
+answer = line.recv(100)
+os.write(3, answer)
+line.sendall(data[500000:])
+line.shutdown(socket.SHUT_WR)
+while line.recv(100):
+    pass
+"""
+
+
+def printers_that_answer(folder):
+    """What a printer says to its backend isn't written into the job, although the backend writes it to descriptor 3."""
+    folder.program("filter", "first", '#!/bin/sh\nhead -c 960000 /dev/zero | tr "\\0" x\n')
+    folder.program("backend", "answered", ANSWERED_PRINTER)
+    server = socket.create_server(("127.0.0.1", 0))
+    received = []
+
+    def serve():
+        line = server.accept()[0]
+        line.settimeout(20)
+        line.sendall(b"status: ready\n")
+        while piece := line.recv(65536):
+            received.append(piece)
+        line.close()
+
+    thread = threading.Thread(target=serve)
+    thread.start()
+    port = server.getsockname()[1]
+    replies = folder.run(printed("lab", f"answered://127.0.0.1:{port}", "b/b") + b"drain 5\njobs\n")
+    thread.join(20)
+    server.close()
+    same("jobs", states(replies), {1: "9 job-completed-successfully"})
+    same("what came", (len(b"".join(received)), set(b"".join(received))), (960000, {ord("x")}))
+
+
+GROUP = '#!/bin/sh\nps -o sid= -p $$ | tr -d " " >"$0.$1"\necho $$ >>"$0.$1"\nkill -TERM 0\nsleep 5\n'
+
+
+def groups(folder):
+    """What a child sends to its process group reaches it and what it started, and not the spooler."""
+    for side in (False, True):
+        folder.lines = []
+        folder.program("filter", "first", GROUP)
+        folder.program("backend", "exit", EXIT)
+        if side:
+            folder.side()
+        shutil.rmtree(folder.at("spool"))
+        os.mkdir(folder.at("spool"))
+        replies = folder.run(printed("lab", "exit:/0", "b/b") + b"drain 5\njobs\n", start_new_session=True)
+        same("jobs", states(replies), {1: "8 filter-failed"})
+        session, process = folder.read("filter-first.1").split()
+        same("a session of its own", session, process)
+
+
+LIMITED = PYTHON + """
+import resource, signal
+report(oct(os.umask(0)), "mask")
+report(repr(resource.getrlimit(resource.RLIMIT_FSIZE)), "limit")
+signal.signal(signal.SIGXFSZ, signal.SIG_DFL)
+with open(os.path.join(here, "large"), "wb", buffering=0) as file:
+    file.seek(2**30 - 1)
+    file.write(b"x")
+    report("up to the limit")
+    file.write(b"x")
+    report("above the limit")
+"""
+
+
+def limits(folder):
+    """What a child makes is its owner's alone, and none of its files grows above a gibibyte."""
+    folder.program("backend", "limited", LIMITED, "writes")
+    replies = folder.run(printed("lab", "limited:/x") + b"round\njobs\n", told=["spool: job 1 attempt 1 stage 1 limited: ended by a signal, and told no cause"])
+    same("jobs", states(replies), {1: "8 backend-failed"})
+    same("the mask", folder.report("mask"), ["0o77"])
+    same("the limit", folder.report("limit"), ["(1073741824, 1073741824)"])
+    same("what it wrote", folder.report("writes"), ["up to the limit"])
+    same("its end", stage_event(1, 1, 1, b"\x01") in folder.read("spool/spool.disk"), True)
+    # A limit of the spooler's own that is lower holds, and the child runs.
+    lower = 2**20 * 64
+    folder.run(printed("more", "limited:/x", number=2) + b"round\n", preexec_fn=lambda: resource.setrlimit(resource.RLIMIT_FSIZE, (lower, lower)))
+    same("a lower limit", folder.report("limit")[1] in ("(67108864, 67108864)", "(1073741824, 1073741824)"), True)
+
+
+def causes(folder):
+    """Why a stage failed is told where its child tells no message."""
+    folder.program("filter", "first", COPIES)
+    folder.program("backend", "exit", EXIT)
+    folder.program("backend", "says", '#!/bin/sh\necho "ERROR: no paper" >&2\nexit 1\n')
+    folder.program("backend", "mumbles", '#!/bin/sh\necho "DEBUG: no paper" >&2\necho "oh" >&2\nexit 5\n')
+    folder.program("backend", "kill", "#!/bin/sh\nkill -KILL $$\n")
+    script = printed("a", "exit:/0", "b/b", title="1048577") + printed("b", "exit:/7", number=2) + printed("c", "says:/x", number=3)
+    script += printed("d", "mumbles:/x", number=4) + printed("e", "kill:/x", number=5) + printed("f", "exit:/0", number=6)
+    told = ["spool: job 1 attempt 1 stage 1 first: output above 1048576 bytes"]
+    told.append("spool: job 2 attempt 1 stage 1 exit: ended with status 7, and told no cause")
+    told.append("spool: job 4 attempt 1 stage 1 mumbles: ended with status 5, and told no cause")
+    told.append("spool: job 5 attempt 1 stage 1 kill: ended by a signal, and told no cause")
+    folder.run(script + b"round\n", told=told)
+
+
+def ends_that_cannot_be_known(folder):
+    """Started with SIGCHLD ignored it serves no programs; and without programs as ever."""
+    folder.program("backend", "exit", EXIT)
+
+    def ignoring():
+        signal.signal(signal.SIGCHLD, signal.SIG_IGN)
+
+    script = printed("lab", "exit:/0", policy="retry-current-job") + b"drain 20\njobs\n"
+    replies = folder.run(script, status=1, told=["spool: sigchld-ignored"], preexec_fn=ignoring)
+    same("replies", (replies, folder.left()), ([], []))
+    words = [shell, "--root", folder.root]
+    run = subprocess.run(words, input=b"jobs\n", cwd=folder.path, capture_output=True, timeout=60, preexec_fn=ignoring)
+    same("without programs", (run.returncode, run.stdout, run.stderr), (0, b"ok 0\n", b""))
+    run = subprocess.run(["env", "--default-signal=CHLD", *folder.words()], input=script, cwd=folder.path, capture_output=True, timeout=60, preexec_fn=ignoring)
+    same("with the usual signal", states(run.stdout.decode().splitlines()), {1: "9 job-completed-successfully"})
+
+
+def locks_that_go(folder):
+    """A lock that goes in a moment, as that of a program that was killed, is waited for, and one that stays isn't."""
+    lock = os.open(folder.at(folder.root), os.O_RDONLY)
+    fcntl.flock(lock, fcntl.LOCK_EX)
+    begun = time.monotonic()
+    folder.run(b"jobs\n", status=1, told=["spool: disk"])
+    same("seconds", 0.8 < time.monotonic() - begun < 5, True)
+    threading.Timer(0.4, os.close, [lock]).start()
+    same("replies", folder.run(b"jobs\n"), ["ok 0"])
+
+
+# ---- many and much
+
+
+def much(folder):
+    """What is long or many, and still in its limits."""
+    types = "".join(f"a/x{n} string(0,{'y' * 60}{n})\n" for n in range(1000)) + TYPES
+    folder.write("types", types)
+    folder.write("convs", "".join(f"a/{a} a/{b} 1 f{n:02}\n" for n, (a, b) in enumerate(zip(CHAIN, CHAIN[1:]), 1)))
+    for n in range(1, 16):
+        folder.program("filter", f"f{n:02}", '#!/bin/sh\ncat $6\necho "$(basename "$0")"\n')
+    folder.program("backend", "keep", '#!/bin/sh\ncat >"$0.kept"\nprintf "%s\\n" "$#" "$3" "$4" >"$0.words"\n')
+    os.symlink(folder.at("backend-keep"), folder.at("link"))
+    folder.lines.append(f"backend link {folder.at('link')}")
+    for n in range(44):
+        folder.lines.append(f"backend more{n} {folder.at('backend-keep')}")
+    folder.program("backend", "effects", '#!/bin/sh\nfor i in $(seq 110); do echo "PAGE: $i 1" >&2; done\n')
+    title = "t" * 120
+    script = printed("lab", "link:/x?" + "&".join(f"name{n}=value{n:04}" for n in range(37)), "a/last", document=b"doc\n", title=title, copies=100)
+    script += printed("more", "effects:/x", number=2) + b"drain 20\njobs\n"
+    replies = folder.run(script)
+    same("jobs", states(replies), {1: "9 job-completed-successfully", 2: "9 job-completed-successfully"})
+    same("pages", [line.split(" ")[7] for line in replies if line.startswith("job 2")], ["110"])
+    same("programs", len(folder.lines), 62)
+    same("a chain of 15 filters", folder.read("link.kept").decode().split(), ["doc", *[f"filter-f{n:02}" for n in range(1, 16)]])
+    same("words", folder.read("link.words").decode().split(), ["5", title, "100"])
+
+
+# The types of a chain of 15 conversions.
+CHAIN = ["a", *[f"s{n}" for n in range(1, 15)], "last"]
+
+
+def attempts(folder):
+    """Nine queues, each with a job that is tried five times."""
+    folder.program("backend", "again", '#!/bin/sh\necho "$PRINTER $SPOOL_ATTEMPT" >>"$0.ran"\nexit 7\n')
+    script = b"".join(printed(f"q{n}", "again:/x", policy="retry-current-job", number=n) for n in range(1, 10))
+    replies = folder.run(script + b"drain 20\njobs\n")
+    same("jobs", states(replies), {n: "8 retry-limit" for n in range(1, 10)})
+    ran = sorted(folder.read("backend-again.ran").decode().split("\n")[:-1])
+    same("attempts", ran, sorted(f"q{n} {attempt}" for n in range(1, 10) for attempt in range(1, 6)))
+
+
+ASKS_MUCH = CHANNEL + """
+line = call()
+report(ask(line, b"\\x04\\x00" + (1500).to_bytes(2, "big") + bytes(1500)))
+"""
+
+READS_SIDE = "#!/bin/sh\ncat >/dev/null\necho written\necho written >&2\nexec %s \"$@\"\n"
+
+
+def side_programs_that_read(folder):
+    """A request of 1,500 bytes, and a side program that reads standard input and writes to its streams."""
+    folder.program("backend", "ask", ASKS_MUCH, "asks")
+    folder.write("ends", SIDE_END, 0o755)
+    folder.side(READS_SIDE % folder.at("ends"))
+    replies = folder.run(printed("lab", "ask:/o?id=MFG", document=b"doc") + b"round\njobs\n")
+    same("jobs", states(replies), {1: "9 job-completed-successfully"})
+    same("answers", folder.report("asks"), ["04010003" + b"MFG".hex()])
+
+
+def many_devices(folder):
+    folder.program("backend", "many", "#!/bin/sh\nfor i in $(seq 60); do echo \"network many://$i \\\"A\\\" \\\"B $i\\\"\"; done\n")
+    run = subprocess.run([*folder.words(), "--devices"], cwd=folder.path, capture_output=True, timeout=60)
+    same("devices", run.stdout.decode().splitlines(), [f'network many://{n} "A" "B {n}"' for n in range(1, 61)])
+
+
+def documents_that_cannot_be_read(folder):
+    """The disk fails where a round reads the document: the round is a fault, and nothing is started."""
+    strace = shutil.which("strace")
+    if not strace:
+        print("documents_that_cannot_be_read: left out, since it wants strace (Debian's package strace)")
+        return
+    folder.program("backend", "exit", EXIT)
+    folder.run(printed("lab", "exit:/0", document=b"x" * 3000))
+    disk = os.path.realpath(folder.at(folder.root, "spool.disk"))
+    # The opening reads the journal, and then the round the document.
+    reads = subprocess.run([strace, "-qq", "-o", "/dev/stdout", "-P", disk, "-e", "trace=pread64", *folder.words()], input=b"", cwd=folder.path, capture_output=True, timeout=60)
+    count = reads.stdout.count(b"pread64(")
+    words = [strace, "-qq", "-o", folder.at("calls"), "-P", disk, "-e", f"inject=pread64:error=EIO:when={count + 1}+", *folder.words()]
+    run = subprocess.run(words, input=b"round\njobs\nround\n", cwd=folder.path, capture_output=True, timeout=60)
+    replies = run.stdout.decode().splitlines()
+    same("the rounds", (replies[0], replies[-1], run.returncode), ("error disk", "error dead", 1))
+    same("files", folder.left(), ["spool.disk"])
 
 
 TESTS = [
@@ -664,6 +957,18 @@ TESTS = [
     clients,
     sides_that_fail,
     devices,
+    no_room_at_the_end,
+    printers_that_answer,
+    groups,
+    limits,
+    causes,
+    ends_that_cannot_be_known,
+    locks_that_go,
+    much,
+    attempts,
+    side_programs_that_read,
+    many_devices,
+    documents_that_cannot_be_read,
 ]
 
 

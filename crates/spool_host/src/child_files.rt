@@ -1,7 +1,7 @@
 //! The files of a child, in the spool's folder.
 ghost use Rattle.std.specs.Prelude.{◌≡◌, IfOk};
 ghost use Rattle.std.specs.String.{string_bytes};
-ghost use Rattle.spool_host.specs.ChildFiles.{ReadsUpTo, file_of};
+ghost use Rattle.spool_host.specs.ChildFiles.{ReadsUpTo, file_of, wants_room};
 ghost use Rattle.filter_args.specs.declared.files.ChildFile.TheVariants as files;
 
 use crate::device::new_file;
@@ -10,6 +10,7 @@ use filter_args::{ChildFile, Place};
 use std::alloc::{AllocError, Global};
 use std::fs::{File, Files};
 use std::io::{ErrorKind, Read, Write};
+use std::os::unix::fs::FileExt;
 use std::path::Path;
 use std::{fs, io};
 
@@ -85,6 +86,24 @@ pub(crate) fn make_file_of<R: Files<File = File>>(
     bytes: &[u8],
 ) -> io::Result<()> {
     make_file(rt, path)?.write_all(bytes)
+}
+
+/// Whether a byte more can be written behind what a child wrote. It is written, so the file is to be removed then. Where
+/// it can't be, a write of the child before it may have been cut off here.
+pub(crate) fn has_room(file: &File) -> bool {
+    let Ok(found) = file.metadata() else {
+        return true;
+    };
+    match file.write_all_at(b"\n", found.len()) {
+        Ok(()) => true,
+        Err(error) => !wants_room(error.kind()),
+    }
+}
+
+fn wants_room(kind: ErrorKind) -> bool
+    ensures { result ≡ wants_room kind }
+{
+    matches!(kind, ErrorKind::StorageFull | ErrorKind::QuotaExceeded)
 }
 
 /// Reads up to so many bytes, and leaves the others unread. Where the reader fails before them this is its error.

@@ -36,6 +36,9 @@ pub enum ShellFault {
     /// The replies can't be written.
     #[error("write")]
     Write,
+    /// There are programs to run, and how they end can't be known: the signal SIGCHLD is ignored.
+    #[error("sigchld-ignored")]
+    Ignored,
 }
 
 impl From<AllocError> for ShellFault {

@@ -74,6 +74,7 @@
 //! A child that can't be started, or whose end can't be known, is no fault of the program: its stage ends so.
 #![tactic(auto)]
 
+mod begun;
 mod child_files;
 mod device;
 mod device_lines;
@@ -81,11 +82,14 @@ mod devices;
 mod ends;
 mod fault;
 mod files;
+mod fitness;
 mod launcher;
+mod reasons;
 mod running;
 mod script;
 mod serving;
 mod sessions;
+mod shortage;
 mod side_device;
 mod warnings;
 mod words;
@@ -95,7 +99,7 @@ pub use devices::{ChildDiscovery, Discovery, print_devices};
 pub use ends::{given_words, no_words, tell_end, tell_words_fault};
 pub use fault::ShellFault;
 pub use files::read_rules;
-pub use launcher::{Launcher, RunningChild, launcher_in};
+pub use launcher::{Launcher, MOST_BLOCKS, RunningChild, launcher_in};
 pub use running::run;
 pub use serving::{memory_device, open_engine, place_in, serve};
 pub use warnings::WarningLines;

@@ -1,10 +1,12 @@
 //! What the words ask for is done.
 ghost use Rattle.std.specs.Prelude.{◌≡◌, true};
 
+use crate::begun::check_child_ends;
 use crate::device::SpoolFolder;
 use crate::devices::{ChildDiscovery, print_devices};
 use crate::fault::ShellFault;
 use crate::files::read_rules;
+use crate::fitness::tell_programs;
 use crate::launcher::launcher_in;
 use crate::serving::{memory_device, place_in, serve};
 use crate::words::ShellWords;
@@ -18,6 +20,7 @@ use std::fs::{File, Files};
 use std::io::{Read, Write};
 use std::net::Net;
 use std::process::Processes;
+use std::time::Clock;
 
 /// Does what the words ask for: it prints the devices, or serves the commands over a spool.
 pub fn run<L, H, R: Read, W: Write>(
@@ -29,7 +32,7 @@ pub fn run<L, H, R: Read, W: Write>(
 ) -> Result<(), ShellFault>
 where
     L: Files<File = File> + AllocGlobal + Log,
-    H: Files<File = File> + Net + Processes + AllocGlobal,
+    H: Files<File = File> + Net + Processes + Clock + AllocGlobal,
     // Where devices are asked for no command is read.
     ensures devices { words.entry.devices ≡ true → R.remaining reader.new ≡ R.remaining reader.old }
 {
@@ -37,9 +40,12 @@ where
     if words.devices {
         return print_devices(rt.alloc(), &ChildDiscovery { rt }, &programs, writer);
     }
+    if words.programs.is_some() {
+        check_child_ends(rt)?;
+    }
     let rules = (types, convs);
     match words.root {
-        Some(dir) => serve_folder(rt, dir, words.size, programs, rules, reader, writer),
+        Some(dir) => serve_folder(logged, rt, dir, words.size, programs, rules, reader, writer),
         None => serve_memory(rt.alloc(), words.size, rules, reader, writer),
     }
 }
@@ -58,7 +64,8 @@ fn serve_memory<R: Read, W: Write>(
 }
 
 // Serves the commands over the spool of a folder, with the programs of the list as children.
-fn serve_folder<H, R: Read, W: Write>(
+fn serve_folder<L, H, R: Read, W: Write>(
+    log: &L,
     rt: &H,
     dir: &str,
     size: u64,
@@ -68,11 +75,13 @@ fn serve_folder<H, R: Read, W: Write>(
     writer: &mut W,
 ) -> Result<(), ShellFault>
 where
-    H: Files<File = File> + Net + Processes + AllocGlobal,
+    L: Log,
+    H: Files<File = File> + Net + Processes + Clock + AllocGlobal,
 {
     // The folder is this program's until all commands have been served.
     let folder = SpoolFolder::own(rt, dir)?;
     let disk = folder.device(rt, size)?;
-    let children = launcher_in(rt, dir, programs)?;
+    tell_programs(log, rt, &programs);
+    let children = launcher_in(log, rt, dir, programs)?;
     serve(rt.alloc(), disk, children, rules, reader, writer)
 }

@@ -1,0 +1,64 @@
+//! How the program was started, as far as its children's ends depend on it.
+//!
+//! A program that is started with the signal SIGCHLD ignored keeps that, and its children vanish when they end: how they
+//! ended can't be known, so each job would be printed again and again.
+ghost use Rattle.std.specs.Prelude.{◌≡◌, OnOk, false, IfOk, IfErr};
+ghost use Rattle.spool_host.specs.Begun.{ignores_in, is_odd, tells_ignored};
+ghost use Rattle.spool_host.specs.declared.fault.ShellFault.TheVariants.{Ignored, Memory};
+
+use crate::fault::ShellFault;
+use std::alloc::{AllocError, Global};
+use std::fs;
+use std::fs::{File, Files};
+use std::io::ErrorKind;
+
+// What the system tells of this process.
+const STATUS: &str = "/proc/self/status";
+
+// The line of the signals that are ignored, in hexadecimal digits: the fifth from the end has SIGCHLD, number 17, as its
+// lowest bit.
+const IGNORED: &[u8] = b"SigIgn:";
+
+/// Refuses a start in which the ends of children can't be known.
+pub(crate) fn check_child_ends<R: Files<File = File> + AllocGlobal>(rt: &R) -> Result<(), ShellFault> {
+    match fs::read_to_string(rt, STATUS) {
+        Ok(status) => check_status(status.as_bytes()),
+        Err(error) if error.kind() == ErrorKind::OutOfMemory => Err(ShellFault::Memory),
+        // A system without this file: nothing is known against it.
+        Err(_) => Ok(()),
+    }
+}
+
+fn check_status(status: &[u8]) -> Result<(), ShellFault>
+    ensures ok { OnOk result (ignores_in status.now ≡ false) }
+    ensures err { IfErr result (λ fault. (fault ≡ Ignored) × (ignores_in status.now ≡ true)) }
+{
+    if ignores_in(status) {
+        Err(ShellFault::Ignored)
+    } else {
+        Ok(())
+    }
+}
+
+fn ignores_in(status: &[u8]) -> bool
+    ensures { result ≡ ignores_in status.now }
+{
+    status.split(|b| *b == b'\n').any(tells_ignored)
+}
+
+// Whether a line tells that SIGCHLD is ignored.
+fn tells_ignored(line: &[u8]) -> bool
+    ensures { result ≡ tells_ignored line.now }
+{
+    match line {
+        [.., digit, _, _, _, _] => line.starts_with(IGNORED) && is_odd(*digit),
+        _ => false,
+    }
+}
+
+// Whether a hexadecimal digit is that of an odd number.
+fn is_odd(digit: u8) -> bool
+    ensures { result ≡ is_odd digit }
+{
+    matches!(digit, b'1' | b'3' | b'5' | b'7' | b'9' | b'b' | b'd' | b'f')
+}
