@@ -845,10 +845,40 @@ def locks_that_go(folder):
     lock = os.open(folder.at(folder.root), os.O_RDONLY)
     fcntl.flock(lock, fcntl.LOCK_EX)
     begun = time.monotonic()
-    folder.run(b"jobs\n", status=1, told=["spool: disk"])
+    folder.run(b"jobs\n", status=1, told=["spool: disk", "spool: cause: owned"])
     same("seconds", 0.8 < time.monotonic() - begun < 5, True)
     threading.Timer(0.4, os.close, [lock]).start()
     same("replies", folder.run(b"jobs\n"), ["ok 0"])
+
+
+def causes_of_the_disk(folder):
+    """`spool: disk` has a second line, which names its cause."""
+    ends = {}
+    for name in ("absent", "file", "taken", "dangling"):
+        root = folder.at(name)
+        if name == "file":
+            folder.write(name, "")
+        elif name != "absent":
+            os.mkdir(root)
+        if name == "taken":
+            os.mkdir(os.path.join(root, "spool.disk"))
+        if name == "dangling":
+            os.symlink("nowhere", os.path.join(root, "spool.disk"))
+        run = subprocess.run([shell, "--root", name], input=b"", cwd=folder.path, capture_output=True, timeout=60)
+        ends[name] = (run.returncode, run.stderr.decode().splitlines())
+    causes = {"absent": "absent", "file": "no file", "taken": "no file", "dangling": "absent"}
+    same("causes", ends, {name: (1, ["spool: disk", f"spool: cause: {cause}"]) for name, cause in causes.items()})
+    root = folder.at(folder.root)
+    mounted = subprocess.run(["mount", "-t", "tmpfs", "-o", "size=64k", "none", root], capture_output=True)
+    if mounted.returncode:
+        print("causes_of_the_disk: no room and read-only are left out, since it may not mount a file system (it wants root)")
+        return
+    try:
+        folder.run(b"", status=1, told=["spool: disk", "spool: cause: no room"])
+        subprocess.run(["mount", "-o", "remount,ro", root], check=True)
+        folder.run(b"", status=1, told=["spool: disk", "spool: cause: read-only"])
+    finally:
+        subprocess.run(["umount", root], check=True)
 
 
 # ---- many and much
@@ -964,6 +994,7 @@ TESTS = [
     causes,
     ends_that_cannot_be_known,
     locks_that_go,
+    causes_of_the_disk,
     much,
     attempts,
     side_programs_that_read,

@@ -28,7 +28,7 @@ fn broken_after(alloc: Global, calls: u64) -> Result<Vec<u8>, Fail> {
     );
     let word = match ended {
         Ok(()) => "served\n",
-        Err(ShellFault::Disk) => "disk\n",
+        Err(ShellFault::Disk(_)) => "disk\n",
         Err(_) => "other\n",
     };
     told.extend_from_slice(word.as_bytes())?;

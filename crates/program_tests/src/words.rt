@@ -1,4 +1,4 @@
-use spool_host::{ShellFault, ShellWords, WordsFault, read_words};
+use spool_host::{DiskCause, ShellFault, ShellWords, WordsFault, read_words};
 use std::test::Fail;
 
 const MOST: &str = "0123456789012345678901234567890123456789012345678901234567890123";
@@ -108,7 +108,8 @@ fn each_fault_has_its_word(rt: HostRuntime) -> Result<(), Fail> {
         (ShellFault::NotASpool, "not-a-spool"),
         (ShellFault::Damaged(16), "damaged 16"),
         (ShellFault::Memory, "memory"),
-        (ShellFault::Disk, "disk"),
+        (ShellFault::Disk(DiskCause::Owned), "disk"),
+        (ShellFault::Ignored, "sigchld-ignored"),
         (ShellFault::Read, "read"),
         (ShellFault::Write, "write"),
     ] {

@@ -1,5 +1,5 @@
 -- What the system tells of the signals that a process ignores.
-use Rattle.std.specs.Prelude.{ℕ, Bool, true, false, ◌&&◌, ◌||◌, ◌==◌, nat_eq, List, [], ◌∷◌, codes, reverse}
+use Rattle.std.specs.Prelude.{ℕ, Bool, true, false, ◌&&◌, ◌==◌, nat_eq, List, [], ◌∷◌, codes, reverse}
 use Rattle.std.specs.List.{list_any, slice_split, starts_with}
 
 -- the hexadecimal digits of odd numbers, as codes

@@ -49,7 +49,7 @@ TellsNoEnd status = (exit_code status ≡ None) × (exit_signal status ≡ None)
 -- ---- what may be missing
 
 abbrev pub is_success : Exit → Bool
-is_success (Code 0) = true
+is_success (Code code) = code == 0
 is_success exit = false
 
 -- A child that ended well may have written more than was kept: there is no room behind what it wrote on a stream. Of an

@@ -1,5 +1,5 @@
 -- What is told of a stage that failed.
-use Rattle.std.specs.Prelude.{ℕ, Bool, true, false, Option, None, Some}
+use Rattle.std.specs.Prelude.{Bool, true, false, cond, ◌==◌, Option, None, Some}
 use Rattle.spool_types.specs.declared.effect.Effect.{Effect}
 use Rattle.spool_types.specs.declared.effect.Effect.TheVariants as effects
 use Rattle.spool_types.specs.declared.effect.Exit.{Exit}
@@ -9,8 +9,7 @@ use Rattle.spool_host.specs.declared.reasons.Reason.TheVariants as reasons
 
 -- an end that is no success; one that nobody saw has its own cause
 abbrev pub bad_end : Exit → Option Reason
-bad_end (exits.Code 0) = None
-bad_end (exits.Code code) = Some (reasons.Status code)
+bad_end (exits.Code code) = cond (code == 0) None (Some (reasons.Status code))
 bad_end exits.Signal = Some reasons.Signal
 bad_end exits.NoStart = None
 bad_end exits.Lost = None

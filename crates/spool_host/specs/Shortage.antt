@@ -1,5 +1,5 @@
 -- What a start wanted that failed.
-use Rattle.std.specs.Prelude.{ℕ, ℤ, pos, Bool, ◌||◌, List, Option, None, Some, if◌then◌else◌, ◌==◌}
+use Rattle.std.specs.Prelude.{ℕ, ℤ, pos, Bool, ◌||◌, cond, ◌==◌, List, Option, None, Some}
 use Rattle.std.specs.Ordering.{is_le, nat_cmp}
 use Rattle.std.specs.Cmp.Lexicographic.{slice_cmp}
 use Rattle.std.specs.declared.io.ErrorKind.{ErrorKind}
@@ -9,8 +9,7 @@ use Rattle.spool_host.specs.declared.shortage.Shortage.TheVariants.{Descriptors,
 
 -- the numbers of the system for too many files of a process, and of all
 abbrev pub short_number : Option ℤ → Option Shortage
-short_number (Some (pos 24)) = Some Descriptors
-short_number (Some (pos 23)) = Some Descriptors
+short_number (Some (pos number)) = cond (number == 24 || number == 23) (Some Descriptors) None
 short_number _ = None
 
 -- by the kind of the error, or else by its number

@@ -2,7 +2,7 @@
 //!
 //! A program that is started with the signal SIGCHLD ignored keeps that, and its children vanish when they end: how they
 //! ended can't be known, so each job would be printed again and again.
-ghost use Rattle.std.specs.Prelude.{◌≡◌, OnOk, false, IfOk, IfErr};
+ghost use Rattle.std.specs.Prelude.{◌≡◌, OnOk, false, true, IfErr};
 ghost use Rattle.spool_host.specs.Begun.{ignores_in, is_odd, tells_ignored};
 ghost use Rattle.spool_host.specs.declared.fault.ShellFault.TheVariants.{Ignored, Memory};
 

@@ -25,7 +25,7 @@ ghost use Rattle.std.specs.IoError.{error_kind};
 ghost use Rattle.std.specs.Io.KnownBytes.{Appends};
 ghost use Rattle.spool_host.specs.Faults.{IsOfFolder};
 
-use crate::fault::ShellFault;
+use crate::fault::{DiskCause, ShellFault};
 use spool_core::make;
 use spool_disk::FileDisk;
 use std::fs::{File, Files, OpenOptions, TryLockError};
@@ -153,7 +153,7 @@ fn finish_device<R: Files<File = File> + Clock>(
     file.sync_all()?;
     let mut disk = FileDisk::new(file)?;
     if make(&mut disk).is_err() {
-        return Err(ShellFault::Disk);
+        return Err(ShellFault::Disk(DiskCause::Failed));
     }
     fs::rename(rt, unfinished, path)?;
     Ok(disk)
@@ -184,17 +184,14 @@ fn write_zeros<W: Write>(writer: &mut W, count: u64) -> io::Result<()>
 // The file, or the folder, which no other program gets until this one lets it go. A program that was killed while it
 // started a child has it for some milliseconds more, until the child runs: so this waits a moment.
 fn locked<R: Clock>(rt: &R, file: File) -> Result<File, ShellFault>
-    ensures { IfErr result (λ fault. fault ≡ ShellFault.Disk) }
+    ensures { IfErr result IsOfFolder }
 {
     for _ in 0..MOST_WAITS {
         match file.try_lock() {
             Ok(()) => return Ok(file),
             Err(TryLockError::WouldBlock) => thread::sleep(rt, Duration::from_millis(WAIT)),
-            Err(TryLockError::Error(_)) => return Err(ShellFault::Disk),
+            Err(TryLockError::Error(error)) => return Err(ShellFault::from(error)),
         }
     }
-    match file.try_lock() {
-        Ok(()) => Ok(file),
-        Err(_) => Err(ShellFault::Disk),
-    }
+    Err(ShellFault::Disk(DiskCause::Owned))
 }

@@ -2,7 +2,7 @@
 //!
 //! The system runs what begins with `#!`, and programs of the form ELF. What it doesn't know `env` would hand to a shell,
 //! where an empty file does nothing and ends with 0, as if the job were printed. So such a file isn't run.
-ghost use Rattle.std.specs.Prelude.{◌≡◌, ◌||◌};
+ghost use Rattle.std.specs.Prelude.{◌≡◌};
 ghost use Rattle.spool_host.specs.Fitness.{begins_right, ends_with_return};
 
 use log::{Log, error};

@@ -97,7 +97,7 @@ mod words;
 pub use device::{SpoolFolder, remove_if_there};
 pub use devices::{ChildDiscovery, Discovery, print_devices};
 pub use ends::{given_words, no_words, tell_end, tell_words_fault};
-pub use fault::ShellFault;
+pub use fault::{DiskCause, ShellFault};
 pub use files::read_rules;
 pub use launcher::{Launcher, MOST_BLOCKS, RunningChild, launcher_in};
 pub use running::run;

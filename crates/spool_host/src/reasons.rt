@@ -1,7 +1,6 @@
 //! Why a stage failed, as far as the launcher knows: a line on standard error for each that no text of the child's tells.
-ghost use Rattle.std.specs.Prelude.{◌≡◌, ◌<◌, IfOk, None};
+ghost use Rattle.std.specs.Prelude.{◌≡◌, IfOk};
 ghost use Rattle.std.specs.List.{list_any};
-ghost use Rattle.spool_types.specs.Limits.{longest_document};
 ghost use Rattle.stderr_lines.specs.Reports.{report_of};
 ghost use Rattle.spool_host.specs.Reasons.{bad_end, is_message, may_pass};
 
