@@ -840,6 +840,41 @@ def ends_that_cannot_be_known(folder):
     same("with the usual signal", states(run.stdout.decode().splitlines()), {1: "9 job-completed-successfully"})
 
 
+def ends_that_nobody_knows(folder):
+    """Where a wait doesn't tell an end, nothing more is started in that run."""
+    strace = shutil.which("strace")
+    if not strace:
+        print("ends_that_nobody_knows: left out, since it wants strace (Debian's package strace)")
+        return
+    folder.program("backend", "counts", '#!/bin/sh\necho ran >>"$0.ran"\n')
+    script = printed("lab", "counts:/x", policy="retry-current-job") + b"drain 20\njobs\n"
+    words = [strace, "-qq", "-o", folder.at("calls"), "-e", "inject=wait4,waitid:error=ECHILD", *folder.words()]
+    run = subprocess.run(words, input=script, cwd=folder.path, capture_output=True, timeout=60)
+    told = ["spool: job 1 attempt 1 stage 1 counts: how it ended isn't known"]
+    told += [f"spool: job 1 attempt {n} stage 1 counts: not started, since the end of a child before it isn't known" for n in range(2, 6)]
+    same("told", run.stderr.decode().splitlines(), told)
+    same("what ran", folder.read("backend-counts.ran"), b"ran\n")
+
+
+def names_taken_away(folder):
+    """A filter that cleans up the folder of its temporary files takes no job away."""
+    folder.program("filter", "first", '#!/bin/sh\ncat "$6"\nrm -rf "$TMPDIR"/*\n')
+    folder.program("backend", "keep", '#!/bin/sh\ncat >"$0.kept"\n')
+    folder.program("backend", "blocks", '#!/bin/sh\nrm "$TMPDIR/spool.disk"\nmkdir "$TMPDIR/spool.disk"\n')
+    script = printed("lab", "keep:/x", "b/b", document=b"doc") + printed("later", "keep:/x", number=2) + b"hold 2 indefinite\ndrain 5\njobs\n"
+    replies = folder.run(script)
+    same("jobs", states(replies), {1: "9 job-completed-successfully", 2: "4 job-hold-until-specified"})
+    same("what it printed", folder.read("backend-keep.kept"), b"doc")
+    same("files", folder.left(), ["spool.disk"])
+    found = os.stat(folder.at("spool", "spool.disk"))
+    same("the file", (found.st_size, oct(found.st_mode)), (16777216, "0o100600"))
+    again = folder.run(b"jobs\n")
+    same("the jobs again", [line for line in again if line.startswith("job ")], [line for line in replies if line.startswith("job ")])
+    # Where the name can't be given back, nothing more is acknowledged.
+    replies = folder.run(printed("blocked", "blocks:/x", number=3) + b"round\njobs\nrelease 2\n", status=1, told=["spool: disk", "spool: cause: failed"])
+    same("without its name", ("error disk" in replies, replies[-1]), (True, "error dead"))
+
+
 def locks_that_go(folder):
     """A lock that goes in a moment, as that of a program that was killed, is waited for, and one that stays isn't."""
     lock = os.open(folder.at(folder.root), os.O_RDONLY)
@@ -993,6 +1028,8 @@ TESTS = [
     limits,
     causes,
     ends_that_cannot_be_known,
+    ends_that_nobody_knows,
+    names_taken_away,
     locks_that_go,
     causes_of_the_disk,
     much,

@@ -14,7 +14,8 @@
 //! start removes. Where a step fails it is removed at once. It is made only where the name itself is absent: a file that
 //! can't be opened, a folder or a link that leads nowhere stays as it is.
 //!
-//! At every start the folder is synced before the first command is read.
+//! At every start the folder is synced before the first command is read. What keeps the name while children run is
+//! [`crate::named_disk`].
 //!
 //! # Faults
 //!
@@ -26,8 +27,10 @@ ghost use Rattle.std.specs.Io.KnownBytes.{Appends};
 ghost use Rattle.spool_host.specs.Faults.{IsOfFolder};
 
 use crate::fault::{DiskCause, ShellFault};
+use crate::named_disk::NamedDisk;
 use spool_core::make;
 use spool_disk::FileDisk;
+use std::alloc::AllocError;
 use std::fs::{File, Files, OpenOptions, TryLockError};
 use std::io::{ErrorKind, Write};
 use std::os::unix::fs::OpenOptionsExt;
@@ -71,23 +74,43 @@ impl<'a> SpoolFolder<'a> {
     }
 
     /// The spool's file. Where the name isn't there it is made, with `size` bytes; one that is there stays as it is.
-    pub fn device<R: Files<File = File> + Clock + AllocGlobal>(
+    pub fn device<'r, R: Files<File = File> + Clock + AllocGlobal>(
         &self,
-        rt: &R,
+        rt: &'r R,
         size: u64,
-    ) -> Result<FileDisk, ShellFault>
+    ) -> Result<NamedDisk<'r, R>, ShellFault>
         ensures { IfErr result IsOfFolder }
     {
-        let path = self.path.join(rt.alloc(), NAME)?;
-        let disk = if is_absent(rt, path.as_path())? {
-            self.make_device(rt, path.as_path(), size)?
-        } else {
-            open_device(rt, path.as_path())?
-        };
+        let file = self.file(rt, size)?;
         // At every start: a program that was killed before this left a name that a power cut may still take away, and
         // with it all jobs that this one acknowledges.
         self.folder.sync_all()?;
-        Ok(disk)
+        let path = self.named(rt, NAME)?;
+        let unfinished = self.named(rt, UNFINISHED)?;
+        let folder = self.folder.try_clone()?;
+        Ok(NamedDisk::new(rt, folder, path, unfinished, file)?)
+    }
+
+    // The file, opened or made, and locked.
+    fn file<R: Files<File = File> + Clock + AllocGlobal>(
+        &self,
+        rt: &R,
+        size: u64,
+    ) -> Result<File, ShellFault>
+        ensures { IfErr result IsOfFolder }
+    {
+        let path = self.path.join(rt.alloc(), NAME)?;
+        if is_absent(rt, path.as_path())? {
+            self.make_device(rt, path.as_path(), size)
+        } else {
+            open_device(rt, path.as_path())
+        }
+    }
+
+    // The path of this name in the folder.
+    fn named<R: AllocGlobal>(&self, rt: &R, name: &str) -> Result<String, AllocError> {
+        let path = self.path.join(rt.alloc(), name)?;
+        String::from_str(rt.alloc(), path.as_path().as_str())
     }
 
     // Makes the file. What an earlier start left unfinished goes first, and what this one can't finish goes too.
@@ -96,7 +119,7 @@ impl<'a> SpoolFolder<'a> {
         rt: &R,
         path: Path<'_>,
         size: u64,
-    ) -> Result<FileDisk, ShellFault>
+    ) -> Result<File, ShellFault>
         ensures { IfErr result IsOfFolder }
     {
         let unfinished = self.path.join(rt.alloc(), UNFINISHED)?;
@@ -132,11 +155,11 @@ pub fn remove_if_there<R: Files>(rt: &R, path: Path<'_>) -> io::Result<()>
 fn open_device<R: Files<File = File> + Clock>(
     rt: &R,
     path: Path<'_>,
-) -> Result<FileDisk, ShellFault>
+) -> Result<File, ShellFault>
     ensures { IfErr result IsOfFolder }
 {
     let file = OpenOptions::new().read(true).write(true).open(rt, path)?;
-    Ok(FileDisk::new(locked(rt, file)?)?)
+    locked(rt, file)
 }
 
 // Makes a whole spool, and then gives it its name.
@@ -145,18 +168,26 @@ fn finish_device<R: Files<File = File> + Clock>(
     unfinished: Path<'_>,
     path: Path<'_>,
     size: u64,
-) -> Result<FileDisk, ShellFault>
+) -> Result<File, ShellFault>
     ensures { IfErr result IsOfFolder }
 {
     let mut file = locked(rt, new_file(rt, unfinished)?)?;
     write_zeros(&mut file, size)?;
     file.sync_all()?;
-    let mut disk = FileDisk::new(file)?;
-    if make(&mut disk).is_err() {
-        return Err(ShellFault::Disk(DiskCause::Failed));
-    }
+    make_spool(&file)?;
     fs::rename(rt, unfinished, path)?;
-    Ok(disk)
+    Ok(file)
+}
+
+// Makes a spool in this file.
+fn make_spool(file: &File) -> Result<(), ShellFault>
+    ensures { IfErr result IsOfFolder }
+{
+    let mut disk = FileDisk::new(file.try_clone()?)?;
+    match make(&mut disk) {
+        Ok(()) => Ok(()),
+        Err(_) => Err(ShellFault::Disk(DiskCause::Failed)),
+    }
 }
 
 // A file without bytes, which its owner alone may read.
