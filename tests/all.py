@@ -59,6 +59,8 @@ ON_DEMAND = ["gate_minutes.py", "more_edits.py"]
 PARTS = [
     "all.py",
     "allocations.txt",
+    "child_folder.py",
+    "children_harm.py",
     "count_allocations.c",
     "journal.py",
     "large_children.py",

@@ -1,19 +1,15 @@
 -- What the system tells of the signals that a process ignores.
-use Rattle.std.specs.Prelude.{ℕ, Bool, true, false, ◌&&◌, ◌==◌, nat_eq, List, [], ◌∷◌, codes, reverse}
+use Rattle.std.specs.Prelude.{ℕ, ◌-◌, Bool, ◌&&◌, ◌==◌, nat_eq, nat_le, List, codes, length, slice_index_or}
 use Rattle.std.specs.List.{list_any, slice_split, starts_with}
 
 -- the hexadecimal digits of odd numbers, as codes
 abbrev pub is_odd : ℕ → Bool
 is_odd digit = list_any (λ odd. digit == odd) (codes "13579bdf")
 
--- the fifth from the end of a line: of its digits the one with the signals 17 to 20, of which 17 is the lowest
-abbrev pub fifth_is_odd : List ℕ → Bool
-fifth_is_odd (_ ∷ _ ∷ _ ∷ _ ∷ digit ∷ _) = is_odd digit
-fifth_is_odd _ = false
-
--- the line is that of the ignored signals, and SIGCHLD, number 17, is among them
+-- The line is that of the ignored signals, and SIGCHLD, number 17, is among them: the fifth digit from the end has the
+-- signals 17 to 20, of which 17 is the lowest.
 abbrev pub tells_ignored : List ℕ → Bool
-tells_ignored line = starts_with nat_eq line (codes "SigIgn:") && fifth_is_odd (reverse line)
+tells_ignored line = nat_le 5 (length line) && starts_with nat_eq line (codes "SigIgn:") && is_odd (slice_index_or line (length line - 5) 0)
 
 -- a line of the text tells so
 abbrev pub ignores_in : List ℕ → Bool

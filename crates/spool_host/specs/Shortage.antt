@@ -1,6 +1,6 @@
 -- What a start wanted that failed.
-use Rattle.std.specs.Prelude.{ℕ, ℤ, pos, Bool, ◌||◌, cond, ◌==◌, List, Option, None, Some}
-use Rattle.std.specs.Ordering.{is_le, nat_cmp}
+use Rattle.std.specs.Prelude.{ℕ, ℤ, pos, Bool, ◌||◌, cond, List, Option, None, Some}
+use Rattle.std.specs.Ordering.{int_eq, is_le, nat_cmp}
 use Rattle.std.specs.Cmp.Lexicographic.{slice_cmp}
 use Rattle.std.specs.declared.io.ErrorKind.{ErrorKind}
 use Rattle.std.specs.declared.io.ErrorKind.TheVariants.{QuotaExceeded, StorageFull, WouldBlock}
@@ -9,8 +9,8 @@ use Rattle.spool_host.specs.declared.shortage.Shortage.TheVariants.{Descriptors,
 
 -- the numbers of the system for too many files of a process, and of all
 abbrev pub short_number : Option ℤ → Option Shortage
-short_number (Some (pos number)) = cond (number == 24 || number == 23) (Some Descriptors) None
-short_number _ = None
+short_number None = None
+short_number (Some number) = cond (int_eq number (pos 24) || int_eq number (pos 23)) (Some Descriptors) None
 
 -- by the kind of the error, or else by its number
 abbrev pub shortage_of : ErrorKind → Option ℤ → Option Shortage

@@ -152,10 +152,7 @@ pub fn remove_if_there<R: Files>(rt: &R, path: Path<'_>) -> io::Result<()>
 }
 
 // Opens the file that is there.
-fn open_device<R: Files<File = File> + Clock>(
-    rt: &R,
-    path: Path<'_>,
-) -> Result<File, ShellFault>
+fn open_device<R: Files<File = File> + Clock>(rt: &R, path: Path<'_>) -> Result<File, ShellFault>
     ensures { IfErr result IsOfFolder }
 {
     let file = OpenOptions::new().read(true).write(true).open(rt, path)?;

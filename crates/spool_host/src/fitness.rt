@@ -34,7 +34,10 @@ pub(crate) enum Obstacle {
 }
 
 /// What keeps the file of a program from being run, if something does. The error is the system's, where it can't look.
-pub(crate) fn obstacle_of<R: Files<File = File>>(rt: &R, path: &str) -> io::Result<Option<Obstacle>> {
+pub(crate) fn obstacle_of<R: Files<File = File>>(
+    rt: &R,
+    path: &str,
+) -> io::Result<Option<Obstacle>> {
     let found = match fs::metadata(rt, path) {
         Ok(found) => found,
         Err(_) => return Ok(Some(Obstacle::Absent)),

@@ -43,7 +43,7 @@ use crate::reasons::{Reason, StageRun, reason_of};
 use crate::script::Call;
 use crate::serving::place_in;
 use crate::sessions::SideLine;
-use crate::shortage::{Patience, shortage_of};
+use crate::shortage::{MOST_WAITS, Patience, shortage_of};
 use crate::side_device::{device_of, uri_in};
 use child_pipeline::{ChildFault, Children, Content, Finish, Input, Order, Program, Texts};
 use filter_args::Place;
@@ -157,7 +157,7 @@ impl<'a, L: Log, R: Files<File = File> + Net + Processes + Clock + AllocGlobal> 
         if self.blind {
             return Err(Reason::Blind);
         }
-        for _ in 0..u64::MAX {
+        for _ in 0..MOST_WAITS + 1 {
             match self.launch(order) {
                 Err(reason) if reason.may_pass() && self.patience.wait(self.rt) => {}
                 launched => return launched,
@@ -264,8 +264,7 @@ impl<'a, L: Log, R: Files<File = File> + Net + Processes + Clock + AllocGlobal> 
 }
 
 impl<'a, L: Log, R: Files<File = File> + Net + Processes + Clock + AllocGlobal> Children
-    for Launcher<'a, L, R>
-{
+    for Launcher<'a, L, R> {
     type Ticket = RunningChild<R::Started>;
 
     ghost tells = { λ _. None };
@@ -393,7 +392,10 @@ fn refusal_of(error: &io::Error) -> Reason
 const QUEUE: &str = "PRINTER=";
 
 fn queue_in(environment: &[String]) -> &str {
-    match environment.iter().find(|variable| variable.starts_with(QUEUE)) {
+    match environment
+        .iter()
+        .find(|variable| variable.starts_with(QUEUE))
+    {
         Some(variable) => variable.as_str(),
         None => "",
     }

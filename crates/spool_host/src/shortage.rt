@@ -1,12 +1,11 @@
 //! What the system is short of for a moment, and how long a start waits for it.
 ghost use Rattle.std.specs.Prelude.{◌≡◌};
 ghost use Rattle.std.specs.IoError.{error_kind, raw_os_error};
-ghost use Rattle.spool_host.specs.Shortage.{begins_round, shortage_of};
+ghost use Rattle.spool_host.specs.Shortage.{begins_round, short_number, shortage_of};
 
-use std::io;
 use std::io::ErrorKind;
-use std::thread;
 use std::time::{Clock, Duration};
+use std::{io, thread};
 use thiserror::Error;
 
 // The numbers of the system for too many files of a process, and of all.
@@ -15,7 +14,7 @@ const EMFILE: i32 = 24;
 const ENFILE: i32 = 23;
 
 // How often all starts of a round wait, and for how many milliseconds: two seconds in all.
-const MOST_WAITS: u32 = 40;
+pub(crate) const MOST_WAITS: u32 = 40;
 
 const WAIT: u64 = 50;
 
@@ -37,10 +36,17 @@ pub(crate) fn shortage_of(error: &io::Error) -> Option<Shortage>
     match error.kind() {
         ErrorKind::StorageFull | ErrorKind::QuotaExceeded => Some(Shortage::Room),
         ErrorKind::WouldBlock => Some(Shortage::Processes),
-        _ => match error.raw_os_error() {
-            Some(EMFILE) | Some(ENFILE) => Some(Shortage::Descriptors),
-            _ => None,
-        },
+        _ => short_number(error.raw_os_error()),
+    }
+}
+
+// What the number of an error says of files.
+fn short_number(number: Option<i32>) -> Option<Shortage>
+    ensures { result ≡ short_number number }
+{
+    match number {
+        Some(number) if number == EMFILE || number == ENFILE => Some(Shortage::Descriptors),
+        _ => None,
     }
 }
 
@@ -95,5 +101,5 @@ impl Patience {
 fn begins_round(last: &str, queue: &str) -> bool
     ensures { result ≡ begins_round last.now queue.now }
 {
-    queue.as_bytes() <= last.as_bytes()
+    queue.cmp(last).is_le()
 }
