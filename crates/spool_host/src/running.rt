@@ -8,6 +8,7 @@ use crate::fault::ShellFault;
 use crate::files::read_rules;
 use crate::fitness::tell_programs;
 use crate::launcher::launcher_in;
+use crate::named_disk::NamedDisk;
 use crate::serving::{memory_device, place_in, serve};
 use crate::words::ShellWords;
 use child_pipeline::NoChildren;
@@ -36,12 +37,12 @@ where
     // Where devices are asked for no command is read.
     ensures devices { words.entry.devices ≡ true → R.remaining reader.new ≡ R.remaining reader.old }
 {
+    if words.programs.is_some() && !words.devices {
+        check_child_ends(rt)?;
+    }
     let (types, convs, programs) = read_rules(logged, words.types, words.convs, words.programs)?;
     if words.devices {
         return print_devices(rt.alloc(), &ChildDiscovery { rt }, &programs, writer);
-    }
-    if words.programs.is_some() {
-        check_child_ends(rt)?;
     }
     let rules = (types, convs);
     match words.root {
@@ -78,10 +79,25 @@ where
     L: Log,
     H: Files<File = File> + Net + Processes + Clock + AllocGlobal,
 {
-    // The folder is this program's until all commands have been served.
-    let folder = SpoolFolder::own(rt, dir)?;
-    let disk = folder.device(rt, size)?;
     tell_programs(log, rt, &programs);
     let children = launcher_in(log, rt, dir, programs)?;
-    serve(rt.alloc(), disk, children, rules, reader, writer)
+    let (folder, disk) = open_folder(rt, dir, size)?;
+    let served = serve(rt.alloc(), disk, children, rules, reader, writer);
+    // The folder is this program's until all commands have been served.
+    drop(folder);
+    served
+}
+
+// The folder, which is this program's then, and the disk in it.
+fn open_folder<'a, H>(
+    rt: &'a H,
+    dir: &'a str,
+    size: u64,
+) -> Result<(SpoolFolder<'a>, NamedDisk<'a, H>), ShellFault>
+where
+    H: Files<File = File> + Clock + AllocGlobal,
+{
+    let folder = SpoolFolder::own(rt, dir)?;
+    let disk = folder.device(rt, size)?;
+    Ok((folder, disk))
 }
