@@ -2,7 +2,8 @@
 //!
 //! A program that is started with the signal SIGCHLD ignored keeps that, and its children vanish when they end: how they
 //! ended can't be known, so each job would be printed again and again.
-ghost use Rattle.std.specs.Prelude.{◌≡◌, ◌⊎◌, OnOk, false, true, IfErr, IfOk};
+ghost use Rattle.std.specs.Prelude.{◌≡◌, ◌⊎◌, OnOk, false, true, map, IfErr, IfOk};
+ghost use Rattle.std.specs.List.{list_any};
 ghost use Rattle.spool_host.specs.Begun.{ignores_in, is_odd, tells_ignored};
 ghost use Rattle.spool_host.specs.declared.fault.ShellFault.TheVariants.{Ignored, Memory};
 
@@ -47,7 +48,13 @@ fn ignores_in(alloc: Global, status: &[u8]) -> Result<bool, AllocError>
     ensures { IfOk result (λ ignores. ignores ≡ ignores_in status.now) }
 {
     let lines = lines_of(alloc, status)?;
-    Ok(lines.iter().any(|line| tells_ignored(line)))
+    Ok(any_ignored(&lines))
+}
+
+fn any_ignored(lines: &[&[u8]]) -> bool
+    ensures { result ≡ list_any tells_ignored (map (λ line. line.now) lines.now) }
+{
+    lines.iter().any(|line| tells_ignored(line))
 }
 
 // Whether a line tells that SIGCHLD is ignored.
