@@ -7,7 +7,8 @@ script runs programs over the library of tests/count_allocations.c, which it com
 - A call that takes no memory. A test may print `begin NAME` before such a call and `end NAME` behind it, and no allocation
   may come between the two.
 - The tests of CRATES, with their first allocation refused, then with their second, and so on. Each has to end with that very
-  fault: any other end is an answer that changed in the place of the fault.
+  fault: any other end is an answer that changed in the place of the fault. Some tests compare such an answer themselves
+  (BY_ANSWER): their own assertion fails then. Where std asks once more, for less, nothing changes, here and in a script.
 - The stored scripts of crates/spool_scripts/data that need no made up children, disk or limits, served by the shell. Between
   the first write of an event and its last sync nothing is taken, and from there to the reply no more than the reply takes.
 - Some of these scripts with each allocation refused in turn. A command that finds no memory is answered `error memory`, and

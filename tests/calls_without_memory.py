@@ -2,7 +2,7 @@
 """Sees that the calls which take no memory take none, in a run of the program: calls_without_memory.py [PROGRAM]
 
 No clause can say that a call takes no memory. This runs the shell under valgrind's callgrind, once for each call of CALLS,
-which collects only from the call's begin to its end. Whoever allocates then is in what it collected. The run prints two
+which collects only from the call's begin to its end. Whoever allocates then is in what it collected. The run prints
 documents with real children, through a filter and a side channel, makes a checkpoint while a job waits with its document, and
 opens the spool again with a job in its second stage.
 

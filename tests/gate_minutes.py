@@ -7,7 +7,7 @@ status 0, or says that these are more than MINUTES (150 where no word is given),
 
 The sum is what the system counted for the gate and all that it started. The table is made of looks at the running
 provers, so its parts may lack half a second for each of them. Nothing else that wants the processors should run beside
-it: two provers on one core slow each other down. On four processors it takes some forty minutes.
+it: two provers on one core slow each other down. On four processors it takes some fifty minutes.
 """
 import os
 import re
