@@ -3,9 +3,9 @@
 
    Without DISK nothing is journalled, no output is read, and a child has no variables. With it the program does what any
    spooler has to that keeps the same promises: it sees that the program can be run, starts the child with signals and
-   descriptors as they are for any program, by a script that tells a file that can't be opened from what the program
-   answers, with variables and words of a job, reads what the child wrote, and journals the start and the end of each
-   child in the file DISK. An event is two writes and two syncs, as in `floor.c`. */
+   descriptors as they are for any program, in a session of its own, by a script that tells a file that can't be opened
+   from what the program answers, with variables and words of a job, reads what the child wrote, and journals the start
+   and the end of each child in the file DISK. An event is two writes and two syncs, as in `floor.c`. */
 #define _GNU_SOURCE
 #include <fcntl.h>
 #include <signal.h>
@@ -25,9 +25,11 @@ static char *empty[] = {NULL};
 static char short_script[] = "exec /usr/bin/env -i \"$4\" <\"$1\" >\"$2\" 2>\"$3\" 4</dev/null";
 
 static char whole_script[] = "run() {\n"
-                             "    { shift 6; exec /usr/bin/env -i \"$@\"; } <\"$1\" >\"$2\" 2>\"$3\" 4</dev/null\n"
+                             "    { shift 7; exec /usr/bin/setsid /usr/bin/env -i \"$@\"; } <\"$1\" >\"$2\" 2>\"$3\" 3<>/dev/null 4</dev/null\n"
                              "    exit 126\n"
                              "}\n"
+                             "umask 077\n"
+                             "ulimit -f \"$7\"\n"
                              "[ -n \"$4\" ] || run \"$@\"\n"
                              "(run \"$@\")\n"
                              "status=$?\n"
@@ -93,8 +95,8 @@ static void start_whole(struct child *child, char *program)
 {
     struct stat found;
     need(!stat(program, &found) && S_ISREG(found.st_mode) && found.st_mode & 0111);
-    char *call[LONGEST] = {"/bin/sh", "-c", whole_script, "sh", "/dev/null", child->out, child->err, "", "", ""};
-    char **next = call + 10;
+    char *call[LONGEST] = {"/bin/sh", "-c", whole_script, "sh", "/dev/null", child->out, child->err, "", "", "", "2097152"};
+    char **next = call + 11;
     for (char **it = variables; *it; it++)
         *next++ = *it;
     *next++ = program;

@@ -1,17 +1,21 @@
 #!/usr/bin/env python3
-"""How the time to read standard error grows: it runs crates/error_report/out/error_report (made by `rt run` in that
-folder) on texts of up to 1,048,576 bytes, in pieces of 1 byte, 64 bytes and 16,384 bytes. It prints the time of each,
-without that of the program on no text, and its ratio to the text of half the length.
+"""How the time to read standard error grows: report.py [PROGRAM]
 
-A ratio near 2 says that the text is read in a time that is linear in its length, whatever the pieces. Times depend on
-the machine; only the ratios are of interest, and no test reads them.
+It runs crates/spool_shell/out/spool_shell (made by `rt run` in that folder) or PROGRAM on a new spool, with a backend that
+writes a text of up to 1,048,576 bytes on standard error. It prints the time of each, without that of no text, and its ratio
+to the text of half the length.
+
+A ratio near 2 says that the text is read in a time that is linear in its length. Times depend on the machine; only the
+ratios are of interest, and no test reads them.
 """
 import os
 import subprocess
+import sys
+import tempfile
 import time
 
 here = os.path.dirname(os.path.abspath(__file__))
-program = os.path.join(here, "..", "crates", "error_report", "out", "error_report")
+SHELL = os.path.join(here, "..", "crates", "spool_shell", "out", "spool_shell")
 
 MEBIBYTE = 1_048_576
 
@@ -24,6 +28,12 @@ LINES = [
     1_500 * b"y" + b"\n",
 ]
 
+SCRIPT = b'''queue lab says:/x application/octet-stream abort-job
+create lab ann "" 1 50 ""
+close 1 page
+round
+'''
+
 
 def text(size):
     """Lines of each kind in turn, so many bytes."""
@@ -31,24 +41,39 @@ def text(size):
     return (turn * (size // len(turn) + 1))[:size]
 
 
-def seconds(said, piece):
-    """The least time of five runs."""
-    best = None
-    for _ in range(5):
+def write(folder, name, data):
+    path = os.path.join(folder, name)
+    with open(path, "wb") as file:
+        file.write(data)
+    return path
+
+
+def run(shell, said):
+    """The time of one run, with a backend that says this."""
+    with tempfile.TemporaryDirectory() as folder:
+        tool = write(folder, "says", b"cat " + write(folder, "said", said).encode() + b" >&2\n")
+        programs = write(folder, "programs", f"backend says /bin/sh {tool}\n".encode())
+        os.mkdir(os.path.join(folder, "spool"))
+        words = [shell, "--root", os.path.join(folder, "spool"), "--programs", programs]
         start = time.perf_counter()
-        subprocess.run([program, str(piece)], input=said, stdout=subprocess.PIPE, check=True)
+        told = subprocess.run(words, input=SCRIPT, stdout=subprocess.PIPE, check=True).stdout
         took = time.perf_counter() - start
-        best = took if best is None else min(best, took)
-    return best
+    if not told.endswith(b"ok started 1 finished 1\n"):
+        sys.exit(f"report: the backend wasn't run: {told!r}")
+    return took
+
+
+def seconds(shell, said):
+    """The least time of nine runs."""
+    return min(run(shell, said) for _ in range(9))
 
 
 if __name__ == "__main__":
-    for piece in [1, 64, 16_384]:
-        print(f"pieces of {piece:,} bytes")
-        nothing = seconds(b"", piece)
-        before = None
-        for size in [MEBIBYTE // 4, MEBIBYTE // 2, MEBIBYTE]:
-            took = seconds(text(size), piece) - nothing
-            ratio = "" if before is None else f"  ratio {took / before:.2f}"
-            print(f"  {size:>9,} bytes {1000 * took:9.1f} ms{ratio}")
-            before = took
+    shell = os.path.abspath(sys.argv[1] if len(sys.argv) > 1 else SHELL)
+    nothing = seconds(shell, b"")
+    before = None
+    for size in [MEBIBYTE // 4, MEBIBYTE // 2, MEBIBYTE]:
+        took = seconds(shell, text(size)) - nothing
+        ratio = "" if before is None else f"  ratio {took / before:.2f}"
+        print(f"{size:>9,} bytes {1000 * took:9.1f} ms{ratio}")
+        before = took

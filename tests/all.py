@@ -6,12 +6,12 @@ that on the built programs. This runs each of them, several side by side, each i
 each as it ends: its name, its seconds, and how it ended. With names it runs these alone, as `all.py syncs killed`.
 
 The programs have to be built before: `rt ci` leaves them in the folders of their crates. So do these commands there, but for
-what calls_without_memory.py runs: `rt run` in crates/spool_shell, crates/spool_tools and crates/error_report, and `rt test` in
+what calls_without_memory.py runs: `rt run` in crates/spool_scripts, crates/spool_shell and crates/spool_tools, and `rt test` in
 each crate that tests/allocations.py names. Which of them is missing is told first, with status 2.
 
 A part that wants what isn't installed, or another user, is left out, and told as `skipped`. Each file of this folder has to
 be in one of the tables below. The last line is `all N passed`, with how much was skipped, and status 0; or `N failed`, with
-status 1. It takes some two minutes on four calm processors, and may take ten on busy ones.
+status 1. It takes some five minutes on four processors, and may take ten on busy ones.
 """
 import concurrent.futures
 import os
@@ -35,11 +35,15 @@ CUPS_TYPES = "/usr/share/cups/mime/mime.types"
 
 # The scripts, longest first, each with the words that it is given.
 SCRIPTS = {
+    "lives.py": [],
     "killed.py": [],
     "first_start.py": [],
     "syncs.py": [],
     "replies.py": [],
     "allocations.py": [],
+    "any_image.py": ["1", "1000"],
+    "refused_memory.py": ["--every", "4"],
+    "stops.py": [],
     "calls_without_memory.py": [],
     "children.py": [],
     "images.py": [],
@@ -54,12 +58,14 @@ SCRIPTS = {
 # Those that run when the others have ended: they compare times.
 ALONE = ["large.py"]
 
-# Scripts that the gate runs (`.ci/run`), the scripts that take hours and are run on demand, and what the scripts are made of.
+# Scripts that the gate runs (`.ci/run`), the scripts that take long and are run on demand, and what the scripts are made of.
 IN_GATE = ["out_of_memory.py", "unused_lemmas.py", "edits_apply.py", "places.py"]
-ON_DEMAND = ["gate_minutes.py", "more_edits.py"]
+ON_DEMAND = ["cuts.py", "failing_calls.py", "gate_minutes.py", "more_edits.py"]
 PARTS = [
     "all.py",
     "allocations.txt",
+    "child_folder.py",
+    "children_harm.py",
     "count_allocations.c",
     "journal.py",
     "large_children.py",
@@ -71,11 +77,14 @@ PARTS = [
     "large_pieces.py",
     "large_run.py",
     "large_tables.py",
+    "real_children.py",
+    "spool_model.py",
     "stored_scripts.py",
     "stories.py",
+    "traces.py",
 ]
 
-PROGRAMS = ["error_report", "spool_shell", "spool_tools"]
+PROGRAMS = ["spool_scripts", "spool_shell", "spool_tools"]
 
 
 def installed(path):
@@ -99,7 +108,7 @@ def wants():
     if not shutil.which("valgrind"):
         missing["calls_without_memory.py"] = (True, "valgrind (Debian's package valgrind)")
     if not shutil.which("gcc"):
-        missing["allocations.py"] = (True, "a C compiler (Debian's package gcc)")
+        missing["allocations.py"] = missing["refused_memory.py"] = (True, "a C compiler (Debian's package gcc)")
     return missing
 
 

@@ -13,6 +13,7 @@ script runs programs over the library of tests/count_allocations.c, which it com
   the first write of an event and its last sync nothing is taken, and from there to the reply no more than the reply takes.
 - Some of these scripts with each allocation refused in turn. A command that finds no memory is answered `error memory`, and
   all other replies are those to the script without it; or the program ends with `spool: memory`, having answered all before.
+  A start that finds no memory to look for what killed ones left says nothing, and leaves it there.
 
 How many allocations each test and each script makes is compared with tests/allocations.txt, a line `NAME PART COUNT` for
 each. A call that begins to take memory, or takes more of it, shows as a greater count. With `--write` the file is written
@@ -253,6 +254,10 @@ class Commands:
 
 
 MEMORY = b"error memory\n"
+NOWHERE = "it is told nowhere"
+
+# The allocations of a start that looks for what killed ones left, one behind the other.
+LEFTOVERS = 4
 
 
 def refused_reply(counting, script, number, others, usual):
@@ -268,7 +273,7 @@ def refused_reply(counting, script, number, others, usual):
     at = next((at for at in range(len(script.commands)) if ended.stdout[: len(script.before(at + 1))] != script.before(at + 1)), None)
     if at is None:
         # A list that grows by a hint asks once more, for less.
-        return None if count > usual[1] else "it is told nowhere"
+        return None if count > usual[1] else NOWHERE
     if at not in others:
         others[at] = serve(counting, script.name, script.without(at), counting.fresh())[0].stdout
     wanted = script.before(at) + MEMORY + others[at][len(script.before(at)) :]
@@ -283,7 +288,10 @@ def script_refused(counting, name):
     seconds = time.monotonic() - begun
     others = {}
     chosen = in_time(range(1, usual[1] + 1), seconds)
-    faults = ((number, refused_reply(counting, script, number, others, usual)) for number in chosen)
+    faults = [(number, refused_reply(counting, script, number, others, usual)) for number in chosen]
+    untold = [number for number, fault in faults if fault == NOWHERE]
+    if untold and untold[-1] - untold[0] < LEFTOVERS:
+        faults = [it for it in faults if it[0] not in untold]
     return [f"{SHELL_NAME} {name}: allocation {number} refused: {fault}" for number, fault in faults if fault]
 
 

@@ -4,7 +4,7 @@
 SHELL is the program, and crates/spool_shell/out/spool_shell (made by `rt run` in that folder) where none is given. No clause
 can say what a file, a socket or a process does, so these are the tests of the launcher, the side channel's sockets and
 `--devices`. Its filters and backends are small programs of sh and Python, which it writes into a fresh folder for each test.
-Each TEST is the name of a function below; without one all are run. Two want more than Python, and say so where it is
+Each TEST is the name of a function below or in tests/children_harm.py; without one all are run. Two want more than Python, and say so where it is
 missing: a full folder is a file system that is mounted (as root), and what the system refuses is refused by `strace`.
 
 The last line is `N of N`, with status 0, or the first difference, with status 1. The folder of that test stays then, and is
@@ -16,145 +16,11 @@ import shutil
 import signal
 import subprocess
 import sys
-import tempfile
+import threading
 import time
 
-here = os.path.dirname(os.path.abspath(__file__))
-shell = os.path.abspath(sys.argv[1] if len(sys.argv) > 1 else os.path.join(here, "..", "crates", "spool_shell", "out", "spool_shell"))
-
-TYPES = "a/a txt\n"
-CONVS = "a/a b/b 10 first\n"
-
-# What the programs of Python begin with: each reports what it finds in the file `NAME.WORD` of the test's folder.
-PYTHON = """#!/usr/bin/python3 -ES
-import os, socket, stat, sys, time
-word = sys.argv[1]
-here = os.path.dirname(os.path.abspath(__file__))
-def report(text, name=None):
-    with open(os.path.join(here, "report." + (name or word)), "a") as file:
-        file.write(text + "\\n")
-"""
-
-# The side channel as a child of Python sees it.
-CHANNEL = PYTHON + """
-side = os.environ["SPOOL_SIDE"]
-def call():
-    line = socket.socket(socket.AF_UNIX, socket.SOCK_STREAM)
-    line.settimeout(20)
-    line.connect(side)
-    return line
-def ask(line, request):
-    line.sendall(request)
-    answer = b""
-    while len(answer) < 4 or len(answer) < 4 + int.from_bytes(answer[2:4], "big"):
-        piece = line.recv(4096)
-        if not piece:
-            return "cut " + answer.hex()
-        answer += piece
-    return answer.hex()
-"""
-
-SIDE_END = """#!/usr/bin/python3 -ES
-import socket, sys
-line = socket.socket(socket.AF_UNIX, socket.SOCK_STREAM)
-line.connect(sys.argv[-1])
-line.sendall(b"\\xff\\0\\0\\0")
-"""
-
-
-class Difference(Exception):
-    pass
-
-
-def same(what, found, wanted):
-    if found != wanted:
-        raise Difference(f"{what}: {found!r} in place of {wanted!r}")
-
-
-def quoted(text):
-    return '"' + text.replace("\\", "\\\\").replace('"', '\\"') + '"'
-
-
-class Folder:
-    """The folder of a test: the files of the shell, its programs, and what they report."""
-
-    def __init__(self):
-        self.path = tempfile.mkdtemp(prefix="spool-children-")
-        self.root = "spool"
-        os.mkdir(self.at(self.root))
-        self.lines = []
-        self.write("types", TYPES)
-        self.write("convs", CONVS)
-
-    def at(self, *names):
-        return os.path.join(self.path, *names)
-
-    def write(self, name, text, mode=0o644):
-        with open(self.at(name), "w") as file:
-            file.write(text)
-        os.chmod(self.at(name), mode)
-
-    def read(self, name):
-        with open(self.at(name), "rb") as file:
-            return file.read()
-
-    def program(self, kind, name, text, word="", file=None):
-        """Writes a program, and lists it."""
-        file = file or f"{kind}-{name}"
-        self.write(file, text, 0o755)
-        self.lines.append(f"{kind} {name} {self.at(file)} {word}".rstrip())
-
-    def side(self, text=SIDE_END, word=""):
-        self.write("side-program", text, 0o755)
-        self.lines.append(f"side {self.at('side-program')} {word}".rstrip())
-
-    def words(self):
-        self.write("programs", "".join(line + "\n" for line in self.lines))
-        files = [word for name in ("types", "convs", "programs") for word in (f"--{name}", name)]
-        return [shell, "--root", self.root, "--size", "16777216", *files]
-
-    def run(self, script, status=0, **how):
-        """The replies to a script."""
-        text = script if isinstance(script, bytes) else "".join(line + "\n" for line in script).encode()
-        run = subprocess.run(self.words(), input=text, cwd=self.path, stdout=subprocess.PIPE, stderr=subprocess.PIPE, timeout=120, **how)
-        same("status", (run.returncode, run.stderr), (status, b""))
-        return run.stdout.decode().splitlines()
-
-    def report(self, name):
-        file = self.at("report." + name)
-        if not os.path.exists(file):
-            return []
-        with open(file) as opened:
-            return opened.read().splitlines()
-
-    def left(self):
-        return sorted(os.listdir(self.at(self.root)))
-
-
-def printed(queue, uri, target="a/a", policy="abort-job", number=1, document=b"", title='""', user="ann", options='""', copies=1):
-    """The script that prints a document on a queue of its own: with target b/b through the filter `first`."""
-    head = f"queue {queue} {uri} {target} {policy}\ncreate {queue} {user} {title} {copies} 50 {options}\n"
-    pieces = b"".join(f"send {number} {len(piece)}\n".encode() + piece + b"\n" for piece in pieces_of(document))
-    return head.encode() + pieces + f"close {number} page.txt\n".encode()
-
-
-def pieces_of(document):
-    return [document[at : at + 65536] for at in range(0, len(document), 65536)]
-
-
-def states(replies):
-    """The state and the reason of each job in the last listing."""
-    found = {}
-    for line in replies:
-        words = line.split(" ")
-        if words[0] == "job":
-            found[int(words[1])] = f"{words[3]} {words[4]}"
-    return found
-
-
-def queue_states(replies):
-    return {line.split(" ")[1]: line.split(" ")[2] for line in replies if line.startswith("queue ")}
-
+import children_harm
+from child_folder import CHANNEL, COPIES, Difference, EXIT, Folder, printed, PYTHON, queue_states, quoted, same, shell, stage_event, states
 
 # ---- ends of children
 
@@ -171,7 +37,6 @@ ANSWERED = {
 }
 STATUSES = [0, 1, 2, 3, 4, 5, 6, 7, 8, 255]
 
-EXIT = '#!/bin/sh\ncat >/dev/null\nexit "${DEVICE_URI##*/}"\n'
 
 
 def statuses_of_backends(folder):
@@ -201,11 +66,6 @@ def statuses_of_filters(folder):
     same("jobs", states(replies), {1: "9 job-completed-successfully", **wanted})
 
 
-def stage_event(number, attempt, stage, end):
-    """What the journal has of the end of a stage."""
-    return b"\x0d" + number.to_bytes(4, "big") + attempt.to_bytes(4, "big") + bytes([stage]) + end
-
-
 def signals(folder):
     folder.program("filter", "first", "#!/bin/sh\nkill -SEGV $$\n")
     folder.program("backend", "kill", '#!/bin/sh\nkill "${DEVICE_URI##*/}" $$\n')
@@ -216,6 +76,9 @@ def signals(folder):
         same(f"signal of {number}", stage_event(number, 1, 1, b"\x01") in journal, True)
 
 
+JUNK = "neither a script nor a program"
+
+
 def programs_that_cannot_run(folder):
     folder.program("backend", "there", "#!/bin/sh\nexit 0\n")
     folder.lines.append(f"backend absent {folder.at('absent')}")
@@ -224,17 +87,30 @@ def programs_that_cannot_run(folder):
     folder.lines.append(f"backend plain {folder.at('plain')}")
     folder.write("broken", "#!/no/such/shell\n", 0o755)
     folder.lines.append(f"backend broken {folder.at('broken')}")
+    # What the system can't run, a shell would: an empty file as if it had printed.
+    folder.write("empty", "", 0o755)
+    folder.lines.append(f"backend empty {folder.at('empty')}")
+    folder.write("junk", "exit 0\n", 0o755)
+    folder.lines.append(f"backend junk {folder.at('junk')}")
+    folder.lines.append(f"backend dos {folder.at('there')}\r")
     script = b""
     for number, scheme in enumerate(["absent", "folder", "plain", "unlisted", "broken", "there"], 1):
         script += printed(scheme, f"{scheme}:/x", number=number)
-    script += printed("filtered", "there:/x", "b/b", number=7)
-    replies = folder.run(script + b"round\njobs\n")
+    script += printed("filtered", "there:/x", "b/b", number=7) + printed("m-empty", "empty:/x", number=8) + printed("n-junk", "junk:/x", number=9)
+    at_start = {"absent": "not there", "folder": "no file", "plain": "not executable", "empty": JUNK, "junk": JUNK, "dos": "a carriage return at its end"}
+    told = [f"spool: backend {name}: {cause}" for name, cause in at_start.items()]
+    ended = {1: "absent", 7: "first", 2: "folder", 8: "empty", 9: "junk", 3: "plain", 4: "unlisted"}
+    # They are started in the order of the queues' names.
+    causes = {**at_start, "first": "not in the file of programs", "unlisted": "not in the file of programs"}
+    told += [f"spool: job {number} attempt 1 stage 1 {name}: {causes[name]}" for number, name in ended.items()]
+    told.append("spool: job 5 attempt 1 stage 1 broken: ended with status 127, and told no cause")
+    replies = folder.run(script + b"round\njobs\n", told=told)
     # `env` ends with 127 where it finds no shell for the program.
-    same("round", "ok started 2 finished 7" in replies, True)
-    wanted = {number: "8 backend-failed" for number in range(1, 6)}
+    same("round", "ok started 2 finished 9" in replies, True)
+    wanted = {number: "8 backend-failed" for number in (1, 2, 3, 4, 5, 8, 9)}
     same("jobs", states(replies), {**wanted, 6: "9 job-completed-successfully", 7: "8 filter-failed"})
     journal = folder.read("spool/spool.disk")
-    for number in (1, 2, 3, 4, 7):
+    for number in (1, 2, 3, 4, 7, 8, 9):
         same(f"end of {number}", stage_event(number, 1, 1, b"\x02") in journal, True)
     same("end of 5", stage_event(5, 1, 1, b"\x00\x7f") in journal, True)
     same("files", folder.left(), ["spool.disk"])
@@ -265,19 +141,27 @@ def refused_by_the_system(folder):
     folder.program("backend", "says", "#!/bin/sh\necho said\necho told >&2\nexit 3\n")
     root = os.path.realpath(folder.at(folder.root))
     no_process = ["-e", "inject=clone,clone3,fork,vfork:error=EAGAIN"]
+    some_processes = ["-e", "inject=clone,clone3,fork,vfork:error=EAGAIN:when=1..3"]
     no_output = ["-P", f"{root}/out-2-1-1", "-e", "inject=read,pread64,readv:error=EIO"]
     no_errors = ["-P", f"{root}/err-3-1-1", "-e", "inject=read,pread64,readv:error=EIO"]
     script = b"queue lab says:/x a/a abort-job\n"
-    for number, (refusal, end) in enumerate([(no_process, b"\x02"), (no_output, b"\x03"), (no_errors, b"\x03")], 1):
+    unread = "what it wrote can't be read"
+    refusals = [(no_process, b"\x02", "not started, for want of processes"), (no_output, b"\x03", unread), (no_errors, b"\x03", unread)]
+    for number, (refusal, end, cause) in enumerate(refusals, 1):
         script += b'create lab ann "" 1 50 ""\nclose %d page.txt\nround\njobs\n' % number
         words = [strace, "-qq", "-o", folder.at("calls"), *refusal, *folder.words()]
         run = subprocess.run(words, input=script, cwd=folder.path, capture_output=True, timeout=60)
-        same("status", (run.returncode, run.stderr), (0, b""))
+        told = f"spool: job {number} attempt 1 stage 1 says: {cause}\n".encode()
+        same("status", (run.returncode, run.stderr), (0, told))
         same(f"job {number}", states(run.stdout.decode().splitlines())[number], "8 backend-failed")
         same(f"end of {number}", stage_event(number, 1, 1, end) in folder.read("spool/spool.disk"), True)
         same("files", folder.left(), ["spool.disk"])
         script = b""
-    same("none is refused any more", states(folder.run(b'create lab ann "" 1 50 ""\nclose 4 page.txt\nround\njobs\n'))[4], "4 held-by-backend")
+    script = b'create lab ann "" 1 50 ""\nclose %d page.txt\nround\njobs\n'
+    # Three times there is no process, and then there is.
+    run = subprocess.run([strace, "-qq", "-o", folder.at("calls"), *some_processes, *folder.words()], input=script % 4, cwd=folder.path, capture_output=True, timeout=60)
+    same("a process in a moment", states(run.stdout.decode().splitlines())[4], "4 held-by-backend")
+    same("none is refused any more", states(folder.run(script % 5))[5], "4 held-by-backend")
 
 
 # ---- what children are given
@@ -294,7 +178,7 @@ for n in range(256):
     except OSError:
         pass
 report(repr(open_ones), "descriptors")
-report(os.readlink("/proc/self/fd/4"), "descriptors")
+report(" ".join(os.readlink(f"/proc/self/fd/{n}") for n in (3, 4)), "descriptors")
 report(repr(os.read(0, 100)), "input")
 root = os.environ["TMPDIR"]
 for name in sorted(os.listdir(root)):
@@ -325,7 +209,7 @@ def given(folder):
         wanted += ["PATH=/usr/bin:/bin", "PRINTER=lab", "PRINTER_INFO=Front", "PRINTER_LOCATION=Room 1", "TMPDIR=spool"]
         wanted += ["SPOOL_ATTEMPT=1", "SPOOL_SIDE=", f"SPOOL_STAGE={stage}"]
         same("environment", folder.report("environment")[stage - 1], repr(wanted))
-    same("descriptors", folder.report("descriptors"), ["[0, 1, 2, 4]", "/dev/null"] * 2)
+    same("descriptors", folder.report("descriptors"), ["[0, 1, 2, 3, 4]", "/dev/null /dev/null"] * 2)
     same("input", folder.report("input"), ["b''", repr(b"from one\n")])
     same("document", folder.report("document"), [repr(b"hello")])
     files = [f"{name}-1-1-{stage} 600 True" for stage in (1, 2) for name in ("err", "in", "out")]
@@ -373,7 +257,6 @@ def links(folder):
 
 # ---- what children write
 
-COPIES = "#!/bin/sh\nhead -c \"$3\" /dev/zero\n"
 COUNTS = '#!/bin/sh\nwc -c >"$0.$1"\n'
 
 
@@ -501,9 +384,8 @@ def killed(folder):
             number, attempt = map(int, line.split())
             if after.get(number, "3")[0] in "789":
                 same(f"job {number} didn't run again", attempt <= attempts.get(number, 0), True)
-        # A child of the killed shell leaves its files.
-        for name in folder.left():
-            same("file", name == "spool.disk" or name.rsplit("-", 3)[0] in ("in", "out", "err"), True)
+        # What a child of the killed shell left is gone with the next start.
+        same("files", folder.left(), ["spool.disk"])
     same("some were killed while a child ran", within > 0, True)
 
 
@@ -537,7 +419,7 @@ def stage_with_side(folder):
     folder.side(word="a-word")
     replies = folder.run(printed("a", "last:/x") + printed("b", "kill:/x", number=2) + b"round\njobs\n")
     same("jobs", states(replies), {1: "3 retry-later", 2: "8 backend-failed"})
-    same("descriptors", folder.report("descriptors"), ["[0, 1, 2, 4]", "/dev/null"])
+    same("descriptors", folder.report("descriptors"), ["[0, 1, 2, 3, 4]", "/dev/null /dev/null"])
     same("side", "'SPOOL_SIDE=spool/side-1-1-1'" in folder.report("environment")[0], True)
     same("socket", folder.report("socket"), ["0o140600"])
     same("status of a signal", stage_event(2, 1, 1, b"\x00\x89") in folder.read("spool/spool.disk"), True)
@@ -596,12 +478,17 @@ def devices(folder):
     # The line behind the first 1,048,576 bytes is not looked at, and who prints without end is ended by the closed pipe.
     folder.program("backend", "much", "#!/bin/sh\necho 'file much:/early \"A\" \"B\"'\nhead -c 1048576 /dev/zero | tr '\\0' x\necho\necho 'file much:/late \"A\" \"B\"'\n")
     folder.program("backend", "endless", "#!/bin/sh\necho 'file endless:/ \"A\" \"B\"'\nexec yes\n")
+    # What a backend leaves running keeps its end of the pipe.
+    folder.program("backend", "daemon", "#!/bin/sh\necho 'file daemon:/ \"A\" \"B\"'\nsleep 60 &\nsleep 0.3\necho 'file daemon:/late \"A\" \"B\"'\n")
     folder.side()
+    begun = time.monotonic()
     for root in ("spool", "absent"):
         run = subprocess.run([*folder.words()[:1], "--root", root, "--programs", "programs", "--devices"], cwd=folder.path, input=b"jobs\n", capture_output=True, timeout=60)
         same("devices", (run.returncode, run.stderr), (0, b""))
         wanted = b'direct one:/x "A B" "C" "MFG:X;" ""\nnetwork  a "Unknown" "A"\nfile c "Unknown" "C"\nfile much:/early "A" "B"\nfile endless:/ "A" "B"\n'
+        wanted += b'file daemon:/ "A" "B"\nfile daemon:/late "A" "B"\n'
         same("devices", run.stdout, wanted)
+    same("seconds", time.monotonic() - begun < 20, True)
     same("words", folder.read("backend-one.words"), b"1a-word\n")
     same("environment", folder.read("backend-one.environment"), b"")
     same("spool", folder.left(), [])
@@ -631,13 +518,50 @@ def full_folder(folder):
                     pass
             except OSError:
                 pass
-        replies = folder.run(["round", "jobs"])
+        begun = time.monotonic()
+        replies = folder.run(["round", "jobs"], told=["spool: job 1 attempt 1 stage 1 keep: not started, for want of room"])
         same("a full folder", (replies[0], states(replies)), ("ok started 0 finished 1", {1: "3 none"}))
+        seconds = time.monotonic() - begun
+        same("it is tried for a while", (seconds, 1.5 < seconds < 20), (seconds, True))
         same("what is left", folder.left(), ["filler", "spool.disk"])
-        os.remove(os.path.join(root, "filler"))
+        # There is room again while it is tried.
+        threading.Timer(0.7, os.remove, [os.path.join(root, "filler")]).start()
         replies = folder.run(["round", "jobs"])
         same("with room", (replies[0], states(replies)), ("ok started 1 finished 1", {1: "9 job-completed-successfully"}))
         same("what it printed", folder.read("kept") == document, True)
+    finally:
+        subprocess.run(["umount", root], check=True)
+
+
+FILLS = """#!/bin/sh
+cat /dev/zero >"$TMPDIR/filler" 2>/dev/null
+echo hello
+echo "INFO: hello" >&2
+exit 0
+"""
+
+
+def no_room_at_the_end(folder):
+    """A filter whose output found no room isn't taken for one that gave nothing."""
+    root = folder.at(folder.root)
+    mounted = subprocess.run(["mount", "-t", "tmpfs", "-o", "size=20m", "none", root], capture_output=True)
+    if mounted.returncode:
+        print("no_room_at_the_end: left out, since it may not mount a file system (it wants root)")
+        return
+    try:
+        folder.program("filter", "first", FILLS)
+        folder.program("backend", "keep", '#!/bin/sh\ncat >"$0.kept"\n')
+        folder.program("backend", "quiet", '#!/bin/sh\ncat /dev/zero >"$TMPDIR/filler" 2>/dev/null\nexit 0\n')
+        cut = "spool: job 1 attempt 1 stage 1 first: the folder has no room, so what it wrote may be cut off"
+        replies = folder.run(printed("lab", "keep:/x", "b/b") + b"drain 5\njobs\n", told=[cut])
+        same("a filter", states(replies), {1: "8 filter-failed"})
+        same("what was printed", os.path.exists(folder.at("backend-keep.kept")), False)
+        same("its end", stage_event(1, 1, 1, b"\x03") in folder.read("spool/spool.disk"), True)
+        os.remove(os.path.join(root, "filler"))
+        # A backend that wrote nothing lost nothing.
+        told = ["spool: job 2 attempt 1 stage 1 quiet: the folder has no room left at its end"]
+        replies = folder.run(printed("next", "quiet:/x", number=2) + b"drain 5\njobs\n", told=told)
+        same("a backend", states(replies)[2], "9 job-completed-successfully")
     finally:
         subprocess.run(["umount", root], check=True)
 
@@ -664,11 +588,12 @@ TESTS = [
     clients,
     sides_that_fail,
     devices,
+    no_room_at_the_end,
 ]
 
 
 def main():
-    tests = [test for test in TESTS if not sys.argv[2:] or test.__name__ in sys.argv[2:]]
+    tests = [test for test in TESTS + children_harm.TESTS if not sys.argv[2:] or test.__name__ in sys.argv[2:]]
     for test in tests:
         folder = Folder()
         begun = time.monotonic()

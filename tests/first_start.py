@@ -7,8 +7,8 @@ sizes. Each makes the queue, if need be, and ten jobs whose titles tell program 
 input of all stays open until each program has answered or ended, so exactly one of them has to own the folder. In the
 others it ends at once, so one may own the folder after another.
 
-Each program either answers all its commands, or ends with status 1, answers nothing, and writes `spool: disk` alone on
-standard error. One more start has to list exactly the jobs that were answered, each by its number and with its title,
+Each program either answers all its commands, or ends with status 1, answers nothing, and writes `spool: disk` and its
+cause `owned` on standard error. One more start has to list exactly the jobs that were answered, each by its number and with its title,
 and nothing but the spool's file is in the folder.
 
 The last line is `300 of 300`, with status 0, or the first difference, with status 1. Its folder stays then, and is
@@ -94,7 +94,7 @@ class Program:
 
     def jobs(self):
         """The numbers that it was answered, with the titles that it gave."""
-        if self.status == 1 and self.complaints == "spool: disk\n" and not self.replies:
+        if self.status == 1 and self.complaints == "spool: disk\nspool: cause: owned\n" and not self.replies:
             return []
         queue, *created = [line.rstrip("\n") for line in self.replies] or [""]
         numbers = [re.fullmatch(r"ok job (\d+)", line) for line in created]

@@ -26,6 +26,22 @@ def zeros_are_no_spool(folder):
     Spool(folder, bytes(198)).is_refused("not-a-spool")
 
 
+def other_bytes_in_a_fresh_spool(folder):
+    fresh = image(198)
+    for at, words, fault in (
+        (16, "A5 00 00 00 01 7F 00", "damaged 16"),
+        (16, "A5 00 00 01 00", "damaged 16"),
+        (16, "A5 00 00 00 05 0A 00 00 00 01 00", "damaged 16"),
+        (1, "09", "damaged 0"),
+        (0, "00", "not-a-spool"),
+        (99, fresh[:16].hex(), "not-a-spool"),
+        (99, "A5 01 00 00 00 00 00 00 00 02 00 00 00 00 00 01", "damaged 99"),
+    ):
+        changed = bytes.fromhex(words)
+        Spool(folder, fresh[:at] + changed + fresh[at + len(changed):]).is_refused(fault)
+    Spool(folder, bytes(45)).is_refused("not-a-spool")
+
+
 def two_areas_of_23_bytes(folder):
     Spool(folder, image(45)).is_refused("not-a-spool")
     spool = Spool(folder, image(46))

@@ -1,6 +1,5 @@
 #!/usr/bin/env python3
-"""Runs everything in the large over the built programs: large.py [--shell PROGRAM] [--tools PROGRAM] [--report PROGRAM]
-[--free] [PART..]
+"""Runs everything in the large over the built programs: large.py [--shell PROGRAM] [--tools PROGRAM] [--free] [PART..]
 
 A body that says that there is no memory, that takes some, loses something or takes a time that grows with the square, from
 some size on, meets any contract. So here is all that there may be much of: 10,000 jobs, 64 queues at once, 16 stages, 200
@@ -8,8 +7,8 @@ attempts, documents, outputs and standard error at their limits and beyond, a sp
 command at its limit, files of thousands of lines, input in the smallest and in large pieces, twice the size in twice the
 time, and too little memory. What is wanted is computed here, from the formats.
 
-It runs crates/spool_shell/out/spool_shell, crates/spool_tools/out/spool_tools and crates/error_report/out/error_report (made
-by `rt run` in these folders), or the programs that the words name. Each PART is one of those below; without one all are run.
+It runs crates/spool_shell/out/spool_shell and crates/spool_tools/out/spool_tools (made by `rt run` in these folders), or the
+programs that the words name. Each PART is one of those below; without one all are run.
 A part is run with as much memory as it likes, and then in an address space of twice what it is known to need (NEEDS), where
 it has to work too. With `--free` the latter is left out, as for a program that was built with checks, which wants terabytes.
 
@@ -55,7 +54,6 @@ NEEDS = [
     (large_files.long_files, 14_000),
     (large_files.long_queries, 32_000),
     (large_pieces.input_in_pieces, 137_000),
-    (large_pieces.long_reports, 7_000),
     (large_growth.openings_grow, None),
     (large_growth.listings_grow, None),
     (large_growth.commands_grow, None),
@@ -74,7 +72,6 @@ def words_given():
     words = argparse.ArgumentParser(description=__doc__, formatter_class=argparse.RawDescriptionHelpFormatter)
     words.add_argument("--shell", default=built("spool_shell"))
     words.add_argument("--tools", default=built("spool_tools"))
-    words.add_argument("--report", default=built("error_report"))
     words.add_argument("--free", action="store_true")
     words.add_argument("parts", nargs="*", metavar="PART")
     return words.parse_args()
@@ -99,9 +96,9 @@ def run_part(part, programs, limit):
 
 def main():
     words = words_given()
-    paths = (os.path.abspath(path) for path in (words.shell, words.tools, words.report))
+    paths = (os.path.abspath(path) for path in (words.shell, words.tools))
     programs = Programs(*paths, LONGEST_CHECKED if words.free else LONGEST)
-    for program in (programs.shell, programs.tools, programs.report):
+    for program in (programs.shell, programs.tools):
         if not os.path.exists(program):
             sys.exit(f"no program {program}: run `rt run` in its crate's folder first")
     known = [part.__name__ for part, _ in NEEDS]

@@ -6,7 +6,8 @@ The spools are made by bench/opening.py, byte by byte.
 import os
 import sys
 
-from large_run import TYPE, Difference, Script, same_lines
+from large_children import SAYS
+from large_run import TYPE, Difference, Script
 
 sys.path.insert(0, os.path.join(os.path.dirname(os.path.abspath(__file__)), "..", "bench"))
 import opening
@@ -141,17 +142,25 @@ def files_grow(place):
     keeps_pace("conversions", convs)
 
 
-def reports_grow(place):
-    """Standard error of 40,000 lines, of each kind, in small pieces and in one."""
-    kinds = [b"PAGE: 1 2\n", b"STATE: +media-empty,toner-low\n", b"DEBUG: " + 60 * b"x" + b"\n", b"y\n"]
+# Bytes of standard error: all of them are read.
+HALF_SAID = 500_000
 
-    def read(size, piece, line):
-        ran = place.run([place.programs.report, str(piece)], [line * size])
-        effects = {kinds[0]: 1_820, kinds[1]: 16_384 // 27}.get(line, 0)
-        told = b"%d effects, %d left out\n" % (effects, size - effects if effects else 0)
-        same_lines("the count", ran.output[ran.output.rfind(b"\n", 0, -1) + 1 :], told)
-        return ran.seconds
+
+def reports_grow(place):
+    """A mebibyte or so on standard error, in lines of each kind."""
+    kinds = [b"PAGE: 1 2\n", b"STATE: +media-empty,toner-low\n", b"DEBUG: " + 60 * b"x" + b"\n", b"y\n"]
+    place.script("backend", "says", SAYS)
+    place.list_programs()
+    script = Script()
+    script.ask(f"queue lab says:/x {TYPE} abort-job", "ok")
+    script.ask(f'create lab ann "{place.at("said")}" 1 50 ""', "ok job 1")
+    script.ask("close 1 page", f"ok type {TYPE} stages 1")
+    script.ask("round", "ok started 1 finished 1")
+
+    def read(size, line):
+        place.fresh_spool()
+        place.write("said", line * (size // len(line)))
+        return place.print_all(script).seconds
 
     for line in kinds:
-        for piece in (64, 1 << 20):
-            keeps_pace(f"lines {line[:12]!r} in pieces of {piece}", lambda size, l=line, p=piece: read(size, p, l))
+        keeps_pace(f"lines {line[:12]!r}", lambda size, said=line: read(size, said), HALF_SAID)

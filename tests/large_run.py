@@ -173,10 +173,9 @@ class Script:
 class Programs:
     """The built programs, and how many seconds they may run."""
 
-    def __init__(self, shell, tools, report, longest=LONGEST):
+    def __init__(self, shell, tools, longest=LONGEST):
         self.shell = shell
         self.tools = tools
-        self.report = report
         self.longest = longest
 
 
@@ -229,11 +228,13 @@ class Place:
         return ran
 
     def serve(self, script, *words, root=True, status=0, errors=b""):
-        """Serves a script over the spool of this place, or over one in memory, and compares the replies."""
+        """Serves a script over the spool of this place, or over one in memory, and compares the replies. What is told of stages
+        that failed is left out."""
         folder = ["--root", "spool"] if root else []
         ran = self.run([self.programs.shell, *folder, *words], script.pieces())
         same_lines("replies", ran.output, b"".join(script.wanted))
-        same("the end", (ran.status, ran.errors), (status, errors))
+        told = b"".join(line for line in ran.errors.splitlines(True) if not line.startswith(b"spool: job "))
+        same("the end", (ran.status, told), (status, errors))
         return ran
 
     def print_all(self, script, *words, **how):

@@ -89,6 +89,7 @@ CAPACITIES = {
     ("spool_core", "drive_all"): ["1"],
     # 64 KiB, for as long as a checkpoint is prepared.
     ("spool_core", "listing_frames"): ["LONGEST_SEND"],
+    ("spool_host", "reserve"): ["1"],
 }
 
 # The great numbers in bodies: bounds of loops, of counts and of fields. None is a capacity.
@@ -101,11 +102,12 @@ NUMBERS = {
     ("mime_rules", "most"): ["4_294_967_295"],
     ("side_channel", "read"): ["u32::MAX"],
     ("spool_disk", "counted"): ["u64::MAX"],
-    ("spool_disk", "read"): ["u64::MAX"],
-    ("spool_disk", "sync"): ["u64::MAX"],
-    ("spool_disk", "write"): ["u64::MAX"],
+    ("spool_disk", "read"): ["u64::MAX", "u64::MAX"],
+    ("spool_disk", "sync"): ["u64::MAX", "u64::MAX"],
+    ("spool_disk", "write"): ["u64::MAX", "u64::MAX"],
     ("spool_engine", "serve"): ["u32::MAX"],
-    ("spool_host", "next_call"): ["u64::MAX"],
+    ("spool_host", "attend"): ["u64::MAX"],
+    ("spool_host", "counted"): ["u64::MAX"],
     ("spool_host", "read_at_most"): ["u64::MAX"],
     ("spool_host", "shell_command"): ["4194304"],
     ("stage_tools", "connect_seconds_of"): ["u32::MAX"],
@@ -114,6 +116,7 @@ NUMBERS = {
     ("stage_tools", "wait"): ["u64::MAX"],
     ("stage_tools", "write"): ["u64::MAX"],
     ("stage_tools", "write_result"): ["u64::MAX"],
+    ("stderr_lines", "number_of"): ["u32::MAX"],
     ("whole_writes", "write_whole"): ["u64::MAX"],
 }
 
@@ -126,6 +129,7 @@ CONSTANTS = {
     ("spool_areas", "LAST_EPOCH"): 1,
     ("spool_host", "DEFAULT_SIZE"): 1,
     ("spool_host", "GREATEST_SIZE"): 1,
+    ("spool_host", "MOST_BLOCKS"): 1,
     ("spool_host", "MOST_ERRORS"): 1,
     ("spool_host", "MOST_LINES"): 1,
     ("spool_types", "GREATEST"): 2,
@@ -209,14 +213,29 @@ def passes_on(code):
     return bool(re.search(r"matches!\(|==|!=|\bif let\b", code))
 
 
+def in_arms(lines):
+    """The numbers of the lines inside the arms of several lines whose pattern names out of memory."""
+    found, ends = set(), None
+    for number, code in enumerate(lines):
+        indent = len(code) - len(code.lstrip())
+        if ends is not None and indent <= ends and code.strip():
+            ends = None
+        elif ends is not None:
+            found.add(number)
+        if ends is None and NAMES.search(code.partition("=>")[0]) and re.search(r"=> \{$", code.rstrip()):
+            ends = indent
+    return found
+
+
 def answers(function):
     """The lines of a function that answer out of memory by themselves."""
     if function.name == "from" and SAYS.search(function.head):
         return []
+    inside = in_arms(function.lines)
     return [
         number
         for number, code in enumerate(function.lines)
-        if SAYS.search(code) and "->" not in code and not passes_on(code)
+        if SAYS.search(code) and "->" not in code and number not in inside and not passes_on(code)
     ]
 
 

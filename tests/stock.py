@@ -1,11 +1,12 @@
 #!/usr/bin/env python3
-"""Which stock filters and backends of CUPS run as they are: stock.py [FOLDER]
+"""Which stock filters and backends of CUPS run as they are: stock.py [FOLDER [SHELL]]
 
-It runs the built program crates/spool_shell/out/spool_shell with each filter of FOLDER (or else of /usr/lib/cups/filter,
+It runs the program SHELL, or else the built crates/spool_shell/out/spool_shell, with each filter of FOLDER (or else of /usr/lib/cups/filter,
 from Debian's packages `cups` and `cups-filters`). The filter gets a document of its kind from the spooler, as the first
 stage of a job, and a backend keeps what it wrote. It runs as it is where the job completes and what it wrote begins as
 its kind does and, of a PDF or of PostScript, has a page that isn't empty (by Ghostscript's `gs`, where that is installed). The
-backends of the folder `backend` beside FOLDER that need no device print to a socket of this script.
+backends of the folder `backend` beside FOLDER that need no device print to a socket of this script. The backend `socket`
+also prints what a filter gives to a printer that answers: what comes there is the job, byte for byte.
 
 The list says of each what it wants where it doesn't run as it is. The status is 1 where one that runs as it is by the list
 didn't, where one that wants something by the list ran, or where one is installed that isn't in the list; and else 0. What
@@ -21,7 +22,7 @@ import tempfile
 import threading
 
 HERE = os.path.dirname(os.path.realpath(__file__))
-SHELL = os.path.join(os.path.dirname(HERE), "crates/spool_shell/out/spool_shell")
+SHELL = os.path.abspath(sys.argv[2]) if len(sys.argv) > 2 else os.path.join(os.path.dirname(HERE), "crates/spool_shell/out/spool_shell")
 FOLDER = sys.argv[1] if len(sys.argv) > 1 else "/usr/lib/cups/filter"
 BACKENDS = os.path.join(os.path.dirname(FOLDER.rstrip("/")), "backend")
 
@@ -228,6 +229,51 @@ def sent(room, name, uri):
     return end, message, b"".join(got)
 
 
+ANSWER = b"@PJL USTATUS DEVICE\r\nCODE=10001\r\nONLINE=TRUE\r\n"
+
+
+def answers(listener, got):
+    """A printer that tells its status again and again while it takes a job."""
+    listener.settimeout(20)
+    try:
+        client, _ = listener.accept()
+        client.settimeout(20)
+        for count in range(1_000_000):
+            if count < 3:
+                client.sendall(ANSWER)
+            piece = client.recv(65_536)
+            if not piece:
+                break
+            got.append(piece)
+        client.sendall(ANSWER)
+        client.close()
+    except OSError as error:
+        got.append(repr(error).encode())
+
+
+def try_answers(room):
+    """Whether what a printer says to the backend `socket` as a later stage comes back in the job."""
+    if not os.access(os.path.join(BACKENDS, "socket"), os.X_OK):
+        print("socket, answered   left out: it isn't installed")
+        return 0
+    first = os.path.join(room, "first")
+    with open(first, "w") as file:
+        file.write("#!/bin/sh\nhead -c 960000 /dev/zero | tr '\\0' x\n")
+    os.chmod(first, 0o755)
+    got = []
+    with socket.create_server(("127.0.0.1", 0)) as listener:
+        printer = threading.Thread(target=answers, args=(listener, got))
+        printer.start()
+        uri = f"socket://127.0.0.1:{listener.getsockname()[1]}/?waiteof=true"
+        programs = f"filter first {first}\nbackend socket {BACKENDS}/socket\n"
+        end, message = run(room, "answered", programs, "text/plain document\n", "text/plain test/printer 1 first\n", uri, "test/printer", TEXT)
+        printer.join()
+    job = b"".join(got)
+    whole = end.startswith("9 ") and job == b"x" * 960_000
+    print("socket, answered   " + ("prints the job alone" if whole else f"DOESN'T: {end}, {len(job)} bytes, {message}"))
+    return not whole
+
+
 def try_filters(room):
     """How many are not as the list says."""
     wrong, wrote = 0, {}
@@ -285,7 +331,7 @@ def main():
         with open(keep, "w") as file:
             file.write(KEEP)
         os.chmod(keep, 0o755)
-        wrong = try_filters(room) + try_backends(room)
+        wrong = try_filters(room) + try_backends(room) + try_answers(room)
     wrong += unlisted(FOLDER, {row[0] for row in FILTERS})
     wrong += unlisted(BACKENDS, SOCKETS.keys() | DEVICES.keys())
     return 1 if wrong else 0

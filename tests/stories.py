@@ -5,6 +5,7 @@ there is none. Further words name tests. Each test is a function that takes a fo
 """
 import inspect
 import os
+import re
 import shutil
 import subprocess
 import sys
@@ -21,6 +22,9 @@ SIZE = 8_192  # of a spool where a test doesn't say
 SECONDS = 60  # a program that takes longer hangs
 GREATEST = 2 ** 32 - 1
 GREATEST_NUMBER = 2 ** 31 - 1
+
+# What is told of a stage whose program isn't in the file of programs.
+NO_PROGRAM = re.compile(r"spool: job \d+ attempt \d+ stage \d+ \S+: not in the file of programs\n")
 
 # The backend of the scheme `s`: it keeps the document that it is given.
 BACKEND = '#!/bin/sh\ncat "$6" > "$0.$1"\n'
@@ -49,10 +53,12 @@ class Spool:
             return file.read()
 
     def lines(self, commands, words=(), status=0, errors=""):
-        """The lines of the replies to commands. The status and what is on standard error have to be these."""
+        """The lines of the replies to commands. The status and what is on standard error have to be these, but for what is told
+        of stages, which have no program here."""
         script = b"".join(command if isinstance(command, bytes) else command.encode() + b"\n" for command in commands)
         done = subprocess.run([shell, "--root", self.root, *words], input=script, capture_output=True, timeout=SECONDS)
-        same("standard error", done.stderr.decode(), errors)
+        told = [line for line in done.stderr.decode().splitlines(True) if not NO_PROGRAM.fullmatch(line)]
+        same("standard error", "".join(told), errors)
         same("status", done.returncode, status)
         return done.stdout.decode().splitlines()
 

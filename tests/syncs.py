@@ -43,7 +43,9 @@ HEADER = 16  # bytes of an area's header
 OPEN = b"\xa5"  # an open gate
 FILE = "spool.disk"
 TYPE = "application/octet-stream"
-DISK = (1, "spool: disk\n")  # how a run ends whose device has failed
+# How a run ends whose device has failed, and how a start ends in which a call failed.
+DISK = [(1, "spool: disk\nspool: cause: failed\n")]
+START = [*DISK, (1, "spool: disk\nspool: cause: no room\n")]
 SHOWN = 4096  # bytes of a write or read that strace shows
 
 KINDS = {
@@ -228,11 +230,11 @@ class Run:
         failed = [(call.kind, call.names) for call in self.calls if "(INJECTED)" in call.rest]
         demand(not failing or failed == [(failing.kind, failing.names)], f"strace let {failed} fail, not {failing}")
 
-    def answers(self, replies, ending=(0, "")):
-        """Refuses other replies, and another end."""
+    def answers(self, replies, endings=((0, ""),)):
+        """Refuses other replies, and another end than these."""
         wanted = "".join(reply + "\n" for reply in replies if reply)
         demand(self.replies == wanted, f"answered {self.replies!r}, not {wanted!r}")
-        demand(self.ending == ending, f"ended with {self.ending}, not {ending}")
+        demand(self.ending in endings, f"ended with {self.ending}, not {endings}")
 
 
 def first_index(calls, kind, name=None):
@@ -414,7 +416,7 @@ def event_fails(root, place, failing, error):
 def start_fails(root, before, failing, error):
     """One run in which a call of its start fails, after a start with these commands or none."""
     run = Run(root, with_listings(before, script(1 if before else 0)), failing, error)
-    run.answers([], DISK)
+    run.answers([], START)
     files = os.listdir(root)
     demand(error != "ENOSPC" or not files, f"the folder has {files}")
     if FILE in files:
@@ -444,8 +446,12 @@ def failing_reads(run):
 
 def failing_starts(run):
     """The calls of a start that may fail, each with its error."""
-    for call in run.calls[: first_index(run.calls, "reply")]:
+    synced = first_index(run.calls, "sync", ".")
+    for place, call in enumerate(run.calls[: first_index(run.calls, "reply")]):
         if call.kind == "close" or (call.kind, call.name) == ("look", "."):
+            continue
+        # The folder is listed for what was left in it. Where that fails it stays.
+        if synced < place and (call.kind, call.name) == ("open", "."):
             continue
         yield call, "EIO"
         if call.kind == "write":

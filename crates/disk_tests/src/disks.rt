@@ -1,6 +1,6 @@
 //! Disks in memory and in a file, and what fails of them.
 
-use spool_disk::{DeviceFault, Disk, FileDisk, FuseDisk, MemDisk};
+use spool_disk::{DeviceFault, Disk, FileDisk, FuseDisk, MemDisk, OnceDisk};
 use std::fs;
 use std::fs::File;
 use std::test::Fail;
@@ -40,6 +40,19 @@ fn fuse_passes_three_calls(rt: HostRuntime) -> Result<(), Fail> {
     assert!(rt; fails(&mut disk));
     assert!(rt; (disk.len(), disk.faults()) == (4, 3));
     assert!(rt; disk.into_disk().bytes() == [0, 7, 8, 0].as_slice());
+    Ok(())
+}
+
+// The fourth call has no effect, and later ones have theirs.
+#[test]
+fn the_fourth_call_fails(rt: HostRuntime) -> Result<(), Fail> {
+    let mut disk = OnceDisk::new(MemDisk::new(rt.alloc(), 4)?, 3);
+    assert!(rt; holds(&mut disk));
+    assert!(rt; !writes(&mut disk, 0, &[1]));
+    assert!(rt; writes(&mut disk, 3, &[5]) && disk.sync().is_ok());
+    assert!(rt; read_three(&mut disk) == (Ok(()), [7, 8, 5]));
+    assert!(rt; (disk.len(), disk.faults()) == (4, 1));
+    assert!(rt; disk.into_disk().bytes() == [0, 7, 8, 5].as_slice());
     Ok(())
 }
 

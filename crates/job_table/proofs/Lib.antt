@@ -34,3 +34,9 @@ pub mod Busy
 pub mod Held
 pub mod Drafts
 pub mod Begun
+pub mod Part
+pub mod PartNext
+pub mod PartLoss
+pub mod PartSteps
+pub mod Owners
+pub mod Apart

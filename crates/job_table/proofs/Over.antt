@@ -63,7 +63,7 @@ module _ (s : State) (j : ℕ) (legal : IsLegal s) where
   absent_by none (OfClock m) own same = absurd (cc)
   absent_by none OfAll own same = absurd (cc)
 
-  refused_as_absent : job_at s j ≡ None → (e : Event) → subject e ≡ Some j → refusal_of s e ≡ Some NoJob
+  pub refused_as_absent : job_at s j ≡ None → (e : Event) → subject e ≡ Some j → refusal_of s e ≡ Some NoJob
   refused_as_absent none e same = absent_by none (change_by e) ((row e).own s) same
 
   refused_by : (e : Event) → subject e ≡ Some j → (o : Option Job) → job_at s j ≡ o → is_over_by s.highest j o ≡ true → refusal_of s e ≡ Some (late_refusal o)

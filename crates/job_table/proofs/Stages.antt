@@ -117,11 +117,11 @@ module _ (s : State) (j : ℕ) (r : Job) (there : job_at s j ≡ Some r) (legal 
 
 -- ## What an event leaves where there is no job
 
-queue_counts : (s : State) (name : List ℕ) (f : QueueRow → QueueRow) (o : Option QueueRow) → s.highest ≡ (change_found_queue s name f o).highest
+pub queue_counts : (s : State) (name : List ℕ) (f : QueueRow → QueueRow) (o : Option QueueRow) → s.highest ≡ (change_found_queue s name f o).highest
 queue_counts s name f None = refl
 queue_counts s name f (Some q) = refl
 
-own_counts : (s : State) (f : QueueRow → QueueRow) (o : Option Job) → s.highest ≡ (change_own_queue s f o).highest
+pub own_counts : (s : State) (f : QueueRow → QueueRow) (o : Option Job) → s.highest ≡ (change_own_queue s f o).highest
 own_counts s f None = refl
 own_counts s f (Some r) = queue_counts s r.queue f (queue_at s r.queue)
 

@@ -18,6 +18,7 @@
 //! - `Step`: one row an event, with the shape of its change, the causes of its refusals in order and its reply, and what it
 //!   is answered (`answer_to`); `Shapes`: the shapes, each with the causes that go with it; `Changes`: what events change in
 //!   a row; `Fold`: many events in turn.
+//! - `Apart`: a queue's part of a table, and the events that are its own.
 //! - `Over`: the numbers of jobs that are over. `Turns`: what a call does with the stages of attempts.
 //! - `Legal`: what is so of each table that events lead to. `Documents`: how long the documents of a table are.
 //! - `Contents`: what an event adds to the places of documents (`AddsPlaces`).
@@ -56,6 +57,8 @@
 //! - *Loading*: [`Loading::load`] takes a row exactly where it may come next, and adds what it adds; a piece adds its extent
 //!   (`AddsPiece`). What is listed is loaded again, and nothing but a listing of a legal table is taken whole
 //!   ([`listings_are_loaded`]).
+//! - *QueuesApart* ([`queues_stay_apart`]): what a table has of a queue, with its jobs' documents, comes of the events that name it
+//!   or a job of it, of the clock and of reopenings alone, and an event about it is answered alike without the others.
 //! - *EndedStaysEnded* ([`ended_jobs_stay`]), and that each state is legal ([`legal_tables_stay_legal`]).
 //!
 //! # Invariants
@@ -105,7 +108,7 @@ mod store;
 mod table;
 
 pub use laws::{
-    ended_jobs_stay, legal_tables_stay_legal, listings_are_loaded, reopening,
+    ended_jobs_stay, legal_tables_stay_legal, listings_are_loaded, queues_stay_apart, reopening,
     spent_stages_stay_spent,
 };
 pub use loading::{LoadFault, Loading};

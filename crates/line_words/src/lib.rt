@@ -1,5 +1,5 @@
-//! The rules of words that every file and script of lines shares: what a blank is, where a word ends, and what is in
-//! quotes.
+//! The rules of words that every file and script of lines shares: what a blank is, where a word ends, what is in quotes, and
+//! what number decimal digits are.
 //!
 //! # What a word is
 //!
@@ -18,6 +18,7 @@
 //! - [`read_quoted`] gives the text after an opening quote and what follows its closing one, or `None` exactly where
 //!   nothing closes it (`value`). Where no backslash is in the line it can't fail (`lent`). [`push_escaped`] adds what a
 //!   backslash and the byte after it mean (`value`).
+//! - [`decimal`] is the number that a word of decimal digits is, where it is no greater than it may be (`value`, `bound`).
 //! - [`Quoting`] goes through a text whose words quotes and backslashes hold together: [`Quoting::next`] is where the next
 //!   character is, [`Quoting::keeps`] whether one belongs to what the text says, [`Quoting::is_cut`] whether it ends a word.
 //! - [`Word::bytes`] and [`Word::into_bytes`] give the bytes of a [`Word`] (`value`).
@@ -29,11 +30,13 @@
 #![tactic(auto)]
 
 mod blanks;
+mod numbers;
 mod quotes;
 mod quoting;
 mod words;
 
 pub use blanks::{after_blanks, first_word, is_blank, split_at_blank, trim};
+pub use numbers::decimal;
 pub use quotes::{has_quote, is_backslash, is_quote, push_escaped, read_quoted};
 pub use quoting::Quoting;
 pub use words::Word;

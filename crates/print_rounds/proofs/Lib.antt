@@ -24,3 +24,4 @@ pub mod ReadLaws
 pub mod PassLaws
 pub mod InputLaws
 pub mod HandLaws
+pub mod LifeLaws

@@ -8,3 +8,4 @@ pub mod Faultless
 pub mod World
 pub mod Inputs
 pub mod Rounds
+pub mod Lives

@@ -1,14 +1,19 @@
 //! What is so of calls one after the other.
-ghost use Rattle.std.specs.Prelude.{◌≡◌, List, [], ◌++◌, Result, Some};
+ghost use Rattle.std.specs.Prelude.{◌≡◌, List, [], ◌∷◌, ◌++◌, Result, Some};
+ghost use Rattle.std.specs.FinMap as finite;
 ghost use Rattle.spool_types.specs.declared.event.Event.{Event};
+ghost use Rattle.job_table.specs.Attempts.{HasNoProcessing};
 ghost use Rattle.job_table.specs.Legal.{IsLegal};
+ghost use Rattle.job_table.specs.Turns.{AreOnce};
 ghost use Rattle.filter_args.specs.declared.place.Place.{Place};
 ghost use Rattle.child_pipeline.specs.Told.{Told};
+ghost use Rattle.child_pipeline.specs.declared.order.Placed.{Placed};
 ghost use Rattle.print_rounds.specs.Courses.{Course};
 ghost use Rattle.print_rounds.specs.Finished.{HasNoneRunning};
 ghost use Rattle.print_rounds.specs.Inputs.{AnsweredOrder, AreKeptFrom, HandsOn};
+ghost use Rattle.print_rounds.specs.Lives.{Life, IsLife, IsWorld, end_of, keys_of, keys_of_life, AreCallTurns, life_of, last_left};
 ghost use Rattle.print_rounds.specs.Rounds.{IsRoundOf};
-ghost use Rattle.print_rounds.specs.World.{IsCallTurn};
+ghost use Rattle.print_rounds.specs.World.{IsCallTurn, keys_in};
 ghost use Rattle.print_rounds.specs.declared.outcome.Round.{Round as RoundOf};
 ghost use Rattle.print_rounds.specs.declared.outcome.RoundFault.{RoundFault as FaultOf};
 
@@ -33,3 +38,23 @@ pub fn rounds_hand_on<D: Disk>()
 {
     legal_tables_stay_legal();
 }
+
+/// *NoStageTwice* over many lives: in every world no stage of an attempt is started twice.
+pub fn no_stage_comes_twice()
+    ensures { (lives : List Life) → IsWorld lives → AreOnce (keys_of lives) }
+{
+    legal_tables_stay_legal();
+    spent_stages_stay_spent();
+}
+
+/// Calls one after the other, at least one, from a table without a processing job and with no slots, are a life.
+pub fn calls_make_a_life<D: Disk>()
+    ensures life { (t : Told) (old : Course D) (c : List Event × Course D) (cs : List (List Event × Course D)) (calls : AreCallTurns t old (c ∷ cs)) →
+        HasNoProcessing old.spool.state → old.slots ≡ finite.empty → IsLife (life_of t old c cs calls) }
+
+    // It ends with the table that the last call leaves, and its stages are those of the orders that the children tell.
+    ensures end { (t : Told) (old : Course D) (c : List Event × Course D) (cs : List (List Event × Course D)) (calls : AreCallTurns t old (c ∷ cs)) →
+        end_of (life_of t old c cs calls) ≡ (last_left c.1 cs).spool.state }
+    ensures keys { (t : Told) (old : Course D) (c : List Event × Course D) (cs : List (List Event × Course D)) (calls : AreCallTurns t old (c ∷ cs)) → old.told ≡ Some t →
+        (now : Told) (orders : List Placed) → (last_left c.1 cs).told ≡ Some now → now.orders ≡ t.orders ++ orders → keys_of_life (life_of t old c cs calls) ≡ keys_in orders }
+{}

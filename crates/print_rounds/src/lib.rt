@@ -27,7 +27,9 @@
 //! - *EachFinishedOnce* (`finished`): whatever failed, each child that was started is finished once, none else, and every
 //!   start came before the first finish. After a round no child runs (`rest`), which the next one asks for.
 //! - *NoStageTwice* for one round: where the children tell it is a turn of World (`turn`, `IsCallTurn`), and two calls one after
-//!   the other are one turn ([`calls_join`]). So no stage of an attempt that was ordered is ordered again.
+//!   the other are one turn ([`calls_join`]). So no stage of an attempt that was ordered is ordered again. Over any number of
+//!   lives it is a law of every world (`Lives`, [`no_stage_comes_twice`]), and calls one after the other are a life of one
+//!   ([`calls_make_a_life`]).
 //! - *RightInput*: each start's order is exactly `order_in` of the job's slot, with the document that was read in a first stage
 //!   and the output in the slot in a later one (`Launched`). What was read is as long as the table says (`IsInput`), and where
 //!   the disk tells its bytes it is the document that these have for the job (`IsReadFor`, `handed`): what the accepted events
@@ -57,7 +59,7 @@ mod slots;
 mod stages;
 mod starts;
 
-pub use laws::{calls_join, rounds_hand_on};
+pub use laws::{calls_join, calls_make_a_life, no_stage_comes_twice, rounds_hand_on};
 pub use outcome::{Launch, Report, Round, RoundFault};
 pub use rounds::round;
 pub use stages::run_stages;

@@ -108,6 +108,13 @@ impl ProgramList {
         find(&self.backends, name)
     }
 
+    /// The filters in the order of their lines.
+    pub fn filters(&self) -> &[ListedFilter]
+        ensures value { result.now ≡ self.now.filters }
+    {
+        &self.filters
+    }
+
     /// The backends in the order of their lines.
     pub fn backends(&self) -> &[ListedBackend]
         ensures value { result.now ≡ self.now.backends }

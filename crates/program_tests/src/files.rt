@@ -129,7 +129,7 @@ const RUNS: [(&str, &[u8], Named, &str); 10] = [
         CONVS,
         b"# none\na/a b/b 10\n",
         [Some(ABSENT), None, Some(CONVS), None],
-        "spool: warning 2 BadLine\nspool: disk\n",
+        "spool: warning 2 BadLine\nspool: disk\nspool: cause: absent\n",
     ),
     // They are text.
     (

@@ -4,9 +4,10 @@ use std::fs;
 use std::fs::{File, Files};
 use std::os::unix::fs::{MetadataExt, PermissionsExt, symlink};
 use std::test::Fail;
+use std::time::Clock;
 
 // How the device of a folder is opened: with this length, or with this fault.
-fn opened<R: Files<File = File> + AllocGlobal>(
+fn opened<R: Files<File = File> + Clock + AllocGlobal>(
     rt: &R,
     dir: &str,
     size: u64,
@@ -17,7 +18,7 @@ fn opened<R: Files<File = File> + AllocGlobal>(
 }
 
 fn is_disk<T>(opened: &Result<T, ShellFault>) -> bool {
-    matches!(opened, Err(ShellFault::Disk))
+    matches!(opened, Err(ShellFault::Disk(_)))
 }
 
 #[test]

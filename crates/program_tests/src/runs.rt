@@ -33,7 +33,7 @@ fn end_after(alloc: Global, calls: u64, told: &mut Vec<u8>) -> Result<&'static s
     let children = (NoChildren, place);
     match serve(alloc, disk, children, rules, &mut SCRIPT.as_bytes(), told) {
         Ok(()) => Ok("served\n"),
-        Err(ShellFault::Disk) => Ok("disk\n"),
+        Err(ShellFault::Disk(_)) => Ok("disk\n"),
         Err(_) => Ok("other\n"),
     }
 }

@@ -1,4 +1,4 @@
-use spool_host::{ShellFault, ShellWords, WordsFault, read_words};
+use spool_host::{DiskCause, ShellFault, ShellWords, WordsFault, read_words};
 use std::alloc::{AllocError, Global};
 use std::test::Fail;
 
@@ -122,7 +122,8 @@ fn each_fault_has_its_word(rt: HostRuntime) -> Result<(), Fail> {
     assert!(rt; is_told(rt.alloc(), ShellFault::NotASpool, "not-a-spool")?);
     assert!(rt; is_told(rt.alloc(), ShellFault::Damaged(16), "damaged 16")?);
     assert!(rt; is_told(rt.alloc(), ShellFault::Memory, "memory")?);
-    assert!(rt; is_told(rt.alloc(), ShellFault::Disk, "disk")?);
+    assert!(rt; is_told(rt.alloc(), ShellFault::Disk(DiskCause::Owned), "disk")?);
+    assert!(rt; is_told(rt.alloc(), ShellFault::Ignored, "sigchld-ignored")?);
     assert!(rt; is_told(rt.alloc(), ShellFault::Read, "read")?);
     assert!(rt; is_told(rt.alloc(), ShellFault::Write, "write")?);
     Ok(())

@@ -4,9 +4,11 @@ ghost use Rattle.spool_disk.specs.Disk.{Blames, IsSynced, LeavesOnly};
 ghost use Rattle.spool_types.specs.declared.event.Event.{Event};
 ghost use Rattle.spool_types.specs.declared.event.NewJob.{NewJob};
 ghost use Rattle.spool_types.specs.declared.event.Event.TheVariants.{Create};
-ghost use Rattle.spool_types.specs.State.{Job, job_at};
+ghost use Rattle.spool_types.specs.State.{State, Job, job_at};
+ghost use Rattle.job_table.specs.Apart.{IsPart, own_events};
+ghost use Rattle.job_table.specs.Legal.{IsLegal};
 ghost use Rattle.job_table.specs.Step.{refusal_of};
-ghost use Rattle.job_table.specs.Fold.{after_all};
+ghost use Rattle.job_table.specs.Fold.{after_all, accepted};
 ghost use Rattle.job_table.specs.Ended.{HasEndedJob, subject};
 ghost use Rattle.job_table.specs.Over.{HasOver, late_refusal};
 ghost use Rattle.spool_core.specs.Image.{HasTable, HasDocuments, HasBeforeOrAfterEvent, HasWholeBeforeOrAfterEvent, documents_after_one};
@@ -15,7 +17,7 @@ ghost use Rattle.spool_core.specs.Driving.{replies_to, reach, room_after, HasPre
 ghost use Rattle.spool_core.specs.Turns.{DrivesOne};
 
 use crate::spool::{ApplyFault, Spool};
-use job_table::ended_jobs_stay;
+use job_table::{ended_jobs_stay, queues_stay_apart};
 use spool_disk::Disk;
 use spool_types::{Event, Refusal, Reply};
 use std::alloc::Global;
@@ -96,6 +98,7 @@ fn drive_all<D: Disk>(alloc: Global, spool: &mut Spool<D>, events: Vec<Event>) -
     }
     for event in events {
         if replies.reserve(1).is_err() {
+            drop(event);
             let ending = Ending::Memory;
             return Driven { replies, ending };
         }
@@ -148,10 +151,16 @@ pub fn drive<D: Disk>(alloc: Global, spool: &mut Spool<D>, events: Vec<Event>) -
     ensures refused { (j : ℕ) (e : Event) → HasOver spool.old.state j → subject e ≡ Some j → refusal_of spool.new.state e ≡ Some (late_refusal (job_at spool.new.state j)) }
     ensures number { (j : ℕ) (n : NewJob) → HasOver spool.old.state j → n.job ≡ j → IsSome (refusal_of spool.new.state (Create n)) }
 
+    // What there is of a queue comes of its own events alone: another table that has of it the same, and nothing else, is led
+    // by these to one that has of it the same.
+    ensures apart { (name : List ℕ) (t : State) → IsLegal spool.old.state → IsLegal t → IsPart name spool.old.state t →
+        IsPart name spool.new.state (after_all t (own_events spool.old.state name (accepted spool.old.state (take (length result.replies.items) events.items)))) }
+
     ensures blames { Blames (D.device.failures spool.old.disk) (D.device.failures spool.new.disk) (result.ending ≡ Ending.Disk) }
     ensures fixed { D.device.size spool.new.disk ≡ D.device.size spool.old.disk }
     ensures told { IsSome (D.device.bytes spool.new.disk) ↔ IsSome (D.device.bytes spool.old.disk) }
 {
     ended_jobs_stay();
+    queues_stay_apart();
     drive_all(alloc, spool, events)
 }

@@ -57,7 +57,10 @@ pub(crate) fn fold<D: Disk>(
     for extent in payloads {
         match read_payload(areas, &mut buffer, *extent) {
             Ok(()) => {}
-            Err(fault) => return Err(fault),
+            Err(fault) => {
+                drop(reading);
+                return Err(fault);
+            }
         }
         reading = match take_payload(reading, alloc, &buffer, *extent) {
             Ok(reading) => reading,
@@ -135,8 +138,14 @@ fn take_row(
     match read_row(alloc, payload) {
         Ok(Some(row)) => match loading.load(row, extent.place) {
             Ok(()) => Ok(Reading::Rows(loading)),
-            Err(LoadFault::Misplaced) => Err(OpenFault::Damaged(extent.place - HEAD_LEN)),
-            Err(LoadFault::Memory) => Err(OpenFault::Memory),
+            Err(LoadFault::Misplaced) => {
+                drop(loading);
+                Err(OpenFault::Damaged(extent.place - HEAD_LEN))
+            }
+            Err(LoadFault::Memory) => {
+                drop(loading);
+                Err(OpenFault::Memory)
+            }
         },
         Ok(None) => {
             if loading.is_whole() {
@@ -145,10 +154,14 @@ fn take_row(
                     Err(_) => Err(OpenFault::Memory),
                 }
             } else {
+                drop(loading);
                 Err(OpenFault::Damaged(extent.place - HEAD_LEN))
             }
         }
-        Err(_) => Err(OpenFault::Memory),
+        Err(_) => {
+            drop(loading);
+            Err(OpenFault::Memory)
+        }
     }
 }
 
@@ -182,9 +195,15 @@ fn add_event(
     match decode(alloc, payload) {
         Ok(event) => match commit_event(&mut table, event, extent) {
             Ok(()) => Ok(Reading::Events(table)),
-            Err(fault) => Err(fault),
+            Err(fault) => {
+                drop(table);
+                Err(fault)
+            }
         },
-        Err(fault) => Err(fault_of(extent, fault)),
+        Err(fault) => {
+            drop(table);
+            Err(fault_of(extent, fault))
+        }
     }
 }
 
@@ -218,8 +237,14 @@ fn commit_event(table: &mut Table, event: Event, extent: Extent) -> Result<(), O
             table.commit(event, extent.place);
             Ok(())
         }
-        Err(PrepareFault::Refused(_)) => Err(OpenFault::Damaged(extent.place - HEAD_LEN)),
-        Err(PrepareFault::Memory) => Err(OpenFault::Memory),
+        Err(PrepareFault::Refused(_)) => {
+            drop(event);
+            Err(OpenFault::Damaged(extent.place - HEAD_LEN))
+        }
+        Err(PrepareFault::Memory) => {
+            drop(event);
+            Err(OpenFault::Memory)
+        }
     }
 }
 
@@ -239,6 +264,7 @@ fn finish(reading: Reading, gate: u64) -> Result<Table, OpenFault>
                     Err(_) => Err(OpenFault::Memory),
                 }
             } else {
+                drop(loading);
                 Err(OpenFault::Damaged(gate))
             }
         }

@@ -41,6 +41,11 @@ pub fn lives_go_on()
     ensures opened { (s t : State) (events : List Event) (acknowledged most : ℕ) (image : List ℕ) → HasPrefixTable s events acknowledged most image → IsReopenedFrom t image →
         (left : ℕ) × (acknowledged ≤ left) × (left ≤ most) × (t ≡ next_table s (record { events = events; acknowledged = acknowledged; left = left })) }
 
+    // So its table is the one after the acknowledged events and some further ones: those that the crash left behind them, and the
+    // opening's Reopen.
+    ensures goes_on { (s t : State) (events : List Event) (acknowledged most : ℕ) (image : List ℕ) → HasPrefixTable s events acknowledged most image → IsReopenedFrom t image →
+        (more : List Event) × (t ≡ after_all (after_all s (take acknowledged events)) more) }
+
     // It has the documents that the events sent which the crash left, every acknowledged one among them.
     ensures documents { (s t : State) (documents : ℕ → List ℕ) (events : List Event) (acknowledged most : ℕ) (image : List ℕ) → HasWholePrefix s documents events acknowledged most image → IsReopenedFrom t image →
         (left : ℕ) × (acknowledged ≤ left) × (left ≤ most) × (t ≡ next_table s (record { events = events; acknowledged = acknowledged; left = left }))

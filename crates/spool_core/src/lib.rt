@@ -60,6 +60,8 @@
 //! - *EndedStaysEnded*: a table changes by accepted events only (`answer`), and none changes a job that has ended
 //!   (`ended_jobs_stay` of `job_table`). [`drive`] says it of its events: such a job stays as it is (`ended`), and a number
 //!   that is over stays so (`over`). What is about it is refused (`refused`), and it is not given again (`number`).
+//! - *QueuesApart* (`queues_stay_apart` of `job_table`): what [`replay`] leaves of a queue are the rows after the queue's own events,
+//!   and [`drive`] leads a queue's part of a table on to its part (`apart`).
 //! - *ExactRefusals*: each answer of `apply` comes with its cause, in the order of [`ApplyFault`] (`answer`). `open`
 //!   answers `NotASpool` or `Damaged` only for bytes with that fault (`fault`), and `Disk` only where the device's
 //!   count of failures rose (`blames`). So it is with `checkpoint` and [`CheckpointFault`]: it is `EpochEnd` exactly at the

@@ -107,10 +107,12 @@ fn take_all(alloc: Global, loading: &mut Loading, table: &Table) -> Result<(), F
 }
 
 fn finished(loading: Loading) -> Result<Table, Fail> {
-    if !loading.is_whole() {
-        return Err(Fail::from("a document is short"));
+    if loading.is_whole() {
+        return Ok(loading.into_table()?);
     }
-    Ok(loading.into_table()?)
+    // By name: let go at the end of its scope, it would be let go part by part.
+    drop(loading);
+    Err(Fail::from("a document is short"))
 }
 
 // The table that is loaded from the listing of another.
@@ -118,7 +120,10 @@ fn loaded_again(alloc: Global, table: &Table) -> Result<Table, Fail> {
     let mut loading = Loading::new(alloc);
     match take_all(alloc, &mut loading, table) {
         Ok(()) => finished(loading),
-        Err(fail) => Err(fail),
+        Err(fail) => {
+            drop(loading);
+            Err(fail)
+        }
     }
 }
 
@@ -136,30 +141,47 @@ fn both(alloc: Global) -> Result<(Table, Table), Fail> {
     let table = replay(alloc, events(alloc, &EVENTS)?)?;
     match loaded_again(alloc, &table) {
         Ok(again) => Ok((table, again)),
-        Err(fail) => Err(fail),
+        Err(fail) => {
+            drop(table);
+            Err(fail)
+        }
     }
 }
 
-fn are_same<R: Abort>(rt: &R, alloc: Global, table: &Table, again: &Table) -> Result<(), Fail> {
+// Whether the listing of a table is that of another.
+fn list_the_same(alloc: Global, table: &Table, again: &Table) -> Result<bool, Fail> {
     let rows = listing(alloc, table)?;
-    assert!(rt; lists(alloc, again, &rows)?);
-    assert_eq!(rt;
-        (again.highest(), again.now().get(), again.is_idle()),
-        (7, 7, false)
-    );
+    lists(alloc, again, &rows)
+}
+
+// Whether jobs 7 and 6 are next in turn.
+fn has_its_turns(alloc: Global, table: &Table) -> Result<bool, Fail> {
     let turns = [
         JobId::new(7).ok_or("no number")?,
         JobId::new(6).ok_or("no number")?,
     ];
-    assert!(rt; has_turns(alloc, again, &turns)?);
-    let document = &again.jobs().first().ok_or("no job")?.document;
+    has_turns(alloc, table, &turns)
+}
+
+// Whether the first job's document lies in one piece behind the head of its row.
+fn has_its_document(table: &Table) -> bool {
+    let whole = [Extent {
+        place: 1_009,
+        len: 5,
+    }];
+    match table.jobs().first() {
+        Some(row) => row.document.as_slice() == whole.as_slice(),
+        None => false,
+    }
+}
+
+fn are_same<R: Abort>(rt: &R, alloc: Global, table: &Table, again: &Table) -> Result<(), Fail> {
+    assert!(rt; list_the_same(alloc, table, again)?);
+    assert!(rt; has_its_turns(alloc, again)?);
+    assert!(rt; has_its_document(again));
     assert_eq!(rt;
-        document.as_slice(),
-        [Extent {
-            place: 1_009,
-            len: 5
-        }]
-        .as_slice()
+        (again.highest(), again.now().get(), again.is_idle()),
+        (7, 7, false)
     );
     Ok(())
 }
@@ -173,11 +195,18 @@ fn a_listing_loaded_again_is_its_table(rt: HostRuntime) -> Result<(), Fail> {
     outcome
 }
 
+// Whether the rows of a table are spelled so.
+fn lists_text(alloc: Global, table: &Table, text: &str) -> Result<bool, Fail> {
+    let rows = bytes_of(alloc, text)?;
+    lists(alloc, table, &rows)
+}
+
 #[test]
 fn no_rows_are_the_empty_table(rt: HostRuntime) -> Result<(), Fail> {
     let table = finished(Loading::new(rt.alloc()))?;
-    let head = bytes_of(rt.alloc(), "40 00000000 0000000000000000")?;
-    assert!(rt; lists(rt.alloc(), &table, &head)?);
+    let same = lists_text(rt.alloc(), &table, "40 00000000 0000000000000000");
+    drop(table);
+    assert!(rt; same?);
     Ok(())
 }
 
@@ -197,16 +226,26 @@ fn row(alloc: Global, text: &str) -> Result<Row, Fail> {
     Ok(decode_row(alloc, &bytes_of(alloc, text)?)?)
 }
 
-// The job with other attempts and in another phase.
-fn job_row(alloc: Global, attempts: u32, phase: Phase) -> Result<Row, Fail> {
-    match row(alloc, JOB)? {
-        Row::Job(mut job) => {
+// Gives the job of a row other attempts and another phase. Whether it is the row of a job.
+fn change(row: &mut Row, attempts: u32, phase: Phase) -> bool {
+    match row {
+        Row::Job(job) => {
             job.attempts = attempts;
             job.phase = phase;
-            Ok(Row::Job(job))
+            true
         }
-        _ => Err(Fail::from("no job")),
+        _ => false,
     }
+}
+
+// The job with other attempts and in another phase.
+fn job_row(alloc: Global, attempts: u32, phase: Phase) -> Result<Row, Fail> {
+    let mut row = row(alloc, JOB)?;
+    if change(&mut row, attempts, phase) {
+        return Ok(row);
+    }
+    drop(row);
+    Err(Fail::from("no job"))
 }
 
 fn processing(attempt: u32, stage: u8, stages: u8) -> Phase {
@@ -244,15 +283,23 @@ fn take_around<R: Abort>(rt: &R, alloc: Global, loading: &mut Loading) -> Result
     take_text(alloc, loading, JOB)
 }
 
+// The table that is loaded around them.
+fn loaded_around<R: Abort>(rt: &R, alloc: Global) -> Result<Table, Fail> {
+    let mut loading = Loading::new(alloc);
+    match take_around(rt, alloc, &mut loading) {
+        Ok(()) => finished(loading),
+        Err(fail) => {
+            drop(loading);
+            Err(fail)
+        }
+    }
+}
+
 #[test]
 fn rows_that_fit_no_table_are_misplaced(rt: HostRuntime) -> Result<(), Fail> {
-    let mut loading = Loading::new(rt.alloc());
-    match take_around(&rt, rt.alloc(), &mut loading) {
-        Ok(()) => {}
-        Err(fail) => return Err(fail),
-    }
-    let table = finished(loading)?;
-    let rows = bytes_of(rt.alloc(), LISTED)?;
-    assert!(rt; lists(rt.alloc(), &table, &rows)?);
+    let table = loaded_around(&rt, rt.alloc())?;
+    let same = lists_text(rt.alloc(), &table, LISTED);
+    drop(table);
+    assert!(rt; same?);
     Ok(())
 }

@@ -2,7 +2,7 @@
 
 use crate::spelled::{CLOSE, CREATE, QUEUE, bytes_of, events, listing, lists, push_event};
 use crate::spools::{Device, OPENING, closed, driven, drives, made, open};
-use spool_core::{Ending, Spool, drive, replay};
+use spool_core::{Driven, Ending, Spool, drive, replay};
 use spool_disk::{FuseDisk, MemDisk};
 use spool_types::Event;
 use std::alloc::Global;
@@ -21,7 +21,9 @@ const LISTED: &str = "40 00000001 0000000000000000 \
 fn rows_after(alloc: Global, count: usize) -> Result<Vec<u8>, Fail> {
     let count = count.min(PLAN.len());
     let table = replay(alloc, events(alloc, &PLAN[..count])?)?;
-    Ok(listing(alloc, &table)?)
+    let rows = listing(alloc, &table);
+    drop(table);
+    Ok(rows?)
 }
 
 #[test]
@@ -35,6 +37,10 @@ fn refused_events_are_skipped(rt: HostRuntime) -> Result<(), Fail> {
 // What the plan is answered on a spool, and why it ends, in words.
 fn told(alloc: Global, spool: &mut Spool<Device>) -> Result<String, Fail> {
     let driven = driven(alloc, spool, &PLAN)?;
+    told_of(alloc, &driven)
+}
+
+fn told_of(alloc: Global, driven: &Driven) -> Result<String, Fail> {
     let replies = driven.replies.as_slice();
     let ending = driven.ending;
     Ok(format!(in alloc; "{replies:?} {ending:?}")?)
@@ -188,6 +194,10 @@ const ANSWERED: &str = "\
 // What an event is answered, in words.
 fn answer(alloc: Global, spool: &mut Spool<Device>, spelling: &str) -> Result<String, Fail> {
     let driven = driven(alloc, spool, &[spelling])?;
+    first_answer(alloc, &driven)
+}
+
+fn first_answer(alloc: Global, driven: &Driven) -> Result<String, Fail> {
     match driven.replies.first() {
         Some(reply) => Ok(format!(in alloc; "{reply:?}")?),
         None => Err(Fail::from("no reply")),
@@ -256,21 +266,31 @@ fn canceled_jobs(alloc: Global) -> Result<Vec<Event>, Fail> {
     }
 }
 
-// How many of them are answered on a new spool, and the disk.
+// How many of them are answered.
+fn answered(alloc: Global, spool: &mut Spool<Device>) -> Result<usize, Fail> {
+    let driven = drive(alloc, spool, canceled_jobs(alloc)?);
+    Ok(driven.replies.len())
+}
+
+// The same on a new spool, and the disk.
 fn filled(alloc: Global) -> Result<(usize, MemDisk), Fail> {
-    let events = canceled_jobs(alloc)?;
     let mut spool = open(alloc, made(alloc, 1_048_576)?, u64::MAX)?;
-    let answered = drive(alloc, &mut spool, events).replies.len();
-    Ok((answered, closed(spool)))
+    let answered = answered(alloc, &mut spool);
+    let disk = closed(spool);
+    Ok((answered?, disk))
 }
 
 // The rows of the table after them.
 fn canceled_rows(alloc: Global) -> Result<Vec<u8>, Fail> {
     let table = replay(alloc, canceled_jobs(alloc)?)?;
-    if table.jobs().len() != 1_000 || table.now().get() != 1_000 {
-        return Err(Fail::from("another table"));
+    let is_whole = table.jobs().len() == 1_000 && table.now().get() == 1_000;
+    let rows = listing(alloc, &table);
+    drop(table);
+    if is_whole {
+        Ok(rows?)
+    } else {
+        Err(Fail::from("another table"))
     }
-    Ok(listing(alloc, &table)?)
 }
 
 #[test]

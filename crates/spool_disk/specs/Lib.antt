@@ -3,3 +3,4 @@ pub mod File
 pub mod Fuse
 pub mod Images
 pub mod Memory
+pub mod Once

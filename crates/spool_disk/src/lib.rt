@@ -25,6 +25,7 @@
 //!
 //! - `MemDisk` is bytes in memory. It never fails, and a crash leaves what it holds.
 //! - `FuseDisk` passes so many calls on to a disk behind it, and then fails each call without effect.
+//! - `OnceDisk` passes so many calls on, fails the next one without effect, and passes all later ones.
 //! - `FileDisk` is a file of the system. It tells nothing of its bytes: its clauses speak of length and failures, and
 //!   what is said above of bytes and images says nothing of it.
 //!
@@ -40,6 +41,7 @@ mod durable;
 mod file;
 mod fuse;
 mod memory;
+mod once;
 mod surely;
 
 pub use disk::{DeviceFault, Disk};
@@ -47,3 +49,4 @@ pub use durable::persist;
 pub use file::FileDisk;
 pub use fuse::FuseDisk;
 pub use memory::MemDisk;
+pub use once::OnceDisk;

@@ -43,6 +43,8 @@
 //! - *EachFinishedOnce* (`finished` of each round): whatever failed, each child that was started is finished once when the
 //!   round returns, and every start came before the first finish.
 //! - *NoStageTwice* ([`calls_are_turns`]): each call is a turn of World, whose events are those that were acknowledged in it.
+//!   In every world no stage of an attempt comes twice ([`lives_law`]), so over any number of engines none is ordered twice
+//!   ([`no_stage_is_ordered_twice`]).
 //! - *RightInput* ([`stages_have_right_input`]): over any number of calls each later stage of an attempt is handed the whole output
 //!   of the stage before it, and each first stage its job's document.
 //! - *Crashes* (`crash` and `kept` of each turn): unless the device had failed before, a crash at any moment of a turn
@@ -80,4 +82,7 @@ mod printer;
 
 pub use engine::Engine;
 pub use fault::RunFault;
-pub use laws::{calls_are_turns, crashes_between_replies, stages_have_right_input};
+pub use laws::{
+    calls_are_turns, crashes_between_replies, lives_law, no_stage_is_ordered_twice,
+    stages_have_right_input,
+};

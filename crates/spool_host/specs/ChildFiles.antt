@@ -1,5 +1,7 @@
 -- The files of an order's child, and what is read of one.
-use Rattle.std.specs.Prelude.{ℕ, ◌<◌, ◌≤◌, List, length, Option}
+use Rattle.std.specs.Prelude.{ℕ, ◌<◌, ◌≤◌, Bool, true, false, List, length, Option}
+use Rattle.std.specs.declared.io.ErrorKind.{ErrorKind}
+use Rattle.std.specs.declared.io.ErrorKind.TheVariants.{QuotaExceeded, StorageFull}
 use Rattle.std.specs.Io.KnownBytes.{Consumes, IsAtEnd}
 use Rattle.filter_args.specs.Files.{file_name}
 use Rattle.filter_args.specs.declared.files.ChildFile.{ChildFile}
@@ -14,3 +16,9 @@ pub record ReadsUpTo (most : ℕ) (old new : Option (List ℕ)) (bytes : List �
   pub few : length bytes ≤ most
   pub read : Consumes old new bytes
   pub all : length bytes < most → IsAtEnd new
+
+-- a write found no room
+abbrev pub wants_room : ErrorKind → Bool
+wants_room StorageFull = true
+wants_room QuotaExceeded = true
+wants_room _ = false

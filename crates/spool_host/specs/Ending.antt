@@ -5,6 +5,7 @@ use Rattle.clap.specs.declared.error.kind.ErrorKind.{ErrorKind}
 use Rattle.clap.specs.declared.error.kind.ErrorKind.TheVariants.{DisplayHelp, DisplayVersion}
 use Rattle.spool_engine.specs.declared.fault.RunFault.{RunFault}
 use Rattle.spool_host.specs.Faults.{of_run}
+use Rattle.spool_host.specs.declared.fault.DiskCause.TheVariants.{Failed}
 use Rattle.spool_host.specs.declared.fault.ShellFault.{ShellFault}
 use Rattle.spool_host.specs.declared.fault.ShellFault.TheVariants.{Disk}
 use Rattle.spool_host.specs.declared.words.WordsFault.{WordsFault}
@@ -14,7 +15,7 @@ use Rattle.spool_host.specs.declared.words.WordsFault.TheVariants.{Refused, Memo
 -- commands, and is a fault nevertheless.
 abbrev pub ending_of : Result (Unit {0}) RunFault → Bool → Result (Unit {0}) ShellFault
 ending_of (Ok done) false = Ok tt
-ending_of (Ok done) true = Err Disk
+ending_of (Ok done) true = Err (Disk Failed)
 ending_of (Err fault) dead = Err (of_run fault)
 
 -- ---- statuses

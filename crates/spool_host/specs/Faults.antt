@@ -4,6 +4,10 @@ use Rattle.spool_core.specs.declared.OpenFault.{OpenFault}
 use Rattle.spool_core.specs.declared.OpenFault.TheVariants as opening
 use Rattle.spool_engine.specs.declared.fault.RunFault.{RunFault}
 use Rattle.spool_engine.specs.declared.fault.RunFault.TheVariants as run
+use Rattle.std.specs.declared.io.ErrorKind.{ErrorKind}
+use Rattle.std.specs.declared.io.ErrorKind.TheVariants.{FilesystemLoop, IsADirectory, NotADirectory, NotFound, OutOfMemory, PermissionDenied, QuotaExceeded, ReadOnlyFilesystem, StorageFull}
+use Rattle.spool_host.specs.declared.fault.DiskCause.{DiskCause}
+use Rattle.spool_host.specs.declared.fault.DiskCause.TheVariants.{Absent, Failed, NoFile, NoRoom, NotAllowed, ReadOnly}
 use Rattle.spool_host.specs.declared.fault.ShellFault.{ShellFault}
 use Rattle.spool_host.specs.declared.fault.ShellFault.TheVariants.{Damaged, Disk, File, Memory, NotASpool, Read, Write}
 
@@ -12,7 +16,7 @@ abbrev pub of_opening : OpenFault → ShellFault
 of_opening opening.NotASpool = NotASpool
 of_opening (opening.Damaged place) = Damaged place
 of_opening opening.Memory = Memory
-of_opening opening.Disk = Disk
+of_opening opening.Disk = Disk Failed
 
 -- the run ended before its text did
 abbrev pub of_run : RunFault → ShellFault
@@ -20,9 +24,28 @@ of_run run.Read = Read
 of_run run.Write = Write
 of_run run.Memory = Memory
 
+-- what the kind of an error says of the folder or of its file
+abbrev pub cause_of : ErrorKind → DiskCause
+cause_of NotFound = Absent
+cause_of PermissionDenied = NotAllowed
+cause_of ReadOnlyFilesystem = ReadOnly
+cause_of StorageFull = NoRoom
+cause_of QuotaExceeded = NoRoom
+cause_of NotADirectory = NoFile
+cause_of IsADirectory = NoFile
+cause_of FilesystemLoop = NoFile
+cause_of _ = Failed
+
+-- a call on them failed so
+abbrev pub of_error : ErrorKind → ShellFault
+of_error OutOfMemory = Memory
+of_error kind = Disk (cause_of kind)
+
 -- the folder or its file can't be had, or there was no memory
 abbrev pub IsOfFolder : ShellFault → Type 0
-IsOfFolder fault = (fault ≡ Disk) ⊎ (fault ≡ Memory)
+IsOfFolder (Disk cause) = ⊤
+IsOfFolder Memory = ⊤
+IsOfFolder _ = ⊥
 
 -- the file of this name can't be read as what it is, and this is told, or there was no memory
 abbrev pub IsOfFile : Option (List ℕ) → ShellFault → Type 0

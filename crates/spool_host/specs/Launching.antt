@@ -1,8 +1,10 @@
 -- What a launcher makes of an order, and of an end.
-use Rattle.std.specs.Prelude.{◌≡◌, ℕ, List, codes, Option, None, Some, IsSome, pos}
+use Rattle.std.specs.Prelude.{◌≡◌, ℕ, ℤ, pos, Bool, true, false, not, ◌&&◌, ◌||◌, List, length, ◌==◌, codes, Option, None, Some, IsSome}
 use Rattle.std.specs.Option.{option_map}
 use Rattle.std.specs.Process.{exit_code, exit_signal}
 use Rattle.std.specs.declared.process.status.ExitStatus.{ExitStatus}
+use Rattle.std.specs.declared.io.ErrorKind.{ErrorKind}
+use Rattle.child_pipeline.specs.declared.order.Finish.{Finish}
 use Rattle.child_pipeline.specs.declared.order.Input.{Input}
 use Rattle.child_pipeline.specs.declared.order.Input.TheVariants as inputs
 use Rattle.child_pipeline.specs.declared.order.Order.{Order}
@@ -13,7 +15,12 @@ use Rattle.program_lists.specs.declared.line.ListedProgram.{ListedProgram}
 use Rattle.side_channel.specs.declared.devices.Device.{Device}
 use Rattle.spool_types.specs.declared.effect.Exit.{Exit}
 use Rattle.spool_types.specs.declared.effect.Exit.TheVariants.{Code, Lost, NoStart, Signal}
+use Rattle.spool_host.specs.Shortage.{shortage_of}
 use Rattle.spool_host.specs.SideDevice.{device_in, uri_among}
+use Rattle.spool_host.specs.declared.launcher.Room.{Room}
+use Rattle.spool_host.specs.declared.reasons.Reason.{Reason}
+use Rattle.spool_host.specs.declared.reasons.Reason.TheVariants.{Refused, Short}
+use Rattle.spool_host.specs.declared.shortage.Shortage.{Shortage}
 
 -- the program that an order names, where the list has it
 abbrev pub program_for : Programs → Program → Option ListedProgram
@@ -38,3 +45,24 @@ TellsEnd status Lost = ⊥
 
 abbrev pub TellsNoEnd : ExitStatus → Type 0
 TellsNoEnd status = (exit_code status ≡ None) × (exit_signal status ≡ None)
+
+-- ---- what may be missing
+
+abbrev pub is_success : Exit → Bool
+is_success (Code code) = code == 0
+is_success exit = false
+
+-- A child that ended well may have written more than was kept: there is no room behind what it wrote on a stream. Of an
+-- empty one nobody knows; a filter is to give something, and a backend isn't.
+abbrev pub may_be_cut : Finish → Bool → Room → Bool
+may_be_cut finish filter room =
+    is_success finish.exit && ((not room.output && (filter || not (length finish.output == 0))) || (not room.errors && not (length finish.errors == 0)))
+
+-- ---- why a start was refused
+
+abbrev pub refused : Option Shortage → Reason
+refused (Some shortage) = Short shortage
+refused None = Refused
+
+abbrev pub refusal_of : ErrorKind → Option ℤ → Reason
+refusal_of kind number = refused (shortage_of kind number)

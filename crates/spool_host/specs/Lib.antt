@@ -1,9 +1,14 @@
+pub mod Begun
 pub mod ChildFiles
 pub mod DeviceLines
 pub mod Ending
 pub mod Faults
+pub mod Fitness
 pub mod Launching
+pub mod NamedDisk
+pub mod Reasons
 pub mod Script
 pub mod Serving
+pub mod Shortage
 pub mod SideDevice
 pub mod Words

@@ -1,5 +1,6 @@
 -- What the shell is run with, for a child.
 use Rattle.std.specs.Prelude.{ℕ, List, [], ◌∷◌, ◌++◌, map, codes, Option, None, Some, string_bytes, unwrap_or}
+use Rattle.std.specs.Fmt.{decimal}
 use Rattle.std.specs.Option.{option_to_list}
 use Rattle.program_lists.specs.declared.line.ListedProgram.{ListedProgram}
 use Rattle.spool_host.specs.declared.child_files.ChildPaths.{ChildPaths}
@@ -8,20 +9,24 @@ use denote.Ref.{Bor}
 
 -- The script of every child: nothing of a job is in its text.
 abbrev pub script : List ℕ
-script = codes "run() {\n    { shift 6; exec /usr/bin/env -i \"$@\"; } <\"$1\" >\"$2\" 2>\"$3\" 4</dev/null\n    exit 126\n}\n[ -n \"$4\" ] || run \"$@\"\n(run \"$@\")\nstatus=$?\n\"$5\" ${6:+\"$6\"} \"$4\"\nexit $status\n"
+script = codes "run() {\n    { shift 6; exec /usr/bin/setsid /usr/bin/env -i \"$@\"; } <\"$1\" 2>\"$2\" 3<>/dev/null 4</dev/null\n    exit 126\n}\numask 077\nulimit -f \"$6\"\n[ -n \"$3\" ] || run \"$@\"\n(run \"$@\")\nstatus=$?\n/usr/bin/timeout -k 1 5 \"$4\" ${5:+\"$5\"} \"$3\" >/dev/null\nexit $status\n"
 
 -- the script, and the name that it goes by
 abbrev pub script_words : List (List ℕ)
 script_words = codes "-c" ∷ script ∷ codes "sh" ∷ []
 
--- the files that are standard input, standard output and standard error
+-- the files that are standard input and standard error
 abbrev pub file_words : List ℕ → ChildPaths → List (List ℕ)
-file_words input paths = input ∷ string_bytes paths.output ∷ string_bytes paths.errors ∷ []
+file_words input paths = input ∷ string_bytes paths.errors ∷ []
 
 -- the socket, the program that ends a session on it, and the first word of that
 abbrev pub side_words : List ℕ → Option (Bor ListedProgram) → List (List ℕ)
 side_words socket None = [] ∷ [] ∷ [] ∷ []
 side_words socket (Some program) = socket ∷ program.now.path ∷ unwrap_or program.now.word [] ∷ []
+
+-- how large a file that the child writes may grow, in blocks of 512 bytes
+abbrev pub limit_words : ℕ → List (List ℕ)
+limit_words blocks = decimal blocks ∷ []
 
 -- a program, and the word that comes before those of a job
 abbrev pub program_words : ListedProgram → List (List ℕ)
@@ -34,4 +39,5 @@ env_words call = map string_bytes call.environment.now ++ (program_words call.pr
 -- the script and its parameters
 abbrev pub arguments_of : Call → List (List ℕ)
 arguments_of call =
-    script_words ++ (file_words call.input.now call.paths.now ++ (side_words (string_bytes call.paths.now.side) call.side ++ env_words call))
+    script_words ++ (file_words call.input.now call.paths.now ++ (side_words (string_bytes call.paths.now.side) call.side
+    ++ (limit_words call.most_blocks ++ env_words call)))

@@ -1,15 +1,17 @@
 //! The files of a child, in the spool's folder.
 ghost use Rattle.std.specs.Prelude.{◌≡◌, IfOk};
 ghost use Rattle.std.specs.String.{string_bytes};
-ghost use Rattle.spool_host.specs.ChildFiles.{ReadsUpTo, file_of};
+ghost use Rattle.spool_host.specs.ChildFiles.{ReadsUpTo, file_of, wants_room};
 ghost use Rattle.filter_args.specs.declared.files.ChildFile.TheVariants as files;
 
 use crate::device::new_file;
 use child_pipeline::Order;
 use filter_args::{ChildFile, Place};
+use spool_types::LONGEST_DOCUMENT;
 use std::alloc::{AllocError, Global};
-use std::fs::{File, Files};
+use std::fs::{File, Files, OpenOptions};
 use std::io::{ErrorKind, Read, Write};
+use std::os::unix::fs::FileExt;
 use std::path::Path;
 use std::{fs, io};
 
@@ -78,6 +80,16 @@ pub(crate) fn make_file<R: Files<File = File>>(rt: &R, path: &str) -> io::Result
     }
 }
 
+/// A child's standard output, to be handed to it: the file that was made. It is locked as long as a process of the child has
+/// it, so that an opening sees which children go on ([`crate::leftovers`]).
+pub(crate) fn output_to_hand<R: Files<File = File>>(rt: &R, path: &str) -> io::Result<File> {
+    let output = OpenOptions::new().write(true).open(rt, path)?;
+    if output.try_lock().is_err() {
+        return Err(io::Error::from(ErrorKind::ResourceBusy));
+    }
+    Ok(output)
+}
+
 /// Makes a file of these bytes.
 pub(crate) fn make_file_of<R: Files<File = File>>(
     rt: &R,
@@ -85,6 +97,30 @@ pub(crate) fn make_file_of<R: Files<File = File>>(
     bytes: &[u8],
 ) -> io::Result<()> {
     make_file(rt, path)?.write_all(bytes)
+}
+
+/// Whether a byte more can be written behind what a child wrote. It is written, so the file is to be removed then. Where
+/// it can't be, a write of the child before it may have been cut off here.
+///
+/// What is longer than a document isn't looked at, since its end isn't read. Where the spooler's own files have a limit, as
+/// those of the child do, a byte behind such a file may be above it, and the signal for that would end the spooler.
+pub(crate) fn has_room(file: &File) -> bool {
+    let Ok(found) = file.metadata() else {
+        return true;
+    };
+    if found.len() > LONGEST_DOCUMENT as u64 {
+        return true;
+    }
+    match file.write_all_at(b"\n", found.len()) {
+        Ok(()) => true,
+        Err(error) => !wants_room(error.kind()),
+    }
+}
+
+fn wants_room(kind: ErrorKind) -> bool
+    ensures { result ≡ wants_room kind }
+{
+    matches!(kind, ErrorKind::StorageFull | ErrorKind::QuotaExceeded)
 }
 
 /// Reads up to so many bytes, and leaves the others unread. Where the reader fails before them this is its error.

@@ -4,7 +4,8 @@
 //!
 //! The program owns the folder itself, by a lock that it takes before it looks at any name in it and keeps until it ends
 //! ([`SpoolFolder`]). So of two programs that start together on a fresh folder one makes the file, and the other one
-//! ends without a change. The file is locked too: another folder may lead to it, by a link.
+//! ends without a change. A lock that is taken is tried for a second: a program that was killed while it started a child has
+//! its own for a moment more. The file is locked too: another folder may lead to it, by a link.
 //!
 //! # A file is whole or absent
 //!
@@ -13,7 +14,8 @@
 //! start removes. Where a step fails it is removed at once. It is made only where the name itself is absent: a file that
 //! can't be opened, a folder or a link that leads nowhere stays as it is.
 //!
-//! At every start the folder is synced before the first command is read.
+//! At every start the folder is synced before the first command is read. What keeps the name while children run is
+//! [`crate::named_disk`].
 //!
 //! # Faults
 //!
@@ -24,14 +26,17 @@ ghost use Rattle.std.specs.IoError.{error_kind};
 ghost use Rattle.std.specs.Io.KnownBytes.{Appends};
 ghost use Rattle.spool_host.specs.Faults.{IsOfFolder};
 
-use crate::fault::ShellFault;
+use crate::fault::{DiskCause, ShellFault};
+use crate::named_disk::NamedDisk;
 use spool_core::make;
 use spool_disk::FileDisk;
-use std::fs::{File, Files, OpenOptions};
+use std::alloc::AllocError;
+use std::fs::{File, Files, OpenOptions, TryLockError};
 use std::io::{ErrorKind, Write};
 use std::os::unix::fs::OpenOptionsExt;
 use std::path::Path;
-use std::{fs, io};
+use std::time::{Clock, Duration};
+use std::{fs, io, thread};
 
 // The file's name in its folder, and its name until it is a whole spool.
 const NAME: &str = "spool.disk";
@@ -40,6 +45,11 @@ const UNFINISHED: &str = "spool.disk.new";
 
 // How many zeros are written at once.
 const BLOCK: usize = 65_536;
+
+// How often a lock that another program has is tried again, and after how many milliseconds: a second in all.
+const MOST_WAITS: u32 = 50;
+
+const WAIT: u64 = 20;
 
 /// The folder of a spool. No other program has one of the same folder while this value lives.
 #[derive(Drop)]
@@ -50,7 +60,7 @@ pub struct SpoolFolder<'a> {
 
 impl<'a> SpoolFolder<'a> {
     /// Takes the folder, which is there. Where another program owns it this is `Disk`, and nothing has changed.
-    pub fn own<R: Files<File = File> + AllocGlobal>(
+    pub fn own<R: Files<File = File> + Clock + AllocGlobal>(
         rt: &R,
         dir: &'a str,
     ) -> Result<SpoolFolder<'a>, ShellFault>
@@ -59,37 +69,57 @@ impl<'a> SpoolFolder<'a> {
         let path = Path::new(dir);
         // By this name nothing but a folder opens. By its own a pipe would wait for whoever writes to it.
         let itself = path.join(rt.alloc(), ".")?;
-        let folder = locked(File::open(rt, itself.as_path())?)?;
+        let folder = locked(rt, File::open(rt, itself.as_path())?)?;
         Ok(SpoolFolder { path, folder })
     }
 
     /// The spool's file. Where the name isn't there it is made, with `size` bytes; one that is there stays as it is.
-    pub fn device<R: Files<File = File> + AllocGlobal>(
+    pub fn device<'r, R: Files<File = File> + Clock + AllocGlobal>(
         &self,
-        rt: &R,
+        rt: &'r R,
         size: u64,
-    ) -> Result<FileDisk, ShellFault>
+    ) -> Result<NamedDisk<'r, R>, ShellFault>
         ensures { IfErr result IsOfFolder }
     {
-        let path = self.path.join(rt.alloc(), NAME)?;
-        let disk = if is_absent(rt, path.as_path())? {
-            self.make_device(rt, path.as_path(), size)?
-        } else {
-            open_device(rt, path.as_path())?
-        };
+        let file = self.file(rt, size)?;
         // At every start: a program that was killed before this left a name that a power cut may still take away, and
         // with it all jobs that this one acknowledges.
         self.folder.sync_all()?;
-        Ok(disk)
+        let path = self.named(rt, NAME)?;
+        let unfinished = self.named(rt, UNFINISHED)?;
+        let folder = self.folder.try_clone()?;
+        Ok(NamedDisk::new(rt, folder, path, unfinished, file)?)
+    }
+
+    // The file, opened or made, and locked.
+    fn file<R: Files<File = File> + Clock + AllocGlobal>(
+        &self,
+        rt: &R,
+        size: u64,
+    ) -> Result<File, ShellFault>
+        ensures { IfErr result IsOfFolder }
+    {
+        let path = self.path.join(rt.alloc(), NAME)?;
+        if is_absent(rt, path.as_path())? {
+            self.make_device(rt, path.as_path(), size)
+        } else {
+            open_device(rt, path.as_path())
+        }
+    }
+
+    // The path of this name in the folder.
+    fn named<R: AllocGlobal>(&self, rt: &R, name: &str) -> Result<String, AllocError> {
+        let path = self.path.join(rt.alloc(), name)?;
+        String::from_str(rt.alloc(), path.as_path().as_str())
     }
 
     // Makes the file. What an earlier start left unfinished goes first, and what this one can't finish goes too.
-    fn make_device<R: Files<File = File> + AllocGlobal>(
+    fn make_device<R: Files<File = File> + Clock + AllocGlobal>(
         &self,
         rt: &R,
         path: Path<'_>,
         size: u64,
-    ) -> Result<FileDisk, ShellFault>
+    ) -> Result<File, ShellFault>
         ensures { IfErr result IsOfFolder }
     {
         let unfinished = self.path.join(rt.alloc(), UNFINISHED)?;
@@ -122,31 +152,39 @@ pub fn remove_if_there<R: Files>(rt: &R, path: Path<'_>) -> io::Result<()>
 }
 
 // Opens the file that is there.
-fn open_device<R: Files<File = File>>(rt: &R, path: Path<'_>) -> Result<FileDisk, ShellFault>
+fn open_device<R: Files<File = File> + Clock>(rt: &R, path: Path<'_>) -> Result<File, ShellFault>
     ensures { IfErr result IsOfFolder }
 {
     let file = OpenOptions::new().read(true).write(true).open(rt, path)?;
-    Ok(FileDisk::new(locked(file)?)?)
+    locked(rt, file)
 }
 
 // Makes a whole spool, and then gives it its name.
-fn finish_device<R: Files<File = File>>(
+fn finish_device<R: Files<File = File> + Clock>(
     rt: &R,
     unfinished: Path<'_>,
     path: Path<'_>,
     size: u64,
-) -> Result<FileDisk, ShellFault>
+) -> Result<File, ShellFault>
     ensures { IfErr result IsOfFolder }
 {
-    let mut file = locked(new_file(rt, unfinished)?)?;
+    let mut file = locked(rt, new_file(rt, unfinished)?)?;
     write_zeros(&mut file, size)?;
     file.sync_all()?;
-    let mut disk = FileDisk::new(file)?;
-    if make(&mut disk).is_err() {
-        return Err(ShellFault::Disk);
-    }
+    make_spool(&file)?;
     fs::rename(rt, unfinished, path)?;
-    Ok(disk)
+    Ok(file)
+}
+
+// Makes a spool in this file.
+fn make_spool(file: &File) -> Result<(), ShellFault>
+    ensures { IfErr result IsOfFolder }
+{
+    let mut disk = FileDisk::new(file.try_clone()?)?;
+    match make(&mut disk) {
+        Ok(()) => Ok(()),
+        Err(_) => Err(ShellFault::Disk(DiskCause::Failed)),
+    }
 }
 
 // A file without bytes, which its owner alone may read.
@@ -171,12 +209,17 @@ fn write_zeros<W: Write>(writer: &mut W, count: u64) -> io::Result<()>
     writer.write_all(&zeros[..(count % block) as usize])
 }
 
-// The file, or the folder, which no other program gets until this one lets it go.
-fn locked(file: File) -> Result<File, ShellFault>
-    ensures { IfErr result (λ fault. fault ≡ ShellFault.Disk) }
+// The file, or the folder, which no other program gets until this one lets it go. A program that was killed while it
+// started a child has it for some milliseconds more, until the child runs: so this waits a moment.
+fn locked<R: Clock>(rt: &R, file: File) -> Result<File, ShellFault>
+    ensures { IfErr result IsOfFolder }
 {
-    match file.try_lock() {
-        Ok(()) => Ok(file),
-        Err(_) => Err(ShellFault::Disk),
+    for _ in 0..MOST_WAITS {
+        match file.try_lock() {
+            Ok(()) => return Ok(file),
+            Err(TryLockError::WouldBlock) => thread::sleep(rt, Duration::from_millis(WAIT)),
+            Err(TryLockError::Error(error)) => return Err(ShellFault::from(error)),
+        }
     }
+    Err(ShellFault::Disk(DiskCause::Owned))
 }

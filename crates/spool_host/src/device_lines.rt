@@ -36,7 +36,8 @@ fn print_if_device<W: Write>(alloc: Global, line: &[u8], writer: &mut W) -> Resu
     }
 }
 
-fn lines_of(alloc: Global, text: &[u8]) -> Result<Vec<&[u8]>, AllocError>
+/// The lines of a text, without their line feeds.
+pub(crate) fn lines_of(alloc: Global, text: &[u8]) -> Result<Vec<&[u8]>, AllocError>
     ensures { IfOk result (λ lines. map (λ line. line.now) lines.items ≡ lines_of text.now) }
 {
     text.split(|b| *b == b'\n').collect(alloc)

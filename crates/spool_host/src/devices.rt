@@ -2,8 +2,8 @@
 //!
 //! A backend that is run without the words of a job prints a line for each device that it finds, or one for what it could
 //! serve (backend(7)). The lines that read so are printed as they were written. Nothing limits how long a backend takes:
-//! one that hangs is the user's to stop. Its standard error goes nowhere, and so does what it prints behind its first
-//! 1,048,576 bytes.
+//! one that hangs is the user's to stop. What it leaves running isn't waited for. Its standard error goes nowhere, and so does
+//! what it prints behind its first 1,048,576 bytes.
 
 ghost use Rattle.std.specs.Prelude.{◌≡◌, ◌≢◌, ℕ, ◌∷◌, List, None, Option, Some, Err, IfErr, IfOk, IsOk, OnErr, OnOk, codes, true};
 ghost use Rattle.std.specs.IoError.{error_kind};
@@ -18,15 +18,22 @@ use crate::fault::ShellFault;
 use crate::script::push_program;
 use program_lists::{ListedProgram, ProgramList};
 use std::alloc::{AllocError, Global};
-use std::io::{ErrorKind, Write};
-use std::process::{Command, Processes, Stdio};
-use std::{io, str};
+use std::fs::Files;
+use std::io::{ErrorKind, PipeReader, Read, Write};
+use std::os::fd::OwnedFd;
+use std::os::unix::net::UnixStream;
+use std::process::{Child, ChildStdout, Command, OpenProcess, Processes, Stdio};
+use std::time::{Clock, Duration};
+use std::{io, thread};
 
 // What runs a backend without a variable.
 const ENV: &str = "/usr/bin/env";
 
 // How many bytes of a backend's lines are read.
 const MOST_LINES: usize = 1_048_576;
+
+// How long a backend that tells nothing is left alone before it is looked at, in milliseconds.
+const TURN: u64 = 10;
 
 /// What asks a backend for its devices.
 pub trait Discovery {
@@ -81,23 +88,74 @@ pub struct ChildDiscovery<'a, R> {
     pub rt: &'a R,
 }
 
-impl<'a, R: Processes + AllocGlobal> Discovery for ChildDiscovery<'a, R> {
+impl<'a, R: Files + Processes + Clock + AllocGlobal> Discovery for ChildDiscovery<'a, R> {
     fn ask(&self, program: &ListedProgram) -> io::Result<Vec<u8>> {
         let alloc = self.rt.alloc();
+        let (reader, writer) = io::pipe(self.rt)?;
         let mut command = command_of(alloc, program)?;
         command.stdin(Stdio::null());
-        command.stdout(Stdio::piped());
+        command.stdout(Stdio::from(writer));
         command.stderr(Stdio::null());
-        let mut child = command.spawn(self.rt)?;
-        let told = match child.stdout.take() {
-            Some(output) => {
-                let mut output = output;
-                read_at_most(alloc, &mut output, MOST_LINES)
-            }
-            None => Ok(Vec::new(alloc)),
+        let child = command.spawn(self.rt)?;
+        // With it the end of the pipe that the child has is this program's no longer.
+        drop(command);
+        let telling = Telling {
+            rt: self.rt,
+            pipe: impatient(reader)?,
+            child,
+            ended: false,
         };
+        let (told, child) = telling.all(alloc);
+        let mut child = child;
         let _ = child.wait();
         told
+    }
+}
+
+// A pipe that is read without waiting.
+fn impatient(reader: PipeReader) -> io::Result<ChildStdout> {
+    let stream = UnixStream::from(OwnedFd::from(reader));
+    stream.set_nonblocking(true)?;
+    Ok(ChildStdout::from(OwnedFd::from(stream)))
+}
+
+// What a backend tells while it runs. What it left behind may keep the pipe: once it has ended, what lies in the pipe is
+// all.
+#[derive(Drop)]
+struct Telling<'a, R, P: OpenProcess + Drop> {
+    rt: &'a R,
+    pipe: ChildStdout,
+    child: Child<P>,
+    ended: bool,
+}
+
+impl<'a, R: Clock, P: OpenProcess + Drop> Telling<'a, R, P> {
+    // All that it tells, up to the limit, and the backend, to be waited for. One that goes on telling is ended by the closed
+    // pipe.
+    fn all(self, alloc: Global) -> (io::Result<Vec<u8>>, Child<P>) {
+        let mut telling = self;
+        let told = read_at_most(alloc, &mut telling, MOST_LINES);
+        let Telling { child, .. } = telling;
+        (told, child)
+    }
+}
+
+impl<'a, R: Clock, P: OpenProcess + Drop> Read for Telling<'a, R, P> {
+    fn read(&mut self, buf: &mut [u8]) -> io::Result<usize> {
+        match self.pipe.read(buf) {
+            Err(error) if error.kind() == ErrorKind::WouldBlock => {
+                if self.ended {
+                    return Ok(0);
+                }
+                if matches!(self.child.try_wait(), Ok(None)) {
+                    thread::sleep(self.rt, Duration::from_millis(TURN));
+                } else {
+                    self.ended = true;
+                }
+                Err(io::Error::from(ErrorKind::Interrupted))
+            }
+            read => read,
+        }
     }
 }
 

@@ -18,11 +18,14 @@ pub fn given_words<R: Env + AllocGlobal>(rt: &R) -> io::Result<Vec<String>> {
     Ok(words)
 }
 
-// Tells a fault. Where that can't be written the status alone tells it.
+// Tells a fault, and the cause of one of the disk. Where that can't be written the status alone tells it.
 fn fail<R: Eprint>(rt: &R, fault: &ShellFault) -> ExitCode
     ensures { exit_status result ≡ 1 }
 {
     let _ = eprintln!(rt; "spool: {fault}");
+    if let ShellFault::Disk(cause) = fault {
+        let _ = eprintln!(rt; "spool: cause: {cause}");
+    }
     ExitCode::FAILURE
 }
 

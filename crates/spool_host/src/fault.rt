@@ -1,9 +1,8 @@
 //! Why the program ends with status 1.
-ghost use Rattle.std.specs.Prelude.{◌≡◌, ◌≢◌};
-ghost use Rattle.std.specs.declared.io.ErrorKind.TheVariants.{OutOfMemory};
+ghost use Rattle.std.specs.Prelude.{◌≡◌};
 ghost use Rattle.std.specs.IoError.{error_kind};
-ghost use Rattle.spool_host.specs.Faults.{IsOfFolder, of_opening, of_run};
-ghost use Rattle.spool_host.specs.declared.fault.ShellFault.TheVariants.{Disk, Memory};
+ghost use Rattle.spool_host.specs.Faults.{IsOfFolder, cause_of, of_error, of_opening, of_run};
+ghost use Rattle.spool_host.specs.declared.fault.ShellFault.TheVariants.{Memory};
 
 use spool_core::OpenFault;
 use spool_engine::RunFault;
@@ -29,13 +28,38 @@ pub enum ShellFault {
     Memory,
     /// The disk failed, another program owns it, or its file can't be opened or made.
     #[error("disk")]
-    Disk,
+    Disk(DiskCause),
     /// The commands can't be read.
     #[error("read")]
     Read,
     /// The replies can't be written.
     #[error("write")]
     Write,
+    /// There are programs to run, and how they end can't be known: the signal SIGCHLD is ignored.
+    #[error("sigchld-ignored")]
+    Ignored,
+}
+
+/// Why the spool's disk, its file or its folder can't be had.
+#[derive(Clone, Copy, Debug, Drop, Error, PartialEq, Eq)]
+pub enum DiskCause {
+    /// Another program has it.
+    #[error("owned")]
+    Owned,
+    #[error("absent")]
+    Absent,
+    #[error("not allowed")]
+    NotAllowed,
+    #[error("read-only")]
+    ReadOnly,
+    #[error("no room")]
+    NoRoom,
+    /// What has the name is no folder, or no file.
+    #[error("no file")]
+    NoFile,
+    /// The device, or a call on it, failed.
+    #[error("failed")]
+    Failed,
 }
 
 impl From<AllocError> for ShellFault {
@@ -48,15 +72,30 @@ impl From<AllocError> for ShellFault {
 
 /// A fault of the spool's folder or of its file.
 impl From<io::Error> for ShellFault {
-    ghost from_gives = { λ error fault. (error_kind error ≡ OutOfMemory → fault ≡ Memory)
-        × (error_kind error ≢ OutOfMemory → fault ≡ Disk) × IsOfFolder fault };
+    ghost from_gives = { λ error fault. (fault ≡ of_error (error_kind error)) × IsOfFolder fault };
 
     fn from(error: io::Error) -> ShellFault {
         if error.kind() == ErrorKind::OutOfMemory {
             ShellFault::Memory
         } else {
-            ShellFault::Disk
+            ShellFault::Disk(cause_of(error.kind()))
         }
+    }
+}
+
+// What the kind of an error says of the folder or of its file.
+fn cause_of(kind: ErrorKind) -> DiskCause
+    ensures { result ≡ cause_of kind }
+{
+    match kind {
+        ErrorKind::NotFound => DiskCause::Absent,
+        ErrorKind::PermissionDenied => DiskCause::NotAllowed,
+        ErrorKind::ReadOnlyFilesystem => DiskCause::ReadOnly,
+        ErrorKind::StorageFull | ErrorKind::QuotaExceeded => DiskCause::NoRoom,
+        ErrorKind::NotADirectory | ErrorKind::IsADirectory | ErrorKind::FilesystemLoop => {
+            DiskCause::NoFile
+        }
+        _ => DiskCause::Failed,
     }
 }
 
@@ -68,7 +107,7 @@ impl From<OpenFault> for ShellFault {
             OpenFault::NotASpool => ShellFault::NotASpool,
             OpenFault::Damaged(place) => ShellFault::Damaged(place),
             OpenFault::Memory => ShellFault::Memory,
-            OpenFault::Disk => ShellFault::Disk,
+            OpenFault::Disk => ShellFault::Disk(DiskCause::Failed),
         }
     }
 }

@@ -4,44 +4,63 @@
 //!
 //! It reads and writes files in the spool's folder, named by its job, attempt and stage: `in-J-A-S` is the document or
 //! what the stage before gave, `out-J-A-S` and `err-J-A-S` are its standard output and standard error. They are made
-//! before it is started, readable by their owner alone, and removed once it was finished. A crash may leave them; the
-//! next child of that name makes them anew. With a side channel there is the socket `side-J-A-S`, too ([`sessions`]).
+//! before it is started, readable by their owner alone, and removed once it was finished. A crash may leave them: an opening
+//! removes them ([`crate::leftovers`]), and the next child of that name makes them anew. With a side channel there is the
+//! socket `side-J-A-S`, too: while a child is finished, those of all that run are served ([`crate::sessions`]).
 //!
 //! The first stage is told the document by its last word, and its standard input is empty. A later one reads what the
 //! stage before gave on standard input.
 //!
 //! `start` returns while the child runs, so the children of a round run at once.
 //!
+//! # What is short
+//!
+//! Where there is no room, no descriptor or no process for a moment, a start is tried again: the starts of a round wait
+//! two seconds in all ([`crate::shortage`]). A folder without room at a child's end is told. A filter that ended well is
+//! lost then where its output may be cut off, and any child where what it wrote is: no byte more can be written behind
+//! it.
+//!
 //! # Faults
 //!
 //! All are [`ChildFault`]. Of `start`: the program isn't in the list, or no file that can be run lies there; a file can't
 //! be made, or filled; there is no process or no memory left. What was made is removed then. Of `finish`: the end can't
-//! be known, or what the child wrote can't be read. A status is never made up. The child is waited for in any case.
+//! be known, or what the child wrote can't be read, or may be cut off. A status is never made up. The child is waited for
+//! in any case. Once an end couldn't be known, nothing more is started.
+//!
+//! Each fault is told in a line on standard error, with its cause, and so is an end that failed where the child told no
+//! message ([`crate::reasons`]).
 ghost use Rattle.std.specs.Prelude.{◌≡◌, ◌+◌, None, IfOk, IfSome, IsErr, IsOkAnd, is_some, string_bytes};
 ghost use Rattle.std.specs.Option.{option_map};
 ghost use Rattle.spool_types.specs.Limits.{longest_document};
 ghost use Rattle.child_pipeline.specs.Finishes.{most_errors};
 ghost use Rattle.spool_host.specs.ChildFiles.{ReadsUpTo};
 ghost use Rattle.spool_host.specs.Serving.{IsPlace};
-ghost use Rattle.spool_host.specs.Launching.{TellsEnd, TellsNoEnd, device_for, input_name, program_for};
+ghost use Rattle.std.specs.IoError.{error_kind, raw_os_error};
+ghost use Rattle.spool_host.specs.Launching.{TellsEnd, TellsNoEnd, device_for, input_name, may_be_cut, program_for, refusal_of};
 
-use crate::child_files::{ChildPaths, make_file, make_file_of, read_at_most};
+use crate::child_files::{
+    ChildPaths, has_room, make_file, make_file_of, output_to_hand, read_at_most,
+};
+use crate::fitness::obstacle_of;
+use crate::reasons::{Reason, StageRun, reason_of};
 use crate::script::Call;
 use crate::serving::place_in;
-use crate::sessions::SideLine;
+use crate::sessions::{SideLine, SideLines};
+use crate::shortage::{MOST_WAITS, Patience, shortage_of};
 use crate::side_device::{device_of, uri_in};
-use child_pipeline::{ChildFault, Children, Content, Finish, Input, Order, Program};
+use child_pipeline::{ChildFault, Children, Content, Finish, Input, Order, Program, Texts};
 use filter_args::Place;
+use log::Log;
 use program_lists::{ListedProgram, ProgramList};
-use spool_types::{Exit, LONGEST_DOCUMENT};
+use spool_types::{Exit, JobId, LONGEST_DOCUMENT};
 use std::alloc::{AllocError, Global};
 use std::fs::{File, Files};
 use std::io::Read;
 use std::net::Net;
-use std::os::unix::fs::PermissionsExt;
 use std::os::unix::process::ExitStatusExt;
 use std::process::{Child, ExitStatus, OpenProcess, Processes, Stdio};
-use std::{fs, io};
+use std::time::{Clock, Duration};
+use std::{io, thread};
 
 // How many bytes of standard output are read: one more than a document may have shows that there were too many.
 const MOST_OUTPUT: usize = LONGEST_DOCUMENT + 1;
@@ -49,54 +68,89 @@ const MOST_OUTPUT: usize = LONGEST_DOCUMENT + 1;
 // How many bytes of standard error are read.
 const MOST_ERRORS: usize = 1_048_576;
 
+// For how many milliseconds the side channels aren't looked at, at most.
+const LONGEST_PAUSE: u64 = 16;
+
 // The standard input of a first stage.
 const NOTHING: &str = "/dev/null";
 
-/// Runs the programs of a list, with their files in the folder of a place.
+/// How large a file that a child writes may grow, in blocks of 512 bytes: a gibibyte, which the files of Ghostscript pass.
+pub const MOST_BLOCKS: u32 = 2_097_152;
+
+/// Runs the programs of a list, with their files in the folder of a place. What went wrong is told by the log.
 #[derive(Drop)]
-pub struct Launcher<'a, R> {
+pub struct Launcher<'a, L, R> {
+    log: &'a L,
     rt: &'a R,
     /// Where its children run.
     pub place: Place,
     /// The programs that it can run, and the one that ends side channels.
     pub list: ProgramList,
+    /// How large a file that a child writes may grow, in blocks of 512 bytes.
+    pub most_blocks: u32,
+    patience: Patience,
+    // The side channels of the children that run.
+    sides: SideLines,
+    // Whether the end of a child couldn't be known.
+    blind: bool,
 }
 
 /// A child that is running, or has ended and wasn't finished.
 #[derive(Drop)]
 pub struct RunningChild<P: OpenProcess + Drop> {
+    run: StageRun,
+    begun: BegunChild<P>,
+}
+
+// What a start has made.
+#[derive(Drop)]
+struct BegunChild<P: OpenProcess + Drop> {
     child: Child<P>,
     paths: ChildPaths,
     output: File,
     errors: File,
-    side: Option<SideLine>,
 }
+
+// What a start has made, and the child's side channel.
+type Launched<P> = (BegunChild<P>, Option<SideLine>);
 
 /// A launcher for the children of a folder's spool, and their place. There is a side channel where the list has a program
 /// that ends it.
-pub fn launcher_in<'a, R: Files<File = File> + Net + Processes + AllocGlobal>(
+pub fn launcher_in<'a, L: Log, R: Files<File = File> + Net + Processes + Clock + AllocGlobal>(
+    log: &'a L,
     rt: &'a R,
     dir: &str,
     list: ProgramList,
-) -> Result<(Launcher<'a, R>, Place), AllocError>
+) -> Result<(Launcher<'a, L, R>, Place), AllocError>
     ensures place { IfOk result (λ made. IsPlace dir.entry.now (is_some list.side) made.1) }
     ensures launcher { IfOk result (λ made. IsPlace dir.entry.now (is_some list.side) made.0.place) }
     ensures list { IfOk result (λ made. made.0.list ≡ list) }
+    ensures limit { IfOk result (λ made. made.0.most_blocks ≡ 2097152) }
 {
     let alloc = rt.alloc();
     let side = list.side().is_some();
     let place = place_in(alloc, dir, side)?;
-    let launcher = Launcher::new(rt, place_in(alloc, dir, side)?, list);
+    let launcher = Launcher::new(log, rt, place_in(alloc, dir, side)?, list);
     Ok((launcher, place))
 }
 
-impl<'a, R: Files<File = File> + Net + Processes + AllocGlobal> Launcher<'a, R> {
-    /// A launcher for the children of this place.
-    pub fn new(rt: &'a R, place: Place, list: ProgramList) -> Launcher<'a, R>
+impl<'a, L: Log, R: Files<File = File> + Net + Processes + Clock + AllocGlobal> Launcher<'a, L, R> {
+    /// A launcher for the children of this place, with the usual limit of their files.
+    pub fn new(log: &'a L, rt: &'a R, place: Place, list: ProgramList) -> Launcher<'a, L, R>
         ensures place { result.place ≡ place }
         ensures list { result.list ≡ list }
+        ensures limit { result.most_blocks ≡ 2097152 }
     {
-        Launcher { rt, place, list }
+        Launcher {
+            log,
+            rt,
+            place,
+            list,
+            most_blocks: MOST_BLOCKS,
+            patience: Patience::new(),
+            sides: SideLines::new(rt.alloc()),
+            blind: false,
+        }
     }
 
     // The program that an order names.
@@ -109,26 +163,48 @@ impl<'a, R: Files<File = File> + Net + Processes + AllocGlobal> Launcher<'a, R> 
         }
     }
 
-    // Whether a file that can be run lies where the program is looked for.
-    fn can_run(&self, program: &ListedProgram) -> bool {
-        match fs::metadata(self.rt, program.path.as_str()) {
-            Ok(found) => found.is_file() && found.permissions().mode() & 0o111 != 0,
-            Err(_) => false,
+    // Starts the child of an order, as soon as there is what it wants, and before this round's waits are spent.
+    fn start_patiently(&mut self, order: &Order) -> Result<BegunChild<R::Started>, Reason> {
+        if self.blind {
+            return Err(Reason::Blind);
         }
+        for _ in 0..MOST_WAITS + 1 {
+            match self.launch_with_side(order) {
+                Err(reason) if reason.may_pass() && self.patience.wait(self.rt) => {
+                    self.sides.serve(self.rt.alloc(), 0);
+                }
+                launched => return launched,
+            }
+        }
+        Err(Reason::Refused)
     }
 
-    // Starts the child of an order, if the list has its program.
-    fn launch(&self, order: &Order) -> Result<RunningChild<R::Started>, ChildFault>
+    // Starts the child of an order, whose side channel is served from now on.
+    fn launch_with_side(&mut self, order: &Order) -> Result<BegunChild<R::Started>, Reason> {
+        if self.sides.reserve().is_err() {
+            return Err(Reason::Refused);
+        }
+        let (begun, side) = self.launch(order)?;
+        if let Some(side) = side {
+            self.sides.add(side);
+        }
+        Ok(begun)
+    }
+
+    // Starts the child of an order, if the list has its program, and it can be run.
+    fn launch(&self, order: &Order) -> Result<Launched<R::Started>, Reason>
         ensures unlisted { program_for self.now.list order.now.program ≡ None → IsErr result }
     {
         let Some(program) = self.listed(&order.program) else {
-            return Err(ChildFault);
+            return Err(Reason::Unlisted);
         };
-        if !self.can_run(program) {
-            return Err(ChildFault);
+        match obstacle_of(self.rt, program.path.as_str()) {
+            Ok(None) => {}
+            Ok(Some(obstacle)) => return Err(Reason::Unfit(obstacle)),
+            Err(error) => return Err(refusal_of(&error)),
         }
         let Ok(paths) = ChildPaths::of(self.rt.alloc(), &self.place, order) else {
-            return Err(ChildFault);
+            return Err(Reason::Refused);
         };
         self.run(program, paths, order)
     }
@@ -139,18 +215,20 @@ impl<'a, R: Files<File = File> + Net + Processes + AllocGlobal> Launcher<'a, R> 
         program: &ListedProgram,
         paths: ChildPaths,
         order: &Order,
-    ) -> Result<RunningChild<R::Started>, ChildFault> {
+    ) -> Result<Launched<R::Started>, Reason> {
         match self.try_run(program, &paths, order) {
-            Ok((child, output, errors, side)) => Ok(RunningChild {
-                child,
-                paths,
-                output,
-                errors,
-                side,
-            }),
-            Err(_) => {
+            Ok((child, output, errors, side)) => {
+                let begun = BegunChild {
+                    child,
+                    paths,
+                    output,
+                    errors,
+                };
+                Ok((begun, side))
+            }
+            Err(error) => {
                 paths.remove(self.rt, self.list.side().is_some());
-                Err(ChildFault)
+                Err(refusal_of(&error))
             }
         }
     }
@@ -164,18 +242,20 @@ impl<'a, R: Files<File = File> + Net + Processes + AllocGlobal> Launcher<'a, R> 
         let input = self.make_input(paths, &order.input)?;
         let output = make_file(self.rt, paths.output.as_str())?;
         let errors = make_file(self.rt, paths.errors.as_str())?;
+        let handed = output_to_hand(self.rt, paths.output.as_str())?;
         let side = self.bind_side(paths, order)?;
         let call = Call {
             input,
             paths,
             side: self.list.side(),
+            most_blocks: self.most_blocks,
             environment: order.environment.as_slice(),
             program,
             words: order.words.as_slice(),
         };
         let mut command = call.command(self.rt.alloc())?;
         command.stdin(Stdio::null());
-        command.stdout(Stdio::null());
+        command.stdout(Stdio::from(handed));
         command.stderr(Stdio::null());
         let child = command.spawn(self.rt)?;
         Ok((child, output, errors, side))
@@ -206,12 +286,13 @@ impl<'a, R: Files<File = File> + Net + Processes + AllocGlobal> Launcher<'a, R> 
             return Ok(None);
         }
         let device = device_of(self.rt.alloc(), uri_in(order.environment.as_slice()))?;
-        let line = SideLine::bind(self.rt, paths.side.as_str(), device)?;
+        let line = SideLine::bind(self.rt, paths.side.as_str(), order.job, device)?;
         Ok(Some(line))
     }
 }
 
-impl<'a, R: Files<File = File> + Net + Processes + AllocGlobal> Children for Launcher<'a, R> {
+impl<'a, L: Log, R: Files<File = File> + Net + Processes + Clock + AllocGlobal> Children
+    for Launcher<'a, L, R> {
     type Ticket = RunningChild<R::Started>;
 
     ghost tells = { λ _. None };
@@ -219,31 +300,164 @@ impl<'a, R: Files<File = File> + Net + Processes + AllocGlobal> Children for Lau
     ghost number = { λ _. 0 };
 
     fn start(&mut self, order: Order) -> Result<RunningChild<R::Started>, ChildFault> {
-        self.launch(&order)
+        self.patience.begin(queue_in(order.environment.as_slice()));
+        let started = self.start_patiently(&order);
+        let Order {
+            job,
+            attempt,
+            stage,
+            program,
+            environment,
+            ..
+        } = order;
+        self.patience.pass(queue_variable(environment));
+        let run = StageRun {
+            job,
+            attempt,
+            stage,
+            program,
+        };
+        match started {
+            Ok(begun) => Ok(RunningChild { run, begun }),
+            Err(reason) => {
+                run.tell(self.log, reason);
+                Err(ChildFault)
+            }
+        }
     }
 
     fn finish(&mut self, ticket: RunningChild<R::Started>) -> Result<Finish, ChildFault> {
-        let RunningChild {
+        let RunningChild { run, begun } = ticket;
+        self.patience.renew();
+        match self.end(&run, begun) {
+            Ok(finish) => {
+                if let Some(reason) = reason_of(self.rt.alloc(), &finish) {
+                    run.tell(self.log, reason);
+                }
+                Ok(finish)
+            }
+            Err(reason) => {
+                run.tell(self.log, reason);
+                Err(ChildFault)
+            }
+        }
+    }
+}
+
+impl<'a, L: Log, R: Files<File = File> + Net + Processes + Clock + AllocGlobal> Launcher<'a, L, R> {
+    // Serves all side channels until this child has ended, and closes its own. Where none is open there is nothing to do.
+    fn attend(&mut self, job: JobId, child: &mut Child<R::Started>) {
+        let alloc = self.rt.alloc();
+        let mut pause = 0;
+        for _ in 0..u64::MAX {
+            if self.sides.are_closed() || !is_running(child) {
+                break;
+            }
+            pause = next_pause(pause, self.sides.serve(alloc, pause));
+            thread::sleep(self.rt, Duration::from_millis(pause));
+        }
+        self.sides.close(job);
+    }
+
+    // Waits for a child, and takes what it wrote. Its files are removed in any case.
+    fn end(&mut self, run: &StageRun, begun: BegunChild<R::Started>) -> Result<Finish, Reason> {
+        let BegunChild {
             child,
             paths,
             output,
             errors,
-            side,
-        } = ticket;
+        } = begun;
         let alloc = self.rt.alloc();
-        let (mut output, mut errors) = (output, errors);
-        let mut child = match side {
-            Some(side) => side.answer(alloc, child),
-            None => child,
-        };
+        let (mut child, mut output, mut errors) = (child, output, errors);
+        self.attend(run.job, &mut child);
         let ended = child.wait();
+        let unknown = ended.is_err();
+        self.blind = self.blind || unknown;
         let finish = finish_of(alloc, ended, &mut output, &mut errors);
+        let room = Room {
+            output: has_room(&output),
+            errors: has_room(&errors),
+        };
         paths.remove(self.rt, self.list.side().is_some());
         match finish {
-            Ok(finish) => Ok(finish),
-            Err(_) => Err(ChildFault),
+            Ok(finish) => self.whole(run, finish, room),
+            Err(_) if unknown => Err(Reason::NoEnd),
+            Err(_) => Err(Reason::Unread),
         }
     }
+
+    // The finish, unless what the child wrote may be cut off. That there is no room is told in any case.
+    fn whole(&self, run: &StageRun, finish: Finish, room: Room) -> Result<Finish, Reason> {
+        if room.output && room.errors {
+            return Ok(finish);
+        }
+        if may_be_cut(&finish, run.is_filter(), room) {
+            return Err(Reason::Cut);
+        }
+        run.tell(self.log, Reason::NoRoom);
+        Ok(finish)
+    }
+}
+
+fn is_running<P: OpenProcess + Drop>(child: &mut Child<P>) -> bool {
+    matches!(child.try_wait(), Ok(None))
+}
+
+// For how many milliseconds the side channels aren't looked at: one after something has come, and then ever longer ones.
+fn next_pause(last: u64, heard: bool) -> u64 {
+    if heard {
+        1
+    } else {
+        last.saturating_mul(2).clamp(1, LONGEST_PAUSE)
+    }
+}
+
+// Whether there was room behind what a child wrote.
+#[derive(Clone, Copy)]
+struct Room {
+    output: bool,
+    errors: bool,
+}
+
+// Whether a child that ended well may have written more than was kept. Where a file has no room, its child's last bytes
+// may be missing. Of an empty one nobody knows whether there were any: a filter is to give something, a backend isn't.
+fn may_be_cut(finish: &Finish, filter: bool, room: Room) -> bool
+    ensures { result ≡ may_be_cut finish.now filter room }
+{
+    let output = filter || !finish.output.as_slice().is_empty();
+    let errors = !finish.errors.as_slice().is_empty();
+    finish.exit == Exit::Code(0) && (!room.output && output || !room.errors && errors)
+}
+
+// Why the system refused a start.
+fn refusal_of(error: &io::Error) -> Reason
+    ensures { result ≡ refusal_of (error_kind error.now) (raw_os_error error.now) }
+{
+    match shortage_of(error) {
+        Some(shortage) => Reason::Short(shortage),
+        None => Reason::Refused,
+    }
+}
+
+// The variable of the queue, among those of a child.
+const QUEUE: &str = "PRINTER=";
+
+fn queue_in(environment: &[String]) -> &str {
+    match environment
+        .iter()
+        .find(|variable| variable.starts_with(QUEUE))
+    {
+        Some(variable) => variable.as_str(),
+        None => "",
+    }
+}
+
+// The same, owned.
+fn queue_variable(environment: Texts) -> Option<String> {
+    environment
+        .into_vec()
+        .into_iter()
+        .find(|variable| variable.starts_with(QUEUE))
 }
 
 // What is known of a child that ended so, and wrote these files.

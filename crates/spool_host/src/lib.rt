@@ -31,7 +31,10 @@
 //!   channel, the variables, the program and its words, in this order (`arguments_of`). So nothing of a job is ever part
 //!   of the script's text. The files are those that the engine's words name (`file_of`).
 //! - [`Launcher`] looks up exactly the program that an order names (`program_for`), hands a document over by its name
-//!   alone (`input_name`), and tells an end exactly as the system did (`TellsEnd`), and none else.
+//!   alone (`input_name`), and tells an end exactly as the system did (`TellsEnd`), and none else. A new one has the usual
+//!   limit of what a child writes (`limit`). What it decides of a failed start, of a program's first bytes and of what may be
+//!   cut off is exactly as defined (`refusal_of`, `begins_right`, `may_be_cut`).
+//! - [`NamedDisk`] is the spool's file as a disk that tells nothing of its bytes. It meets the trait `Disk`.
 //! - [`side_device::device_of`] is exactly the device of a URI's options, with their defaults (`device_in`).
 //! - [`device_lines::print_lines`] prints exactly the lines that read as a device's (`ArePrinted`), and
 //!   [`print_devices`] those of each backend, in the order of the file (`PrintsTold`).
@@ -60,20 +63,24 @@
 //!
 //! The program ends with status 0 at the end of input; with 1 after a fault, told on standard error as `spool: WORD`
 //! ([`fault`]); and with 2 where the words are refused, with clap's text. Faults are looked for in the words, then in
-//! the file of types, in that of conversions, in that of programs, in the spool, and last in the commands. `--help` ends
-//! with 0.
+//! the signal, in the file of types, in that of conversions, in that of programs, in the spool, and last in the commands.
+//! `--help` ends with 0.
 //!
 //! - `file NAME`: a file of types, conversions or programs can't be read, or isn't UTF-8, or a line of the programs
 //!   doesn't read.
 //! - `not-a-spool`, `damaged PLACE`: the spool's file, which stays as it is.
 //! - `disk`: the folder or the file can't be opened, locked, made or synced ([`device`]), another program owns one of
-//!   them, or the disk failed. Where it fails during the run this is told at the end of input.
+//!   them, or the disk failed. Where it fails during the run this is told at the end of input. A second line tells which
+//!   of these it is ([`DiskCause`]).
+//! - `sigchld-ignored`: there is a file of programs, and how they end can't be known ([`begun`]).
 //! - `memory`: memory ran out. What was answered before it stays.
 //! - `read`, `write`: standard input or standard output failed.
 //!
-//! A child that can't be started, or whose end can't be known, is no fault of the program: its stage ends so.
+//! A child that can't be started, or whose end can't be known, is no fault of the program: its stage ends so. Why is told in
+//! a line `spool: job N ..` ([`reasons`]), and a program that can't be run as it is in a line at the start ([`fitness`]).
 #![tactic(auto)]
 
+mod begun;
 mod child_files;
 mod device;
 mod device_lines;
@@ -81,11 +88,16 @@ mod devices;
 mod ends;
 mod fault;
 mod files;
+mod fitness;
 mod launcher;
+mod leftovers;
+mod named_disk;
+mod reasons;
 mod running;
 mod script;
 mod serving;
 mod sessions;
+mod shortage;
 mod side_device;
 mod warnings;
 mod words;
@@ -93,9 +105,10 @@ mod words;
 pub use device::{SpoolFolder, remove_if_there};
 pub use devices::{ChildDiscovery, Discovery, print_devices};
 pub use ends::{given_words, no_words, tell_end, tell_words_fault};
-pub use fault::ShellFault;
+pub use fault::{DiskCause, ShellFault};
 pub use files::read_rules;
-pub use launcher::{Launcher, RunningChild, launcher_in};
+pub use launcher::{Launcher, MOST_BLOCKS, RunningChild, launcher_in};
+pub use named_disk::NamedDisk;
 pub use running::run;
 pub use serving::{memory_device, open_engine, place_in, serve};
 pub use warnings::WarningLines;

@@ -1,14 +1,19 @@
 //! What the words ask for is done.
 ghost use Rattle.std.specs.Prelude.{◌≡◌, true};
 
+use crate::begun::check_child_ends;
 use crate::device::SpoolFolder;
 use crate::devices::{ChildDiscovery, print_devices};
 use crate::fault::ShellFault;
 use crate::files::read_rules;
+use crate::fitness::tell_programs;
 use crate::launcher::launcher_in;
-use crate::serving::{memory_device, place_in, serve};
+use crate::leftovers::clear_leftovers;
+use crate::named_disk::NamedDisk;
+use crate::serving::{ending, memory_device, open_engine, place_in, serve};
 use crate::words::ShellWords;
-use child_pipeline::NoChildren;
+use child_pipeline::{Children, NoChildren};
+use filter_args::Place;
 use log::Log;
 use mime_costs::Convs;
 use mime_rules::Types;
@@ -18,6 +23,7 @@ use std::fs::{File, Files};
 use std::io::{Read, Write};
 use std::net::Net;
 use std::process::Processes;
+use std::time::Clock;
 
 /// Does what the words ask for: it prints the devices, or serves the commands over a spool.
 pub fn run<L, H, R: Read, W: Write>(
@@ -29,17 +35,20 @@ pub fn run<L, H, R: Read, W: Write>(
 ) -> Result<(), ShellFault>
 where
     L: Files<File = File> + AllocGlobal + Log,
-    H: Files<File = File> + Net + Processes + AllocGlobal,
+    H: Files<File = File> + Net + Processes + Clock + Clone + Drop + AllocGlobal,
     // Where devices are asked for no command is read.
     ensures devices { words.entry.devices ≡ true → R.remaining reader.new ≡ R.remaining reader.old }
 {
+    if words.programs.is_some() && !words.devices {
+        check_child_ends(rt)?;
+    }
     let (types, convs, programs) = read_rules(logged, words.types, words.convs, words.programs)?;
     if words.devices {
         return print_devices(rt.alloc(), &ChildDiscovery { rt }, &programs, writer);
     }
     let rules = (types, convs);
     match words.root {
-        Some(dir) => serve_folder(rt, dir, words.size, programs, rules, reader, writer),
+        Some(dir) => serve_folder(logged, rt, dir, words.size, programs, rules, reader, writer),
         None => serve_memory(rt.alloc(), words.size, rules, reader, writer),
     }
 }
@@ -58,7 +67,8 @@ fn serve_memory<R: Read, W: Write>(
 }
 
 // Serves the commands over the spool of a folder, with the programs of the list as children.
-fn serve_folder<H, R: Read, W: Write>(
+fn serve_folder<L, H, R: Read, W: Write>(
+    log: &L,
     rt: &H,
     dir: &str,
     size: u64,
@@ -68,11 +78,50 @@ fn serve_folder<H, R: Read, W: Write>(
     writer: &mut W,
 ) -> Result<(), ShellFault>
 where
-    H: Files<File = File> + Net + Processes + AllocGlobal,
+    L: Log,
+    H: Files<File = File> + Net + Processes + Clock + Clone + Drop + AllocGlobal,
 {
+    tell_programs(log, rt, &programs);
+    let children = launcher_in(log, rt, dir, programs)?;
+    let (folder, disk) = open_folder(rt, dir, size)?;
+    let served = serve_disk(log, rt, dir, disk, children, rules, reader, writer);
     // The folder is this program's until all commands have been served.
+    drop(folder);
+    served
+}
+
+// Serves them over the folder's disk. What children of an earlier program left is removed once the spool is open.
+fn serve_disk<L, H, C, R: Read, W: Write>(
+    log: &L,
+    rt: &H,
+    dir: &str,
+    disk: NamedDisk<'_, H>,
+    children: (C, Place),
+    rules: (Types, Convs),
+    reader: &mut R,
+    writer: &mut W,
+) -> Result<(), ShellFault>
+where
+    L: Log,
+    H: Files<File = File> + Clone + Drop + AllocGlobal,
+    C: Children + Drop,
+{
+    let mut engine = open_engine(rt.alloc(), disk, children, rules)?;
+    clear_leftovers(log, rt, dir);
+    let ran = engine.run(reader, writer);
+    ending(ran, engine.met_fault())
+}
+
+// The folder, which is this program's then, and the disk in it.
+fn open_folder<'a, H>(
+    rt: &'a H,
+    dir: &'a str,
+    size: u64,
+) -> Result<(SpoolFolder<'a>, NamedDisk<'a, H>), ShellFault>
+where
+    H: Files<File = File> + Clock + AllocGlobal,
+{
     let folder = SpoolFolder::own(rt, dir)?;
     let disk = folder.device(rt, size)?;
-    let children = launcher_in(rt, dir, programs)?;
-    serve(rt.alloc(), disk, children, rules, reader, writer)
+    Ok((folder, disk))
 }

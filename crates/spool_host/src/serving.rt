@@ -6,7 +6,7 @@ ghost use Rattle.spool_core.specs.Image.{HasTable};
 ghost use Rattle.spool_host.specs.Ending.{ending_of};
 ghost use Rattle.spool_host.specs.Serving.{HasRun, IsOpened, IsPlace, IsUnopened, IsUnread, database};
 
-use crate::fault::ShellFault;
+use crate::fault::{DiskCause, ShellFault};
 use child_pipeline::Children;
 use filter_args::Place;
 use mime_costs::Convs;
@@ -45,7 +45,7 @@ pub fn memory_device(alloc: Global, size: u64) -> Result<MemDisk, ShellFault>
     let mut disk = MemDisk::new(alloc, size as usize)?;
     match make(&mut disk) {
         Ok(()) => Ok(disk),
-        Err(_) => Err(ShellFault::Disk),
+        Err(_) => Err(ShellFault::Disk(DiskCause::Failed)),
     }
 }
 
@@ -89,12 +89,12 @@ pub fn serve<D: Disk + Drop, C: Children + Drop, R: Read, W: Write>(
     ending(ran, engine.met_fault())
 }
 
-// What a run's end is to the program. A run over a disk that failed answers all commands, and is a fault nevertheless.
-fn ending(ran: Result<(), RunFault>, failed: bool) -> Result<(), ShellFault>
+/// What a run's end is to the program. A run over a disk that failed answers all commands, and is a fault nevertheless.
+pub(crate) fn ending(ran: Result<(), RunFault>, failed: bool) -> Result<(), ShellFault>
     ensures { result ≡ ending_of ran failed }
 {
     match ran {
-        Ok(()) if failed => Err(ShellFault::Disk),
+        Ok(()) if failed => Err(ShellFault::Disk(DiskCause::Failed)),
         Ok(()) => Ok(()),
         Err(fault) => Err(ShellFault::from(fault)),
     }

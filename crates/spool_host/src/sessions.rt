@@ -1,150 +1,315 @@
-//! The side channel of a child: a socket, whose clients are answered one after another.
+//! The side channels of the children that run: of each a socket, whose clients are answered as their bytes come.
 //!
-//! # How it ends
+//! # How they are served
 //!
-//! The script of the child ends by running the program of the file's `side` line, which ends a session by its last
-//! packet. So the clients that came before it have been answered then, and no more are. It is also enough that the
-//! script itself has ended, as it does where that program fails: the calls that wait for a client look for it each fifth
-//! of a second. So what a client does, or leaves undone, keeps nothing waiting but itself and its child.
+//! Nothing here waits. A look takes the clients that have come and the bytes that have come of each, and answers them.
+//! While a child is finished the launcher looks again and again, at the channels of all children that run. So a child has
+//! its answers whatever others do, and one that keeps a silent connection has those of its other ones.
 //!
-//! A client that hangs up, cuts a packet or doesn't take its answers loses its session, and no more. After 256 sessions
-//! the socket is closed, so that further clients are refused.
-ghost use Rattle.std.specs.Prelude.{◌≡◌, IfOk};
+//! # How they end
+//!
+//! A channel is closed when its child has ended, whoever goes on asking. Before that a session ends it by its last packet,
+//! as the program of the file's `side` line does at the end of the child's script, which ends that program where it hangs.
+//! So what a client does, or leaves undone, keeps nothing waiting but itself and its child.
+//!
+//! A client that hangs up, cuts a packet or leaves its answers for two seconds loses its session, and no more. A child has
+//! eight clients at once: others wait until one of these has gone. After 256 the socket is closed, so that further ones are
+//! refused.
+ghost use Rattle.std.specs.Prelude.{◌≡◌, ◌<◌, IfOk, OnOk};
+ghost use Rattle.std.specs.Vec.{vec_capacity, vec_len};
 
 use crate::device::remove_if_there;
-use side_channel::{Device, Ending, serve};
-use std::alloc::Global;
+use side_channel::{Device, Fed, Session, SideFault};
+use spool_types::JobId;
+use std::alloc::{AllocError, Global};
 use std::fs::{Files, Permissions};
-use std::io::{ErrorKind, Read};
+use std::io::{ErrorKind, Read, Write};
 use std::net::Net;
-use std::os::fd::OwnedFd;
 use std::os::unix::fs::PermissionsExt;
 use std::os::unix::net::{UnixListener, UnixStream};
 use std::path::Path;
-use std::process::{Child, OpenProcess};
-use std::time::Duration;
 use std::{fs, io};
 
-// How many clients are answered.
-const MOST_SESSIONS: usize = 256;
+// How many clients of a child are answered in all, and how many at once.
+const MOST_CLIENTS: u32 = 256;
 
-// How long a call waits for a client before it looks whether the child has ended, in milliseconds.
-const TURN: u64 = 200;
+const MOST_AT_ONCE: usize = 8;
 
-// How long a client may leave its answers, in seconds. The system holds more than a hundred of them for it.
-const PATIENCE: u64 = 2;
+// How many bytes of a client are read at once.
+const PIECE: usize = 512;
+
+// How long a client may leave its answers, in milliseconds. The system holds more than a hundred of them for it.
+const PATIENCE: u64 = 2_000;
+
+/// The side channels of the children that run.
+#[derive(Drop)]
+pub(crate) struct SideLines {
+    lines: Vec<SideLine>,
+}
 
 /// The socket of a child, and the device that it tells of.
 #[derive(Drop)]
 pub(crate) struct SideLine {
-    listener: UnixListener,
+    job: JobId,
     device: Device,
+    // None once no further client is taken.
+    listener: Option<UnixListener>,
+    clients: Vec<SideClient>,
+    // How many clients may still come.
+    left: u32,
 }
 
-// What the socket gave.
+// A client, and what it hasn't taken of its answers.
 #[derive(Drop)]
-enum Call {
-    Client(UnixStream),
-    // A client was lost.
-    Lost,
-    // No child is left that could call.
-    Nobody,
+struct SideClient {
+    stream: UnixStream,
+    session: Session,
+    unsent: Vec<u8>,
+    // How many of these bytes were taken.
+    sent: usize,
+    // For how long it has taken none, in milliseconds.
+    waited: u64,
+    gone: bool,
+}
+
+// What a look at a client came to.
+#[derive(Clone, Copy, PartialEq, Eq)]
+enum Heard {
+    Nothing,
+    Something,
+    // Its session is over, by the last packet.
+    Last,
+}
+
+impl SideLines {
+    pub fn new(alloc: Global) -> SideLines {
+        SideLines {
+            lines: Vec::new(alloc),
+        }
+    }
+
+    /// Room for one more.
+    pub fn reserve(&mut self) -> Result<(), AllocError>
+        ensures { OnOk result (vec_len self.new.lines < vec_capacity self.new.lines) }
+    {
+        self.lines.reserve(1)
+    }
+
+    /// The channel of a child that has started.
+    pub fn add(&mut self, line: SideLine)
+        requires { vec_len self.old.lines < vec_capacity self.old.lines }
+    {
+        self.lines.push_reserved(line);
+    }
+
+    /// Whether nobody can ask anything.
+    pub fn are_closed(&self) -> bool {
+        self.lines.iter().all(|line| line.is_closed())
+    }
+
+    /// The child of this job has ended: nobody is answered any more.
+    pub fn close(&mut self, job: JobId) {
+        self.lines.retain(|line| line.job != job);
+    }
+
+    /// Looks at each channel, so many milliseconds after the last look. Whether something has come.
+    pub fn serve(&mut self, alloc: Global, since: u64) -> bool {
+        let mut heard = false;
+        for line in &mut self.lines {
+            if line.serve(alloc, since) {
+                heard = true;
+            }
+        }
+        heard
+    }
 }
 
 impl SideLine {
-    /// Makes the socket, which its owner alone may use. What a crash left under this name goes first.
-    pub fn bind<R: Files + Net>(rt: &R, path: &str, device: Device) -> io::Result<SideLine>
+    /// Makes the socket of this job's child, which its owner alone may use. What a crash left under this name goes first.
+    pub fn bind<R: Files + Net + AllocGlobal>(
+        rt: &R,
+        path: &str,
+        job: JobId,
+        device: Device,
+    ) -> io::Result<SideLine>
         ensures { IfOk result (λ line. line.device ≡ device) }
     {
         remove_if_there(rt, Path::new(path))?;
         let listener = UnixListener::bind(rt, path)?;
         fs::set_permissions(rt, path, Permissions::from_mode(0o600))?;
-        let socket = UnixStream::from(OwnedFd::from(listener.try_clone()?));
-        // The system has this of the socket, and so of `accept` too.
-        socket.set_read_timeout(Some(Duration::from_millis(TURN)))?;
-        Ok(SideLine { listener, device })
+        listener.set_nonblocking(true)?;
+        Ok(SideLine {
+            job,
+            device,
+            listener: Some(listener),
+            clients: Vec::new(rt.alloc()),
+            left: MOST_CLIENTS,
+        })
     }
 
-    /// Answers the clients of a child, until one ends its session by the last packet, or the child has ended. The socket
-    /// is closed then: whoever calls later is refused. The child is handed back.
-    pub fn answer<P: OpenProcess + Drop>(self, alloc: Global, child: Child<P>) -> Child<P> {
-        let mut child = child;
-        for _ in 0..MOST_SESSIONS {
-            match self.next_call(&mut child) {
-                Call::Client(client) => {
-                    let caller = Caller { client, child };
-                    let (last, back) = caller.answer(alloc, &self.device);
-                    child = back;
-                    if last {
-                        return child;
-                    }
-                }
-                Call::Lost => {}
-                Call::Nobody => return child,
+    fn is_closed(&self) -> bool {
+        self.listener.is_none() && self.clients.is_empty()
+    }
+
+    // Takes who has come, and answers what has come. Whether something has.
+    fn serve(&mut self, alloc: Global, since: u64) -> bool {
+        let came = self.take_clients(alloc);
+        let heard = self.hear(since);
+        self.clients.retain(|client| !client.gone);
+        came || heard
+    }
+
+    fn take_clients(&mut self, alloc: Global) -> bool {
+        let mut came = false;
+        for _ in self.clients.len()..MOST_AT_ONCE {
+            match self.take_client(alloc) {
+                Ok(()) => came = true,
+                Err(_) => return came,
             }
         }
-        child
+        came
     }
 
-    fn next_call<P: OpenProcess + Drop>(&self, child: &mut Child<P>) -> Call {
-        for _ in 0..u64::MAX {
-            match self.listener.accept() {
-                Ok((client, _)) => return Call::Client(client),
-                Err(error) if error.kind() != ErrorKind::WouldBlock => return Call::Lost,
-                Err(_) => {
-                    if !is_running(child) {
-                        return Call::Nobody;
-                    }
-                }
-            }
-        }
-        Call::Nobody
-    }
-}
-
-fn is_running<P: OpenProcess + Drop>(child: &mut Child<P>) -> bool {
-    matches!(child.try_wait(), Ok(None))
-}
-
-// A client, and the child as long as which it is waited for.
-#[derive(Drop)]
-struct Caller<P: OpenProcess + Drop> {
-    client: UnixStream,
-    child: Child<P>,
-}
-
-impl<P: OpenProcess + Drop> Caller<P> {
-    // Answers the client. Tells whether it ended by the last packet, and hands the child back.
-    fn answer(self, alloc: Global, device: &Device) -> (bool, Child<P>) {
-        let mut reader = self;
-        let last = match limited(&reader.client) {
-            Ok(writer) => {
-                let mut writer = writer;
-                let ended = serve(alloc, &mut reader, &mut writer, device);
-                matches!(ended, Ok(Ending::End))
-            }
-            Err(_) => false,
+    // Takes a client. An error says that there is none, or that it was lost.
+    fn take_client(&mut self, alloc: Global) -> io::Result<()> {
+        let stream = match &self.listener {
+            Some(listener) => accepted(listener)?,
+            None => return Err(io::Error::from(ErrorKind::WouldBlock)),
         };
-        let Caller { child, .. } = reader;
-        (last, child)
+        self.clients.push(SideClient::new(alloc, stream))?;
+        self.left = self.left.saturating_sub(1);
+        if self.left == 0 {
+            self.listener = None;
+        }
+        Ok(())
+    }
+
+    // Answers what the clients say. Where one ends its session by the last packet, the channel is closed.
+    fn hear(&mut self, since: u64) -> bool {
+        let mut heard = Heard::Nothing;
+        for client in &mut self.clients {
+            match client.look(&self.device, since) {
+                Heard::Nothing => {}
+                Heard::Something if heard == Heard::Last => {}
+                some => heard = some,
+            }
+        }
+        if heard == Heard::Last {
+            self.listener = None;
+            self.clients.clear();
+        }
+        heard != Heard::Nothing
     }
 }
 
-// The client once more, to write to it, after it was set how long a call may wait for it.
-fn limited(client: &UnixStream) -> io::Result<UnixStream> {
-    client.set_read_timeout(Some(Duration::from_millis(TURN)))?;
-    client.set_write_timeout(Some(Duration::from_secs(PATIENCE)))?;
-    client.try_clone()
+// A client that has come.
+fn accepted(listener: &UnixListener) -> io::Result<UnixStream> {
+    let (stream, _) = listener.accept()?;
+    stream.set_nonblocking(true)?;
+    Ok(stream)
 }
 
-// What a client says while its child is running. After that nothing more is waited for.
-impl<P: OpenProcess + Drop> Read for Caller<P> {
-    fn read(&mut self, buf: &mut [u8]) -> io::Result<usize> {
-        match self.client.read(buf) {
-            Err(error) if error.kind() == ErrorKind::WouldBlock && is_running(&mut self.child) => {
-                Err(io::Error::from(ErrorKind::Interrupted))
-            }
-            read => read,
+impl SideClient {
+    fn new(alloc: Global, stream: UnixStream) -> SideClient {
+        SideClient {
+            stream,
+            session: Session::new(),
+            unsent: Vec::new(alloc),
+            sent: 0,
+            waited: 0,
+            gone: false,
         }
     }
+
+    // Sends what it hasn't taken, or else reads what it says, and answers it.
+    fn look(&mut self, device: &Device, since: u64) -> Heard {
+        if !self.unsent.is_empty() {
+            return self.send(since);
+        }
+        let mut piece = [0u8; PIECE];
+        match self.stream.read(&mut piece) {
+            Ok(count) if 0 < count => self.answer(&piece[..count], device),
+            Err(error) if may_pass(&error) => Heard::Nothing,
+            _ => self.leave(),
+        }
+    }
+
+    fn answer(&mut self, piece: &[u8], device: &Device) -> Heard {
+        let last = match answer_all(&mut self.session, piece, device, &mut self.unsent) {
+            Ok(last) => last,
+            Err(_) => return self.leave(),
+        };
+        if !self.unsent.is_empty() {
+            self.send(0);
+        }
+        if last { Heard::Last } else { Heard::Something }
+    }
+
+    fn send(&mut self, since: u64) -> Heard {
+        match self.stream.write(left_of(&self.unsent, self.sent)) {
+            Ok(count) if 0 < count => self.pass(count),
+            Err(error) if may_pass(&error) => self.wait(since),
+            _ => self.leave(),
+        }
+    }
+
+    // So many bytes were taken.
+    fn pass(&mut self, count: usize) -> Heard {
+        self.waited = 0;
+        self.sent = self.sent.saturating_add(count);
+        if self.unsent.len() <= self.sent {
+            self.unsent.clear();
+            self.sent = 0;
+        }
+        Heard::Something
+    }
+
+    fn wait(&mut self, since: u64) -> Heard {
+        self.waited = self.waited.saturating_add(since);
+        if PATIENCE < self.waited {
+            return self.leave();
+        }
+        Heard::Nothing
+    }
+
+    // It is lost, or has gone.
+    fn leave(&mut self) -> Heard {
+        self.gone = true;
+        Heard::Something
+    }
+}
+
+// The bytes behind the first ones.
+fn left_of(bytes: &[u8], sent: usize) -> &[u8] {
+    if sent < bytes.len() {
+        &bytes[sent..]
+    } else {
+        &[]
+    }
+}
+
+// Whether a call on a socket would wait, or was interrupted.
+fn may_pass(error: &io::Error) -> bool {
+    matches!(error.kind(), ErrorKind::WouldBlock | ErrorKind::Interrupted)
+}
+
+// Writes the answers to the requests that end in a piece. Whether the session does.
+fn answer_all(
+    session: &mut Session,
+    piece: &[u8],
+    device: &Device,
+    answers: &mut Vec<u8>,
+) -> Result<bool, SideFault> {
+    let mut rest = piece;
+    for _ in 0..piece.len() {
+        match session.feed(rest, device) {
+            Fed::Answer { count, answer } => {
+                answer.write(answers)?;
+                rest = &rest[count..];
+            }
+            Fed::Wants => return Ok(false),
+            Fed::End { .. } => return Ok(true),
+        }
+    }
+    Ok(false)
 }

@@ -1,5 +1,5 @@
-//! The program's log: the warnings, each a line on standard error.
-ghost use Rattle.std.specs.Prelude.{◌==◌, Some, []};
+//! The program's log: the warnings, and what went wrong with a child, each a line on standard error.
+ghost use Rattle.std.specs.Prelude.{nat_le, Some, []};
 ghost use Rattle.log.specs.Level.{level_rank};
 ghost use Rattle.log.specs.declared.level.Level.TheVariants.{Warn};
 
@@ -9,22 +9,29 @@ use log::{Level, Log, Metadata, Record, warn};
 use spool_types::Warning;
 use std::fmt::Display;
 
-/// Writes each warning to the standard error of `R`, as `spool: warning MESSAGE`. One that can't be written is dropped.
+/// Writes each warning to the standard error of `R`, as `spool: warning MESSAGE`, and what went wrong with a child as
+/// `spool: MESSAGE`. A line that can't be written is dropped.
 #[derive(Clone, Copy, Drop)]
 pub struct WarningLines<R>(pub R);
 
 impl<R: Eprint> Log for WarningLines<R> {
-    ghost enables = { λ _ level _. Some (level_rank level == level_rank Warn) };
+    ghost enables = { λ _ level _. Some (nat_le (level_rank level) (level_rank Warn)) };
 
     ghost target_of = { λ _. Some [] };
 
     fn enabled(&self, metadata: &Metadata<'_>) -> bool {
-        metadata.level() == Level::Warn
+        metadata.level() <= Level::Warn
     }
 
     fn log<D: Display, K: Source, S: Spans>(&self, record: &Record<'_, D, K, S>) {
-        if record.level() == Level::Warn {
-            let _ = eprintln!(self.0; "spool: warning {}", record.args());
+        match record.level() {
+            Level::Warn => {
+                let _ = eprintln!(self.0; "spool: warning {}", record.args());
+            }
+            Level::Error => {
+                let _ = eprintln!(self.0; "spool: {}", record.args());
+            }
+            _ => {}
         }
     }
 

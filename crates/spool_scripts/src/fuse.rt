@@ -1,13 +1,15 @@
 //! After how many calls a disk fails.
-ghost use Rattle.std.specs.Prelude.{◌≡◌, ◌^◌, ◌-◌, ◌≤◌, [], IfOk};
+ghost use Rattle.std.specs.Prelude.{◌≡◌, ◌^◌, ◌-◌, ◌≤◌, false, [], IfOk};
 
 use crate::fault::CaseFault;
 
-/// After how many calls the disk of a case fails: after each number from the first to the last.
+/// After how many calls the disk of a case fails: after each number from the first to the last. It fails from then on, or
+/// at one call alone.
 #[derive(Clone, Copy)]
 pub struct Fuse {
     pub first: u64,
     pub last: u64,
+    pub once: bool,
 }
 
 impl Fuse {
@@ -15,36 +17,39 @@ impl Fuse {
     pub const NEVER: Fuse = Fuse {
         first: u64::MAX,
         last: u64::MAX,
+        once: false,
     };
 }
 
-/// The two numbers of a text, of which the first is no greater than the last: so a case is served at least once. Where there is no
-/// text the disk doesn't fail.
+/// The two numbers of a text, of which the first is no greater than the last: so a case is served at least once. The word `once`
+/// may come before them. Where there is no text the disk doesn't fail.
 pub fn read_fuse(text: &str) -> Result<Fuse, CaseFault>
-    ensures never { text.now ≡ [] → IfOk result (λ f. f ≡ record { first = 2 ^ 64 - 1; last = 2 ^ 64 - 1 }) }
+    ensures never { text.now ≡ [] → IfOk result (λ f. f ≡ record { first = 2 ^ 64 - 1; last = 2 ^ 64 - 1; once = false }) }
     ensures served { IfOk result (λ f. f.first ≤ f.last) }
 {
     if text.is_empty() {
         return Ok(Fuse::NEVER);
     }
-    match text.trim_end().split_once(' ') {
-        Some((first, last)) => {
-            let first = calls_of(first)?;
-            let last = calls_of(last)?;
-            fuse_between(first, last)
-        }
-        None => Err(CaseFault::NoFuse),
+    let text = text.trim_end();
+    match text.strip_prefix("once ") {
+        Some(numbers) => fuse_between(numbers, true),
+        None => fuse_between(text, false),
     }
 }
 
-// The fuse from one number of calls to another.
-fn fuse_between(first: u64, last: u64) -> Result<Fuse, CaseFault>
+// The fuse between two numbers of calls.
+fn fuse_between(numbers: &str, once: bool) -> Result<Fuse, CaseFault>
     ensures { IfOk result (λ f. f.first ≤ f.last) }
 {
+    let Some((first, last)) = numbers.split_once(' ') else {
+        return Err(CaseFault::NoFuse);
+    };
+    let first = calls_of(first)?;
+    let last = calls_of(last)?;
     if last < first {
         return Err(CaseFault::NoFuse);
     }
-    Ok(Fuse { first, last })
+    Ok(Fuse { first, last, once })
 }
 
 // A number of calls.

@@ -12,7 +12,8 @@
 //! - `NAME.size` has the length of the disk in bytes, which is else 4,194,304.
 //! - `NAME.children` tells how the children of rounds go ([`outcomes`]). Without it none can be started.
 //! - `NAME.fuse` has two numbers ([`fuse`]): the case is served with a disk that fails after the first number of calls, and
-//!   so on up to the last. Without it the disk doesn't fail.
+//!   so on up to the last. With the word `once` before them that disk fails at one call alone. Without the file it doesn't
+//!   fail.
 //! - `NAME.limits` says that the reader fails, or how many bytes the writer takes ([`limits`]).
 //! - `NAME.account` has what is wanted beside the replies ([`served::Served`]), and is empty where it is absent: which part
 //!   of the script met a fault of the reader, of the writer or of the disk, and then the orders of the children ([`orders`]).

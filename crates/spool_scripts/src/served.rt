@@ -12,7 +12,7 @@ use filter_args::Place;
 use mime_costs::Convs;
 use mime_rules::Types;
 use spool_core::{Spool, make};
-use spool_disk::{FuseDisk, MemDisk};
+use spool_disk::{FuseDisk, MemDisk, OnceDisk};
 use spool_engine::{Engine, RunFault};
 use std::alloc::Global;
 
@@ -79,9 +79,9 @@ fn new_bench(alloc: Global, case: &Case) -> Result<Bench, CaseFault> {
 fn engine_on(
     alloc: Global,
     case: &Case,
-    disk: FuseDisk<MemDisk>,
+    disk: OnceDisk<FuseDisk<MemDisk>>,
     children: MemChildren,
-) -> Result<Engine<FuseDisk<MemDisk>, MemChildren>, CaseFault> {
+) -> Result<Engine<OnceDisk<FuseDisk<MemDisk>>, MemChildren>, CaseFault> {
     let (types, _) = Types::read(alloc, case.types.as_str())?;
     let (convs, _) = Convs::read(alloc, case.convs.as_str())?;
     let place = place(alloc, case.lang.as_str())?;
@@ -105,7 +105,7 @@ fn serve_part(
         children,
         mut account,
     } = bench;
-    let mut engine = engine_on(alloc, case, FuseDisk::new(disk, calls), children)?;
+    let mut engine = engine_on(alloc, case, failing(disk, calls, case.fuse.once), children)?;
     match engine.run(reader, writer) {
         Ok(()) => {}
         Err(RunFault::Read) => account.push_str("the reader failed\n")?,
@@ -117,10 +117,19 @@ fn serve_part(
     }
     let (spool, children) = engine.into_parts();
     Ok(Bench {
-        disk: spool.into_disk().into_disk(),
+        disk: spool.into_disk().into_disk().into_disk(),
         children,
         account,
     })
+}
+
+// A disk that fails after so many calls: once, or from then on.
+fn failing(disk: MemDisk, calls: u64, once: bool) -> OnceDisk<FuseDisk<MemDisk>> {
+    if once {
+        OnceDisk::new(FuseDisk::new(disk, u64::MAX), calls)
+    } else {
+        OnceDisk::new(FuseDisk::new(disk, calls), u64::MAX)
+    }
 }
 
 // Where the children run.

@@ -2,7 +2,6 @@ pub mod CutLaws
 pub mod PieceLaws
 pub mod TextLaws
 pub mod ReasonLaws
-pub mod NumberLaws
 pub mod PageLaws
 pub mod QuotingLaws
 pub mod TallyLaws

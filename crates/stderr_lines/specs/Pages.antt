@@ -1,19 +1,14 @@
 -- The pages that a line tells: `PAGE: page copies`, or `PAGE: total pages`.
-use Rattle.std.specs.Prelude.{ℕ, Bool, ◌&&◌, cond, nat_le, nat_eq, List, length, codes, Option, None, Some}
-use Rattle.std.specs.List.{list_all}
-use Rattle.std.specs.Char.{is_ascii_digit}
+use Rattle.std.specs.Prelude.{ℕ, Bool, cond, nat_eq, List, codes, Option, None, Some}
 use Rattle.std.specs.Cmp.Lexicographic.{pointwise}
 use Rattle.line_words.specs.Blanks.{first_word, after_word, is_nothing}
-use Rattle.line_words.specs.Numbers.{read_on}
+use Rattle.line_words.specs.Numbers.{decimal}
 use Rattle.spool_types.specs.declared.effect.Effect.{Effect}
 use Rattle.spool_types.specs.declared.effect.Effect.TheVariants.{Pages, TotalPages}
 
--- one digit at least, as many as it likes, and a value of at most 4,294,967,295
-abbrev pub is_number : List ℕ → Bool
-is_number word = nat_le 1 (length word) && list_all is_ascii_digit word && nat_le (read_on 0 word) 4294967295
-
+-- of any number of digits, and at most 4,294,967,295
 abbrev pub number_of : List ℕ → Option ℕ
-number_of word = cond (is_number word) (Some (read_on 0 word)) None
+number_of word = decimal 4294967295 word
 
 abbrev pub is_total : List ℕ → Bool
 is_total word = pointwise nat_eq word (codes "total")

@@ -5,7 +5,7 @@ ghost use Rattle.stderr_lines.specs.Pages.{number_of, page_effect, two_words};
 ghost use Rattle.stderr_lines.specs.Drafts.{effect_of, IsSound};
 
 use crate::draft::Draft;
-use line_words::{after_blanks, first_word};
+use line_words::{after_blanks, decimal, first_word};
 
 /// `PAGE: page copies` or `PAGE: total pages`, where the text is one.
 pub fn page_draft(text: &[u8]) -> Option<Draft<'_>>
@@ -37,15 +37,5 @@ fn two_words<'a>(first: &[u8], second: &[u8]) -> Option<Draft<'a>>
 fn number_of(word: &[u8]) -> Option<u32>
     ensures { result ≡ number_of word.now }
 {
-    if word.is_empty() {
-        return None;
-    }
-    let mut value: u32 = 0;
-    for b in word {
-        if !b.is_ascii_digit() {
-            return None;
-        }
-        value = value.checked_mul(10)?.checked_add(u32::from(*b - b'0'))?;
-    }
-    Some(value)
+    Some(decimal(word, u64::from(u32::MAX))? as u32)
 }

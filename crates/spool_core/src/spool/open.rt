@@ -124,12 +124,14 @@ impl<D: Disk> Spool<D> {
         match damage {
             None => {}
             Some(gate) => {
+                drop(table);
                 let disk = areas.into_disk();
                 let fault = OpenFault::Damaged(gate);
                 return Err(OpenError { disk, fault });
             }
         }
         if is_cramped(&table, room) {
+            drop(table);
             let disk = areas.into_disk();
             let fault = OpenFault::Damaged(gate);
             return Err(OpenError { disk, fault });

@@ -43,8 +43,8 @@ pub returns-in-Ok-into_table-clause-fault : goal.returns-in-Ok-into_table-clause
 returns-in-Ok-into_table-clause-fault c = if_err c.add_event.result c.add_event.ensures.fault
     (λ fault is payloads begins. first_fault payloads c.args.payload.now c.args.loading.progress c.in-Ok-into_table.table.state c.args.extent fault begins (subst (IsRowOrNone c.args.payload.now) c.in-Ok-None.field-0-is c.in-Ok-None.ensures.row) c.in-Ok-into_table.ensures.state is)
 
-pub returns-in-Ok-None-clause-fault : goal.returns-in-Ok-None-clause-fault
-returns-in-Ok-None-clause-fault c = λ payloads begins.
+pub returns-else-is_whole-clause-fault : goal.returns-else-is_whole-clause-fault
+returns-else-is_whole-clause-fault c = λ payloads begins.
     (refl, early payloads c.args.payload.now c.args.loading.progress begins (subst (IsRowOrNone c.args.payload.now) c.in-Ok-None.field-0-is c.in-Ok-None.ensures.row) (λ whole. never (c.if-is_whole.ensures.1 whole)))
 
 pub returns-in-Ok-into_table-clause-unmoved : goal.returns-in-Ok-into_table-clause-unmoved

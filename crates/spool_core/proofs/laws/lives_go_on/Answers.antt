@@ -1,5 +1,5 @@
 -- Each life is a list of events after the acknowledged ones of another.
-use Rattle.std.proofs.Common.{◌≡◌, ◌++◌, refl, sym, ap, ◌∙◌, subst, take}
+use Rattle.std.proofs.Common.{◌≡◌, [], ◌++◌, refl, sym, ap, ◌∙◌, subst, take}
 use Rattle.std.specs.Prelude.{IsSome, Some}
 use Rattle.std.proofs.Math.Logic.{⊎_elim}
 use Rattle.spool_types.specs.declared.event.Event.TheVariants.{Create, Reopen}
@@ -11,7 +11,7 @@ use Rattle.job_table.specs.Over.{HasOver, late_refusal}
 use Rattle.job_table.specs.Step.{refusal_of}
 use Rattle.spool_core.specs.Driving.{documents_after}
 use Rattle.spool_core.specs.Image.{HasTable, HasDocuments}
-use Rattle.spool_core.specs.Lives.{history_of}
+use Rattle.spool_core.specs.Lives.{Life, next_table, history_of}
 use Rattle.spool_core.proofs.DocumentLaws.{documents_stay}
 use Rattle.spool_core.proofs.ImageLaws.{over_after}
 use Rattle.spool_core.proofs.LifeLaws.{one_history, one_history_sends, legal_found, later_events, after_acknowledged, further}
@@ -20,6 +20,12 @@ use Rattle.spool_core.proofs.laws.lives_go_on.Goals as goal
 pub returns-clause-opened : goal.returns-clause-opened
 returns-clause-opened c s t events acknowledged most image has found =
     (has.0, has.1, has.2, found.reopened_is ∙ ap reopened (c.one_reading.ensures.table found.table (after_all s (take has.0 events)) image found.found has.3))
+
+pub returns-clause-goes_on : goal.returns-clause-goes_on
+returns-clause-goes_on c s t events acknowledged most image has found =
+    let l : Life = record { events = events; acknowledged = acknowledged; left = has.0 } in
+    let is : t ≡ next_table s l = found.reopened_is ∙ ap reopened (c.one_reading.ensures.table found.table (after_all s (take has.0 events)) image found.found has.3) in
+    (later_events l [], is ∙ after_acknowledged s l [] has.1)
 
 pub returns-clause-documents : goal.returns-clause-documents
 returns-clause-documents c s t documents events acknowledged most image has found =

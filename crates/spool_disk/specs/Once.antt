@@ -1,0 +1,42 @@
+-- A disk that fails once.
+use Rattle.spool_disk.specs.Disk.{DiskView}
+use Rattle.std.specs.Prelude.{◌≡◌, ◌<◌, ◌-◌, ℕ, Bool, true, false, Result, IsErr}
+use Rattle.spool_disk.specs.declared.once.OnceDisk.{OnceDisk}
+
+-- the disk that the calls are passed on to
+abbrev pub inner_of : {D : Type 0} → OnceDisk D → D
+inner_of d = d.disk
+
+-- how many calls it still passes on before the one that fails
+abbrev pub calls_left : {D : Type 0} → OnceDisk D → ℕ
+calls_left d = d.left
+
+-- whether that one has failed
+abbrev pub has_failed : {D : Type 0} → OnceDisk D → Bool
+has_failed d = d.has_failed
+
+-- how many failures it has counted, its own and those of the disk that it passes calls on to
+abbrev pub fault_count : {D : Type 0} → OnceDisk D → ℕ
+fault_count d = d.faults
+
+-- What is seen of it: what is seen of the disk behind it, but with its own count of failures.
+abbrev pub behind_once : {D : Type 0} → DiskView D → DiskView (OnceDisk D)
+behind_once v = record {
+  bytes = λ d. v.bytes (inner_of d);
+  size = λ d. v.size (inner_of d);
+  image = λ d. v.image (inner_of d);
+  moment = λ d. v.moment (inner_of d);
+  image_since = λ d. v.image_since (inner_of d);
+  failures = λ d. fault_count d;
+}
+
+-- One call fails where its turn has come, and the disk behind isn't called then. Each other one fails only where that disk
+-- fails.
+pub record IsOnce {D T E : Type 0} (v : DiskView D) (old new : OnceDisk D) (result : Result T E) : Type 0 where
+  pub takes : calls_left new ≡ calls_left old - 1
+  pub notes : calls_left old ≡ 0 → has_failed new ≡ true
+  pub waits : 0 < calls_left old → has_failed new ≡ has_failed old
+  pub passes : 0 < calls_left old → IsErr result → v.failures (inner_of old) < v.failures (inner_of new)
+  pub again : has_failed old ≡ true → IsErr result → v.failures (inner_of old) < v.failures (inner_of new)
+  pub fails : calls_left old ≡ 0 → has_failed old ≡ false → IsErr result
+  pub spares : calls_left old ≡ 0 → has_failed old ≡ false → inner_of new ≡ inner_of old

@@ -1,0 +1,88 @@
+-- The calls of one engine, one after the other, are the turns of a life, and engines over many lives make a world.
+use Rattle.std.proofs.Common.{◌≡◌, List, [], ◌∷◌, ◌++◌, Some, refl, sym, ap, subst, ◌∙◌}
+use Rattle.std.specs.FinMap as finite
+use Rattle.spool_disk.specs.Disk.{DiskView}
+use Rattle.spool_types.specs.declared.event.Event.{Event}
+use Rattle.spool_types.specs.State.{State}
+use Rattle.job_table.specs.Attempts.{HasNoProcessing}
+use Rattle.job_table.specs.Fold.{after_all}
+use Rattle.job_table.specs.Legal.{IsLegal}
+use Rattle.job_table.specs.Turns.{AreOnce}
+use Rattle.child_pipeline.specs.Told.{Told}
+use Rattle.child_pipeline.specs.declared.order.Placed.{Placed}
+use Rattle.print_rounds.specs.Courses.{Course}
+use Rattle.print_rounds.specs.Lives.{Life, IsLife, IsWorld, AreLives, end_of, keys_of, keys_of_life, AreCallTurns, life_of, last_left}
+use Rattle.print_rounds.specs.World.{keys_in}
+use Rattle.spool_engine.specs.Calls.{Call, IsQuietTurn, tried_in_turns, round_call, run_call, left_by, IsCall, AreCalls, last_by}
+use Rattle.spool_engine.specs.EventTurns.{Setting, setting}
+use Rattle.spool_engine.specs.Lives.{EngineLife, last_of, IsEngineLife, AreEngineLives, IsEngineWorld, keys_told}
+use Rattle.spool_engine.proofs.WorldLaws.{Laws, round_turn, turns_turn, legal_then}
+
+-- calls that are turns, and leave this course
+abbrev IsTurnedTo : {D : Type 0} → Told → Course D → Course D → Type 0
+IsTurnedTo {D} t s last = (steps : List (List Event × Course D)) × AreCallTurns t s steps × (last_left s steps ≡ last)
+
+-- the same of one call at least
+abbrev IsOneTurnedTo : {D : Type 0} → Told → Course D → Course D → Type 0
+IsOneTurnedTo {D} t s last = (c : List Event × Course D) × (cs : List (List Event × Course D)) × AreCallTurns t s (c ∷ cs) × (last_left c.1 cs ≡ last)
+
+-- what is so of calls that are a life, and of worlds
+pub record LifeLaws (D : Type 0) : Type 0 where
+  pub turns : Laws D
+  pub life : (t : Told) (old : Course D) (c : List Event × Course D) (cs : List (List Event × Course D)) (calls : AreCallTurns t old (c ∷ cs)) →
+      HasNoProcessing old.spool.state → old.slots ≡ finite.empty → IsLife (life_of t old c cs calls)
+  pub end : (t : Told) (old : Course D) (c : List Event × Course D) (cs : List (List Event × Course D)) (calls : AreCallTurns t old (c ∷ cs)) →
+      end_of (life_of t old c cs calls) ≡ (last_left c.1 cs).spool.state
+  pub keys : (t : Told) (old : Course D) (c : List Event × Course D) (cs : List (List Event × Course D)) (calls : AreCallTurns t old (c ∷ cs)) → old.told ≡ Some t →
+      (now : Told) (orders : List Placed) → (last_left c.1 cs).told ≡ Some now → now.orders ≡ t.orders ++ orders → keys_of_life (life_of t old c cs calls) ≡ keys_in orders
+  pub once : (lives : List Life) → IsWorld lives → AreOnce (keys_of lives)
+
+module _ {D : Type 0} (laws : LifeLaws D) where
+  abbrev tried_of : Setting D → Course D → Call D → List Event
+  tried_of v s (round_call r) = r.tried
+  tried_of v s (run_call turns) = tried_in_turns v.mime s turns
+
+  call_turn : (v : Setting D) (t : Told) → t.running ≡ [] → (s : Course D) (c : Call D) → IsLegal s.spool.state → s.told ≡ Some t → IsCall v s c → IsQuietTurn t s (tried_of v s c) (left_by s c)
+  call_turn v t quiet s (round_call r) legal tells is = round_turn laws.turns t quiet v s r legal tells is
+  call_turn v t quiet s (run_call turns) legal tells is = turns_turn laws.turns v turns t quiet s legal tells is
+
+  engine_turns : (v : Setting D) (cs : List (Call D)) (t : Told) → t.running ≡ [] → (s : Course D) → IsLegal s.spool.state → s.told ≡ Some t → AreCalls v s cs → IsTurnedTo t s (last_by s cs)
+  engine_turns v [] t quiet s legal tells are = ([], tt, refl)
+  engine_turns v (c ∷ cs) t quiet s legal tells (first, others) =
+      let one = call_turn v t quiet s c legal tells first in
+      let rest = engine_turns v cs one.1.now one.2 (left_by s c) (legal_then laws.turns t s (left_by s c) (tried_of v s c) one) one.1.tells others in
+      ((one.0, left_by s c) ∷ rest.0, (one.1, rest.1), rest.2)
+
+  first_turns : (v : Setting D) (c : Call D) (cs : List (Call D)) (t : Told) → t.running ≡ [] → (s : Course D) → IsLegal s.spool.state → s.told ≡ Some t → AreCalls v s (c ∷ cs) → IsOneTurnedTo t s (last_by s (c ∷ cs))
+  first_turns v c cs t quiet s legal tells (first, others) =
+      let one = call_turn v t quiet s c legal tells first in
+      let rest = engine_turns v cs one.1.now one.2 (left_by s c) (legal_then laws.turns t s (left_by s c) (tried_of v s c) one) one.1.tells others in
+      ((one.0, left_by s c), rest.0, (one.1, rest.1), rest.2)
+
+  -- an engine's life as one
+  as_life : (device : DiskView D) (l : EngineLife D) → IsEngineLife device l → (m : Life) × IsLife m × ((m.first).table ≡ (l.start).spool.state) × (end_of m ≡ (last_of l).spool.state) × (keys_of_life m ≡ keys_in l.orders)
+  as_life device l is =
+      let (c, cs, calls, last) = first_turns (setting device l.mime l.place) l.first l.later l.told is.quiet l.start is.legal is.tells is.calls in (
+        life_of l.told l.start c cs calls,
+        laws.life l.told l.start c cs calls is.idle is.empty,
+        refl,
+        laws.end l.told l.start c cs calls ∙ ap (λ (x : Course D). x.spool.state) last,
+        laws.keys l.told l.start c cs calls is.tells is.now l.orders (ap (λ (x : Course D). x.told) last ∙ is.tells_then) is.added,
+      )
+
+  as_lives : (device : DiskView D) (ls : List (EngineLife D)) (s u : State) → u ≡ s → AreEngineLives device s ls → (ms : List Life) × AreLives u ms × (keys_of ms ≡ keys_told ls)
+  as_lives device [] s u same are = ([], tt, refl)
+  as_lives device (l ∷ ls) s u same (is, further, others) =
+      let (m, life, table, end, keys) = as_life device l is in
+      let (ms, lives, rest) = as_lives device ls (last_of l).spool.state (end_of m) end others in (
+        m ∷ ms,
+        (life, (further.0, table ∙ further.1 ∙ ap (λ w. after_all w further.0) (sym same)), lives),
+        ap (λ k. k ++ keys_of ms) keys ∙ ap (λ k. keys_in l.orders ++ k) rest,
+      )
+
+  pub engines_once : (device : DiskView D) (ls : List (EngineLife D)) → IsEngineWorld device ls → AreOnce (keys_told ls)
+  engines_once device [] world = tt
+  engines_once device (l ∷ ls) (is, others) =
+      let (m, life, table, end, keys) = as_life device l is in
+      let (ms, lives, rest) = as_lives device ls (last_of l).spool.state (end_of m) end others in
+      subst AreOnce (ap (λ k. k ++ keys_of ms) keys ∙ ap (λ k. keys_in l.orders ++ k) rest) (laws.once (m ∷ ms) (life, lives))

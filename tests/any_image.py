@@ -1,0 +1,402 @@
+#!/usr/bin/env python3
+"""Opens files of spools that were changed at random, and compares what the shell makes of them with a model: any_image.py
+[SHELL] [SEED [COUNT]]
+
+SHELL is the program, and crates/spool_shell/out/spool_shell (made by `rt run` in that folder) where none is given. It makes some
+real spools first: with events of each kind, listings in either area, documents, jobs that are processing, effects of children.
+Then COUNT times (10,000) the bytes of one are changed, cut, swapped and repeated, as SEED says. Changes go by bytes, by fields and by
+whole records, so that many files hold what no spooler would write, but in the right form.
+
+The model of tests/spool_model.py, which was written from docs/PROMISES.md, says of each file which table it has, or its fault and
+the place. The shell has to tell that fault, answer nothing and leave the file as it was; or it has to give that table: in the
+replies to `jobs` and `queues`, in a round without programs (which starts the next job of each queue, and ends it by the queue's
+policy), and, byte for byte, in what the round, the opening and a checkpoint leave of the file.
+
+The last line is `N passed`, with how many files had a table, and status 0; or the first difference, with status 1: the file is
+kept and named then. 10,000 files take a few minutes.
+"""
+import os
+import random
+import shutil
+import subprocess
+import sys
+import tempfile
+
+import journal
+import real_children
+import spool_model as model
+
+HERE = os.path.dirname(os.path.abspath(__file__))
+BUILT = os.path.join(HERE, "..", "crates", "spool_shell", "out", "spool_shell")
+COUNT = 10_000
+SECONDS = 60
+MOST_CHANGES = 3
+
+# Each kind of change has to lead to a table, and to a fault, in so many of a hundred files at least.
+LEAST_SHARE = 15
+
+COMMANDS = ["jobs", "queues", "round", "jobs", "queues", "checkpoint"]
+
+FIRST = """clock 1000
+queue hall s:/0 a/b retry-job 30 5
+queue lab s:/6 a/b retry-job 60 2
+queue pit s:/7 a/d retry-current-job
+queue roof s:/4 a/b stop-printer 5 0
+info hall "A \\"printer\\"" "Room 1"
+create hall ann "First page" 2 50 "media=A4 nocollate"
+send 1 12
+hello, world
+close 1 a.x
+create lab bo "R\u00e9sum\u00e9" 1 80 ""
+send 2 3
+abc
+send 2 4
+defg
+close 2 b.x
+create pit ann "" 1 1 ""
+close 3 c.x
+create roof carl "Held" 9999 100 "note=x"
+hold 4 2000
+close 4 d.x
+create hall ann "Incoming" 1 50 ""
+send 5 6
+kept..
+hold 5 indefinite
+"""
+MORE = """round
+round
+clock 1020
+create hall dora "Next" 1 60 ""
+send 6 9
+123456789
+close 6 e.x
+release 5
+reject lab
+disable pit
+cancel 3
+create roof dora "Last" 1 99 ""
+close 7 f.x
+hold 7 indefinite
+release 7
+hold 7 5000
+"""
+LATER = """clock 2100
+round
+abandon 4
+create hall e "A" 1 2 ""
+close 8 g.x
+create hall e "B" 1 1 ""
+close 9 none
+enable pit
+accept lab
+round
+round
+"""
+
+
+class Difference(Exception):
+    """The program doesn't do what it has to."""
+
+
+def serve(shell, root, script, words=()):
+    return subprocess.run([shell, "--root", root, *words], input=script.encode(), capture_output=True, timeout=SECONDS)
+
+
+def real_spools(shell, folder):
+    """The files of spools as the program leaves them, one after each of some scripts."""
+    root = os.path.join(folder, "made")
+    os.mkdir(root)
+    words = [*real_children.Children(folder).words, "--size", "8192"]
+    spools = []
+    for script in (FIRST, MORE, "checkpoint\n" + LATER, "round\ncheckpoint\nround\n", "clock 9000\nround\ncheckpoint\n", "jobs\n"):
+        done = serve(shell, root, script, words)
+        replies = done.stdout.decode().splitlines()
+        if done.returncode or any(reply.startswith("error") for reply in replies):
+            raise Difference(f"a spool can't be made: {done.stderr!r}, {replies}")
+        with open(os.path.join(root, "spool.disk"), "rb") as file:
+            spools.append(file.read())
+    kinds = {payload[0] for spool in spools for half in journal.halves(spool) for payload in journal.payloads_of(half)}
+    missing = {*range(1, 0x10), *range(0x40, 0x44)} - kinds
+    if missing:
+        raise Difference(f"the spools that were made have no event or row of the kinds {sorted(missing)}")
+    return spools
+
+
+# ---- changes. Each takes a file and gives another one
+
+def area_of(file, chance):
+    """Mostly the current area: where it begins, and where the closed gate is behind its records."""
+    half = len(file) // 2
+    if half < journal.HEADER:
+        return 0, 0
+    bases = [base for base in (0, half) if journal.epoch_of(file[base:base + half])]
+    base = max(bases, key=lambda base: journal.epoch_of(file[base:base + half]), default=0)
+    if chance.random() < 0.1:
+        base = half - base if base in (0, half) else 0
+    return base, base + journal.places(payloads_in(file[base:base + half]))[-1]
+
+
+def payloads_in(half):
+    """The payloads of an area, as far as records are in it."""
+    try:
+        return [payload for payload in journal.payloads_of(half) if len(payload) < len(half)]
+    except (IndexError, MemoryError, OverflowError):
+        return []
+
+
+def some_range(file, chance):
+    """A range of a file, mostly a short one among its records."""
+    base, gate = area_of(file, chance)
+    first, last = (base, min(gate + 12, len(file))) if chance.random() < 0.9 else (0, len(file))
+    begin = chance.randrange(first, max(first + 1, last))
+    return begin, min(len(file), begin + 1 + int(chance.expovariate(0.1)))
+
+
+def some_byte(chance):
+    return chance.choice([0, 1, 2, 0x0F, 0x20, 0x40, 0x7F, 0x80, 0xA4, journal.OPEN, 0xA6, 0xFF, chance.randrange(256)])
+
+
+def changed(file, chance):
+    """A byte is another one, or one of its bits, or one more or less."""
+    at, _ = some_range(file, chance)
+    byte = chance.choice([some_byte(chance), file[at] ^ 1 << chance.randrange(8), (file[at] + 1) % 256, (file[at] - 1) % 256])
+    return file[:at] + bytes([byte]) + file[at + 1:]
+
+
+def filled(file, chance):
+    begin, end = some_range(file, chance)
+    return file[:begin] + bytes([some_byte(chance)]) * (end - begin) + file[end:]
+
+
+def cut(file, chance):
+    """A range is taken out. The file is shorter then, or zeros are behind it."""
+    begin, end = some_range(file, chance)
+    left = file[:begin] + file[end:]
+    return left if chance.random() < 0.3 else left.ljust(len(file), b"\0")
+
+
+def shortened(file, chance):
+    """The file ends early: mostly somewhere, sometimes within what was written, and sometimes at almost nothing."""
+    return file[:chance.choice([chance.randrange(len(file) + 1), some_range(file, chance)[1], chance.randrange(60)])]
+
+
+def swapped(file, chance):
+    """Two ranges of one length change places."""
+    (one, end), (other, _) = some_range(file, chance), some_range(file, chance)
+    one, other = min(one, other), max(one, other)
+    length = min(end - one if end > one else 1, other - one, len(file) - other)
+    middle = file[one + length:other]
+    return file[:one] + file[other:other + length] + middle + file[one:one + length] + file[other + length:]
+
+
+def repeated(file, chance):
+    """A range comes twice. What is behind it moves."""
+    begin, end = some_range(file, chance)
+    return (file[:end] + file[begin:end] + file[end:])[:len(file)]
+
+
+def headers(file, chance):
+    """The headers are other ones, or of another form."""
+    half = len(file) // 2
+    if half < journal.HEADER:
+        return file
+    areas = [file[:half], file[half:2 * half]]
+    kind = chance.randrange(6)
+    if kind == 0:
+        areas.reverse()
+    elif kind == 1:
+        areas[1] = areas[0][:journal.HEADER] + areas[1][journal.HEADER:]
+    elif kind in (2, 3):
+        at, place = chance.randrange(2), chance.randrange(journal.HEADER)
+        areas[at] = areas[at][:place] + bytes([some_byte(chance)]) + areas[at][place + 1:]
+    else:
+        at = chance.randrange(2)
+        epoch = chance.choice([0, 1, 2, 3, 4, 255, 256, 2 ** 63, 2 ** 64 - 2, 2 ** 64 - 1])
+        gate = chance.choice([0, 1, 0xA4, journal.OPEN, journal.OPEN, journal.OPEN])
+        areas[at] = journal.header(epoch, gate) + areas[at][journal.HEADER:]
+    return areas[0] + areas[1] + file[2 * half:]
+
+
+# ---- changes of whole records
+
+def rebuilt(file, chance, change):
+    """The file with the payloads of an area changed, and the records written anew."""
+    half = len(file) // 2
+    base, _ = area_of(file, chance)
+    payloads = payloads_in(file[base:base + half])
+    if not payloads:
+        return file
+    change(payloads)
+    epoch = journal.epoch_of(file[base:base + half]) or 1
+    area = journal.area(half, epoch, payloads, closed=chance.choice([0, 0, 0, 7, 0xFF]))
+    return file[:base] + area + file[base + half:]
+
+
+def records_moved(file, chance):
+    """A record is dropped, comes twice, or elsewhere, or two change places."""
+    def change(payloads):
+        at, to, kind = chance.randrange(len(payloads)), chance.randrange(len(payloads)), chance.randrange(4)
+        if kind == 0:
+            del payloads[at]
+        elif kind == 1:
+            payloads.insert(to, payloads[at])
+        elif kind == 2:
+            payloads.insert(to, payloads.pop(at))
+        else:
+            payloads[at], payloads[to] = payloads[to], payloads[at]
+
+    return rebuilt(file, chance, change)
+
+
+def records_cut(file, chance):
+    """The last records are gone."""
+    def change(payloads):
+        del payloads[chance.randrange(len(payloads)):]
+
+    return rebuilt(file, chance, change)
+
+
+def field_changed(file, chance):
+    """A number somewhere in a payload, often the one behind its kind, is another one."""
+    def change(payloads):
+        at = chance.randrange(len(payloads))
+        payload = payloads[at]
+        width = chance.choice([1, 2, 4, 8])
+        if len(payload) <= width:
+            return
+        place = chance.choice([1, chance.randrange(len(payload) - width + 1), len(payload) - width])
+        before = int.from_bytes(payload[place:place + width], "big")
+        most = 256 ** width
+        number = chance.choice([0, 1, 2, 3, 4, 5, 8, before + 1, before - 1, most - 1, most // 2, chance.randrange(most)]) % most
+        payloads[at] = payload[:place] + journal.number(number, width) + payload[place + width:]
+
+    return rebuilt(file, chance, change)
+
+
+def payload_resized(file, chance):
+    """A payload has a byte more or less, and the record is as long as that."""
+    def change(payloads):
+        at = chance.randrange(len(payloads))
+        place = chance.randrange(len(payloads[at]) + 1)
+        payload = payloads[at]
+        payloads[at] = payload[:place] + (bytes([some_byte(chance)]) + payload[place:] if chance.random() < 0.5 else payload[place + 1:])
+
+    return rebuilt(file, chance, change)
+
+
+def event_added(file, chance):
+    """An event about some job, which may or may not be accepted."""
+    def change(payloads):
+        job, moment = chance.randrange(10), chance.choice([0, 500, 1_030, 5_000, model.GREATEST_MOMENT])
+        event = chance.choice([
+            journal.start(job), journal.start(job), journal.cancel(job), journal.release(job), journal.abandon(job), journal.hold(job),
+            journal.hold(job, moment), journal.clock(moment), journal.REOPEN, journal.send(job, b"more"), journal.close(job),
+            journal.close(job, None), journal.set_stop("pit", chance.randrange(2)), journal.set_accept("lab", chance.randrange(2)),
+            journal.stage(job, chance.randrange(1, 4), chance.randrange(1, 4), chance.choice([0, 1, 2, 3, 4, 5, 6, 7, 8, 255])),
+            journal.stage(job, 1, 1, chance.choice([journal.SIGNAL, journal.NO_START, journal.LOST])),
+            journal.Job(10 + job, "hall").event(), journal.Queue("attic").event(), journal.Queue("hall").event(),
+            journal.stage(job, chance.randrange(1, 3), 1, 0, journal.set_reasons("z"), journal.pages(1, 2 ** 32 - 1), journal.message("m")),
+        ])
+        payloads.insert(chance.choice([len(payloads), chance.randrange(len(payloads) + 1)]), event)
+
+    return rebuilt(file, chance, change)
+
+
+def cramped(file, chance):
+    """The file is cut so that the area ends at, or a few bytes behind, the last gate."""
+    half = len(file) // 2
+    base, gate = area_of(file, chance)
+    length = max(0, gate - base + chance.randrange(-3, 12))
+    areas = [file[:half][:length].ljust(length, b"\0"), file[half:2 * half][:length].ljust(length, b"\0")]
+    return areas[0] + areas[1] + bytes(chance.randrange(2))
+
+
+CHANGES = [changed, filled, cut, shortened, swapped, repeated, headers, records_moved, records_cut, field_changed, payload_resized,
+           event_added, cramped]
+
+# How often each is made: those that mostly end at the first damage are rarer.
+WEIGHTS = [4, 1, 1, 1, 1, 1, 2, 4, 3, 6, 2, 6, 3]
+
+
+def some_file(spools, chance):
+    """A changed file, and the names of what was done to it."""
+    file, names = chance.choice(spools), []
+    for change in chance.choices(CHANGES, WEIGHTS, k=chance.randint(1, MOST_CHANGES)):
+        if file:
+            file = change(file, chance)
+        names.append(change.__name__)
+    return file, names
+
+
+# ---- what the program makes of a file
+
+def wanted_of(file):
+    """The lines of the replies, the standard error, the status, and the file that is left."""
+    try:
+        it = model.opened(file)
+    except model.Fault as fault:
+        return [], f"spool: {fault}\n", 1, file
+    lines = it.table.jobs_reply() + it.table.queues_reply()
+    lines.append(model.round_without_programs(it))
+    lines += it.table.jobs_reply() + it.table.queues_reply()
+    reply, left = model.checkpointed(it)
+    return [*lines, reply], "", 0, left
+
+
+def check(shell, root, file):
+    """Whether the file has a table. Refuses what the program does otherwise."""
+    path = os.path.join(root, "spool.disk")
+    with open(path, "wb") as out:
+        out.write(file)
+    lines, errors, status, left = wanted_of(file)
+    done = serve(shell, root, "".join(f"{command}\n" for command in COMMANDS))
+    with open(path, "rb") as found:
+        is_left = found.read() == left
+    got = done.stdout.decode().splitlines(), real_children.faults_in(done.stderr.decode()), done.returncode
+    if got != (lines, errors, status):
+        raise Difference(f"{got} in place of {(lines, errors, status)}")
+    if not is_left:
+        raise Difference(f"another file is left than the model's, after {lines}")
+    return status == 0
+
+
+def main():
+    words = [word for word in sys.argv[1:] if not word.isdigit()]
+    numbers = [int(word) for word in sys.argv[1:] if word.isdigit()]
+    shell = os.path.abspath(words[0] if words else BUILT)
+    if not os.path.exists(shell):
+        sys.exit(f"no program {shell}: run `rt run` in crates/spool_shell first")
+    seed = numbers[0] if numbers else random.randrange(1 << 32)
+    count = numbers[1] if len(numbers) > 1 else COUNT
+    # In memory, where a sync takes no time.
+    folder = tempfile.mkdtemp(prefix="any-", dir="/dev/shm" if os.path.isdir("/dev/shm") else None)
+    tables = 0
+    file, names, turn = b"", ["the real spools"], 0
+    try:
+        spools = real_spools(shell, folder)
+        root = os.path.join(folder, "r")
+        os.mkdir(root)
+        for spool in spools:
+            file = spool
+            if not check(shell, root, spool):
+                raise Difference("a real spool has no table")
+        for turn in range(count):
+            file, names = some_file(spools, random.Random(f"{seed} {turn}"))
+            tables += check(shell, root, file)
+    except (Difference, subprocess.TimeoutExpired) as difference:
+        kept = os.path.join(tempfile.gettempdir(), f"image-{seed}-{turn}")
+        with open(kept, "wb") as out:
+            out.write(file)
+        print(f"seed {seed}, file {turn} ({', '.join(names)}), which is kept as {kept}: {difference}")
+        sys.exit(1)
+    finally:
+        shutil.rmtree(folder)
+    share = 100 * tables // count
+    print(f"seed {seed}: {tables} files with a table, {count - tables} with a fault")
+    if count >= 1_000 and not LEAST_SHARE <= share <= 100 - LEAST_SHARE:
+        sys.exit(f"too few of one kind: the changes show little")
+    print(f"{count} passed")
+
+
+if __name__ == "__main__":
+    main()

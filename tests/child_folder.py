@@ -1,0 +1,158 @@
+"""The folder of a test of real children: what tests/children.py and tests/children_harm.py have in common."""
+import os
+import re
+import subprocess
+import sys
+import tempfile
+
+here = os.path.dirname(os.path.abspath(__file__))
+shell = os.path.abspath(sys.argv[1] if len(sys.argv) > 1 else os.path.join(here, "..", "crates", "spool_shell", "out", "spool_shell"))
+
+TYPES = "a/a txt\n"
+CONVS = "a/a b/b 10 first\n"
+
+# What the programs of Python begin with: each reports what it finds in the file `NAME.WORD` of the test's folder.
+PYTHON = """#!/usr/bin/python3 -ES
+import os, socket, stat, sys, time
+word = sys.argv[1]
+here = os.path.dirname(os.path.abspath(__file__))
+def report(text, name=None):
+    with open(os.path.join(here, "report." + (name or word)), "a") as file:
+        file.write(text + "\\n")
+"""
+
+# The side channel as a child of Python sees it.
+CHANNEL = PYTHON + """
+side = os.environ["SPOOL_SIDE"]
+def call():
+    line = socket.socket(socket.AF_UNIX, socket.SOCK_STREAM)
+    line.settimeout(20)
+    line.connect(side)
+    return line
+def ask(line, request):
+    line.sendall(request)
+    answer = b""
+    while len(answer) < 4 or len(answer) < 4 + int.from_bytes(answer[2:4], "big"):
+        piece = line.recv(4096)
+        if not piece:
+            return "cut " + answer.hex()
+        answer += piece
+    return answer.hex()
+"""
+
+SIDE_END = """#!/usr/bin/python3 -ES
+import socket, sys
+line = socket.socket(socket.AF_UNIX, socket.SOCK_STREAM)
+line.connect(sys.argv[-1])
+line.sendall(b"\\xff\\0\\0\\0")
+"""
+
+
+# What is told of a stage, or of a program of the file.
+TOLD = re.compile(r"spool: (job \d+ attempt \d+ stage \d+( \S+)?|filter \S+|backend \S+|side program): .")
+
+
+class Difference(Exception):
+    pass
+
+
+def same(what, found, wanted):
+    if found != wanted:
+        raise Difference(f"{what}: {found!r} in place of {wanted!r}")
+
+
+def quoted(text):
+    return '"' + text.replace("\\", "\\\\").replace('"', '\\"') + '"'
+
+
+class Folder:
+    """The folder of a test: the files of the shell, its programs, and what they report."""
+
+    def __init__(self):
+        self.path = tempfile.mkdtemp(prefix="spool-children-")
+        self.root = "spool"
+        os.mkdir(self.at(self.root))
+        self.lines = []
+        self.write("types", TYPES)
+        self.write("convs", CONVS)
+
+    def at(self, *names):
+        return os.path.join(self.path, *names)
+
+    def write(self, name, text, mode=0o644):
+        with open(self.at(name), "w") as file:
+            file.write(text)
+        os.chmod(self.at(name), mode)
+
+    def read(self, name):
+        with open(self.at(name), "rb") as file:
+            return file.read()
+
+    def program(self, kind, name, text, word="", file=None):
+        """Writes a program, and lists it."""
+        file = file or f"{kind}-{name}"
+        self.write(file, text, 0o755)
+        self.lines.append(f"{kind} {name} {self.at(file)} {word}".rstrip())
+
+    def side(self, text=SIDE_END, word=""):
+        self.write("side-program", text, 0o755)
+        self.lines.append(f"side {self.at('side-program')} {word}".rstrip())
+
+    def words(self):
+        self.write("programs", "".join(line + "\n" for line in self.lines))
+        files = [word for name in ("types", "convs", "programs") for word in (f"--{name}", name)]
+        return [shell, "--root", self.root, "--size", "16777216", *files]
+
+    def run(self, script, status=0, told=None, **how):
+        """The replies to a script. Standard error is `told`, or else has lines of stages and of programs alone."""
+        text = script if isinstance(script, bytes) else "".join(line + "\n" for line in script).encode()
+        run = subprocess.run(self.words(), input=text, cwd=self.path, stdout=subprocess.PIPE, stderr=subprocess.PIPE, timeout=120, **how)
+        same("status", run.returncode, status)
+        lines = run.stderr.decode().splitlines()
+        same("standard error", lines, told if told is not None else [line for line in lines if TOLD.match(line)])
+        return run.stdout.decode().splitlines()
+
+    def report(self, name):
+        file = self.at("report." + name)
+        if not os.path.exists(file):
+            return []
+        with open(file) as opened:
+            return opened.read().splitlines()
+
+    def left(self):
+        return sorted(os.listdir(self.at(self.root)))
+
+
+def printed(queue, uri, target="a/a", policy="abort-job", number=1, document=b"", title='""', user="ann", options='""', copies=1):
+    """The script that prints a document on a queue of its own: with target b/b through the filter `first`."""
+    head = f"queue {queue} {uri} {target} {policy}\ncreate {queue} {user} {title} {copies} 50 {options}\n"
+    pieces = b"".join(f"send {number} {len(piece)}\n".encode() + piece + b"\n" for piece in pieces_of(document))
+    return head.encode() + pieces + f"close {number} page.txt\n".encode()
+
+
+def pieces_of(document):
+    return [document[at : at + 65536] for at in range(0, len(document), 65536)]
+
+
+def states(replies):
+    """The state and the reason of each job in the last listing."""
+    found = {}
+    for line in replies:
+        words = line.split(" ")
+        if words[0] == "job":
+            found[int(words[1])] = f"{words[3]} {words[4]}"
+    return found
+
+
+def queue_states(replies):
+    return {line.split(" ")[1]: line.split(" ")[2] for line in replies if line.startswith("queue ")}
+
+
+def stage_event(number, attempt, stage, end):
+    """What the journal has of the end of a stage."""
+    return b"\x0d" + number.to_bytes(4, "big") + attempt.to_bytes(4, "big") + bytes([stage]) + end
+
+
+# A backend that takes what it is given, and ends with the status of its URI. A filter that writes so many zeros as the title says.
+EXIT = '#!/bin/sh\ncat >/dev/null\nexit "${DEVICE_URI##*/}"\n'
+COPIES = "#!/bin/sh\nhead -c \"$3\" /dev/zero\n"

@@ -1,0 +1,409 @@
+#!/usr/bin/env python3
+"""Lets each system call of the shell fail once, with each error that fits: failing_calls.py [SHELL] [SCENE..]
+
+SHELL is the program, and crates/spool_shell/out/spool_shell (made by `rt run` in that folder) where none is given. It runs under
+strace (Debian's package `strace`), which answers an error in the place of one call; the call isn't made. Those that are let fail are
+the calls on its files, its folder, its children, its sockets and its streams (ERRORS), one in each run, in some scenes: a first start, an
+opening in which a job is processing, events, a checkpoint, and rounds of two queues with filters, backends and side channels.
+
+What has to come of it is told by `outcome`, a table by the call and what it is made on:
+
+- `same`: all is as without the failure.
+- `file`, `disk`: no command is served, `spool: file NAME` or `spool: disk` is told, and the status is 1.
+- `dead`: the command is answered `error disk`, each later one `error dead`, and `spool: disk` is told at the end.
+- `stage`: one stage ends as its queue's policy says; the other job is printed as ever.
+- `blind`: the end of a child can't be known; its stage ends so, and no other is started in this run. Where the program only
+  looked whether the child runs, nothing comes of it.
+- `read`, `write`: the stream failed; `spool: read` or `spool: write` is told, and the status is 1.
+
+An error that says that there is no memory may be told as `spool: memory` before the commands are served.
+
+After each run the file holds what was answered, and at most what was under way. Then the spool is opened again, without a failure,
+and the jobs are printed to their end: no stage of an attempt runs twice, and none of a job that had ended.
+
+SCENEs are names of scenes; without one all are tried. The last line is `N passed`, with status 0, or the first difference, with
+status 1: its folder is kept and named then. Without strace, or where it may not trace, the status is 2. It takes some minutes.
+"""
+import concurrent.futures
+import os
+import re
+import shutil
+import subprocess
+import sys
+import tempfile
+from dataclasses import dataclass
+
+import journal
+import real_children
+import spool_model as model
+import traces
+
+HERE = os.path.dirname(os.path.abspath(__file__))
+BUILT = os.path.join(HERE, "..", "crates", "spool_shell", "out", "spool_shell")
+SECONDS = 60
+SIZE = 16_384
+AT_ONCE = 4
+DISK = ("spool.disk", "spool.disk.new")
+OPTIONS = ("types", "convs", "programs")
+PROGRAMS = ("f", "s")
+
+# The calls, each with the errors that fit.
+NO_ROOM = ["EIO", "ENOSPC", "EDQUOT"]
+NO_FILE = ["EACCES", "EIO", "EMFILE", "ENOMEM"]
+NO_NAME = ["EACCES", "EIO", "EROFS"]
+ERRORS = {
+    "open": NO_FILE, "openat": NO_FILE, "close": ["EIO"],
+    "read": ["EIO"], "pread64": ["EIO"], "write": NO_ROOM, "pwrite64": NO_ROOM,
+    "fsync": NO_ROOM, "fdatasync": NO_ROOM, "flock": ["EAGAIN", "ENOLCK"],
+    "statx": ["EACCES", "EIO", "ENOMEM"], "rename": NO_NAME, "renameat2": NO_NAME, "unlink": NO_NAME, "unlinkat": NO_NAME,
+    "chmod": ["EPERM", "EROFS"], "fchmodat": ["EPERM", "EROFS"],
+    "clone": ["EAGAIN", "ENOMEM"], "clone3": ["EAGAIN", "ENOMEM"], "vfork": ["EAGAIN", "ENOMEM"], "wait4": ["ECHILD"],
+    "socket": ["EMFILE", "ENOBUFS", "ENOMEM"], "bind": ["EACCES", "EADDRINUSE", "ENOSPC"], "listen": ["EADDRINUSE"],
+    "fcntl": ["EMFILE"], "setsockopt": ["EDOM", "ENOMEM"], "accept4": ["ECONNABORTED", "EMFILE", "ENOMEM"],
+    "recvfrom": ["ECONNRESET"], "sendto": ["ECONNRESET", "EPIPE"],
+}
+STARTS = ("clone", "clone3", "vfork")
+SHORTAGES = ("EAGAIN", "EDQUOT", "EMFILE", "ENOSPC")
+TRIED_AGAIN = ("bind", "fcntl", "open", "openat", "socket", "write")
+
+# What is told of a disk that failed, whichever cause is named behind it.
+DISK_FAULT = "spool: disk\nspool: cause: CAUSE\n"
+CAUSE = re.compile(r"(?<=\nspool: cause: )[a-z -]+(?=\n)")
+SOCKETS = ("socket", "bind", "listen", "fcntl", "setsockopt", "accept4", "recvfrom", "sendto")
+
+# The program that ends a side channel: it asks one question before.
+SIDE = """#!PYTHON
+import socket, sys
+try:
+    it = socket.socket(socket.AF_UNIX)
+    it.settimeout(2)
+    it.connect(sys.argv[1])
+    it.sendall(b"\\3\\0\\0\\0")
+    it.recv(5)
+    it.sendall(b"\\377\\0\\0\\0")
+except OSError:
+    pass
+"""
+
+QUEUES = [("queue lab s:/0 a/b retry-job\n", "ok"), ("queue hall s:/0 a/b retry-job\n", "ok")]
+FIRST = [('create lab ann "First" 1 50 "media=A4"\n', "ok job 1"), ("send 1 5\nhello\n", "ok bytes 5"),
+         ("close 1 a.x\n", "ok type a/a stages 2")]
+SECOND = [('create hall bo "Second" 2 60 ""\n', "ok job 2"), ("send 2 6\nothers\n", "ok bytes 6"),
+          ("close 2 b.x\n", "ok type a/a stages 2")]
+ROUND = [("round\n", "ok started 2 finished 2")]
+HOLDS = [("hold 1 indefinite\n", "ok"), ("release 1\n", "ok"), ("clock 1000\n", "ok"), ("reject hall\n", "ok"), ("cancel 1\n", "ok")]
+
+# The scenes: what was served before, and the commands in which calls fail, each with its reply.
+SCENES = {
+    "start": ([], QUEUES[:1] + FIRST[:1]),
+    "opening": (QUEUES + FIRST + SECOND + ROUND, [("clock 1\n", "ok")]),
+    "events": (QUEUES[:1], QUEUES[1:] + FIRST + HOLDS),
+    # Behind an event the documents are read anew.
+    "checkpoint": (QUEUES + FIRST + SECOND + [("checkpoint\n", "ok")], [("clock 4\n", "ok"), ("checkpoint\n", "ok"), ("clock 5\n", "ok")]),
+    "rounds": (QUEUES + FIRST + SECOND, ROUND * 2 + [("clock 5\n", "ok")]),
+}
+ENDED_ILL = ("aborted", "waiting")
+
+
+class Difference(Exception):
+    """The program doesn't do what it has to."""
+
+
+def demand(holds, text):
+    if not holds:
+        raise Difference(text)
+
+
+def text_of(commands):
+    return "".join(text for text, _ in commands).encode()
+
+
+def replies_to(commands):
+    return [reply for _, reply in commands]
+
+
+class Place:
+    """A folder with a spool, and the programs of its children."""
+
+    def __init__(self, shell, folder):
+        self.folder = folder
+        self.root = os.path.join(folder, "r")
+        self.file = os.path.join(self.root, DISK[0])
+        side = os.path.join(folder, "side")
+        os.makedirs(self.root)
+        self.children = real_children.Children(folder, f"side {side}\n")
+        with open(side, "w", encoding="utf-8") as file:
+            file.write(SIDE.replace("PYTHON", sys.executable))
+        os.chmod(side, 0o700)
+        self.words = [shell, "--root", self.root, "--size", str(SIZE), *self.children.words]
+
+    def serve(self, script):
+        done = subprocess.run(self.words, input=script, capture_output=True, timeout=SECONDS)
+        demand(done.returncode == 0 and not real_children.faults_in(done.stderr.decode()), f"it ended with {done.returncode} and {done.stderr!r}")
+        return done.stdout.decode().splitlines()
+
+    def traced(self, commands, inject=None):
+        return traces.run(self.words, None, text_of(commands), os.path.join(self.folder, "trace"), ERRORS, inject)
+
+    def table(self):
+        return self.standing()[0]
+
+    def standing(self):
+        """The table of the file, and its payloads."""
+        if not os.path.exists(self.file):
+            return model.Table(), []
+        with open(self.file, "rb") as file:
+            content = file.read()
+        return model.standing(content), journal.current(content)[0]
+
+
+# ---- what has to come of a failure
+
+def name_of(call):
+    """The name that a call is about: that of a file in the folder, `.` for the folder, or None for none of it."""
+    for path in call.paths():
+        name = os.path.basename(path.removesuffix("(deleted)").removesuffix("/."))
+        if name:
+            return name
+    return ""
+
+
+def outcome(call, is_serving, clients):
+    """What has to come of a call that fails: before the commands or while they are served, where these descriptors are those of clients
+    of side channels. None where the call is none of the program's own."""
+    name = name_of(call)
+    # What a start is short of for a moment is waited for.
+    is_reply = call.name == "write" and call.descriptor() == 1
+    if is_serving and not is_reply and call.error in SHORTAGES and (call.name in STARTS or call.name in TRIED_AGAIN and name not in (*DISK, "r")):
+        return "same"
+    if call.name == "wait4":
+        return "blind"
+    if call.name in STARTS:
+        return "stage"
+    if call.name in SOCKETS and name not in (*DISK, "r"):
+        is_client = call.name in ("accept4", "recvfrom", "sendto") or call.name != "socket" and call.descriptor() in clients
+        return "same" if is_client else "stage"
+    if call.name == "read" and call.descriptor() == 0:
+        return "read"
+    if call.name == "write" and call.descriptor() == 1:
+        return "write"
+    own = name in (*OPTIONS, *DISK, "r", *PROGRAMS, "null") or name.startswith(("in-", "out-", "err-", "side-"))
+    if not own:
+        return None
+    if call.name == "close" or call.name == "unlink" and name.startswith(("in-", "out-", "err-")):
+        return "same"
+    # At a start it is told which programs can't be run, and what killed starts left is looked for.
+    if not is_serving and (name in PROGRAMS or name.startswith(("in-", "out-", "err-", "side-"))):
+        return "same"
+    # A program that may not be read may still be run.
+    if name in PROGRAMS and call.error == "EACCES" and call.name != "statx":
+        return "same"
+    # Whether there is room behind what a child wrote is asked for the want of room alone. It counts for a filter's output, and
+    # where something was written; the backend, of stage 2, writes nothing.
+    if name.startswith(("out-", "err-")) and call.name in ("statx", "pwrite64"):
+        is_lost = call.name == "pwrite64" and call.error != "EIO" and not name.endswith("-2")
+        return "stage" if is_lost else "same"
+    # Locks of the folder and of the disk are tried for a second.
+    if call.name == "flock" and call.error == "EAGAIN" and name in ("r", *DISK):
+        return "same"
+    if name in OPTIONS:
+        return "file"
+    if name in DISK or name == "r":
+        return "dead" if is_serving else "disk"
+    # The name of a socket is freed before it is bound, and goes when the child was finished.
+    return "unbound" if call.name == "unlink" else "stage"
+
+
+@dataclass
+class Failure:
+    """A call that is let fail, by its name, its number and its error."""
+    call: object
+    error: str
+
+    def inject(self):
+        return self.call.name, self.call.number, self.error
+
+    def __str__(self):
+        return f"{self.call} fails by {self.error}"
+
+
+@dataclass
+class Ended:
+    """How a run ended in which a call failed: that call, how many commands were answered before it, and what is to come of it."""
+    lines: list
+    errors: str
+    status: int
+    call: object
+    answered: int
+    outcome: str
+
+
+def failed_in(done, calls):
+    """How a run ended, by its calls."""
+    answered, clients, is_serving = 0, set(), False
+    for call in calls:
+        if call.is_injected:
+            come = outcome(call, is_serving, clients)
+            if come == "unbound":
+                come = "same" if is_finishing(calls, call) else "stage"
+            errors = CAUSE.sub("CAUSE", real_children.faults_in(done.stderr.decode()))
+            return Ended(done.stdout.decode().splitlines(), errors, done.returncode, call, answered, come)
+        if call.name == "read" and call.descriptor() == 0:
+            is_serving = True
+        if call.name == "accept4" and call.result >= 0:
+            clients.add(call.result)
+        if call.name == "fcntl" and call.result >= 0 and call.descriptor() in clients:
+            clients.add(call.result)
+        if call.name == "close":
+            clients.discard(call.descriptor())
+        if call.name == "write" and call.descriptor() == 1:
+            answered += call.data().count(b"\n")
+    return None
+
+
+def is_finishing(calls, failed):
+    """Whether a call that takes a socket's name away comes behind its child's end."""
+    before = calls[:calls.index(failed)]
+    return any(call.name == "bind" and name_of(call) == name_of(failed) for call in before)
+
+
+# ---- one run
+
+def check_replies(end, usual):
+    """The replies, what is on standard error and the status, as they have to be."""
+    told = {"disk": DISK_FAULT, "dead": DISK_FAULT, "read": "spool: read\n", "write": "spool: write\n"}
+    if end.outcome == "file":
+        told["file"] = f"spool: file {end.call.paths()[0]}\n"
+    errors = {told.get(end.outcome, "")}
+    if end.outcome in ("file", "disk") and end.call.error == "ENOMEM":
+        errors.add("spool: memory\n")
+    status = 1 if end.outcome in told else 0
+    demand(end.errors in errors and end.status == status, f"it ended with {end.status} and {end.errors!r}: {end.lines}")
+    before, later = usual[:end.answered], usual[end.answered + 1:]
+    wanted = {
+        "same": usual, "file": [], "disk": [], "read": before, "write": before,
+        "dead": [*before, "error disk", *["error dead"] * len(later)],
+    }
+    if end.outcome not in ("stage", "blind"):
+        demand(end.lines == wanted[end.outcome], f"it answered {end.lines}, not {wanted[end.outcome]}")
+    else:
+        demand(len(end.lines) == len(usual) and all(line.startswith("ok") for line in end.lines), f"it answered {end.lines}")
+
+
+def check_stage(end, table):
+    """One job of two ended ill, and the other one was printed."""
+    ill = [job for job in table.jobs.values() if job.phase in ENDED_ILL]
+    well = [job for job in table.jobs.values() if job.phase == "completed"]
+    demand(len(ill) == 1 and len(well) == 1, f"the jobs are {table.jobs_reply()}")
+
+
+def check_file(place, end, commands, kept, first):
+    """The file holds what was answered, and at most what was under way. Before the commands it may be as it was first."""
+    table, payloads = place.standing()
+    answered = len(commands) if end.outcome in ("same", "stage", "blind") else end.answered
+    tables = [listing for listing, _ in kept[answered:answered + 2]]
+    if end.outcome in ("file", "disk"):
+        tables = [first, kept[0][0]]
+    is_round = commands[answered:answered + 1] == ROUND
+    listed, before = kept[answered]
+    if end.outcome == "blind":
+        return
+    if end.outcome == "stage":
+        check_stage(end, table)
+        return
+    begins = payloads[:len(before)] == before
+    demand(table.listing() in tables or is_round and begins, f"the file has {table.jobs_reply()}")
+
+
+def check_again(place, before):
+    """The spool is opened again and printed to its end."""
+    ended = {number for number, job in place.table().jobs.items() if job.has_ended()}
+    place.serve(b"clock 100000\ndrain 9\nclock 200000\ndrain 9\n")
+    after = place.children.stages()
+    again = [key for key in after if key[0] in ended or key in before or after.count(key) > 1]
+    demand(not again, f"stages ran again, or of jobs that had ended: {again}")
+
+
+def check(shell, folder, scene, kept, failure):
+    """One run in which a call fails. Gives whether it did: calls that wait for children differ from run to run."""
+    earlier, commands = SCENES[scene]
+    place = Place(shell, folder)
+    place.serve(text_of(earlier))
+    if not earlier:
+        shutil.rmtree(place.root)
+        os.mkdir(place.root)
+    before, first = place.children.stages(), place.table().listing()
+    done, calls = place.traced(commands, failure.inject())
+    end = failed_in(done, calls)
+    if end and end.outcome:
+        check_replies(end, replies_to(commands))
+        check_file(place, end, commands, kept, first)
+        check_again(place, before + place.children.stages())
+    shutil.rmtree(folder)
+    return bool(end and end.outcome)
+
+
+def usual(shell, folder, scene):
+    """The calls of a scene without a failure, and for each number of its commands the table in the file, listed, and its payloads."""
+    earlier, commands = SCENES[scene]
+    kept = []
+    for number in range(len(commands) + 1):
+        place = Place(shell, os.path.join(folder, f"{scene}{number}"))
+        lines = place.serve(text_of(earlier)) if earlier else []
+        demand(lines == replies_to(earlier), f"{scene}: before it, it answered {lines}")
+        done, calls = place.traced(commands[:number])
+        demand(done.stdout.decode().splitlines() == replies_to(commands[:number]) and not done.returncode, f"{scene}: {done}")
+        table, payloads = place.standing()
+        kept.append((table.listing(), payloads))
+        shutil.rmtree(place.folder)
+    return calls, kept
+
+
+def failures(calls):
+    """The calls that are let fail, each with each error."""
+    is_serving = False
+    for call in calls:
+        if call.name == "read" and call.descriptor() == 0:
+            is_serving = True
+        if outcome(call, is_serving, set()):
+            for error in ERRORS[call.name]:
+                yield Failure(call, error)
+
+
+def main():
+    words = sys.argv[1:]
+    scenes = [word for word in words if word in SCENES] or list(SCENES)
+    words = [word for word in words if word not in SCENES]
+    shell = os.path.abspath(words[0] if words else BUILT)
+    if not os.path.exists(shell):
+        sys.exit(f"no program {shell}: run `rt run` in crates/spool_shell first")
+    if not traces.may_trace():
+        sys.exit(2)
+    # In memory, where a sync takes no time.
+    folder = tempfile.mkdtemp(prefix="calls-", dir="/dev/shm" if os.path.isdir("/dev/shm") else None)
+    passed = 0
+    try:
+        for scene in scenes:
+            calls, kept = usual(shell, folder, scene)
+            with concurrent.futures.ThreadPoolExecutor(AT_ONCE) as pool:
+                tasks = [(failure, pool.submit(check, shell, os.path.join(folder, f"{scene[0]}{number}"), scene, kept, failure))
+                         for number, failure in enumerate(failures(calls))]
+                done = 0
+                for number, (failure, task) in enumerate(tasks):
+                    try:
+                        done += task.result()
+                    except (Difference, model.Fault, AssertionError, subprocess.TimeoutExpired) as difference:
+                        pool.shutdown(cancel_futures=True)
+                        raise Difference(f"{scene}: {failure}: {difference!r}, in {folder}/{scene[0]}{number}") from None
+            demand(done > len(tasks) * 9 // 10, f"{scene}: only {done} of {len(tasks)} calls could be let fail")
+            print(f"{scene}: {done} of {len(tasks)}")
+            passed += done
+    except Difference as difference:
+        print(difference)
+        sys.exit(1)
+    shutil.rmtree(folder)
+    print(f"{passed} passed")
+
+
+if __name__ == "__main__":
+    main()

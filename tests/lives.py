@@ -1,0 +1,303 @@
+#!/usr/bin/env python3
+"""Two hundred lives of one spool, with real children: lives.py [SHELL] [SEED]
+
+It runs SHELL, or else crates/spool_shell/out/spool_shell (made by `rt run` in that folder), with `--root`, again and again in
+one folder. A word of digits is the seed.
+
+Each life gets commands at random: new jobs for four queues, one of each error policy, rounds and drains with children of the
+system, cancels, clocks and checkpoints. It is killed at a random moment, whatever is under way, and the next life opens what
+is left. Some jobs have two stages, a filter and a backend. A backend ends as its job and its attempt say: well, with a fault,
+or with a wish to be tried again.
+
+Each child first takes a copy of the spool's file, and then writes its job, its attempt and its stage into one file, which it
+syncs before it does anything else. So this script sees, when the children of a killed life have ended too:
+
+- No job, attempt and stage comes twice, in all lives.
+- None was begun before the start of its attempt was in the spool's file: the copy has it.
+- No job whose end was answered, or was listed, begins again or is listed in another way.
+- Every job that was answered is listed in all later lives, and no cancel that was answered is lost.
+
+A kill leaves what the system holds, so it shows nothing of a power cut. The last line is `200 of 200`, with status 0, or the
+first difference, with status 1. The folder stays then, and is named. It takes some minutes.
+"""
+import os
+import random
+import shutil
+import signal
+import subprocess
+import sys
+import tempfile
+import threading
+import time
+
+import journal
+
+here = os.path.dirname(os.path.abspath(__file__))
+built = os.path.join(here, "..", "crates", "spool_shell", "out", "spool_shell")
+shell = os.path.abspath(next((word for word in sys.argv[1:] if not word.isdigit()), built))
+
+LIVES = 200
+SIZE = 1_048_576
+LONGEST = 0.6  # the seconds after its first reply within which a life is killed
+OPENING = 0.2  # this part of the lives is killed within so many seconds of their start, many of them while they open
+LEAST = 200  # fewer stages in all lives would show too little
+
+QUEUES = {"abort": "abort-job", "later": "retry-job", "again": "retry-current-job", "stops": "stop-printer"}
+
+# A child: its copy, its line, and then its work. The word says how long it takes and how it ends.
+CHILD = """#!/bin/sh
+cp "{root}/spool.disk" "{folder}/seen-$1-$SPOOL_ATTEMPT-$SPOOL_STAGE"
+echo "$1 $SPOOL_ATTEMPT $SPOOL_STAGE" >>"{folder}/begun"
+sync "{folder}/begun"
+sleep 0.0$(( ($1 + SPOOL_ATTEMPT) % 4 ))
+"""
+FILTER = CHILD + """cat ${{6:+"$6"}}
+"""
+BACKEND = CHILD + """case $(( ($1 + 2 * SPOOL_ATTEMPT) % 5 )) in
+1) exit 6;;
+2) exit 7;;
+3) exit 1;;
+*) exit 0;;
+esac
+"""
+
+CREATE, START, ROW = 0x05, 0x0C, 0x42
+
+
+class Difference(Exception):
+    """A promise is broken, or the program doesn't answer as it has to."""
+
+
+class Folder:
+    """The spool's folder, the programs of its children, and what these wrote."""
+
+    def __init__(self):
+        self.path = tempfile.mkdtemp(prefix="spool-lives-")
+        os.mkdir(self.at("spool"))
+        self.write("types", "a/a txt\n")
+        self.write("convs", "a/a b/b 10 first\n")
+        for name, text in (("first", FILTER), ("slow", BACKEND)):
+            self.write(name, text.format(root=self.at("spool"), folder=self.path), 0o755)
+        self.write("programs", f"filter first {self.at('first')}\nbackend slow {self.at('slow')}\n")
+        self.write("begun", "")
+
+    def at(self, name):
+        return os.path.join(self.path, name)
+
+    def write(self, name, text, mode=0o644):
+        with open(self.at(name), "w") as file:
+            file.write(text)
+        os.chmod(self.at(name), mode)
+
+    def words(self):
+        files = [word for name in ("types", "convs", "programs") for word in (f"--{name}", self.at(name))]
+        return [shell, "--root", "spool", "--size", str(SIZE), *files]
+
+    def begun(self):
+        """The stages that children have begun, in order."""
+        with open(self.at("begun")) as file:
+            return [tuple(map(int, line.split())) for line in file]
+
+    def wait_for_children(self):
+        """Until no child of a killed life is there any more."""
+        for _ in range(1_000):
+            if not any(self.path in words for words in commands_of_others()):
+                return
+            time.sleep(0.01)
+        raise Difference("a child doesn't end")
+
+
+def commands_of_others():
+    """What other processes were called with."""
+    for name in os.listdir("/proc"):
+        if name.isdigit() and int(name) != os.getpid():
+            try:
+                with open(f"/proc/{name}/cmdline") as file:
+                    yield file.read()
+            except OSError:
+                pass
+
+
+def attempts_in(content):
+    """How many attempts a spool's file has of each job: those of its row, and the starts behind it."""
+    found = {}
+    for payload in journal.current(content)[0]:
+        if payload[0] == ROW:
+            row = journal.read_row(payload)
+            found[row.number] = row.attempts
+        elif payload[0] == START:
+            number = int.from_bytes(payload[1:5], "big")
+            found[number] = found.get(number, 0) + 1
+    return found
+
+
+class Life:
+    """A running shell."""
+
+    def __init__(self, folder):
+        pipe = subprocess.PIPE
+        self.child = subprocess.Popen(folder.words(), cwd=folder.path, stdin=pipe, stdout=pipe, stderr=pipe, text=True)
+        self.killer = None
+
+    def is_killed_after(self, seconds):
+        self.killer = threading.Timer(seconds, self.child.send_signal, [signal.SIGKILL])
+        self.killer.start()
+
+    def asks(self, text):
+        """The lines of the reply to a command; none where it was killed first."""
+        try:
+            self.child.stdin.write(text)
+            self.child.stdin.flush()
+        except BrokenPipeError:
+            return []
+        lines = []
+        while not lines or lines[-1].startswith(("job ", "queue ")):
+            line = self.child.stdout.readline()
+            if not line.endswith("\n"):
+                return []
+            lines.append(line.rstrip("\n"))
+        return lines
+
+    def end(self):
+        """Waits until it was killed, and gives what it complained of."""
+        if self.killer is None:
+            self.child.kill()
+        self.child.wait()
+        complaints = self.child.stderr.read()
+        for stream in (self.child.stdin, self.child.stdout, self.child.stderr):
+            try:
+                stream.close()
+            except BrokenPipeError:
+                pass
+        return complaints
+
+
+class Story:
+    """What was answered in all lives."""
+
+    def __init__(self, folder, chance):
+        self.folder = folder
+        self.chance = chance
+        self.answered = 0  # the highest number that was answered
+        self.canceled = set()
+        self.ended = {}  # with the count of begun stages when its end was seen
+        self.shown = {}  # of those that were listed as ended, how
+        self.moment = 0
+        self.looked = 0  # the begun stages that were looked at
+
+    def sees_end(self, number):
+        self.ended.setdefault(number, len(self.folder.begun()))
+
+    def hears_jobs(self, lines):
+        """A listing of the jobs."""
+        shown = {int(line.split()[1]): tuple(line.split()[3:5]) for line in lines[:-1]}
+        listed = {number: words[0] for number, words in shown.items()}
+        for number in range(1, self.answered + 1):
+            if number not in listed:
+                raise Difference(f"job {number} was answered and isn't listed")
+        for number in self.canceled:
+            if listed[number] != "7":
+                raise Difference(f"job {number} was canceled and is in state {listed[number]}")
+        for number, before in self.shown.items():
+            if shown[number] != before:
+                raise Difference(f"job {number} had ended as {before} and is listed as {shown[number]}")
+        for number, state in listed.items():
+            if state in "789":
+                self.sees_end(number)
+                self.shown.setdefault(number, shown[number])
+        return listed
+
+    def live(self):
+        """One life, from its opening to its kill."""
+        life = Life(self.folder)
+        try:
+            if self.chance.random() < OPENING:
+                life.is_killed_after(self.chance.random() * OPENING)
+            listed = self.hears_jobs(lines) if (lines := life.asks("jobs\n")) else None
+            if life.killer is None:
+                life.is_killed_after(self.chance.random() * LONGEST)
+            while listed is not None and self.acts(life, listed):
+                pass
+        finally:
+            complaints = life.end()
+        if not all(line.startswith("spool: job ") for line in complaints.splitlines()):
+            raise Difference(f"it wrote {complaints!r}")
+        self.folder.wait_for_children()
+        self.looks()
+
+    def acts(self, life, listed):
+        """One command or a few; whether their replies came."""
+        chance = self.chance.random()
+        if chance < 0.35:
+            return self.makes_a_job(life)
+        if chance < 0.65:
+            return bool(life.asks(self.chance.choice(("round\n", "round\n", "drain 3\n"))))
+        if chance < 0.75 and listed:
+            return self.cancels(life, self.chance.choice(list(listed)))
+        if chance < 0.85:
+            self.moment += self.chance.randrange(40)
+            return bool(life.asks(f"clock {self.moment}\n")) and bool(life.asks("enable stops\n"))
+        if chance < 0.92:
+            return bool(life.asks("checkpoint\n"))
+        lines = life.asks("jobs\n")
+        return bool(lines) and bool(self.hears_jobs(lines))
+
+    def makes_a_job(self, life):
+        queue = self.chance.choice(list(QUEUES))
+        target = "b/b" if queue in ("again", "abort") else "a/a"
+        if not life.asks(f"queue {queue} slow:/x {target} {QUEUES[queue]} 20 3\n"):
+            return False
+        made = life.asks(f'create {queue} ann "" 1 50 ""\n')
+        if not made:
+            return False
+        if made[0] == "error full":
+            return bool(life.asks("checkpoint\n"))
+        number = int(made[0].removeprefix("ok job "))
+        self.answered = max(self.answered, number)
+        return bool(life.asks(f"send {number} 3\nabc\n")) and bool(life.asks(f"close {number} page.txt\n"))
+
+    def cancels(self, life, number):
+        replies = life.asks(f"cancel {number}\n")
+        if replies == ["ok"]:
+            self.canceled.add(number)
+            self.sees_end(number)
+        return bool(replies)
+
+    def looks(self):
+        """At what the children of the life have begun."""
+        begun = self.folder.begun()
+        if len(set(begun)) != len(begun):
+            raise Difference(f"begun twice: {sorted(key for key in set(begun) if begun.count(key) > 1)}")
+        for place, (number, attempt, stage) in enumerate(begun[self.looked:], self.looked):
+            if place >= self.ended.get(number, place + 1):
+                raise Difference(f"job {number} had ended, and attempt {attempt} begins stage {stage}")
+            seen = self.folder.at(f"seen-{number}-{attempt}-{stage}")
+            with open(seen, "rb") as file:
+                attempts = attempts_in(file.read())
+            if attempts.get(number, 0) != attempt:
+                raise Difference(f"attempt {attempt} at job {number} begins stage {stage}, and the file has {attempts.get(number, 0)} starts")
+            os.remove(seen)
+        self.looked = len(begun)
+
+
+def main():
+    if not os.path.exists(shell):
+        sys.exit(f"no program {shell}: run `rt run` in crates/spool_shell first")
+    seeds = [int(word) for word in sys.argv[1:] if word.isdigit()]
+    seed = seeds[0] if seeds else random.randrange(1 << 32)
+    folder = Folder()
+    story = Story(folder, random.Random(seed))
+    turn = 0
+    try:
+        for turn in range(LIVES):
+            story.live()
+    except Difference as difference:
+        sys.exit(f"life {turn + 1} of `lives.py {seed}` in {folder.path}: {difference}")
+    if story.looked < LEAST or not story.canceled:
+        sys.exit(f"`lives.py {seed}` began {story.looked} stages and canceled {len(story.canceled)} jobs, which shows too little")
+    shutil.rmtree(folder.path)
+    print(f"{story.looked} stages of {story.answered} jobs, {len(story.ended)} of them ended")
+    print(f"{LIVES} of {LIVES}")
+
+
+main()

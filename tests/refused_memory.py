@@ -1,0 +1,315 @@
+#!/usr/bin/env python3
+"""Refuses each allocation of the running shell in turn, with real children on a real file: refused_memory.py [SHELL] [--every N]
+
+SHELL is the program, and crates/spool_shell/out/spool_shell (made by `rt run` in that folder) where none is given. It runs over the
+library of tests/count_allocations.c, which is compiled with gcc, and serves one script, command by command: two queues, two jobs
+with documents and options, `round`, `checkpoint`, `drain 3`. Its first allocation is refused, in a further run the second, and so
+on until none is, or with `--every N` each Nth. The children get their memory as ever.
+
+- A command of one event, or a checkpoint, that is answered `error memory` leaves each byte of the file, and given again it has its
+  reply. The table in the file, which the model of tests/spool_model.py reads, is the one behind the commands that were answered.
+- A round or a drain that is answered `error memory` is given again until one is idle: a stage whose end had no memory isn't started
+  a second time. In the round itself all went its way for one of the two queues at least. Only where there was no memory for the
+  list of the jobs did it do nothing at all; that may be so for LIST allocations of a round at most.
+- A stage that finds no memory in the launcher ends as one that couldn't be started or whose end isn't known, so one job at most
+  ends in another way than without a refusal.
+- A program that ends does so with `spool: memory` and status 1, and had answered nothing wrong. The file has what was answered, and
+  at most the command that was under way.
+- The spool is opened again and the jobs are printed to their end: no stage of an attempt runs twice, and no job that had ended.
+
+The last line is `N passed`, with status 0, or the first difference, with status 1: its folder is kept and named then. It takes a
+minute or two.
+"""
+import concurrent.futures
+import os
+import shutil
+import subprocess
+import sys
+import tempfile
+
+import real_children
+import spool_model as model
+
+HERE = os.path.dirname(os.path.abspath(__file__))
+BUILT = os.path.join(HERE, "..", "crates", "spool_shell", "out", "spool_shell")
+SOURCE = os.path.join(HERE, "count_allocations.c")
+SECONDS = 60
+AT_ONCE = 4
+SIZE = 16_384
+
+# How many allocations of a round may be those of its list of jobs.
+LIST = 1
+
+# The commands, each with its reply. The spool is made while the first waits.
+SCRIPT = [
+    ("jobs\n", "ok 0"),
+    ("queue lab s:/0 a/b retry-job\n", "ok"),
+    ("queue hall s:/0 a/b retry-job\n", "ok"),
+    ('create lab ann "First page" 1 50 "media=A4"\n', "ok job 1"),
+    ("send 1 5\nhello\n", "ok bytes 5"),
+    ("close 1 page.x\n", "ok type a/a stages 2"),
+    ("create hall bo \"Second\" 2 60 \"nocollate note='a b'\"\n", "ok job 2"),
+    ("send 2 7\nothers,\n", "ok bytes 7"),
+    ("close 2 page.x\n", "ok type a/a stages 2"),
+    ("round\n", "ok started 2 finished 2"),
+    ("checkpoint\n", "ok"),
+    ("drain 3\n", "ok rounds 2"),
+]
+ROUNDS = ("round\n", "drain 3\n")
+JOBS = (1, 2)
+MEMORY = "error memory"
+IDLE = "ok started 0 finished 0"
+
+# How a job of this script ends, also where the launcher found no memory: in a filter, or in the backend.
+ENDED_WELL = "completed"
+ENDED_ILL = ("aborted", "waiting")
+
+
+class Difference(Exception):
+    """The program doesn't do what it has to."""
+
+
+def demand(holds, text):
+    if not holds:
+        raise Difference(text)
+
+
+class Ended(Exception):
+    """The program ended in place of a reply."""
+
+
+class Run:
+    """A run in a folder of its own, in which an allocation is refused."""
+
+    def __init__(self, shell, library, room, refused):
+        self.room = room
+        self.root = os.path.join(room, "r")
+        os.mkdir(self.root)
+        self.file = os.path.join(self.root, "spool.disk")
+        self.log = os.path.join(room, "counted")
+        self.children = real_children.Children(room)
+        self.words = [shell, "--root", self.root, "--size", str(SIZE), *self.children.words]
+        self.environment = {"PATH": "/bin", "LD_PRELOAD": library, "REFUSED": str(refused), "COUNTED": self.log}
+        self.started = []
+        self.process = None
+
+    def begin(self):
+        pipe = subprocess.PIPE
+        self.process = subprocess.Popen(self.words, stdin=pipe, stdout=pipe, stderr=pipe, env=self.environment)
+
+    def give(self, text):
+        """The reply to a command, one line."""
+        try:
+            self.process.stdin.write(text.encode())
+            self.process.stdin.flush()
+        except BrokenPipeError:
+            raise Ended from None
+        line = self.process.stdout.readline().decode()
+        if not line:
+            raise Ended
+        return line.rstrip("\n")
+
+    def end(self):
+        """What it wrote behind the last reply, its standard error and its status."""
+        try:
+            self.process.stdin.close()
+        except BrokenPipeError:
+            pass
+        left = self.process.stdout.read().decode(), real_children.faults_in(self.process.stderr.read().decode()), self.process.wait(SECONDS)
+        self.process.stdout.close()
+        self.process.stderr.close()
+        return left
+
+    def bytes(self):
+        if not os.path.exists(self.file):
+            return b""
+        with open(self.file, "rb") as file:
+            return file.read()
+
+    def table(self):
+        """The table of the file as it stands, and that of none where it isn't there."""
+        file = self.bytes()
+        return model.standing(file) if file else model.Table()
+
+    def count(self):
+        """How many allocations it made, and whether one was refused."""
+        with open(self.log, encoding="utf-8", errors="replace") as file:
+            lines = [line.split(" ", 2) for line in file]
+        return int(lines[-1][0]), any(words[1] == "refused" for words in lines)
+
+    def take_stages(self):
+        """The stages that were started since the last time."""
+        stages = self.children.stages()
+        self.started += stages
+        return stages
+
+
+# ---- one command
+
+def is_through(job, before):
+    """Whether a job's stage was ended in a round, and its end acknowledged."""
+    return job.phase != "processing" or job.stage > before
+
+
+def check_hindered(run, before):
+    """Of a round that found no memory: all went its way for one of the queues. Whether it did nothing at all."""
+    stages = run.take_stages()
+    table = run.table()
+    if not stages and table.listing() == before.listing():
+        return True
+    stage = {number: before.jobs[number].stage for number in JOBS}
+    through = [number for number in JOBS if is_through(table.jobs[number], stage[number])]
+    demand(through, f"a round without memory got no job through its stage: {table.jobs_reply()}, started {stages}")
+    return False
+
+
+def serve_rounds(run, text):
+    """Rounds until one is idle, after a first one. Whether that did nothing."""
+    before = run.table()
+    run.take_stages()
+    got = run.give(text)
+    is_idle = got == MEMORY and check_hindered(run, before)
+    while got == MEMORY:
+        got = run.give("round\n")
+        while text != "round\n" and got not in (MEMORY, IDLE):
+            got = run.give("round\n")
+    demand(got.startswith("ok "), f"{text!r} is answered {got!r}")
+    return is_idle
+
+
+def serve_event(run, text, reply):
+    """A command of one event, or a checkpoint, which is given twice where it finds no memory."""
+    before = run.bytes()
+    got = run.give(text)
+    if got == MEMORY:
+        demand(run.bytes() == before or text == "jobs\n", f"{text!r} was answered {MEMORY}, and the file has changed")
+        got = run.give(text)
+    demand(got == reply, f"{text!r} is answered {got!r}, not {reply!r}")
+
+
+# ---- one run
+
+def check_end(run):
+    """Serves the script, as far as the program goes: how many commands were answered, whether a round did nothing, and whether the
+    program went on to the end of its input."""
+    answered, idle = 0, False
+    try:
+        run.begin()
+        for text, reply in SCRIPT:
+            if text in ROUNDS:
+                idle |= serve_rounds(run, text)
+            else:
+                serve_event(run, text, reply)
+            answered += 1
+    except Ended:
+        left, errors, status = run.end()
+        demand((errors, status) == ("spool: memory\n", 1), f"it ended with {status} and {errors!r}")
+        return answered, idle, False
+    left, errors, status = run.end()
+    if status == 0:
+        demand(not errors, f"it wrote {errors!r}")
+        return answered, idle, True
+    demand((left, errors, status) == ("", "spool: memory\n", 1), f"it ended with {status}, {errors!r} and {left!r}")
+    return answered, idle, True
+
+
+def check_tables(run, tables, answered, is_whole):
+    """The table in the file is that behind the answered commands, or behind the next one too where it ended there. Rounds are
+    looked at for the jobs alone."""
+    first_round = next(at for at, (text, _) in enumerate(SCRIPT) if text in ROUNDS)
+    if answered >= first_round:
+        return
+    fitting = tables[answered:answered + (1 if is_whole else 2)]
+    demand(run.table().listing() in [table.listing() for table in fitting], f"the file has {run.table().jobs_reply()}")
+
+
+def check_jobs(table):
+    """Two jobs, of which one at most ended ill."""
+    jobs = [table.jobs[number] for number in JOBS]
+    well = [job for job in jobs if job.phase == ENDED_WELL]
+    ill = [job for job in jobs if job.phase in ENDED_ILL]
+    demand(len(well) + len(ill) == len(jobs) and len(ill) <= 1, f"the jobs have ended so: {table.jobs_reply()}")
+
+
+def check_again(shell, run):
+    """The spool is opened again, and printed to its end."""
+    ended = {number for number, job in run.table().jobs.items() if job.has_ended()}
+    before = len(run.started) + len(run.take_stages())
+    done = subprocess.run([*run.words], input=b"clock 5000\ndrain 9\nclock 9000\ndrain 9\njobs\n", capture_output=True, timeout=SECONDS)
+    run.take_stages()
+    again = [key for key in run.started[before:] if key[0] in ended] + [key for key in run.started if run.started.count(key) > 1]
+    demand(done.returncode == 0 and not real_children.faults_in(done.stderr.decode()), f"opened again it ended with {done.returncode} and {done.stderr!r}")
+    demand(not again, f"stages ran again, or of a job that had ended: {again}")
+
+
+def check(shell, library, tables, room, refused):
+    """One run. Gives whether something was refused, and whether a round did nothing."""
+    os.mkdir(room)
+    run = Run(shell, library, room, refused)
+    answered, idle, is_whole = check_end(run)
+    run.take_stages()
+    check_tables(run, tables, answered, is_whole)
+    if answered == len(SCRIPT):
+        check_jobs(run.table())
+    check_again(shell, run)
+    is_refused = run.count()[1] if os.path.exists(run.log) else True
+    shutil.rmtree(room)
+    return is_refused, idle
+
+
+def usual(shell, library, room):
+    """How many allocations a run makes, and the tables before and behind each command."""
+    os.mkdir(room)
+    run = Run(shell, library, room, 0)
+    run.begin()
+    tables = [model.Table()]
+    for text, reply in SCRIPT:
+        got = run.give(text)
+        demand(got == reply, f"{text!r} is answered {got!r}, not {reply!r}")
+        tables.append(run.table())
+    demand(run.end() == ("", "", 0), "the usual run ends ill")
+    stages = sorted(run.take_stages())
+    demand(stages == [(job, 1, stage) for job in JOBS for stage in (1, 2)], f"the usual run starts {stages}")
+    check_jobs(run.table())
+    demand(all(run.table().jobs[number].phase == ENDED_WELL for number in JOBS), "the usual run leaves jobs")
+    count, _ = run.count()
+    shutil.rmtree(room)
+    return count, tables
+
+
+def main():
+    words = sys.argv[1:]
+    every = int(words.pop(words.index("--every") + 1)) if "--every" in words else 1
+    words = [word for word in words if word != "--every"]
+    shell = os.path.abspath(words[0] if words else BUILT)
+    if not os.path.exists(shell):
+        sys.exit(f"no program {shell}: run `rt run` in crates/spool_shell first")
+    # In memory, where a sync takes no time.
+    folder = tempfile.mkdtemp(prefix="no-", dir="/dev/shm" if os.path.isdir("/dev/shm") else None)
+    library = os.path.join(folder, "count.so")
+    subprocess.run(["gcc", "-shared", "-fPIC", "-O1", "-o", library, SOURCE], check=True)
+    passed, idle = 0, 0
+    try:
+        count, tables = usual(shell, library, os.path.join(folder, "0"))
+        with concurrent.futures.ThreadPoolExecutor(AT_ONCE) as pool:
+            numbers = range(1, count + 1, every)
+            runs = {number: pool.submit(check, shell, library, tables, os.path.join(folder, str(number)), number) for number in numbers}
+            for number, task in runs.items():
+                try:
+                    is_refused, did_nothing = task.result()
+                except (Difference, subprocess.TimeoutExpired) as difference:
+                    raise Difference(f"allocation {number} refused: {difference}, in {folder}/{number}") from None
+                passed += is_refused
+                idle += did_nothing
+        rounds = sum(text in ROUNDS for text, _ in SCRIPT)
+        demand(idle <= LIST * rounds, f"{idle} refusals kept a round from doing anything, in {rounds} rounds")
+    except Difference as difference:
+        print(difference)
+        sys.exit(1)
+    shutil.rmtree(folder)
+    print(f"of {count} allocations {passed} were refused; {idle} refusals kept a round from doing anything")
+    print(f"{passed} passed")
+
+
+if __name__ == "__main__":
+    main()

@@ -1,0 +1,264 @@
+#!/usr/bin/env python3
+"""Stops a script at each call of its disk, and fails each call alone: stops.py [--scripts PROGRAM] [--shell PROGRAM]
+
+The script has two queues, three jobs with documents and options, a round, a checkpoint and a drain. It is served by
+crates/spool_scripts, over a disk and children in memory, once for each call of the disk: the disk fails from that call on, or at
+that call alone. Then the spool is opened again. It has the table after a prefix of the accepted events, which holds each one that
+was acknowledged, changed by a reopening, and its documents: jobs that can start are then ordered with them, and no stage that was
+ordered before is ordered again.
+
+What the table after a prefix is listed as is told by the shell, on a file that tests/journal.py writes. An event takes four calls,
+of which the last is the sync behind its gate: where that one fails, the event is there and wasn't acknowledged. A document that is
+read takes one. How many a checkpoint takes is found by counting upwards.
+
+The programs are those that `rt run` leaves in the crates' folders. The last line is `N cases passed`, with status 0, or the first
+difference, with status 1; the folder with its case stays then, and is named. It takes some ten seconds.
+"""
+import argparse
+import os
+import shutil
+import subprocess
+import sys
+import tempfile
+from dataclasses import dataclass
+
+import journal
+from journal import Job, Queue, close, image, send, stage, start
+
+CRATES = os.path.join(os.path.dirname(os.path.abspath(__file__)), "..", "crates")
+SIZE = 4_096
+OPENING = 4  # calls of the opening of a new spool
+APPEND = 4  # calls of an event
+T = "application/octet-stream"
+
+LAB = Queue("lab", uri="spoolfile:/out", target=T)
+HALL = Queue("hall", uri="s:/dev", policy="retry-job", interval=60, limit=3)
+FIRST = Job(1, "lab", user="ann", title="First page")
+SECOND = Job(2, "hall", user="bob", title="Two", copies=2, priority=80, options="collate=false note=a\\ b")
+THIRD = Job(3, "lab", user="cyd", options="media=A4")
+JOBS = {job.number: job for job in (FIRST, SECOND, THIRD)}
+QUEUES = {queue.name: queue for queue in (LAB, HALL)}
+DOCUMENTS = {1: "", 2: "hello", 3: "abc"}
+MEDIA = {1: T, 2: "a/a", 3: T}
+CONVERTED = "HELLO"
+
+
+@dataclass(frozen=True)
+class Child:
+    """A child that is started: the stage of an attempt, its program, and how it goes."""
+
+    job: int
+    stage: int
+    program: str
+    goes: str
+
+    def order(self, behind):
+        """What is told of its order, behind so many that have finished."""
+        job = JOBS[self.job]
+        queue = QUEUES[job.queue]
+        words = [str(job.number), job.user, job.title, str(job.copies), job.options]
+        given = f"bytes {CONVERTED}"
+        if self.stage == 1:
+            words.append(f"/r/in-{job.number}-1-1")
+            given = f"document {DOCUMENTS[job.number]}"
+        variables = ("CHARSET=utf-8", f"CONTENT_TYPE={MEDIA[job.number]}", "CUPS_FILETYPE=document", f"DEVICE_URI={queue.uri}",
+                     f"FINAL_CONTENT_TYPE={queue.target}", "LANG=C", "PATH=/bin", f"PRINTER={queue.name}", "PRINTER_INFO=",
+                     "PRINTER_LOCATION=", "TMPDIR=/r", "SPOOL_ATTEMPT=1", "SPOOL_SIDE=", f"SPOOL_STAGE={self.stage}")
+        return (f"job {job.number} attempt 1 stage {self.stage} behind {behind}\n"
+                f"{self.program} {quoted(words)}\nvariables {quoted(variables)}\n{given}\n")
+
+
+def quoted(words):
+    return " ".join('"' + word.replace("\\", "\\\\") + '"' for word in words)
+
+
+FILTER = Child(2, 1, "filter f", f"exit 0\noutput 1 {CONVERTED}")
+LAB_FIRST = Child(1, 1, "backend spoolfile", "exit 0")
+BACKEND = Child(2, 2, "backend s", "exit 1")
+LAB_THIRD = Child(3, 1, "backend spoolfile", "exit 0")
+
+# The commands, their replies, and what each does in turn: events, which are bytes, children that are started, documents that are
+# read (READ), and the checkpoint.
+CHECKPOINT = "checkpoint"
+READ = "read"
+STORY = (
+    (f"queue lab spoolfile:/out {T} abort-job", "ok", [LAB.event()]),
+    ('create lab ann "First page" 1 50 ""', "ok job 1", [FIRST.event()]),
+    ("send 1 0\n", "ok bytes 0", [send(1, b"")]),
+    ("close 1 page.txt", f"ok type {T} stages 1", [close(1, media=T)]),
+    ("queue hall s:/dev a/b retry-job 60 3", "ok", [HALL.event()]),
+    ("create hall bob Two 2 80 \"nocollate note='a b'\"", "ok job 2", [SECOND.event()]),
+    ("send 2 5\nhello", "ok bytes 5", [send(2, b"hello")]),
+    ("close 2 f.x", "ok type a/a stages 2", [READ, close(2, ["f"], media="a/a")]),
+    ('create lab cyd "" 1 50 "media=A4"', "ok job 3", [THIRD.event()]),
+    ("send 3 3\nabc", "ok bytes 3", [send(3, b"abc")]),
+    ("close 3 p", f"ok type {T} stages 1", [READ, close(3, media=T)]),
+    ("round", "ok started 2 finished 2",
+     [start(2), start(1), READ, FILTER, LAB_FIRST, stage(2, 1, 1, 0), stage(1, 1, 1, 0)]),
+    ("checkpoint", "ok", [CHECKPOINT]),
+    ("drain 3", "ok rounds 2", [start(3), BACKEND, READ, LAB_THIRD, stage(2, 1, 2, 1), stage(3, 1, 1, 0)]),
+)
+AFTER = "jobs\nqueues\nround\njobs\n"
+
+
+class Difference(Exception):
+    """The programs don't do what they have to."""
+
+
+@dataclass
+class Stopped:
+    """What came of the script up to a call: the replies so far, the events that are on the disk, the children that were started
+    with the number that had finished before each, and whether the disk failed."""
+
+    replies: list
+    events: list
+    children: list
+    failed: bool = True
+
+
+def calls_of(step, checkpoint):
+    """The calls that a step takes, where a checkpoint takes so many."""
+    if isinstance(step, Child):
+        return 0
+    return {CHECKPOINT: checkpoint, READ: 1}.get(step, APPEND)
+
+
+def calls_of_all(story, checkpoint=0):
+    return OPENING + sum(calls_of(step, checkpoint) for _, _, steps in story for step in steps)
+
+
+def stopped_at(call, checkpoint):
+    """What comes of the script where that call fails, counted from 0 at the opening."""
+    done = Stopped([], [], [])
+    left = call - OPENING
+    finished = 0
+    for number, (_, reply, steps) in enumerate(STORY):
+        for step in steps:
+            if isinstance(step, Child):
+                done.children.append((step, finished))
+                continue
+            calls = calls_of(step, checkpoint)
+            if left < calls:
+                if isinstance(step, bytes) and left == APPEND - 1:
+                    done.events.append(step)
+                done.replies += ["error disk"] + ["error dead"] * (len(STORY) - number - 1)
+                return done
+            left -= calls
+            if isinstance(step, bytes):
+                done.events.append(step)
+        finished = len(done.children)
+        done.replies.append(reply)
+    done.failed = False
+    return done
+
+
+def listed(shell, folder, events):
+    """What the shell says to the last commands, on a spool whose journal has these events. It can start no child."""
+    root = tempfile.mkdtemp(dir=folder)
+    with open(os.path.join(root, "spool.disk"), "wb") as file:
+        file.write(image(SIZE, events))
+    done = subprocess.run([shell, "--root", root], input=AFTER, capture_output=True, text=True, timeout=60)
+    if done.returncode != 0:
+        raise Difference(f"the shell ends with {done.returncode}: {done.stderr}")
+    return done.stdout
+
+
+def can_start(events):
+    """The children of the jobs that the first round after an opening can start: of each queue the first job that was closed and
+    never started."""
+    first = {}
+    for child in (FILTER, LAB_FIRST, LAB_THIRD):
+        if is_closed(events, child.job) and start(child.job) not in events:
+            first.setdefault(JOBS[child.job].queue, child)
+    return [first[name] for name in sorted(first)]
+
+
+def is_closed(events, job):
+    return any(close(job, filters, media=MEDIA[job]) in events for filters in ([], ["f"]))
+
+
+def write_case(folder, name, fuse, done, after):
+    """A case of the stored scripts."""
+    started, late = [child for child, _ in done.children], can_start(done.events)
+    account = "the disk failed\n" if done.failed else ""
+    account += "".join(child.order(behind) for child, behind in done.children)
+    account += "".join(child.order(len(started)) for child in late)
+    account += f"finished {len(started)}\n" if started else ""
+    files = {
+        "script": "".join(f"{command}\n" for command, _, _ in STORY) + "# reopen\n" + AFTER,
+        "replies": "".join(f"{reply}\n" for reply in done.replies) + after,
+        "types": "a/a x\n",
+        "convs": "a/a a/b 10 f\n",
+        "size": str(SIZE),
+        "children": "\n\n".join([child.goes for child in started] + ["no start"] * len(late)) + "\n",
+        "account": account,
+        "fuse": fuse,
+    }
+    if not started + late:
+        del files["children"]
+    for kind, words in files.items():
+        with open(os.path.join(folder, f"{name}.{kind}"), "w") as file:
+            file.write(words)
+
+
+def served(program, folder):
+    """What the stored scripts of a folder came to: those that pass, and the other lines."""
+    done = subprocess.run([program, folder], capture_output=True, text=True, timeout=600)
+    lines = done.stdout.splitlines()
+    return [line[:-3] for line in lines if line.endswith(" ok")], [line for line in lines if not line.endswith(" ok")]
+
+
+def calls_of_checkpoint(scripts, folder):
+    """The calls that the checkpoint takes: the least number with which an event behind it is the first to fail."""
+    before = STORY[:[command for command, _, _ in STORY].index("checkpoint")]
+    first = calls_of_all(before)
+    room = tempfile.mkdtemp(dir=folder)
+    done = stopped_at(first, 1)
+    done.replies = [reply for _, reply, _ in before] + ["ok", "error disk"]
+    done.events = []
+    script = "".join(f"{command}\n" for command, _, _ in before) + "checkpoint\nclock 5\n"
+    for calls in range(1, 100):
+        name = f"c{calls:03}"
+        write_case(room, name, f"{first + calls} {first + calls}\n", done, "")
+        with open(os.path.join(room, f"{name}.script"), "w") as file:
+            file.write(script)
+    passed, _ = served(scripts, room)
+    if len(passed) != APPEND:
+        raise Difference(f"{len(passed)} numbers of calls for a checkpoint, in {room}")
+    return int(passed[0][1:])
+
+
+def all_cases(scripts, shell, folder):
+    """Serves the script with each of its calls stopped and failed. How many cases that were."""
+    checkpoint = calls_of_checkpoint(scripts, folder)
+    events = [step for _, _, steps in STORY for step in steps if isinstance(step, bytes)]
+    last = calls_of_all(STORY, checkpoint)
+    after = {count: listed(shell, folder, events[:count]) for count in range(len(events) + 1)}
+    room = tempfile.mkdtemp(dir=folder)
+    for call in range(OPENING, last + 1):
+        done = stopped_at(call, checkpoint)
+        for kind, before in (("stop", ""), ("once", "once ")):
+            write_case(room, f"{kind}{call:03}", f"{before}{call} {call}\n", done, after[len(done.events)])
+    passed, others = served(scripts, room)
+    if len(others) != 1 or len(passed) != 2 * (last + 1 - OPENING):
+        raise Difference(f"{others[0]}, in {room}")
+    return len(passed)
+
+
+def main():
+    words = argparse.ArgumentParser()
+    words.add_argument("--scripts", default=os.path.join(CRATES, "spool_scripts", "out", "spool_scripts"))
+    words.add_argument("--shell", default=os.path.join(CRATES, "spool_shell", "out", "spool_shell"))
+    asked = words.parse_args()
+    folder = tempfile.mkdtemp(prefix="spool-stops-")
+    try:
+        count = all_cases(os.path.abspath(asked.scripts), os.path.abspath(asked.shell), folder)
+    except (Difference, OSError, subprocess.TimeoutExpired) as difference:
+        print(difference)
+        return 1
+    shutil.rmtree(folder)
+    print(f"{count} cases passed")
+    return 0
+
+
+sys.exit(main())
