@@ -7,10 +7,11 @@ real spools first: with events of each kind, listings in either area, documents,
 Then COUNT times (10,000) the bytes of one are changed, cut, swapped and repeated, as SEED says. Changes go by bytes, by fields and by
 whole records, so that many files hold what no spooler would write, but in the right form.
 
-The model of tests/spool_model.py, which was written from docs/PROMISES.md, says of each file which table it has, or its fault and
-the place. The shell has to tell that fault, answer nothing and leave the file as it was; or it has to give that table: in the
-replies to `jobs` and `queues`, in a round without programs (which starts the next job of each queue, and ends it by the queue's
-policy), and, byte for byte, in what the round, the opening and a checkpoint leave of the file.
+The model of tests/spool_model.py, which was written from docs/PROMISES.md and the definitions that it names, says of each file
+which table it has, or its fault and the place. The shell has to tell that fault, answer nothing and leave the file as it was;
+or it has to give that table: in the replies to `jobs` and `queues`, in a round without programs (which starts the next job of
+each queue, and ends it by the queue's policy), and, byte for byte, in what the round, the opening and a checkpoint leave of the
+file.
 
 The last line is `N passed`, with how many files had a table, and status 0; or the first difference, with status 1: the file is
 kept and named then. 10,000 files take a few minutes.

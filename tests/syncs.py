@@ -34,6 +34,8 @@ import subprocess
 import sys
 import tempfile
 
+import traces
+
 here = os.path.dirname(os.path.abspath(__file__))
 built = os.path.join(here, "..", "crates", "spool_shell", "out", "spool_shell")
 shell = os.path.abspath(sys.argv[1] if len(sys.argv) > 1 else built)
@@ -490,21 +492,10 @@ def failures(first, second, kept):
     return count
 
 
-def may_trace():
-    """Whether strace is here, and may trace a program."""
-    if not shutil.which("strace"):
-        print("no strace: apt-get install strace", file=sys.stderr)
-        return False
-    done = subprocess.run(["strace", "-o", os.devnull, "true"], capture_output=True, text=True)
-    if done.returncode != 0:
-        print(f"strace may not trace here: {done.stderr}", file=sys.stderr)
-    return done.returncode == 0
-
-
 def main():
     if not os.path.exists(shell):
         sys.exit(f"no program {shell}: run `rt run` in crates/spool_shell first")
-    if not may_trace():
+    if not traces.may_trace():
         sys.exit(2)
     with tempfile.TemporaryDirectory() as kept:
         first, second = in_folder(None, "in order", check_order, kept)
