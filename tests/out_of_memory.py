@@ -123,6 +123,7 @@ NUMBERS = {
 # The great constants: limits of what is read, and the numbers of fields.
 CONSTANTS = {
     ("child_pipeline", "MOST_ERRORS"): 1,
+    ("command_lines", "GREATEST"): 1,
     ("mime_lines", "TOO_GREAT"): 1,
     ("mime_rules", "GREATEST"): 1,
     ("side_channel", "SESSION_READS"): 1,

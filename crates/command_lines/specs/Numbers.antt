@@ -1,14 +1,9 @@
 -- Numbers of 1 to 13 digits.
-use Rattle.std.specs.Prelude.{ℕ, Bool, ◌&&◌, cond, nat_le, List, length, Option, None, Some}
-use Rattle.std.specs.List.{list_all}
-use Rattle.std.specs.Char.{is_ascii_digit}
-use Rattle.line_words.specs.Numbers.{read_on}
-
-abbrev pub is_number : List ℕ → Bool
-is_number word = nat_le 1 (length word) && nat_le (length word) 13 && list_all is_ascii_digit word
+use Rattle.std.specs.Prelude.{ℕ, ◌&&◌, cond, nat_le, List, length, Option, None, Some}
+use Rattle.line_words.specs.Numbers.{decimal}
 
 abbrev pub number_of : List ℕ → Option ℕ
-number_of word = cond (is_number word) (Some (read_on 0 word)) None
+number_of word = cond (nat_le (length word) 13) (decimal 9999999999999 word) None
 
 -- a number from the least to the most
 abbrev pub ranged : ℕ → ℕ → List ℕ → Option ℕ

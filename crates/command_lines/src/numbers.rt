@@ -1,12 +1,14 @@
 //! Numbers of 1 to 13 digits.
-ghost use Rattle.std.specs.Prelude.{◌≡◌, ◌<◌, ◌^◌, true};
-ghost use Rattle.std.specs.List.{list_all};
+ghost use Rattle.std.specs.Prelude.{◌≡◌};
 ghost use Rattle.spool_types.specs.Limits.{greatest_number, greatest_moment};
-ghost use Rattle.command_lines.specs.Numbers.{number_of, is_number, ranged};
-ghost use Rattle.std.specs.Char.{is_ascii_digit};
-ghost use Rattle.line_words.specs.Numbers.{read_on};
+ghost use Rattle.command_lines.specs.Numbers.{number_of, ranged};
 
+use line_words::decimal;
 use spool_types::{JobId, Moment, Ranged};
+
+// How many digits a number has at most, and the greatest number of so many.
+const MOST_DIGITS: usize = 13;
+const GREATEST: u64 = 9_999_999_999_999;
 
 /// The number of a job.
 pub fn job_number(word: &[u8]) -> Option<JobId>
@@ -47,33 +49,9 @@ pub fn short_number(word: &[u8]) -> Option<u16>
 fn number_of(word: &[u8]) -> Option<u64>
     ensures { result ≡ number_of word.now }
 {
-    if is_number(word) {
-        Some(digits_value(word))
+    if word.len() <= MOST_DIGITS {
+        decimal(word, GREATEST)
     } else {
         None
     }
-}
-
-fn is_number(word: &[u8]) -> bool
-    ensures { result ≡ is_number word.now }
-{
-    1 <= word.len() && word.len() <= 13 && has_only_digits(word)
-}
-
-fn has_only_digits(word: &[u8]) -> bool
-    ensures { result ≡ list_all is_ascii_digit word.now }
-{
-    word.iter().all(|b| b.is_ascii_digit())
-}
-
-// The number that the digits spell.
-fn digits_value(word: &[u8]) -> u64
-    requires { is_number word.now ≡ true }
-    ensures { result ≡ read_on 0 word.now }
-{
-    let mut value: u64 = 0;
-    for b in word {
-        value = value * 10 + u64::from(*b - b'0');
-    }
-    value
 }

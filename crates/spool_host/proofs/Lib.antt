@@ -2,4 +2,3 @@ pub mod Accepted
 pub mod Sizes
 pub mod Refusals
 mod PrintLaws
-mod StateLaws

@@ -1,9 +1,7 @@
 -- The device that the options of a URI tell of.
-use Rattle.std.specs.Prelude.{ℕ, Bool, true, ◌&&◌, not, cond, nat_le, List, [], ◌∷◌, length, take, drop, codes, Option, None, Some, Result, Ok, Err}
-use Rattle.std.specs.List.{list_all}
-use Rattle.std.specs.Char.{is_ascii_digit}
+use Rattle.std.specs.Prelude.{ℕ, Bool, true, not, cond, nat_le, List, [], ◌∷◌, length, take, drop, codes, unwrap_or, Option, None, Some, Result, Ok, Err}
 use Rattle.std.specs.Str.{bytes_eq}
-use Rattle.line_words.specs.Numbers.{read_on}
+use Rattle.line_words.specs.Numbers.{decimal}
 use Rattle.url.specs.Parts.{Parts}
 use Rattle.url.specs.Parser.{parse_url}
 use Rattle.url.specs.declared.error.ParseError.{ParseError}
@@ -28,17 +26,10 @@ abbrev pub flag_in : Option (List ℕ) → Bool
 flag_in None = true
 flag_in (Some value) = not (bytes_eq value (codes "0"))
 
--- one digit or more, and a number of at most 255
-abbrev pub is_state : List ℕ → Bool
-is_state value = nat_le 1 (length value) && list_all is_ascii_digit value && nat_le (read_on 0 value) 255
-
-abbrev pub state_number : List ℕ → Option ℕ
-state_number value = cond (is_state value) (Some (read_on 0 value)) None
-
--- the number, or 1, which is ONLINE
+-- a number of at most 255, or 1, which is ONLINE
 abbrev pub state_in : Option (List ℕ) → ℕ
 state_in None = 1
-state_in (Some value) = cond (is_state value) (read_on 0 value) 1
+state_in (Some value) = unwrap_or (decimal 255 value) 1
 
 -- the bytes, or none where they are too many
 abbrev pub id_in : Option (List ℕ) → List ℕ

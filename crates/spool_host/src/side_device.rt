@@ -10,10 +10,12 @@
 //! its options can't be read.
 ghost use Rattle.std.specs.Prelude.{◌≡◌, IfOk, map, string_bytes};
 ghost use Rattle.std.specs.Option.{option_map};
-ghost use Rattle.spool_host.specs.SideDevice.{device_in, flag_in, id_in, options_in, state_in, state_number, uri_among, uri_behind};
+ghost use Rattle.line_words.specs.Numbers.{decimal};
+ghost use Rattle.spool_host.specs.SideDevice.{device_in, flag_in, id_in, options_in, state_in, uri_among, uri_behind};
 
 use device_options::{last_value, options_or_none};
 use device_uri::{DeviceOption, DeviceUri, UriFault};
+use line_words::decimal;
 use side_channel::{Device, DeviceId};
 use std::alloc::{AllocError, Global};
 
@@ -80,26 +82,16 @@ fn state_of(value: Option<&str>) -> u8
     ensures { result ≡ state_in (option_map (λ value. value.now) value.entry) }
 {
     match value {
-        Some(text) => number_of(text.as_bytes()).unwrap_or(ONLINE),
+        Some(text) => state_number(text.as_bytes()).unwrap_or(ONLINE),
         None => ONLINE,
     }
 }
 
 // The number that digits are, of any count, where it fits.
-fn number_of(digits: &[u8]) -> Option<u8>
-    ensures { result ≡ state_number digits.now }
+fn state_number(digits: &[u8]) -> Option<u8>
+    ensures { result ≡ decimal 255 digits.now }
 {
-    if digits.is_empty() {
-        return None;
-    }
-    let mut value: u8 = 0;
-    for b in digits {
-        if !b.is_ascii_digit() {
-            return None;
-        }
-        value = value.checked_mul(10)?.checked_add(*b - b'0')?;
-    }
-    Some(value)
+    u8::try_from(decimal(digits, 255)?).ok()
 }
 
 fn id_of(alloc: Global, value: Option<&str>) -> Result<DeviceId, AllocError>

@@ -1,9 +1,0 @@
--- the number that the digits so far spell
-use Rattle.std.proofs.Common.{◌≡◌, ◌≤◌, true, take, drop}
-use Rattle.std.specs.List.{list_all}
-use Rattle.std.specs.Char.{is_ascii_digit}
-use Rattle.line_words.specs.Numbers.{read_on}
-use Rattle.spool_host.proofs.side_device.number_of.Given as goal
-
-abbrev pub invariant-loop-b : goal.invariant-loop-b
-invariant-loop-b l = record { same : read_on l.value (drop l.b-index l.digits) ≡ read_on 0 l.digits; digits : list_all is_ascii_digit (take l.b-index l.digits) ≡ true; small : l.value ≤ 255 }
