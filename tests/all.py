@@ -43,6 +43,7 @@ SCRIPTS = {
     "allocations.py": [],
     "any_image.py": ["1", "1000"],
     "refused_memory.py": ["--every", "4"],
+    "refused_scripts.py": [],
     "stops.py": [],
     "calls_without_memory.py": [],
     "children.py": [],
@@ -108,7 +109,7 @@ def wants():
     if not shutil.which("valgrind"):
         missing["calls_without_memory.py"] = (True, "valgrind (Debian's package valgrind)")
     if not shutil.which("gcc"):
-        missing["allocations.py"] = missing["refused_memory.py"] = (True, "a C compiler (Debian's package gcc)")
+        missing["allocations.py"] = missing["refused_memory.py"] = missing["refused_scripts.py"] = (True, "a C compiler (Debian's package gcc)")
     return missing
 
 

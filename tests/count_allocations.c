@@ -1,7 +1,8 @@
 /* Counts the allocations of the program that it is loaded into, and refuses one of them.
  *
  * LD_PRELOAD names the library that is made of this file. REFUSED is the number of the allocation that gets no memory, the
- * first being 1. COUNTED is a file to which a line is added for each call that writes or syncs and for a refusal:
+ * first being 1. With FROM the count begins behind the first allocation of just so many bytes. COUNTED is a file to which a
+ * line is added for each call that writes or syncs and for a refusal:
  *
  *     COUNT WORD FILE TEXT
  *
@@ -28,6 +29,7 @@ extern void *__libc_memalign(size_t, size_t);
 
 static unsigned long count;
 static unsigned long refused;
+static size_t from;
 static int counted = -1;
 
 /* Adds a line to the file. It takes no memory: stdio may. */
@@ -47,6 +49,8 @@ __attribute__((constructor)) static void begin(void)
 {
     const char *number = getenv("REFUSED");
     const char *path = getenv("COUNTED");
+    const char *length = getenv("FROM");
+    from = length ? strtoul(length, NULL, 10) : 0;
     refused = number ? strtoul(number, NULL, 10) : 0;
     if (path)
         counted = (int)syscall(SYS_openat, AT_FDCWD, path, O_WRONLY | O_CREAT | O_APPEND | O_CLOEXEC, 0666);
@@ -59,8 +63,13 @@ __attribute__((destructor)) static void end(void)
 }
 
 /* Counts an allocation, and says whether it is the one to refuse. */
-static int is_refused(void)
+static int is_refused(size_t length)
 {
+    if (from) {
+        if (length == from)
+            from = 0;
+        return 0;
+    }
     count++;
     if (count != refused)
         return 0;
@@ -71,22 +80,22 @@ static int is_refused(void)
 
 void *malloc(size_t length)
 {
-    return is_refused() ? NULL : __libc_malloc(length);
+    return is_refused(length) ? NULL : __libc_malloc(length);
 }
 
 void *calloc(size_t items, size_t length)
 {
-    return is_refused() ? NULL : __libc_calloc(items, length);
+    return is_refused(items * length) ? NULL : __libc_calloc(items, length);
 }
 
 void *realloc(void *old, size_t length)
 {
-    return is_refused() ? NULL : __libc_realloc(old, length);
+    return is_refused(length) ? NULL : __libc_realloc(old, length);
 }
 
 void *aligned_alloc(size_t alignment, size_t length)
 {
-    return is_refused() ? NULL : __libc_memalign(alignment, length);
+    return is_refused(length) ? NULL : __libc_memalign(alignment, length);
 }
 
 void *memalign(size_t alignment, size_t length)

@@ -7,6 +7,9 @@ DATA = os.path.join(os.path.dirname(os.path.realpath(__file__)), "..", "crates",
 # What the built program has no word for.
 MADE_UP = ("children", "fuse", "lang", "limits")
 
+# The line behind which a served engine runs again: the built program serves its input in one run.
+RUN = b"# run\n"
+
 # Sends that have a whole line; greater counts and numbers are no commands.
 SEND = re.compile(rb'[ \t]*("?)send\1[ \t]+("?)([0-9]+)\2[ \t]+("?)([0-9]+)\4[ \t]*')
 LEAST_SIZE = 4_096
@@ -37,7 +40,8 @@ def names():
     scripts = sorted(file[: -len(".script")] for file in files if file.endswith(".script"))
     if not scripts:
         raise SystemExit(f"no script in {DATA}")
-    return [name for name in scripts if not any(f"{name}.{ending}" in files for ending in MADE_UP)]
+    made_up = {name for name in scripts if any(f"{name}.{ending}" in files for ending in MADE_UP)}
+    return [name for name in scripts if name not in made_up and RUN not in lines_of(stored_file(name, "script"))]
 
 
 def words_of(name, root):

@@ -5,7 +5,8 @@
 //!
 //! A case lies in the folder that the first word names, or in that in which the program runs: `NAME.script` has the
 //! commands and `NAME.replies` the replies that are wanted. A line `# reopen` cuts a script: what follows it is served by
-//! a new engine, over the spool that is opened again on the same disk. Further files are there where there is need:
+//! a new engine, over the spool that is opened again on the same disk. Behind a line `# run` the same engine runs again.
+//! Further files are there where there is need:
 //!
 //! - `NAME.types` has rules of types, and `NAME.convs` conversions.
 //! - `NAME.lang` has the locale of the types, which is else `C`.
@@ -15,11 +16,12 @@
 //!   so on up to the last. With the word `once` before them that disk fails at one call alone. Without the file it doesn't
 //!   fail.
 //! - `NAME.limits` says that the reader fails, or how many bytes the writer takes ([`limits`]).
-//! - `NAME.account` has what is wanted beside the replies ([`served::Served`]), and is empty where it is absent: which part
-//!   of the script met a fault of the reader, of the writer or of the disk, and then the orders of the children ([`orders`]).
+//! - `NAME.account` has what is wanted beside the replies ([`served::Served`]), and is empty where it is absent: which run met
+//!   a fault of the reader or of the writer or found no memory, which part met a fault of the disk, and then the orders of
+//!   the children ([`orders`]).
 //!
-//! The fuse and the limits hold for the first part of a script. What follows a cut goes without them, and the children go
-//! on from where they are.
+//! The fuse holds up to the first opening, and the limits up to the first cut. What follows goes without them, and the
+//! children go on from where they are.
 //!
 //! Each case is served several times ([`ways::ways`]): the script read whole, byte by byte and in pieces, the replies
 //! written whole and few bytes at a time, with reads and writes that are interrupted. The replies and the account have to
@@ -35,7 +37,7 @@
 //! # Promises
 //!
 //! - [`compare::find_difference`]: replies, and an account, pass exactly where they are the bytes that are wanted.
-//! - [`cut::next_part`]: a part, the line that cuts and what follows it are the script, and no such line comes before.
+//! - [`cut::next_part`]: a part, the line that cuts and what follows it are the script, and that line doesn't come before.
 //! - [`paced`]: a reader gives the bytes of the script and a writer keeps what it takes, whatever their pace and limits.
 //! - [`outcomes::read_children`]: no child was started before the script is served.
 #![tactic(auto)]

@@ -1,7 +1,7 @@
 //! What an engine does with a script.
 
 use crate::case::Case;
-use crate::cut::next_part;
+use crate::cut::{OPENING, RUN, next_part};
 use crate::fault::CaseFault;
 use crate::orders::push_orders;
 use crate::outcomes::read_children;
@@ -20,8 +20,8 @@ use std::alloc::Global;
 #[derive(Drop)]
 pub struct Served {
     pub replies: Vec<u8>,
-    /// What is told beside the replies: of each part in turn that its reader, its writer or its disk failed, and then the
-    /// orders of the children.
+    /// What is told beside the replies: of each run that its reader or its writer failed or that it found no memory, of each
+    /// part that its disk failed, and then the orders of the children.
     pub account: Vec<u8>,
 }
 
@@ -33,8 +33,18 @@ struct Bench {
     account: String,
 }
 
+// A part of a script: what is given between two openings. The disk fails after so many calls.
+#[derive(Clone, Copy)]
+struct Part<'a> {
+    script: &'a [u8],
+    calls: u64,
+    reader_fails: bool,
+}
+
+type Printer = Engine<OnceDisk<FuseDisk<MemDisk>>, MemChildren>;
+
 /// What comes of the script of a case, on a new spool. While its first part is served, the disk fails after so many calls,
-/// and the limits of the case hold.
+/// and in the first run of that part the limits of the case hold.
 pub fn serve(alloc: Global, case: &Case, way: Way, calls: u64) -> Result<Served, CaseFault> {
     let mut bench = new_bench(alloc, case)?;
     let mut writer = PacedWriter::new(alloc, way.writing, case.limits);
@@ -42,9 +52,13 @@ pub fn serve(alloc: Global, case: &Case, way: Way, calls: u64) -> Result<Served,
     let mut calls = calls;
     let mut rest: &[u8] = &case.script;
     for _ in 0..u64::MAX {
-        let (part, after) = next_part(rest);
-        let mut reader = PacedReader::new(part, way.reading, reader_fails);
-        bench = serve_part(alloc, case, bench, calls, &mut reader, &mut writer)?;
+        let (script, after) = next_part(rest, OPENING);
+        let part = Part {
+            script,
+            calls,
+            reader_fails,
+        };
+        bench = serve_part(alloc, case, bench, part, way, &mut writer)?;
         match after {
             Some(script) => rest = script,
             None => break,
@@ -76,12 +90,12 @@ fn new_bench(alloc: Global, case: &Case) -> Result<Bench, CaseFault> {
 }
 
 // An engine on the spool of a disk.
-fn engine_on(
+fn printer_on(
     alloc: Global,
     case: &Case,
     disk: OnceDisk<FuseDisk<MemDisk>>,
     children: MemChildren,
-) -> Result<Engine<OnceDisk<FuseDisk<MemDisk>>, MemChildren>, CaseFault> {
+) -> Result<Printer, CaseFault> {
     let (types, _) = Types::read(alloc, case.types.as_str())?;
     let (convs, _) = Convs::read(alloc, case.convs.as_str())?;
     let place = place(alloc, case.lang.as_str())?;
@@ -91,13 +105,13 @@ fn engine_on(
     }
 }
 
-// Serves a part of a script on the spool of a disk that fails after so many calls.
+// Serves a part of a script on the spool of a disk.
 fn serve_part(
     alloc: Global,
     case: &Case,
     bench: Bench,
-    calls: u64,
-    reader: &mut PacedReader<'_>,
+    part: Part<'_>,
+    way: Way,
     writer: &mut PacedWriter,
 ) -> Result<Bench, CaseFault> {
     let Bench {
@@ -105,22 +119,47 @@ fn serve_part(
         children,
         mut account,
     } = bench;
-    let mut engine = engine_on(alloc, case, failing(disk, calls, case.fuse.once), children)?;
-    match engine.run(reader, writer) {
-        Ok(()) => {}
-        Err(RunFault::Read) => account.push_str("the reader failed\n")?,
-        Err(RunFault::Write) => account.push_str("the writer failed\n")?,
-        Err(RunFault::Memory) => return Err(CaseFault::Memory),
-    }
-    if engine.met_fault() {
+    let disk = failing(disk, part.calls, case.fuse.once);
+    let mut printer = printer_on(alloc, case, disk, children)?;
+    serve_runs(&mut printer, part, way, writer, &mut account)?;
+    if printer.met_fault() {
         account.push_str("the disk failed\n")?;
     }
-    let (spool, children) = engine.into_parts();
+    let (spool, children) = printer.into_parts();
     Ok(Bench {
         disk: spool.into_disk().into_disk().into_disk(),
         children,
         account,
     })
+}
+
+// Serves a part of a script in one run after another. Where one of them fails is told in the account.
+fn serve_runs(
+    printer: &mut Printer,
+    part: Part<'_>,
+    way: Way,
+    writer: &mut PacedWriter,
+    account: &mut String,
+) -> Result<(), CaseFault> {
+    let mut rest = part.script;
+    let mut reader_fails = part.reader_fails;
+    for _ in 0..u64::MAX {
+        let (script, after) = next_part(rest, RUN);
+        let mut reader = PacedReader::new(script, way.reading, reader_fails);
+        match printer.run(&mut reader, writer) {
+            Ok(()) => {}
+            Err(RunFault::Read) => account.push_str("the reader failed\n")?,
+            Err(RunFault::Write) => account.push_str("the writer failed\n")?,
+            Err(RunFault::Memory) => account.push_str("a run found no memory\n")?,
+        }
+        match after {
+            Some(script) => rest = script,
+            None => break,
+        }
+        writer.lift();
+        reader_fails = false;
+    }
+    Ok(())
 }
 
 // A disk that fails after so many calls: once, or from then on.
