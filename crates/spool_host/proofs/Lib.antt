@@ -2,3 +2,4 @@ pub mod Accepted
 pub mod Sizes
 pub mod Refusals
 mod PrintLaws
+pub mod SessionLaws

@@ -9,6 +9,7 @@ pub mod NamedDisk
 pub mod Reasons
 pub mod Script
 pub mod Serving
+pub mod Sessions
 pub mod Shortage
 pub mod SideDevice
 pub mod Words

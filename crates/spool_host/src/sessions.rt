@@ -4,7 +4,8 @@
 //!
 //! Nothing here waits. A look takes the clients that have come and the bytes that have come of each, and answers them.
 //! While a child is finished the launcher looks again and again, at the channels of all children that run. So a child has
-//! its answers whatever others do, and one that keeps a silent connection has those of its other ones.
+//! its answers whatever others do, and one that keeps a silent connection has those of its other ones. However the bytes of
+//! a client are cut, what is written for them are the answers of its session (`AnswersPiece`).
 //!
 //! # How they end
 //!
@@ -15,8 +16,9 @@
 //! A client that hangs up, cuts a packet or leaves its answers for two seconds loses its session, and no more. A child has
 //! eight clients at once: others wait until one of these has gone. After 256 the socket is closed, so that further ones are
 //! refused.
-ghost use Rattle.std.specs.Prelude.{◌≡◌, ◌<◌, IfOk, OnOk};
+ghost use Rattle.std.specs.Prelude.{◌≡◌, ◌<◌, IfOk, OnOk, drop};
 ghost use Rattle.std.specs.Vec.{vec_capacity, vec_len};
+ghost use Rattle.spool_host.specs.Sessions.{AnswersPiece};
 
 use crate::device::remove_if_there;
 use side_channel::{Device, Fed, Session, SideFault};
@@ -280,7 +282,9 @@ impl SideClient {
 }
 
 // The bytes behind the first ones.
-fn left_of(bytes: &[u8], sent: usize) -> &[u8] {
+fn left_of(bytes: &[u8], sent: usize) -> &[u8]
+    ensures { result.now ≡ drop sent bytes.now }
+{
     if sent < bytes.len() {
         &bytes[sent..]
     } else {
@@ -299,14 +303,16 @@ fn answer_all(
     piece: &[u8],
     device: &Device,
     answers: &mut Vec<u8>,
-) -> Result<bool, SideFault> {
+) -> Result<bool, SideFault>
+    ensures { AnswersPiece device.now session.old session.new piece.now answers.old.items answers.new.items result }
+{
     let mut rest = piece;
-    for _ in 0..piece.len() {
+    'requests: while !rest.is_empty() {
         match session.feed(rest, device) {
-            Fed::Answer { count, answer } => {
-                answer.write(answers)?;
-                rest = &rest[count..];
-            }
+            Fed::Answer { count, answer } => match answer.write(answers) {
+                Ok(()) => rest = &rest[count..],
+                Err(fault) => return Err(fault),
+            },
             Fed::Wants => return Ok(false),
             Fed::End { .. } => return Ok(true),
         }
