@@ -2,4 +2,5 @@ pub mod Accepted
 pub mod Sizes
 pub mod Refusals
 mod PrintLaws
+pub mod LeftoverLaws
 pub mod SessionLaws

@@ -5,6 +5,7 @@ pub mod Ending
 pub mod Faults
 pub mod Fitness
 pub mod Launching
+pub mod Leftovers
 pub mod NamedDisk
 pub mod Reasons
 pub mod Script

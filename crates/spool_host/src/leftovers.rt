@@ -7,6 +7,14 @@
 //! others are removed.
 //!
 //! None of it is a fault: what can't be looked at or removed stays.
+ghost use Rattle.std.specs.Prelude.{◌≡◌, ◌≢◌, MatchOption};
+ghost use Rattle.std.specs.Char.{is_ascii_digit};
+ghost use Rattle.std.specs.List.{list_all};
+ghost use Rattle.filter_args.specs.Files.{prefix_of};
+ghost use Rattle.filter_args.specs.declared.files.ChildFile.{ChildFile as AnyFile};
+ghost use Rattle.spool_host.specs.Leftovers.{IsNameOf, IsNoName, are_numbers, is_number};
+
+use filter_args::ChildFile;
 use log::{Log, error};
 use std::alloc::AllocError;
 use std::fs;
@@ -18,6 +26,14 @@ struct LeftChild<'a> {
     job: &'a str,
     attempt: &'a str,
     stage: &'a str,
+}
+
+impl LeftChild<'_> {
+    fn has_numbers(&self) -> bool
+        ensures { result ≡ are_numbers self.now.job.now self.now.attempt.now self.now.stage.now }
+    {
+        is_number(self.job) && is_number(self.attempt) && is_number(self.stage)
+    }
 }
 
 /// Removes what children of an earlier program left in the folder, and tells those that still run. The spool is open, and
@@ -39,14 +55,14 @@ pub(crate) fn clear_leftovers<L: Log, R: Files<File = File> + Clone + Drop + All
 
 // Removes the file of this name, if it is one of a child that doesn't run.
 fn clear<L: Log, R: Files<File = File> + AllocGlobal>(log: &L, rt: &R, dir: &str, name: &str) {
-    let Some((kind, child)) = child_of(name) else {
+    let Some((file, child)) = child_of(name) else {
         return;
     };
     match runs(rt, dir, child) {
         Ok(false) => {
             let _ = remove(rt, dir, name);
         }
-        Ok(true) if kind == "out" => tell(log, child),
+        Ok(true) if file == ChildFile::Output => tell(log, child),
         _ => {}
     }
 }
@@ -93,23 +109,47 @@ fn is_locked<R: Files<File = File>>(rt: &R, path: &str) -> bool {
     }
 }
 
-// The kind of a child's file, and its child.
-fn child_of(name: &str) -> Option<(&str, LeftChild<'_>)> {
+// The child's file that a name is of, and its child.
+fn child_of(name: &str) -> Option<(ChildFile, LeftChild<'_>)>
+    ensures { MatchOption result (IsNoName name.now)
+        (λ found. IsNameOf name.now found.0 found.1.job.now found.1.attempt.now found.1.stage.now) }
+{
     let (kind, rest) = name.split_once('-')?;
     let (job, rest) = rest.split_once('-')?;
     let (attempt, stage) = rest.split_once('-')?;
-    let numbers = is_number(job) && is_number(attempt) && is_number(stage);
-    if !numbers || !matches!(kind, "in" | "out" | "err" | "side") {
-        return None;
-    }
+    let file = kind_of(kind)?;
     let child = LeftChild {
         job,
         attempt,
         stage,
     };
-    Some((kind, child))
+    if child.has_numbers() {
+        Some((file, child))
+    } else {
+        None
+    }
 }
 
-fn is_number(text: &str) -> bool {
-    !text.is_empty() && text.bytes().all(|byte| byte.is_ascii_digit())
+fn kind_of(text: &str) -> Option<ChildFile>
+    ensures { MatchOption result ((file : AnyFile) → text.now ≢ prefix_of file) (λ file. text.now ≡ prefix_of file) }
+{
+    match text {
+        "in" => Some(ChildFile::Input),
+        "out" => Some(ChildFile::Output),
+        "err" => Some(ChildFile::Errors),
+        "side" => Some(ChildFile::Side),
+        _ => None,
+    }
+}
+
+fn is_number(text: &str) -> bool
+    ensures { result ≡ is_number text.now }
+{
+    1 <= text.len() && has_only_digits(text)
+}
+
+fn has_only_digits(text: &str) -> bool
+    ensures { result ≡ list_all is_ascii_digit text.now }
+{
+    text.as_bytes().iter().all(|b| b.is_ascii_digit())
 }
