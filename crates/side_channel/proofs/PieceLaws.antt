@@ -5,7 +5,7 @@ use Rattle.std.specs.Prelude.{cond, nat_le}
 use Rattle.std.specs.Int.{w16, from_be_bytes}
 use Rattle.side_channel.specs.Answers.{Reply, answer_of, reply_bytes}
 use Rattle.side_channel.specs.Sessions.{Session, session, ends, after}
-use Rattle.side_channel.specs.Pieces.{Answered, Finished, Takes, TakesAll, Turn, answer_for, to_come, told_in, took_in}
+use Rattle.side_channel.specs.Pieces.{Answered, Finished, TakesAll, Turn, Wanting, answer_for, to_come, told_in, took_in}
 use Rattle.side_channel.specs.Bytes.{Comes, IsHeld, Reaches, after_head}
 use Rattle.side_channel.specs.declared.devices.Device.{Device}
 use Rattle.side_channel.specs.declared.endings.Ending.TheVariants.{End}
@@ -53,10 +53,13 @@ one_less c n (suc k) b some d more =
 
 -- ---- a piece
 
-pub wants : (old : Held) (piece : List ℕ) (count : ℕ) (new : Held) → Reaches old piece count came.Part new → (d : Device) → Takes d old piece [] new
-wants old piece count new r d more =
+pub wants : (old : Held) (piece : List ℕ) (count : ℕ) (new : Held) → Reaches old piece count came.Part new → (d : Device) → Wanting d old piece new
+wants old piece count new r d =
     let all = r.all refl in
-    ap (λ l. to_come d old (l ++ more)) (sym (take_all count piece (omega (arith, all)))) ∙ r.comes.1 d more
+    record {
+      takes = λ more. ap (λ l. to_come d old (l ++ more)) (sym (take_all count piece (omega (arith, all)))) ∙ r.comes.1 d more;
+      on = r.comes.0.before;
+    }
 
 pub answers : (old : Held) (piece : List ℕ) (count command n : ℕ) (new : Held) → Reaches old piece count (came.Request command n) new → (d : Device) (reply : Reply)
     → reply ≡ answer_of d (message command 0 n []) → Answered d old piece count (reply_bytes reply) new
@@ -64,6 +67,7 @@ answers old piece count command n new r d reply is = record {
   some = r.some (λ e. cc);
   within = r.within;
   takes = λ more. r.comes.1 d more ∙ ap (λ a. after (reply_bytes a) (to_come d new more)) (sym is);
+  on = λ e. let nothing : Nothing ≡ Over = sym r.comes.0 ∙ e in cc;
 }
 
 pub finishes : (old : Held) (piece : List ℕ) (count : ℕ) (new : Held) → Reaches old piece count came.End new → (d : Device) → Finished d old piece count new

@@ -1,5 +1,5 @@
 -- A session whose bytes come in pieces.
-use Rattle.std.specs.Prelude.{◌≡◌, ℕ, ◌<◌, ◌≤◌, cond, nat_le, List, [], ◌∷◌, ◌++◌, length, take, drop, Ok, Err}
+use Rattle.std.specs.Prelude.{◌≡◌, ◌≢◌, ℕ, ◌<◌, ◌≤◌, cond, nat_le, List, [], ◌∷◌, ◌++◌, length, take, drop, Ok, Err}
 use Rattle.std.specs.List.{flat_map}
 use Rattle.side_channel.specs.Answers.{answer_of, reply_bytes}
 use Rattle.side_channel.specs.Seen.{reply_of}
@@ -31,11 +31,17 @@ to_come d Over more = ends (Ok End) more
 abbrev pub Takes : Device → Held → List ℕ → List ℕ → Held → Type 0
 Takes d old bytes text new = (more : List ℕ) → to_come d old (bytes ++ more) ≡ after text (to_come d new more)
 
--- the first bytes of a piece, at least one, end a request, and this answers it
+-- a whole piece was taken, no request in it is whole, and the session goes on
+pub record Wanting (d : Device) (old : Held) (piece : List ℕ) (new : Held) : Type 0 where
+  pub takes : Takes d old piece [] new
+  pub on : new ≢ Over
+
+-- the first bytes of a piece, at least one, end a request, this answers it, and the session goes on
 pub record Answered (d : Device) (old : Held) (piece : List ℕ) (count : ℕ) (text : List ℕ) (new : Held) : Type 0 where
   pub some : 0 < count
   pub within : count ≤ length piece
   pub takes : Takes d old (take count piece) text new
+  pub on : new ≢ Over
 
 -- the first bytes of a piece end the session, whatever follows them
 pub record Finished (d : Device) (old : Held) (piece : List ℕ) (count : ℕ) (new : Held) : Type 0 where
@@ -46,7 +52,7 @@ pub record Finished (d : Device) (old : Held) (piece : List ℕ) (count : ℕ) (
 -- what a piece comes to
 abbrev pub Feeds : Device → Held → List ℕ → Fed → Held → Type 0
 Feeds d old piece (fed.Answer count answer) new = Answered d old piece count (reply_bytes (reply_of answer)) new
-Feeds d old piece fed.Wants new = Takes d old piece [] new
+Feeds d old piece fed.Wants new = Wanting d old piece new
 Feeds d old piece (fed.End count) new = Finished d old piece count new
 
 -- some bytes that were taken at once, and their answers

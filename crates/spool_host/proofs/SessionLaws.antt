@@ -1,7 +1,7 @@
 -- A client's requests are answered one after the other.
-use Rattle.std.proofs.Common.{◌≡◌, ◌∙◌, ℕ, ◌+◌, ◌-◌, List, [], ◌++◌, length, take, drop, Some, Err, refl, ap, sym, arith, append_assoc, append-nil, length-drop, take_all, take-append-drop}
+use Rattle.std.proofs.Common.{◌≡◌, ◌∙◌, ℕ, ◌+◌, ◌-◌, List, [], ◌++◌, length, take, drop, Some, Ok, Err, false, refl, ap, sym, arith, append_assoc, append-nil, length-drop, take_all, take-append-drop}
 use lib.Seq.{take-append-add}
-use Rattle.side_channel.specs.Pieces.{Finished, Takes, to_come}
+use Rattle.side_channel.specs.Pieces.{Finished, Takes, Wanting, to_come}
 use Rattle.side_channel.specs.Sessions.{after}
 use Rattle.side_channel.specs.Streams.{WritesPacket}
 use Rattle.side_channel.specs.declared.devices.Device.{Device}
@@ -9,7 +9,7 @@ use Rattle.side_channel.specs.declared.endings.SideFault.{SideFault}
 use Rattle.side_channel.specs.declared.endings.SideFault.TheVariants.{Read, Write, Cut, Memory}
 use Rattle.side_channel.specs.declared.pieces.Held.{Held}
 use Rattle.side_channel.proofs.SessionLaws.{after_both}
-use Rattle.spool_host.specs.Sessions.{AnswersAll, AnswersPiece, AnswersToEnd}
+use Rattle.spool_host.specs.Sessions.{AnswersPiece, AnswersToEnd}
 
 -- the answers to a piece were written up to this rest of it
 pub record Progress (d : Device) (old new : Held) (piece rest had has : List ℕ) : Type 0 where
@@ -52,21 +52,15 @@ further d a b c piece rest had mid has u count p takes wrote =
       wrote = behind had mid has p.text u p.wrote wrote;
     }
 
-pub wants_more : (d : Device) (a b c : Held) (piece rest had has : List ℕ) → Progress d a b piece rest had has → Takes d b rest [] c → AnswersAll d a c piece had has
-wants_more d a b c piece rest had has p takes =
-    record {
-      text = p.text ++ [];
-      takes = λ (more : List ℕ). ap (λ l. to_come d a (l ++ more)) p.whole ∙ takes_both d a b c p.front rest p.text [] p.takes takes more;
-      wrote = behind had has has p.text [] p.wrote (sym (append-nil has));
-    }
-
-pub all_answered : (d : Device) (a b : Held) (piece rest had has : List ℕ) → Progress d a b piece rest had has → rest ≡ [] → AnswersAll d a b piece had has
-all_answered d a b piece rest had has p none =
-    record {
-      text = p.text;
-      takes = λ (more : List ℕ). ap (λ l. to_come d a (l ++ more)) (p.whole ∙ ap (λ l. p.front ++ l) none ∙ append-nil p.front) ∙ p.takes more;
-      wrote = p.wrote;
-    }
+pub wants_more : (d : Device) (a b c : Held) (piece rest had has : List ℕ) → Progress d a b piece rest had has → Wanting d b rest c → AnswersPiece d a c piece had has (Ok false)
+wants_more d a b c piece rest had has p wants = (
+  record {
+    text = p.text ++ [];
+    takes = λ (more : List ℕ). ap (λ l. to_come d a (l ++ more)) p.whole ∙ takes_both d a b c p.front rest p.text [] p.takes wants.takes more;
+    wrote = behind had has has p.text [] p.wrote (sym (append-nil has));
+  },
+  wants.on,
+)
 
 pub ended : (d : Device) (a b c : Held) (piece rest had has : List ℕ) (count : ℕ) → Progress d a b piece rest had has → Finished d b rest count c → AnswersToEnd d a c piece had has
 ended d a b c piece rest had has count p end =
@@ -90,12 +84,15 @@ pub unwritten : (d : Device) (a b c : Held) (piece rest had mid has u : List ℕ
 unwritten d a b c piece rest had mid has u count Read p takes wrote = absurd wrote
 unwritten d a b c piece rest had mid has u count Cut p takes wrote = absurd wrote
 unwritten d a b c piece rest had mid has u count Memory p takes wrote = absurd wrote
-unwritten d a b c piece rest had mid has u count Write p takes wrote = (refl, record {
-  front = p.front ++ take count rest;
-  rest = drop count rest;
-  whole = split piece p.front rest count p.whole;
-  text = p.text ++ u;
-  takes = takes_both d a b c p.front (take count rest) p.text u p.takes takes;
-  count = length p.text + wrote.count;
-  wrote = behind had mid has p.text (take wrote.count u) p.wrote wrote.front ∙ ap (λ l. had ++ l) (sym (take-append-add p.text u wrote.count));
-})
+unwritten d a b c piece rest had mid has u count Write p takes wrote = (
+  refl,
+  record {
+    front = p.front ++ take count rest;
+    rest = drop count rest;
+    whole = split piece p.front rest count p.whole;
+    text = p.text ++ u;
+    takes = takes_both d a b c p.front (take count rest) p.text u p.takes takes;
+    count = length p.text + wrote.count;
+    wrote = behind had mid has p.text (take wrote.count u) p.wrote wrote.front ∙ ap (λ l. had ++ l) (sym (take-append-add p.text u wrote.count));
+  },
+)

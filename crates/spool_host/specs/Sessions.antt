@@ -1,5 +1,5 @@
 -- What a client's bytes come to, and what is written of their answers.
-use Rattle.std.specs.Prelude.{◌≡◌, ℕ, Bool, true, false, List, ◌++◌, take, Result, Ok, Err}
+use Rattle.std.specs.Prelude.{◌≡◌, ◌≢◌, ℕ, Bool, true, false, List, ◌++◌, take, Result, Ok, Err}
 use Rattle.side_channel.specs.Pieces.{Takes}
 use Rattle.side_channel.specs.declared.devices.Device.{Device}
 use Rattle.side_channel.specs.declared.endings.SideFault.{SideFault}
@@ -31,8 +31,8 @@ pub record AnswersPart (d : Device) (old new : Held) (piece had has : List ℕ) 
   pub count : ℕ
   pub wrote : has ≡ had ++ take count text
 
--- what a piece comes to: `true` says that the session has ended
+-- what a piece comes to: `true` says that the session has ended, and `false` that it goes on
 abbrev pub AnswersPiece : Device → Held → Held → List ℕ → List ℕ → List ℕ → Result Bool SideFault → Type 0
-AnswersPiece d old new piece had has (Ok false) = AnswersAll d old new piece had has
+AnswersPiece d old new piece had has (Ok false) = AnswersAll d old new piece had has × (new ≢ Over)
 AnswersPiece d old new piece had has (Ok true) = AnswersToEnd d old new piece had has
 AnswersPiece d old new piece had has (Err fault) = (fault ≡ Write) × AnswersPart d old new piece had has

@@ -297,7 +297,7 @@ fn may_pass(error: &io::Error) -> bool {
     matches!(error.kind(), ErrorKind::WouldBlock | ErrorKind::Interrupted)
 }
 
-// Writes the answers to the requests that end in a piece. Whether the session does.
+// Writes the answers to the requests that end in a piece. Whether the session has ended.
 fn answer_all(
     session: &mut Session,
     piece: &[u8],
@@ -307,7 +307,7 @@ fn answer_all(
     ensures { AnswersPiece device.now session.old session.new piece.now answers.old.items answers.new.items result }
 {
     let mut rest = piece;
-    'requests: while !rest.is_empty() {
+    'requests: loop {
         match session.feed(rest, device) {
             Fed::Answer { count, answer } => match answer.write(answers) {
                 Ok(()) => rest = &rest[count..],
@@ -317,5 +317,4 @@ fn answer_all(
             Fed::End { .. } => return Ok(true),
         }
     }
-    Ok(false)
 }
