@@ -8,6 +8,7 @@ use spool_types::{JobId, Moment, Ranged};
 
 // How many digits a number has at most, and the greatest number of so many.
 const MOST_DIGITS: usize = 13;
+
 const GREATEST: u64 = 9_999_999_999_999;
 
 /// The number of a job.
