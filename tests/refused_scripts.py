@@ -75,7 +75,7 @@ NO_RUN = "a run found no memory"
 FIRST_WAY = ", at once"
 DIFFERS = re.compile(r"case differs at line (\d+)( of its account)?: wanted (.*), got (.*)" + FIRST_WAY)
 ELSEWHERE = re.compile(r"case (ok|differs at line .*)")
-# What serves the script, and not what is served, found no memory.
+# What serves the script found no memory, or the opening did: then nothing is served.
 NO_WRITER = "the writer failed"
 NO_HARNESS = re.compile(r"case (finds no memory|can't be opened: Memory|can't be opened: NoMemory)")
 ORDER = re.compile(r"job (\d+) attempt (\d+) stage (\d+) behind \d+")
@@ -147,8 +147,8 @@ class Bench:
         return done.stdout.split("\n")[0], count
 
     def told(self, script, refused=0, first=Told([], [])):
-        """What comes of a script with an allocation refused; nothing where what serves it found no memory. The search begins with
-        what is known of it."""
+        """What comes of a script with an allocation refused; nothing where it wasn't served for want of memory. The search begins
+        with what is known of it."""
         room = self.case(script)
         told = Told(list(first.replies), list(first.account))
         for _ in range(MOST_LOOKS):
@@ -303,6 +303,7 @@ def all_passed(bench, every):
             rounds += len(seen)
         numbers = range(1, bench.count(in_runs(STORY)) + 1, every)
         runs = sum(tried(pool, trial.further_runs, numbers))
+    demand(events and rounds and runs, f"refused {events}, {rounds} and {runs} times: in each form some have to be")
     return events, rounds, runs
 
 
