@@ -42,12 +42,14 @@
 #![tactic(auto)]
 
 mod choice;
+mod deadlines;
 mod entry;
 mod index;
 mod laws;
 mod lists;
 
 pub use choice::{beats, next_job};
+pub use deadlines::{Deadline, Deadlines};
 pub use entry::Entry;
 pub use index::Index;
 pub use laws::{index_law, order_law};
