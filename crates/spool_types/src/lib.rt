@@ -38,6 +38,7 @@ mod ranged;
 mod refusal;
 mod rows;
 mod text;
+mod version;
 mod warning;
 
 pub use effect::{Attribute, Effect, Exit, Level};
@@ -59,4 +60,5 @@ pub use ranged::{AttemptNumber, Copies, Interval, Priority, Ranged, StageNumber}
 pub use refusal::Refusal;
 pub use rows::{Job, JobRow, QueueRow, is_busy};
 pub use text::{Text, TextFault, TextKind};
+pub use version::Version;
 pub use warning::{Warning, WarningKind};
