@@ -5,13 +5,13 @@ use Rattle.std.proofs.lemmas.List.{get_or-take, get_or-drop, get_or_at, length-t
 use Rattle.std.proofs.lemmas.Bool.{le-ltb, cases_eq}
 use Rattle.std.specs.Option.{option_map}
 use Rattle.std.specs.Prelude.{◌==◌, ◌&&◌, not, if◌then◌else◌, Err, IsSome}
-use Rattle.spool_disk.specs.Disk.{DiskView, IsLawful, overwritten, SameOutside, Tells, IsOldOutside, IsSynced, IsWritten, LeavesOnly, ChangesOnly}
+use Rattle.spool_disk.specs.Disk.{DiskView, IsLawful, overwritten, SameOutside, Tells, IsOldOutside, IsSynced, LeavesOnly}
 use Rattle.spool_disk.proofs.Moments.{weaker_run, runs_on, at_return}
 use Rattle.spool_disk.proofs.Ranges.{same_all, told}
 use Rattle.spool_disk.proofs.Writes.{overwrites}
 use Rattle.spool_areas.specs.declared.fault.OpenFault.TheVariants.{NotASpool, Damaged}
 use Rattle.spool_areas.specs.Header.{half, least_area, header_at, header_behind_gate, first_epoch, newest_version, is_open, is_known, epoch_of, newer, chosen, current_area}
-use Rattle.spool_areas.specs.Making.{first_bytes, empty_spool, IsOldButGates, IsNoSpoolOrEmpty, ClosesFirst}
+use Rattle.spool_areas.specs.Making.{empty_spool, IsOldButGates, IsNoSpoolOrEmpty, ClosesFirst}
 use Rattle.spool_areas.specs.Payloads.{HasVersionAndPayloads}
 use Rattle.spool_areas.proofs.Headers.{by_headers}
 use Rattle.spool_areas.proofs.Filled.{told_same}

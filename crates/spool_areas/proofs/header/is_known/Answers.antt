@@ -2,7 +2,7 @@ use Rattle.std.proofs.Common.{ℕ, List, [], ◌∷◌, Bool, drop, sym, ◌∙�
 use Rattle.std.proofs.lemmas.List.{take_all}
 use Rattle.std.specs.Prelude.{◌&&◌, nat_eq}
 use Rattle.std.specs.Cmp.Lexicographic.{pointwise}
-use Rattle.spool_areas.specs.Header.{is_version, version_of}
+use Rattle.spool_areas.specs.Header.{is_version}
 use Rattle.spool_areas.proofs.header.is_known.Goals as goal
 
 abbrev are_zeros : List ℕ → Bool
