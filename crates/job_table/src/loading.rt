@@ -117,6 +117,13 @@ impl Loading {
         }
     }
 
+    /// The version of the area that the rows are of.
+    pub fn version(&self) -> Version
+        ensures { result ≡ self.now.progress.state.version }
+    {
+        self.store.version()
+    }
+
     /// Whether no document is short, so that the rows are a whole listing.
     pub fn is_whole(&self) -> bool
         ensures { IsTrue result ↔ IsWhole self.now.progress }

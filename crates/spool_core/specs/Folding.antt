@@ -3,6 +3,7 @@ use Rattle.spool_disk.specs.Disk.{DiskView, ChangesNothing}
 use Rattle.std.specs.Prelude.{◌≡◌, ◌⊎◌, ℕ, ◌+◌, ◌-◌, List, [], ◌∷◌, ◌++◌, length, take, drop, ⊤, Option, Some, None, false}
 use Rattle.spool_types.specs.declared.event.Event.{Event}
 use Rattle.spool_types.specs.declared.listing.Row.{Row}
+use Rattle.spool_types.specs.declared.version.Version.{Version}
 use Rattle.spool_types.specs.State.{State}
 use Rattle.spool_types.specs.Sent.{sent_by}
 use Rattle.job_table.specs.Contents.{Contents, places_of, no_moves, AddsPlaces}
@@ -46,7 +47,7 @@ pub record IsBeyondRows (base : ℕ) (payloads : List (List ℕ)) (c : Contents)
 -- The payloads are rows that lead to this, and the pieces among them lie where it has them.
 pub record AreRows (base : ℕ) (payloads : List (List ℕ)) (l : Loaded) : Type 0 where
   pub begins : Begins payloads l.progress []
-  pub places : (j : ℕ) → places_of l.places j ≡ placed_pieces (base + header_len) begins.rows j
+  pub places : (j : ℕ) → places_of l.places j ≡ placed_pieces l.progress.state.version (base + header_len) begins.rows j
 
 -- what was read so far are these payloads of the area at base
 abbrev pub HasRead : ℕ → Reading → List (List ℕ) → Type 0
@@ -63,16 +64,16 @@ abbrev pub HasNoneNoted : Reading → Type 0
 HasNoneNoted (Rows l) = ⊤
 HasNoneNoted (Events t) = t.moves ≡ no_moves
 
--- the payload is the spelling of this row and of no other
-pub record IsRowIn (payload : List ℕ) (row : Row) : Type 0 where
-  pub spellable : IsRowSpellable row
-  pub spelt : payload ≡ row_spelling row
-  pub only : (other : Row) → IsRowSpellable other → payload ≡ row_spelling other → other ≡ row
+-- in this version the payload is the spelling of this row and of no other
+pub record IsRowIn (version : Version) (payload : List ℕ) (row : Row) : Type 0 where
+  pub spellable : IsRowSpellable version row
+  pub spelt : payload ≡ row_spelling version row
+  pub only : (other : Row) → IsRowSpellable version other → payload ≡ row_spelling version other → other ≡ row
 
 -- the payload is the spelling of this row, or of none
-abbrev pub IsRowOrNone : List ℕ → Option Row → Type 0
-IsRowOrNone payload (Some row) = IsRowIn payload row
-IsRowOrNone payload None = (row : Row) → IsRowSpellable row → payload ≡ row_spelling row → ⊥
+abbrev pub IsRowOrNone : Version → List ℕ → Option Row → Type 0
+IsRowOrNone version payload (Some row) = IsRowIn version payload row
+IsRowOrNone version payload None = (row : Row) → IsRowSpellable version row → payload ≡ row_spelling version row → ⊥
 
 -- numbers that are over stay so
 abbrev pub StayOver : State → State → Type 0
@@ -184,5 +185,6 @@ pub record IsRead {D : Type 0} (v : DiskView D) (old new : Current D) : Type 0 w
   pub base : new.base ≡ old.base
   pub end : new.end ≡ old.end
   pub epoch : new.epoch ≡ old.epoch
+  pub version : new.version ≡ old.version
   pub gate : new.gate ≡ old.gate
   pub disk : ChangesNothing v old.disk new.disk

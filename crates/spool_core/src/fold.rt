@@ -1,7 +1,8 @@
 //! The table that the payloads of an area lead to.
 ghost use Rattle.std.specs.Prelude.{◌≡◌, ◌<◌, ◌≤◌, ◌+◌, ◌^◌, length, List, ℕ, Some, false, ◌∷◌, [], ◌++◌, None, OnOk, IfOk, IfErr, IsErrOf};
 ghost use Rattle.spool_disk.specs.Disk.{Blames};
-ghost use Rattle.spool_areas.specs.Header.{header_len};
+ghost use Rattle.spool_areas.specs.Header.{header_len, IsVersion};
+ghost use Rattle.spool_core.specs.Versions.{number_of};
 ghost use Rattle.spool_areas.specs.Payloads.{gate_after};
 ghost use Rattle.spool_areas.specs.Extents.{payloads_at, Follow};
 ghost use Rattle.job_table.specs.Step.{refusal_of, after};
@@ -17,7 +18,7 @@ use gate_journal::HEAD_LEN;
 use job_table::{LoadFault, Loading, PrepareFault, Table, ended_jobs_stay};
 use spool_areas::{Areas, Extent, OpenFault};
 use spool_disk::Disk;
-use spool_types::{Event, Row};
+use spool_types::{Event, Row, Version};
 use std::alloc::{AllocError, Global};
 
 // What the payloads so far have led to. Rows come first.
@@ -37,6 +38,7 @@ pub(crate) fn fold<D: Disk>(
     gate: u64,
 ) -> Result<Table, OpenFault>
     requires alive { areas.old.dead ≡ false }
+    requires known { IsVersion areas.old.version }
     requires lie { Follow (areas.old.base + header_len) payloads.now areas.old.gate }
     requires inside { areas.old.gate ≤ areas.old.end }
     requires ends { gate ≡ areas.old.gate }
@@ -46,13 +48,15 @@ pub(crate) fn fold<D: Disk>(
     // Also on a disk that tells nothing of its bytes the documents lie behind the header and before the gate.
     ensures lie { IfOk result (λ t. DocumentsLieIn (areas.old.base + header_len) areas.old.gate t) }
     ensures unmoved { IfOk result (λ t. t.moves ≡ no_moves) }
+    ensures version { IfOk result (λ t. areas.old.version ≡ number_of t.state.version) }
     ensures gate { OnOk result ((r : List ℕ) → D.device.bytes areas.old.disk ≡ Some r → areas.old.gate ≡ gate_after areas.old.base (payloads_at r payloads.now)) }
     ensures fault { IfErr result (λ e. (r : List ℕ) → D.device.bytes areas.old.disk ≡ Some r → IsFoldFault areas.old.base payloads.now r e) }
     ensures blames { Blames (D.device.failures areas.old.disk) (D.device.failures areas.new.disk) (IsErrOf result OpenFault.Disk) }
     ensures alive { OnOk result (areas.new.dead ≡ false) }
     ensures same { IsRead D.device areas.old areas.new }
 {
-    let mut reading = Reading::Rows(Loading::new(alloc));
+    let version = version_of(areas.version());
+    let mut reading = Reading::Rows(Loading::new(alloc, version));
     let mut buffer = Vec::new(alloc);
     for extent in payloads {
         match read_payload(areas, &mut buffer, *extent) {
@@ -68,6 +72,18 @@ pub(crate) fn fold<D: Disk>(
         };
     }
     finish(reading, gate)
+}
+
+// The version of this number. There are no others.
+fn version_of(number: u8) -> Version
+    requires { IsVersion number }
+    ensures { number ≡ number_of result }
+{
+    if number == 1 {
+        Version::One
+    } else {
+        Version::Two
+    }
 }
 
 // Reads one payload. The buffer's memory is used again.
@@ -135,7 +151,7 @@ fn take_row(
     ensures fault { IfErr result (λ e. (payloads : List (List ℕ)) → Begins payloads loading.progress [] → IsTakeFault payloads payload.now extent e) }
     ensures never { ¬ (IsErrOf result OpenFault.Disk) }
 {
-    match read_row(alloc, payload) {
+    match read_row(alloc, payload, loading.version()) {
         Ok(Some(row)) => match loading.load(row, extent.place) {
             Ok(()) => Ok(Reading::Rows(loading)),
             Err(LoadFault::Misplaced) => {
@@ -165,11 +181,11 @@ fn take_row(
     }
 }
 
-// The row that is spelled so, if there is one.
-fn read_row(alloc: Global, payload: &[u8]) -> Result<Option<Row>, AllocError>
-    ensures row { IfOk result (IsRowOrNone payload.now) }
+// The row that is spelled so in this version, if there is one.
+fn read_row(alloc: Global, payload: &[u8], version: Version) -> Result<Option<Row>, AllocError>
+    ensures row { IfOk result (IsRowOrNone version payload.now) }
 {
-    match decode_row(alloc, payload) {
+    match decode_row(alloc, payload, version) {
         Ok(row) => Ok(Some(row)),
         Err(CodecFault::Memory) => Err(AllocError),
         Err(CodecFault::Kind) => Ok(None),
