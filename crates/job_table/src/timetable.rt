@@ -1,6 +1,6 @@
 //! The waiting jobs that are to start by a moment, of all queues: the clock cancels those whose moment is over, and looks at
 //! no other job.
-ghost use Rattle.std.specs.Prelude.{◌≡◌, ℕ, ◌+◌, ◌<◌, ◌≤◌, false, true, cond, is_some, Option, Some, IfSome, IfOk, OnOk, OnErr, None, length};
+ghost use Rattle.std.specs.Prelude.{◌≡◌, ℕ, ◌+◌, ◌<◌, ◌≤◌, ◌↔◌, ◌⊎◌, Option, Some, IfSome, IfOk, OnOk, None, length};
 ghost use Rattle.std.specs.Option.{IsNone};
 ghost use Rattle.std.specs.List.{Contains};
 ghost use Rattle.queue_sched.specs.Deadlines.{LacksDeadline, HasEachDeadlineOnce};

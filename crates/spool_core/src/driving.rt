@@ -1,12 +1,12 @@
 //! A list of events, applied in turn.
-ghost use Rattle.std.specs.Prelude.{◌≡◌, ◌<◌, ◌≤◌, ◌+◌, ◌⊎◌, ◌↔◌, List, ℕ, Some, None, Ok, IsSome, IsTrue, false, length, take, OnOk, IfOk, IfErr, IsErrOf, slice_get};
+ghost use Rattle.std.specs.Prelude.{◌≡◌, ◌<◌, ◌≤◌, ◌+◌, ◌⊎◌, ◌↔◌, List, ℕ, Some, None, Ok, IsSome, IsTrue, false, length, take, OnOk, IfOk, IfErr, IsErrOf, slice_get, Option};
 ghost use Rattle.spool_disk.specs.Disk.{Blames, IsSynced, LeavesOnly};
 ghost use Rattle.spool_types.specs.declared.event.Event.{Event};
 ghost use Rattle.spool_types.specs.declared.event.NewJob.{NewJob};
 ghost use Rattle.spool_types.specs.State.{State, Job, job_at};
 ghost use Rattle.job_table.specs.Apart.{IsPart, own_events};
 ghost use Rattle.job_table.specs.Legal.{IsLegal};
-ghost use Rattle.job_table.specs.Step.{refusal_of};
+ghost use Rattle.job_table.specs.Step.{creation, refusal_of};
 ghost use Rattle.job_table.specs.Fold.{after_all, accepted};
 ghost use Rattle.job_table.specs.Ended.{HasEndedJob, subject};
 ghost use Rattle.job_table.specs.Over.{HasOver, late_refusal};
