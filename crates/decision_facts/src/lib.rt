@@ -11,8 +11,8 @@
 //! - [`states`]: what phases, policies, refusals and warnings tell, and which queue is busy (`spool_types`).
 //! - [`verdicts`]: what becomes of a job whose child ended (`backend_codes`).
 //! - [`effects`]: what effects make of a job's pages and of its queue (`row_effects`).
-//! - [`turns`]: which job is next, and which of two jobs or deadlines goes first (`queue_sched`). A fact about `next_in` is one about
-//!   `next_job` by the clauses `tested` and `only` of `order_law`.
+//! - [`turns`]: which job is next, and which of two jobs or deadlines goes first (`queue_sched`). A fact about `next_in` is
+//!   one about `next_job` by the clauses `tested` and `only` of `order_law`.
 //! - [`events`], [`full_stages`] and [`listings`]: which bytes spell which event and which row, and the first fault of others
 //!   (`event_codec`, over the fields of `field_codec`); of rows, in both versions.
 //! - [`options`] and [`children`]: what options say, and what a child is run with (`filter_args`).
