@@ -4,6 +4,7 @@ pub mod Rooms
 pub mod Steps
 pub mod Accepted
 pub mod Changes
+pub mod Clocked
 pub mod Rules
 pub mod Keys
 pub mod Follows
