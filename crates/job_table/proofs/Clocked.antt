@@ -13,7 +13,7 @@ use Rattle.spool_types.specs.declared.phase.Phase.{Phase}
 use Rattle.spool_types.specs.declared.phase.Phase.TheVariants.{Incoming, Waiting, Processing, Completed, Canceled, Aborted}
 use Rattle.spool_types.specs.Phases.{has_ended, is_processing, is_waiting}
 use Rattle.spool_types.specs.State.{State, Job, Jobs, Queues, job_at}
-use Rattle.job_table.specs.Changes.{ended, is_passed, is_late, at_moment, change_found, change_job, change_jobs}
+use Rattle.job_table.specs.Changes.{ended, is_passed, is_late, at_moment, change_found, change_job, change_jobs, at_clock}
 use Rattle.job_table.specs.Legal.{IsLegal, IsLegalJob}
 use Rattle.job_table.proofs.Changes.{same_number}
 
@@ -221,6 +221,10 @@ late_canceled now s j r there late =
     ap (λ o. change_jobs (at_moment now) (change_found s j (ended Canceled) o).jobs) there
     ∙ changed_insert (at_moment now) s.jobs j (ended Canceled r)
     ∙ insert_same (change_jobs (at_moment now) s.jobs) j (ended Canceled r) (job_changed (at_moment now) s.jobs j ∙ ap (option_map (at_moment now)) there ∙ ap Some (at_late now r late))
+
+-- what is there at a moment
+pub clock_job : (s : State) (now j : ℕ) (o : Option Job) → job_at s j ≡ o → job_at (at_clock now s) j ≡ option_map (at_moment now) o
+clock_job s now j o there = job_changed (at_moment now) s.jobs j ∙ ap (option_map (at_moment now)) there
 
 -- a legal table is legal once the moment was told to its jobs
 pub legal_moment : (s : State) (now then : ℕ) → IsLegal s → IsLegal (record s { jobs = change_jobs (at_moment now) s.jobs; moment = then })

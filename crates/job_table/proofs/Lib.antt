@@ -12,6 +12,7 @@ mod RowChanges
 pub mod Legal
 pub mod Ended
 pub mod Reopened
+pub mod Raised
 pub mod Choice
 pub mod Next
 pub mod Stages
