@@ -12,7 +12,7 @@ use Rattle.spool_types.specs.State.{Job}
 use Rattle.backend_codes.specs.declared.verdicts.Verdict.{Verdict}
 use Rattle.backend_codes.specs.declared.verdicts.Verdict.TheVariants as verdicts
 
--- the job keeps its number, its queue and the moment by which it is to start
+-- the job keeps its number, its queue, and the moment by which it is to start
 pub record IsSameJob (r q : Job) : Type 0 where
   pub id : q.id ≡ r.id
   pub queue : q.queue ≡ r.queue

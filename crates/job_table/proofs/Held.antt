@@ -1,25 +1,24 @@
 -- A table over its rows and its lanes.
-use Rattle.std.proofs.Common.{◌≡◌, ℕ, [], Option, None, Result, Ok, refl, sym, ap, subst, ◌∙◌, arith}
+use Rattle.std.proofs.Common.{◌≡◌, ℕ, [], None, Result, Ok, refl, sym, ap, ◌∙◌, arith}
 use Rattle.std.specs.FinMap as finite
 use Rattle.std.specs.Ordering.{nat_cmp}
 use Rattle.std.specs.Cmp.Lexicographic.{slice_cmp}
 use Rattle.std.proofs.lemmas.List.{length-map}
-use Rattle.spool_types.specs.State.{State, nothing_in}
+use Rattle.spool_types.specs.State.{State, nothing}
 use Rattle.spool_types.specs.declared.event.NewJob.{NewJob}
 use Rattle.spool_types.specs.declared.event.Event.{Event}
+use Rattle.spool_types.specs.declared.event.Event.TheVariants.{Create}
 use Rattle.spool_types.specs.declared.event.Reply.{Reply}
 use Rattle.spool_types.specs.declared.rows.QueueRow.{QueueRow}
-use Rattle.spool_types.specs.declared.version.Version.{Version}
 use Rattle.job_table.specs.Changes.{new_job}
 use Rattle.job_table.specs.Ended.{IsAbout, subject}
 use Rattle.job_table.specs.Lanes.{AreLanes}
 use Rattle.job_table.specs.Legal.{IsLegal}
 use Rattle.job_table.specs.Shapes.{Change, NewQueueRow, OfQueue, NewJobRow, OfJob, OfBoth, OfClock, OfAll, subject_of, IsOfOne, made}
-use Rattle.job_table.specs.Step.{creation, change_by, step, answered, refusal_of, after, reply_to}
+use Rattle.job_table.specs.Step.{change_by, step, answered, refusal_of, after, reply_to}
 use Rattle.job_table.proofs.Accepted.{accepted_create}
 use Rattle.job_table.proofs.Moves.{Stays, stays_queue, put_other, put_own}
 use Rattle.job_table.proofs.Seats.{Gains}
-use Rattle.job_table.proofs.Steps.{after_creation}
 
 module _ {X Y : Type 0} where
   pub ok_same : (x z : X) (r : Result X Y) → r ≡ Ok x → r ≡ Ok z → x ≡ z
@@ -32,9 +31,9 @@ stepped s e t r none is =
     (ap (λ p. p.0) both, ap (λ p. p.1) both)
 
 -- no lanes beside no queues
-pub no_lanes : (version : Version) (v : ℕ) → AreLanes (nothing_in version) v []
-no_lanes version v = record {
-  count = sym (length-map (finite.entries (nothing_in version).queues) (λ e. e.0) ∙ sym (finite.len-entries (nothing_in version).queues) ∙ finite.len-empty (slice_cmp nat_cmp) QueueRow);
+pub no_lanes : (v : ℕ) → AreLanes nothing v []
+no_lanes v = record {
+  count = sym (length-map (finite.entries nothing.queues) (λ e. e.0) ∙ sym (finite.len-entries nothing.queues) ∙ finite.len-empty (slice_cmp nat_cmp) QueueRow);
   each = λ i k d lt. absurd (omega (arith, lt));
 }
 
@@ -52,11 +51,11 @@ pub stays_about : (s : State) (e : Event) → IsAbout e → subject e ≡ None �
 stays_about s e about none = stays_by s (change_by e) about none
 
 -- a new job is none that was there
-pub created : (s : State) → IsLegal s → (n : NewJob) (by : Option ℕ) → refusal_of s (creation n by) ≡ None → Gains s (after s (creation n by)) n.job (new_job n by)
-created s legal n by accepted = subst (λ t. Gains s t n.job (new_job n by)) (sym (after_creation s n by)) (record {
+pub created : (s : State) → IsLegal s → (n : NewJob) → refusal_of s (Create n) ≡ None → Gains s (after s (Create n)) n.job (new_job n)
+created s legal n accepted = record {
   names = refl;
   moment = refl;
-  others = λ k other. put_other s n.job (new_job n by) k other;
-  absent = legal.numbers n.job (accepted_create s n by accepted);
-  there = put_own s n.job (new_job n by);
-})
+  others = λ k other. put_other s n.job (new_job n) k other;
+  absent = legal.numbers n.job (accepted_create s n accepted);
+  there = put_own s n.job (new_job n);
+}
