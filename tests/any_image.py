@@ -13,7 +13,7 @@ or it has to give that table: in the replies to `jobs` and `queues`, in a round 
 each queue, and ends it by the queue's policy), in the answers to `createby` before and after a checkpoint, and, byte for byte, in
 what all these and the opening leave of the file.
 
-The last line is `N passed`, with how many files had a table, and status 0; or the first difference, with status 1: the file is
+The last line is `N passed`, with how many files had a table, in either version, and status 0; or the first difference, with status 1: the file is
 kept and named then. 10,000 files take a few minutes.
 """
 import os
@@ -34,8 +34,9 @@ COUNT = 10_000
 SECONDS = 60
 MOST_CHANGES = 3
 
-# Each kind of change has to lead to a table, and to a fault, in so many of a hundred files at least.
+# The changes have to lead to a table, and to a fault, in so many of a hundred files at least, and in so many to a table of version 1.
 LEAST_SHARE = 15
+LEAST_OLD_SHARE = 5
 
 BY = 3_000
 CREATE_BY = f'createby hall u "" 1 50 "" {BY}'
@@ -414,24 +415,25 @@ def some_file(spools, chance):
 # ---- what the program makes of a file
 
 def wanted_of(file):
-    """The lines of the replies, the standard error, the status, and the file that is left."""
+    """The lines of the replies, the standard error, the status, the file that is left, and the version of a table."""
     try:
         it = model.opened(file)
     except model.Fault as fault:
-        return [], f"spool: {fault}\n", 1, file
+        return [], f"spool: {fault}\n", 1, file, None
+    version = it.table.version
     lines = it.table.jobs_reply() + it.table.queues_reply()
     lines.append(model.round_without_programs(it))
     lines += it.table.jobs_reply() + it.table.queues_reply()
     lines += [model.created_by(it, "hall", BY), model.checkpointed(it), model.created_by(it, "hall", BY)]
-    return lines, "", 0, it.file
+    return lines, "", 0, it.file, version
 
 
 def check(shell, root, file):
-    """Whether the file has a table. Refuses what the program does otherwise."""
+    """The version of the file's table, if it has one. Refuses what the program does otherwise."""
     path = os.path.join(root, "spool.disk")
     with open(path, "wb") as out:
         out.write(file)
-    lines, errors, status, left = wanted_of(file)
+    lines, errors, status, left, version = wanted_of(file)
     done = serve(shell, root, "".join(f"{command}\n" for command in COMMANDS))
     with open(path, "rb") as found:
         is_left = found.read() == left
@@ -440,7 +442,7 @@ def check(shell, root, file):
         raise Difference(f"{got} in place of {(lines, errors, status)}")
     if not is_left:
         raise Difference(f"another file is left than the model's, after {lines}")
-    return status == 0
+    return version
 
 
 def main():
@@ -453,7 +455,7 @@ def main():
     count = numbers[1] if len(numbers) > 1 else COUNT
     # In memory, where a sync takes no time.
     folder = tempfile.mkdtemp(prefix="any-", dir="/dev/shm" if os.path.isdir("/dev/shm") else None)
-    tables = 0
+    versions = []
     file, names, turn = b"", ["the real spools"], 0
     try:
         spools = real_spools(shell, folder)
@@ -462,11 +464,11 @@ def main():
         os.mkdir(root)
         for spool in spools:
             file = spool
-            if not check(shell, root, spool):
+            if check(shell, root, spool) is None:
                 raise Difference("a real spool has no table")
         for turn in range(count):
             file, names = some_file(spools, random.Random(f"{seed} {turn}"))
-            tables += check(shell, root, file)
+            versions.append(check(shell, root, file))
     except (Difference, subprocess.TimeoutExpired) as difference:
         kept = os.path.join(tempfile.gettempdir(), f"image-{seed}-{turn}")
         with open(kept, "wb") as out:
@@ -475,10 +477,11 @@ def main():
         sys.exit(1)
     finally:
         shutil.rmtree(folder)
-    share = 100 * tables // count
-    print(f"seed {seed}: {tables} files with a table, {count - tables} with a fault")
-    if count >= 1_000 and not LEAST_SHARE <= share <= 100 - LEAST_SHARE:
-        sys.exit(f"too few of one kind: the changes show little")
+    tables, old = count - versions.count(None), versions.count(1)
+    print(f"seed {seed}: {tables} files with a table, {old} of them of version 1, {count - tables} with a fault")
+    share, old_share = 100 * tables // count, 100 * old // count
+    if count >= 1_000 and not (LEAST_SHARE <= share <= 100 - LEAST_SHARE and LEAST_OLD_SHARE <= old_share):
+        sys.exit("too few of one kind: the changes show little")
     print(f"{count} passed")
 
 
