@@ -30,6 +30,7 @@ pub mod Reloaded
 pub mod Names
 pub mod Moves
 pub mod Lanes
+pub mod Timely
 pub mod Seats
 pub mod Indexed
 pub mod Busy

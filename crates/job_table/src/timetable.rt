@@ -3,10 +3,10 @@
 ghost use Rattle.std.specs.Prelude.{◌≡◌, ℕ, ◌+◌, ◌<◌, ◌≤◌, ◌↔◌, ◌⊎◌, Option, Some, IfSome, IfOk, OnOk, None, length};
 ghost use Rattle.std.specs.Option.{IsNone};
 ghost use Rattle.std.specs.List.{Contains};
-ghost use Rattle.queue_sched.specs.Deadlines.{LacksDeadline, HasEachDeadlineOnce};
+ghost use Rattle.queue_sched.specs.Deadlines.{HasEachDeadlineOnce};
 ghost use Rattle.queue_sched.specs.declared.deadlines.Deadline.{Deadline as AnyDeadline};
 ghost use Rattle.spool_types.specs.State.{Job as AnyJob};
-ghost use Rattle.job_table.specs.Timely.{deadline_of, deadline_found, has_by, IsTimely, IsRetimed, MayRetime};
+ghost use Rattle.job_table.specs.Timely.{deadline_of, deadline_found, IsTimely, IsRetimed, MayRetime};
 
 use queue_sched::{Deadline, Deadlines};
 use spool_types::{Job, JobId, Moment, Phase};
@@ -74,6 +74,8 @@ impl Timetable {
         ensures timed { self.new.timed ≡ self.old.timed + 1 }
         ensures deadlines { self.new.deadlines ≡ self.old.deadlines }
     {
+        let has_room = self.timed < self.deadlines.room();
+        prove!(has_room);
         self.timed += 1;
     }
 
@@ -87,7 +89,9 @@ impl Timetable {
         match (from, to) {
             (Some(deadline), None) => self.deadlines.remove(deadline),
             (None, Some(deadline)) => self.list(deadline),
-            _ => {}
+            // It is the same one.
+            (Some(_), Some(_)) => {}
+            (None, None) => {}
         }
     }
 
