@@ -32,6 +32,7 @@ pub mod Moves
 pub mod Lanes
 pub mod Timely
 pub mod Seats
+pub mod Retimed
 pub mod Indexed
 pub mod Busy
 pub mod Held
