@@ -15,7 +15,7 @@ use Rattle.job_table.proofs.Timely.{deadline_own}
 
 -- deadlines of one moment and one number are the same
 same_parts : (d e : Deadline) → d.by ≡ e.by → d.id ≡ e.id → d ≡ e
-same_parts d e by id = cc
+same_parts d e by id = λ i. record { by = by i; id = id i }
 
 some_moment : (a b : ℕ) → Some a ≡ Some b → a ≡ b
 some_moment a b is = cc
@@ -23,7 +23,7 @@ some_moment a b is = cc
 -- ## A job moves
 
 module _ (s t : State) (legal : IsLegal t) (j : ℕ) (moves : Moves s t j) (r : Job) (there : job_at s j ≡ Some r) where
-  moved : Job
+  abbrev moved : Job
   moved = (moves.own r there).0
 
   moved_there : job_at t j ≡ Some moved
