@@ -1,5 +1,5 @@
 -- A table over its rows and its lanes.
-use Rattle.std.proofs.Common.{◌≡◌, ℕ, [], Option, None, Some, Result, Ok, refl, sym, ap, subst, ◌∙◌, arith}
+use Rattle.std.proofs.Common.{◌≡◌, ℕ, ◌<◌, [], Option, None, Some, Result, Ok, refl, sym, ap, subst, ◌∙◌, arith}
 use Rattle.std.specs.FinMap as finite
 use Rattle.std.specs.Ordering.{nat_cmp}
 use Rattle.std.specs.Cmp.Lexicographic.{slice_cmp}
@@ -10,7 +10,7 @@ use Rattle.spool_types.specs.declared.event.Event.{Event}
 use Rattle.spool_types.specs.declared.event.Reply.{Reply}
 use Rattle.spool_types.specs.declared.rows.QueueRow.{QueueRow}
 use Rattle.job_table.specs.Changes.{new_job}
-use Rattle.job_table.specs.Contents.{Contents}
+use Rattle.job_table.specs.Contents.{Contents, Room, HasRoom}
 use Rattle.job_table.specs.Ended.{IsAbout, subject}
 use Rattle.job_table.specs.Held.{IsInLanes}
 use Rattle.job_table.specs.Lanes.{AreLanes}
@@ -93,3 +93,8 @@ created s legal n by accepted = subst (λ t. Gains s t n.job (new_job n by)) (sy
     made_by : (s : State) (n : NewJob) (by : Option ℕ) → after s (creation n by) ≡ made s (NewJobRow (new_job n by))
     made_by s n None = refl
     made_by s n (Some by) = refl
+
+-- there is room for it
+pub creation_room : (room : Room) (n : NewJob) (by : Option ℕ) → HasRoom room (creation n by) → 0 < room.jobs
+creation_room room n None has = has
+creation_room room n (Some by) has = has

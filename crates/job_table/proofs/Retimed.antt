@@ -68,10 +68,10 @@ module _ (s t : State) (legal : IsLegal t) (j : ℕ) (moves : Moves s t j) (r : 
 
 -- ## A job comes
 
-pub gained_admitted : (s t : State) (j : ℕ) (q : Job) → Gains s t j q → is_waiting q.phase ≡ false → IsAdmitted (job_at s) (job_at t) j q.by
+pub gained_admitted : (s t : State) (j : ℕ) (q : Job) → Gains s t j q → is_waiting q.phase ≡ false → IsAdmitted (job_at s) (job_at t) j (is_some q.by)
 gained_admitted s t j q gains idle = record {
   absent = gains.absent;
   own = ap deadline_found gains.there ∙ ap (λ b. cond b (option_map (λ by. record { by = by; id = q.id }) q.by) None) idle;
-  timed = ap has_by gains.there;
+  by = ap has_by gains.there;
   others = gains.others;
 }

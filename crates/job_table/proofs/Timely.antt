@@ -147,7 +147,7 @@ timely_as old new t same is = record {
   room = is.room;
 }
 
-module _ (old new : ℕ → Option Job) (j : ℕ) (t : Timetable) (is : IsTimely old t) (by : Option ℕ) (admitted : IsAdmitted old new j by) where
+module _ (old new : ℕ → Option Job) (j : ℕ) (t : Timetable) (is : IsTimely old t) (timed : Bool) (admitted : IsAdmitted old new j timed) where
   same_deadlines : (k : ℕ) → deadline_found (new k) ≡ deadline_found (old k)
   same_deadlines k = elim (cases_eq k j) [
     | inl own ↦ ap (λ i. deadline_found (new i)) own ∙ admitted.own ∙ sym (ap (λ i. deadline_found (old i)) own ∙ ap deadline_found admitted.absent)
@@ -158,11 +158,11 @@ module _ (old new : ℕ → Option Job) (j : ℕ) (t : Timetable) (is : IsTimely
   others_timed k other = ap has_by (admitted.others k other)
 
   -- it is to start by no moment
-  pub admitted_free : is_some by ≡ false → IsTimely new t
+  pub admitted_free : timed ≡ false → IsTimely new t
   admitted_free free = record {
     only = λ d there. same_deadlines d.id ∙ is.only d there;
     listed = λ k d at. is.listed k d (sym (same_deadlines k) ∙ at);
-    few = as_many (λ k. has_by (old k)) (λ k. has_by (new k)) j t.timed is.few others_timed (admitted.timed ∙ free);
+    few = as_many (λ k. has_by (old k)) (λ k. has_by (new k)) j t.timed is.few others_timed (admitted.by ∙ free);
     room = is.room;
   }
 

@@ -68,14 +68,14 @@ impl Timetable {
         self.deadlines.first_before(moment)
     }
 
-    /// A new job comes in, which is to start by a moment if one is told, and doesn't wait yet. It takes no memory.
-    pub(crate) fn admit(&mut self, by: Option<Moment>)
+    /// A new job comes in that doesn't wait yet. It is told whether it is to start by a moment. It takes no memory.
+    pub(crate) fn admit(&mut self, timed: bool)
         requires room { self.old.timed < self.old.deadlines.room }
-        ensures timely { (old new : ℕ → Option AnyJob) (j : ℕ) → IsTimely old self.old → IsAdmitted old new j by → IsTimely new self.new }
+        ensures timely { (old new : ℕ → Option AnyJob) (j : ℕ) → IsTimely old self.old → IsAdmitted old new j timed → IsTimely new self.new }
         ensures timed { self.new.timed ≤ self.old.timed + 1 }
         ensures room { self.new.deadlines.room ≡ self.old.deadlines.room }
     {
-        if by.is_some() {
+        if timed {
             let has_room = self.timed < self.deadlines.room();
             prove!(has_room);
             self.timed += 1;
