@@ -65,6 +65,10 @@ held_same a store same is = held_stays a store
     })
     (subst IsLegal (sym same) is.legal) is
 
+-- a moment changes no row
+pub legal_then : (s : State) (then : ℕ) → IsLegal s → IsLegal (record s { moment = then })
+legal_then s then legal = record { few_queues = legal.few_queues; names = legal.names; in_order = legal.in_order; numbers = legal.numbers; jobs = legal.jobs; one_processing = legal.one_processing }
+
 -- an event about a queue that is there leaves the jobs
 stays_by : (s : State) (change : Change) → IsOfOne change → subject_of change ≡ None → Stays s (made s change)
 stays_by s (OfQueue name f) about none = stays_queue s name f

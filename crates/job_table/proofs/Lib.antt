@@ -33,6 +33,7 @@ pub mod Lanes
 pub mod Timely
 pub mod Seats
 pub mod Retimed
+pub mod Late
 pub mod Indexed
 pub mod Busy
 pub mod Held

@@ -31,6 +31,11 @@ deadline_own r d is = by_phase (is_waiting r.phase) r.by refl is
     by_phase true (Some by) waits same = (refl, made by same)
     by_phase false o waits same = absurd (cc)
 
+pub deadline_made : (r : Job) (by : ℕ) → is_waiting r.phase ≡ true → r.by ≡ Some by → deadline_of r ≡ Some (record { by = by; id = r.id })
+deadline_made r by waits is =
+    ap (λ b. cond b (option_map (λ m. record { by = m; id = r.id }) r.by) None) waits
+    ∙ ap (option_map (λ m. record { by = m; id = r.id })) is
+
 pub deadline_timed : (o : Option Job) (d : Deadline) → deadline_found o ≡ Some d → has_by o ≡ true
 deadline_timed None d is = absurd (cc)
 deadline_timed (Some r) d is = ap is_some (deadline_own r d is).1.0
