@@ -30,7 +30,10 @@ pub mod Reloaded
 pub mod Names
 pub mod Moves
 pub mod Lanes
+pub mod Timely
 pub mod Seats
+pub mod Retimed
+pub mod Late
 pub mod Indexed
 pub mod Busy
 pub mod Held

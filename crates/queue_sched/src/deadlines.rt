@@ -101,6 +101,13 @@ impl Deadlines {
         self.items.len()
     }
 
+    /// How many fit with no further memory.
+    pub fn room(&self) -> usize
+        ensures { result ≡ self.now.room }
+    {
+        self.room
+    }
+
     /// Makes room for so many in all. The list is doubled at least where it grows, as `VecDeque::reserve` does it. A fault
     /// changes nothing.
     pub fn reserve(&mut self, count: usize) -> Result<(), AllocError>
