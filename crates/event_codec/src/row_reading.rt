@@ -338,11 +338,7 @@ fn job_row(created: NewJob, state: JobState, by: Option<Moment>) -> Job
 }
 
 #[tactic(auto, unfolding(crate::specs::RowReading::listed_job_at))]
-fn listed_job_at(
-    alloc: Global,
-    version: Version,
-    bytes: &[u8],
-) -> Result<(Job, &[u8]), CodecFault>
+fn listed_job_at(alloc: Global, version: Version, bytes: &[u8]) -> Result<(Job, &[u8]), CodecFault>
     ensures read { Gives (λ x. (x.0, x.1.now)) result (listed_job_at version bytes.now) }
     ensures memory { IfErr result (MemoryOnly (job_row_copies bytes.now)) }
 {
