@@ -163,7 +163,7 @@ at_kept now r timely = ap (λ b. cond b (ended Canceled r) r) timely
 pub at_late : (now : ℕ) (r : Job) → is_late now r ≡ true → at_moment now r ≡ ended Canceled r
 at_late now r late = ap (λ b. cond b (ended Canceled r) r) late
 
-ended_waits_not : (p : Phase) → has_ended p ≡ true → is_waiting p ≡ false
+pub ended_waits_not : (p : Phase) → has_ended p ≡ true → is_waiting p ≡ false
 ended_waits_not (Incoming hold) over = refl
 ended_waits_not (Waiting hold not_before first) over = absurd (cc)
 ended_waits_not (Processing attempt stage stages) over = refl

@@ -32,6 +32,8 @@ pub mod Moves
 pub mod Lanes
 pub mod Timely
 pub mod Seats
+pub mod Retimed
+pub mod Late
 pub mod Indexed
 pub mod Busy
 pub mod Held

@@ -32,6 +32,13 @@ pub record IsTimely (jobs : ℕ → Option Job) (t : Timetable) : Type 0 where
   pub few : AtMost (λ j. has_by (jobs j)) t.timed
   pub room : t.timed ≤ t.deadlines.room
 
+-- a job comes in that doesn't wait, and may be one that is to start by a moment
+pub record IsAdmitted (old new : ℕ → Option Job) (j : ℕ) (timed : Bool) : Type 0 where
+  pub absent : old j ≡ None
+  pub own : deadline_found (new j) ≡ None
+  pub by : has_by (new j) ≡ timed
+  pub others : (k : ℕ) → ¬ (k ≡ j) → new k ≡ old k
+
 -- one job has this deadline, and all others have theirs as before; each is to start by a moment as before
 pub record IsRetimed (old new : ℕ → Option Job) (j : ℕ) (to : Option Deadline) : Type 0 where
   pub own : deadline_found (new j) ≡ to
