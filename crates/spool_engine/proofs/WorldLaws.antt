@@ -23,6 +23,7 @@ use Rattle.print_rounds.specs.Counts.{AreAcknowledged}
 use Rattle.print_rounds.specs.Courses.{Course}
 use Rattle.print_rounds.specs.Rounds.{events_in}
 use Rattle.print_rounds.specs.World.{IsEndedSlot, IsCallTurn}
+use Rattle.print_rounds.proofs.PrefixLaws.{after_both}
 use Rattle.spool_engine.specs.EventTurns.{listed, tried_as, is_checkpoint, Setting, Outcome, served, no_memory, full, disk, dead, unread, unreadable, unlisted, IsTaken, IsLeft, IsServedBy, IsOutcome}
 use Rattle.spool_engine.specs.Rounds.{Ran, IsRoundWith, IsRan, AreRan, AreRunBy}
 use Rattle.spool_engine.specs.Runs.{tried_by, tried_in, Turn, How, answered as replied, ran, event_turn, IsHow, IsHeld as HasSlotsOf, KeepVersion, AreTurns, commands_in, last_course}
@@ -142,40 +143,40 @@ module _ {D : Type 0} (laws : Laws D) (t : Told) (quiet : t.running ≡ []) wher
   behind_left raises s events s' k legal (inr (raised_it, none, is)) now = inl (subst (λ u. IsIn u k) (sym is) (in_raised s k now))
 
   -- events without a round: the slots are as they were
+  pub plain_call : (old new : Course D) (raises : Bool) (events : List Event) → IsLegal old.spool.state → old.told ≡ Some t → AreAccepted old.spool.state events → IsBehind raises old.spool.state events new.spool.state
+      → HasSlotsOf old new → (old.spool.dead ≡ true → new.spool.dead ≡ true) → (c : IsCallTurn t old events new) × (c.now.running ≡ [])
+  plain_call old new raises events legal tells taken behind held over = (
+    record {
+      now = t;
+      tells = held.told ∙ tells;
+      orders = [];
+      added = sym (append-nil t.orders);
+      turn = record {
+        legal = legal;
+        accepted = (laws.rises old.spool.state events taken).0;
+        table = behind_raised raises old.spool.state events new.spool.state taken behind;
+        distinct = tt;
+        outside = λ k among. absurd among;
+        reached = λ k among. absurd among;
+        settled = λ alive k some. elim some [
+          | inl before ↦ elim (behind_left raises old.spool.state events new.spool.state k legal behind before.0) [
+            | inl still ↦ inl (still, subst (λ m. IsEndedSlot m k) (sym held.slots) before.1)
+            | inr gone ↦ inr gone
+          ]
+          | inr none ↦ absurd none
+        ];
+      };
+      after_over = λ died. (refl, over died);
+    },
+    quiet,
+  )
+
   plain_with : (old new : Course D) (raises : Bool) (events tried : List Event) → IsLegal old.spool.state → old.told ≡ Some t → AreAccepted old.spool.state events → IsBehind raises old.spool.state events new.spool.state
       → HasSlotsOf old new → (old.spool.dead ≡ true → new.spool.dead ≡ true)
       → ((acknowledged : List Event) × AreAcknowledged new.spool.dead tried acknowledged × (events ≡ accepted old.spool.state acknowledged)) → (old.spool.dead ≡ true → tried ≡ []) → IsTurned t old raises tried new
-  plain_with old new raises events tried legal tells taken behind held over acknowledged none = record {
-    turn = (
-      events,
-      record {
-        now = t;
-        tells = held.told ∙ tells;
-        orders = [];
-        added = sym (append-nil t.orders);
-        turn = record {
-          legal = legal;
-          accepted = (laws.rises old.spool.state events taken).0;
-          table = behind_raised raises old.spool.state events new.spool.state taken behind;
-          distinct = tt;
-          outside = λ k among. absurd among;
-          reached = λ k among. absurd among;
-          settled = λ alive k some. elim some [
-            | inl before ↦ elim (behind_left raises old.spool.state events new.spool.state k legal behind before.0) [
-              | inl still ↦ inl (still, subst (λ m. IsEndedSlot m k) (sym held.slots) before.1)
-              | inr gone ↦ inr gone
-            ]
-            | inr none ↦ absurd none
-          ];
-        };
-        after_over = λ died. (refl, over died);
-      },
-      quiet,
-      acknowledged,
-      none,
-    );
-    behind = behind;
-  }
+  plain_with old new raises events tried legal tells taken behind held over acknowledged none =
+      let one = plain_call old new raises events legal tells taken behind held over in
+      record { turn = (events, one.0, one.1, acknowledged, none); behind = behind }
 
   -- all of them were acknowledged
   plain_turn : (old new : Course D) (raises : Bool) (events : List Event) → IsLegal old.spool.state → old.told ≡ Some t → AreAccepted old.spool.state events → IsBehind raises old.spool.state events new.spool.state
@@ -247,7 +248,9 @@ module _ {D : Type 0} (laws : Laws D) (t : Told) (quiet : t.running ≡ []) wher
   same_turn old new raises legal tells same = still_turn old new raises legal tells (ap (λ (c : Course D). c.spool) same) (record { slots = ap (λ (c : Course D). c.slots) same; told = ap (λ (c : Course D). c.told) same })
 
   pub same_call : (old : Course D) → IsLegal old.spool.state → old.told ≡ Some t → IsQuietCall t old old
-  same_call old legal tells = let one = (same_turn old old false legal tells refl).turn in (one.0, one.1, one.2)
+  same_call old legal tells =
+      let one = plain_call old old false [] legal tells tt (inl refl) (record { slots = refl; told = refl }) (λ died. died) in
+      ([], one.0, one.1)
 
   -- what is told after a round, whose children have all been finished
   pub quiet_after : (v : Setting D) (old : Course D) (r : Ran D) → IsRan v old r → old.told ≡ Some t → (now : Told) → r.next.told ≡ Some now → now.running ≡ []
@@ -375,8 +378,8 @@ module _ {D : Type 0} (laws : Laws D) where
 
   pub turns_turn : (v : Setting D) (turns : List (Turn D)) (t : Told) → t.running ≡ [] → (old : Course D) → IsLegal old.spool.state → old.told ≡ Some t → AreTurns v old turns → IsQuietRun t v.mime old turns
   turns_turn v [] t quiet old legal tells are =
-      let one = (same_turn laws t quiet old old false legal tells refl).turn in
-      (one.0, one.1, one.2, ([], inl refl, (refl, refl), λ keeps. refl), λ died. refl)
+      let one = plain_call laws t quiet old old false [] legal tells tt (inl refl) (record { slots = refl; told = refl }) (λ died. died) in
+      ([], one.0, one.1, ([], inl refl, (refl, refl), λ keeps. refl), λ died. refl)
   turns_turn v (turn ∷ turns) t quiet old legal tells (first, others) =
       let one = how_behind v t quiet old turn turn.how legal tells first.how in
       let c = one.turn.1 in
