@@ -4,7 +4,7 @@ use Rattle.std.specs.Prelude.{nat_le}
 use Rattle.std.specs.FinMap as finite
 use Rattle.spool_types.specs.declared.effect.Effect.{Effect}
 use Rattle.spool_types.specs.declared.event.Event.{Event}
-use Rattle.spool_types.specs.declared.event.Event.TheVariants.{AddQueue, Info, SetAccept, SetStop, Create, CreateBy, Send, Close, Hold, Release, Cancel, Clock, Start, Stage, Abandon, Reopen}
+use Rattle.spool_types.specs.declared.event.Event.TheVariants.{Reopen}
 use Rattle.spool_types.specs.declared.refusal.Refusal.{Refusal}
 use Rattle.spool_types.specs.declared.refusal.Refusal.TheVariants.{NotAccepting, OldNumber, NoNumberLeft, NeedsCheckpoint}
 use Rattle.spool_types.specs.declared.rows.QueueRow.{QueueRow}
@@ -88,22 +88,8 @@ record AsksNone (s : State) (e : Event) : Type 0 where
   reply : (t : State) → (row e).reply (raised s) (raised t) ≡ (row e).reply s t
 
 asks_none : (s : State) (e : Event) → AsksNone s e
-asks_none s (AddQueue q) = record { own = refl; reply = λ t. refl }
-asks_none s (Info notes) = record { own = refl; reply = λ t. refl }
-asks_none s (SetAccept queue accepting) = record { own = refl; reply = λ t. refl }
-asks_none s (SetStop queue stopped) = record { own = refl; reply = λ t. refl }
-asks_none s (Create n) = record { own = refl; reply = λ t. refl }
-asks_none s (CreateBy n by) = record { own = refl; reply = λ t. refl }
-asks_none s (Send j bytes) = record { own = refl; reply = λ t. refl }
-asks_none s (Close c) = record { own = refl; reply = λ t. refl }
-asks_none s (Hold j until) = record { own = refl; reply = λ t. refl }
-asks_none s (Release j) = record { own = refl; reply = λ t. refl }
-asks_none s (Cancel j) = record { own = refl; reply = λ t. refl }
-asks_none s (Clock m) = record { own = refl; reply = λ t. refl }
-asks_none s (Start j) = record { own = refl; reply = λ t. refl }
-asks_none s (Stage e) = record { own = refl; reply = λ t. refl }
-asks_none s (Abandon j) = record { own = refl; reply = λ t. refl }
 asks_none s Reopen = record { own = refl; reply = λ t. refl }
+asks_none s e = record { own = refl; reply = λ t. refl }
 
 -- in the newest version each job may be told a moment
 lacks_none : (by : Option ℕ) → lacks_by Two by ≡ false
