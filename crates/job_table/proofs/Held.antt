@@ -21,6 +21,7 @@ use Rattle.job_table.specs.declared.table.Table.TheInside.{Inside}
 use Rattle.job_table.proofs.Accepted.{accepted_create}
 use Rattle.job_table.proofs.Moves.{Stays, stays_queue, put_other, put_own}
 use Rattle.job_table.proofs.Seats.{Gains, lanes_stay}
+use Rattle.job_table.proofs.Steps.{after_creation}
 use Rattle.job_table.proofs.Timely.{timely_as}
 
 module _ {X Y : Type 0} where
@@ -86,17 +87,13 @@ stays_about s e about none = stays_by s (change_by e) about none
 
 -- a new job is none that was there
 pub created : (s : State) → IsLegal s → (n : NewJob) (by : Option ℕ) → refusal_of s (creation n by) ≡ None → Gains s (after s (creation n by)) n.job (new_job n by)
-created s legal n by accepted = subst (λ t. Gains s t n.job (new_job n by)) (sym (made_by s n by)) (record {
+created s legal n by accepted = subst (λ t. Gains s t n.job (new_job n by)) (sym (after_creation s n by)) (record {
   names = refl;
   moment = refl;
   others = λ k other. put_other s n.job (new_job n by) k other;
   absent = legal.numbers n.job (accepted_create s n by accepted);
   there = put_own s n.job (new_job n by);
 })
-  where
-    made_by : (s : State) (n : NewJob) (by : Option ℕ) → after s (creation n by) ≡ made s (NewJobRow (new_job n by))
-    made_by s n None = refl
-    made_by s n (Some by) = refl
 
 -- there is room for it
 pub creation_room : (room : Room) (n : NewJob) (by : Option ℕ) → HasRoom room (creation n by) → 0 < room.jobs

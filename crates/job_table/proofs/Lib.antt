@@ -39,6 +39,7 @@ pub mod Busy
 pub mod Held
 pub mod Drafts
 pub mod Begun
+pub mod Gathered
 pub mod Part
 pub mod PartNext
 pub mod PartLoss

@@ -1,5 +1,5 @@
 -- The timetable of the jobs of a table, and what it is once a job has another deadline.
-use Rattle.std.proofs.Common.{◌≡◌, ℕ, ◌+◌, ◌<◌, ◌≤◌, ◌⊎◌, inl, inr, Bool, true, false, cond, [], ◌∷◌, length, map, Option, Some, None, refl, sym, ap, subst, ◌∙◌, arith, rules}
+use Rattle.std.proofs.Common.{◌≡◌, ℕ, ◌+◌, ◌<◌, ◌≤◌, ◌⊎◌, inl, inr, Bool, true, false, cond, List, [], ◌∷◌, length, map, Option, Some, None, refl, sym, ap, subst, ◌∙◌, arith, rules}
 use Rattle.std.specs.Prelude.{◌↔◌, is_some}
 use Rattle.std.specs.Option.{option_map}
 use Rattle.std.specs.List.{Contains, AllPairs, AllByRecursion}
@@ -10,7 +10,7 @@ use Rattle.spool_types.specs.State.{Job}
 use Rattle.queue_sched.specs.Deadlines.{Limits, InTurn, LacksDeadline, comes_before}
 use Rattle.queue_sched.specs.declared.deadlines.Deadline.{Deadline}
 use Rattle.job_table.specs.Lanes.{AtMost}
-use Rattle.job_table.specs.Timely.{deadline_of, deadline_found, has_by, IsAdmitted, IsTimely, IsRetimed}
+use Rattle.job_table.specs.Timely.{deadline_of, deadline_found, has_by, unsorted, IsAdmitted, IsTimely, IsRetimed}
 use Rattle.job_table.specs.declared.timetable.Timetable.{Timetable}
 use Rattle.job_table.proofs.Lanes.{all_from, all_numbers, apart_in_order, as_many, differ_numbers, no_more, none_pass, one_more}
 
@@ -140,6 +140,17 @@ no_deadlines l none jobs absent = record {
   where
     nothing : (d : Deadline) → Contains [] d → ⊥
     nothing d there = omega (arith, there.1)
+
+-- ## Deadlines in order
+
+pub sorted_timely : (items : List Deadline) (timed : ℕ) (l : Limits) → ((d : Deadline) → Contains l.items d ↔ Contains items d) → timed ≤ l.room
+    → (jobs : ℕ → Option Job) → IsTimely jobs (unsorted items timed) → IsTimely jobs (record { deadlines = l; timed = timed })
+sorted_timely items timed l same room jobs is = record {
+  only = λ d there. is.only d ((same d).0 there);
+  listed = λ j d at. (let listed = is.listed j d at in (listed.0, (same d).1 listed.1));
+  few = is.few;
+  room = room;
+}
 
 -- ## A job comes in
 

@@ -6,7 +6,7 @@ ghost use Rattle.std.specs.List.{Contains};
 ghost use Rattle.queue_sched.specs.Deadlines.{HasEachDeadlineOnce};
 ghost use Rattle.queue_sched.specs.declared.deadlines.Deadline.{Deadline as AnyDeadline};
 ghost use Rattle.spool_types.specs.State.{Job as AnyJob};
-ghost use Rattle.job_table.specs.Timely.{deadline_of, deadline_found, IsAdmitted, IsTimely, IsRetimed, MayRetime};
+ghost use Rattle.job_table.specs.Timely.{deadline_of, deadline_found, unsorted, IsAdmitted, IsTimely, IsRetimed, MayRetime};
 
 use queue_sched::{Deadline, Deadlines};
 use spool_types::{Job, JobId, Moment, Phase};
@@ -39,9 +39,7 @@ impl Timetable {
     ) -> Result<Timetable, AllocError>
         requires once { HasEachDeadlineOnce deadlines.items }
         requires few { length deadlines.items ≤ timed }
-        ensures items { IfOk result (λ t. (d : AnyDeadline) → Contains t.deadlines.items d ↔ Contains deadlines.items d) }
-        ensures timed { IfOk result (λ t. t.timed ≡ timed) }
-        ensures room { IfOk result (λ t. timed ≤ t.deadlines.room) }
+        ensures { IfOk result (λ t. (jobs : ℕ → Option AnyJob) → IsTimely jobs (unsorted deadlines.items timed) → IsTimely jobs t) }
     {
         deadlines.reserve(timed - deadlines.len())?;
         Ok(Timetable {
