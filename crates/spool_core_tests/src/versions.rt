@@ -4,9 +4,9 @@ use crate::indexes::apply;
 use crate::listings::{finished, take_bytes};
 use crate::runs::{finds, told};
 use crate::spelled::{CLOSE, CREATE, QUEUE, bytes_of, event, events, listing, lists};
-use crate::spools::{Device, closed, made_old, open};
+use crate::spools::{Device, closed, drives, made_old, open};
 use job_table::{Loading, PrepareFault, Table};
-use spool_core::{Spool, replay};
+use spool_core::{Ending, Spool, replay};
 use spool_types::{Refusal, Version};
 use std::alloc::Global;
 use std::process::Abort;
@@ -56,9 +56,11 @@ fn a_checkpoint_raises_an_old_spool(rt: HostRuntime) -> Result<(), Fail> {
 // The version of an old spool that is opened again, after an event of its own.
 fn version_again(alloc: Global) -> Result<Version, Fail> {
     let mut spool = open(alloc, made_old(alloc, 512)?, u64::MAX)?;
-    let told = told(alloc, &mut spool, &[QUEUE]);
+    let driven = drives(alloc, &mut spool, &[QUEUE]);
     let disk = closed(spool);
-    told?;
+    if driven? != (1, Ending::End) {
+        return Err(Fail::from("not driven"));
+    }
     let spool = open(alloc, disk, u64::MAX)?;
     let version = spool.table().version();
     drop(spool);
