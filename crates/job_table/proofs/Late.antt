@@ -3,8 +3,7 @@ use Rattle.std.proofs.Common.{◌≡◌, ℕ, zero, suc, ◌+◌, ◌<◌, ◌�
 use Rattle.std.specs.Prelude.{is_none}
 use Rattle.std.specs.FinMap as finite
 use Rattle.std.specs.List.{Contains}
-use Rattle.std.specs.Option.{IsNone}
-use Rattle.std.proofs.lemmas.Bool.{both_ways, cases_eq, cases_lt}
+use Rattle.std.proofs.lemmas.Bool.{both_ways, cases_eq}
 use Rattle.spool_types.specs.declared.event.Event.TheVariants.{Cancel}
 use Rattle.spool_types.specs.declared.phase.Phase.TheVariants.{Canceled}
 use Rattle.spool_types.specs.declared.refusal.Refusal.TheVariants.{NoJob, JobEnded}
@@ -16,7 +15,7 @@ use Rattle.job_table.specs.Legal.{IsLegal}
 use Rattle.job_table.specs.Over.{is_over, is_over_by}
 use Rattle.job_table.specs.Shapes.{passes}
 use Rattle.job_table.specs.Step.{after, first_cause, refusal_of}
-use Rattle.job_table.specs.Timely.{deadline_of, deadline_found, IsTimely}
+use Rattle.job_table.specs.Timely.{deadline_found, IsTimely}
 use Rattle.job_table.specs.declared.timetable.Timetable.{Timetable}
 use Rattle.job_table.proofs.Changes.{at_most_highest}
 use Rattle.job_table.proofs.Clocked.{ended_waits_not, late_canceled, late_from, late_moment, none_late}

@@ -1,5 +1,5 @@
 -- What an event makes of the deadlines of a table's jobs.
-use Rattle.std.proofs.Common.{◌≡◌, ℕ, inl, inr, true, false, cond, Option, Some, None, refl, sym, ap, ◌∙◌}
+use Rattle.std.proofs.Common.{◌≡◌, ℕ, inl, inr, false, cond, Some, None, refl, sym, ap, ◌∙◌}
 use Rattle.std.specs.Prelude.{is_some}
 use Rattle.std.specs.Option.{option_map}
 use Rattle.std.proofs.lemmas.Bool.{cases_eq}
@@ -7,7 +7,7 @@ use Rattle.spool_types.specs.Phases.{is_waiting}
 use Rattle.spool_types.specs.State.{State, Job, job_at}
 use Rattle.queue_sched.specs.declared.deadlines.Deadline.{Deadline}
 use Rattle.job_table.specs.Legal.{IsLegal}
-use Rattle.job_table.specs.Timely.{deadline_of, deadline_found, has_by, IsAdmitted, IsRetimed, IsTimely, MayRetime}
+use Rattle.job_table.specs.Timely.{deadline_found, has_by, IsAdmitted, IsRetimed, IsTimely, MayRetime}
 use Rattle.job_table.specs.declared.timetable.Timetable.{Timetable}
 use Rattle.job_table.proofs.Moves.{Moves}
 use Rattle.job_table.proofs.Seats.{Gains}

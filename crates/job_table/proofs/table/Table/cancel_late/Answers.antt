@@ -1,5 +1,5 @@
 -- one late job more is canceled; where none is listed, none is late
-use Rattle.std.proofs.Common.{◌≡◌, ℕ, ◌<◌, true, false, Some, refl, sym, ap, subst, ◌∙◌}
+use Rattle.std.proofs.Common.{◌≡◌, ℕ, ◌<◌, true, Some, refl, sym, ap, subst, ◌∙◌}
 use Rattle.std.specs.List.{Contains}
 use Rattle.spool_types.specs.declared.event.Event.TheVariants.{Cancel}
 use Rattle.spool_types.specs.State.{State, Job, job_at}

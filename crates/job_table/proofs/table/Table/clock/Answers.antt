@@ -5,7 +5,6 @@ use Rattle.std.specs.Ordering.{nat_cmp, is_lt}
 use Rattle.std.proofs.lemmas.List.{with_items_is}
 use Rattle.spool_types.specs.State.{State, job_at}
 use Rattle.job_table.specs.Contents.{Contents}
-use Rattle.job_table.specs.Held.{IsInLanes}
 use Rattle.job_table.specs.Lanes.{IsAdvanced, AreLanes}
 use Rattle.job_table.specs.Legal.{IsLegal}
 use Rattle.job_table.proofs.Held.{legal_then}

@@ -1,8 +1,7 @@
 -- the timetable of all jobs
-use Rattle.std.proofs.Common.{◌≤◌, ℕ, List, Option, length, sym, subst}
+use Rattle.std.proofs.Common.{ℕ, Option, sym, subst}
 use Rattle.std.proofs.lemmas.Result.{IfOk-weaker}
 use Rattle.queue_sched.specs.Deadlines.{HasEachDeadlineOnce}
-use Rattle.queue_sched.specs.declared.deadlines.Deadline.{Deadline}
 use Rattle.spool_types.specs.State.{Job, job_at}
 use Rattle.job_table.specs.Timely.{unsorted, IsTimely}
 use Rattle.job_table.specs.declared.timetable.Timetable.{Timetable}
