@@ -14,7 +14,7 @@ RUN = b"# run\n"
 SEND = re.compile(rb'[ \t]*("?)send\1[ \t]+("?)([0-9]+)\2[ \t]+("?)([0-9]+)\4[ \t]*')
 LEAST_SIZE = 4_096
 # An area of epoch 1 that is open, without records.
-HEADER = b"\xa5\x01" + (1).to_bytes(8, "big") + bytes(6)
+HEADER = b"\xa5\x02" + (1).to_bytes(8, "big") + bytes(6)
 LONGEST_LINE = 4_096
 GREATEST_JOB = 2_147_483_647
 GREATEST_COUNT = 4_294_967_295

@@ -359,7 +359,7 @@ def check_commands(calls, commands, gate):
 
 def check_file(root, records):
     """The file is a spool with these records, and zeros."""
-    header = OPEN + b"\x01" + struct.pack(">Q", 1) + bytes(6)
+    header = OPEN + b"\x02" + struct.pack(">Q", 1) + bytes(6)
     with open(os.path.join(root, FILE), "rb") as file:
         disk = file.read()
     demand(disk == (header + records).ljust(SIZE, b"\0"), "the file holds other bytes than those that were written")

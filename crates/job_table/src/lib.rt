@@ -106,10 +106,11 @@ mod new_places;
 mod places;
 mod store;
 mod table;
+mod timetable;
 
 pub use laws::{
     ended_jobs_stay, legal_tables_stay_legal, listings_are_loaded, queues_stay_apart, reopening,
-    spent_stages_stay_spent,
+    spent_stages_stay_spent, versions_rise,
 };
 pub use loading::{LoadFault, Loading};
 pub use places::document_len;

@@ -93,6 +93,21 @@ impl Deadlines {
         Deadlines { items, room }
     }
 
+    /// How many there are.
+    pub fn len(&self) -> usize
+        ensures count { result ≡ length self.now.items }
+        ensures order { InTurn self.now.items }
+    {
+        self.items.len()
+    }
+
+    /// How many fit with no further memory.
+    pub fn room(&self) -> usize
+        ensures { result ≡ self.now.room }
+    {
+        self.room
+    }
+
     /// Makes room for so many in all. The list is doubled at least where it grows, as `VecDeque::reserve` does it. A fault
     /// changes nothing.
     pub fn reserve(&mut self, count: usize) -> Result<(), AllocError>

@@ -7,11 +7,14 @@ ghost use Rattle.job_table.specs.Contents.{no_moves};
 ghost use Rattle.job_table.specs.Drafts.{drafted, AreDrafts, IsBlank};
 ghost use Rattle.job_table.specs.Lanes.{AreBeside, IsAdvanced};
 ghost use Rattle.job_table.specs.Legal.{IsLegal};
+ghost use Rattle.job_table.specs.Timely.{IsTimely};
+ghost use Rattle.spool_types.specs.State.{job_at};
 
 use super::Table;
 use crate::lane::{Draft, Lane, standing_of};
 use crate::new_places::NewPlaces;
 use crate::store::Store;
+use crate::timetable::{Timetable, deadline_of};
 use spool_types::Moment;
 use std::alloc::{AllocError, Global};
 
@@ -24,9 +27,11 @@ impl Table {
     {
         let drafts = drafts_of(alloc, &store)?;
         let lanes = lanes_of(alloc, drafts, store.now())?;
+        let timetable = timetable_of(alloc, &store)?;
         Ok(Table {
             store,
             lanes,
+            timetable,
             vacant: 0,
             new_places: NewPlaces::none(alloc),
         })
@@ -71,4 +76,21 @@ fn lanes_of(alloc: Global, drafts: Vec<Draft>, moment: Moment) -> Result<Vec<Lan
         lanes.push(draft.into_lane(moment)?)?;
     }
     Ok(lanes)
+}
+
+// The timetable of the jobs, with room for all that are to start by a moment.
+fn timetable_of(alloc: Global, store: &Store) -> Result<Timetable, AllocError>
+    ensures { IfOk result (IsTimely (job_at store.now.state)) }
+{
+    let mut deadlines = Vec::new(alloc);
+    let mut timed = 0;
+    for row in store.jobs() {
+        if row.job.by.is_some() {
+            timed += 1;
+        }
+        if let Some(deadline) = deadline_of(&row.job) {
+            deadlines.push(deadline)?;
+        }
+    }
+    Timetable::of_deadlines(deadlines, timed)
 }
