@@ -30,15 +30,16 @@ ClosedRows = entry_at (overwritten 10 (0 ∷ []) two_entries) 20 10 ≡ End
 abbrev pub LeastAreaRows : Type 0
 LeastAreaRows = map (λ size. nat_lt (half size) least_area) (45 ∷ 46 ∷ []) ≡ true ∷ false ∷ []
 
+-- open headers of version 2
 abbrev pub epoch_1 : List ℕ
 epoch_1 = hex (codes "A5 02 00 00 00 00 00 00 00 01 00 00 00 00 00 00")
 
 abbrev pub epoch_2 : List ℕ
 epoch_2 = hex (codes "A5 02 00 00 00 00 00 00 00 02 00 00 00 00 00 00")
 
--- a header of version 1
-abbrev pub older : List ℕ
-older = hex (codes "A5 01 00 00 00 00 00 00 00 01 00 00 00 00 00 00")
+-- one of version 1
+abbrev pub first_version : List ℕ
+first_version = hex (codes "A5 01 00 00 00 00 00 00 00 01 00 00 00 00 00 00")
 
 -- a header behind a closed gate
 abbrev pub closed : List ℕ
@@ -64,14 +65,22 @@ AreaRows = map current_area (
     ∷ with_headers closed closed ∷ with_headers epoch_2 epoch_2 ∷ times 45 0 ∷ [])
     ≡ Ok 0 ∷ Ok 99 ∷ Ok 0 ∷ Ok 0 ∷ Ok 99 ∷ Ok 0 ∷ Err NotASpool ∷ Err NotASpool ∷ Err NotASpool ∷ []
 
+-- an area of version 1 is read, whatever the version of the other, and the epochs decide between them
+abbrev pub VersionRows : Type 0
+VersionRows = map current_area (
+    with_headers first_version closed ∷ with_headers first_version epoch_2
+    ∷ with_headers epoch_2 first_version ∷ with_headers first_version epoch_1 ∷ [])
+    ≡ Ok 0 ∷ Ok 99 ∷ Ok 0 ∷ Err NotASpool ∷ []
+
 -- an unknown version, a byte behind the epoch, and damage of both areas
 abbrev pub HeaderFaultRows : Type 0
 HeaderFaultRows = map current_area (
-    overwritten 1 (3 ∷ []) (with_headers epoch_1 closed)
+    overwritten 1 (0 ∷ []) (with_headers epoch_1 closed)
+    ∷ overwritten 1 (3 ∷ []) (with_headers epoch_1 closed)
     ∷ overwritten 114 (1 ∷ []) (with_headers epoch_1 epoch_2)
-    ∷ overwritten 1 (3 ∷ []) (overwritten 100 (0 ∷ []) (with_headers epoch_1 epoch_2))
+    ∷ overwritten 1 (3 ∷ []) (overwritten 100 (3 ∷ []) (with_headers epoch_1 epoch_2))
     ∷ [])
-    ≡ Err (DamagedHeader 0) ∷ Err (DamagedHeader 99) ∷ Err (DamagedHeader 0) ∷ []
+    ≡ Err (DamagedHeader 0) ∷ Err (DamagedHeader 0) ∷ Err (DamagedHeader 99) ∷ Err (DamagedHeader 0) ∷ []
 
 -- a spool at this epoch whose current area begins and ends there; its disk doesn't matter
 abbrev pub areas_at : ℕ → ℕ → ℕ → Current ℕ
