@@ -43,7 +43,7 @@ first_version = hex (codes "A5 01 00 00 00 00 00 00 00 01 00 00 00 00 00 00")
 
 -- a header behind a closed gate
 abbrev pub closed : List ℕ
-closed = hex (codes "00 02 00 00 00 00 00 00 00 03 00 00 00 00 00 00")
+closed = hex (codes "00 01 00 00 00 00 00 00 00 03 00 00 00 00 00 00")
 
 abbrev pub MadeRows : Type 0
 MadeRows = empty_spool (times 46 0) ≡ epoch_1 ++ times 30 0
@@ -57,13 +57,12 @@ MadeAnewRows = empty_spool (overwritten 16 (165 ∷ []) (overwritten 23 (hex (co
 abbrev pub with_headers : List ℕ → List ℕ → List ℕ
 with_headers first second = overwritten 99 second (overwritten 0 first (times 198 0))
 
--- the higher epoch wins, whatever the versions, and a device without one newest header is no spool
+-- the higher epoch wins, and a device without one newest header is no spool
 abbrev pub AreaRows : Type 0
 AreaRows = map current_area (
     with_headers epoch_1 closed ∷ with_headers epoch_1 epoch_2 ∷ with_headers epoch_2 epoch_1
-    ∷ with_headers older closed ∷ with_headers older epoch_2 ∷ with_headers epoch_2 older
     ∷ with_headers closed closed ∷ with_headers epoch_2 epoch_2 ∷ times 45 0 ∷ [])
-    ≡ Ok 0 ∷ Ok 99 ∷ Ok 0 ∷ Ok 0 ∷ Ok 99 ∷ Ok 0 ∷ Err NotASpool ∷ Err NotASpool ∷ Err NotASpool ∷ []
+    ≡ Ok 0 ∷ Ok 99 ∷ Ok 0 ∷ Err NotASpool ∷ Err NotASpool ∷ Err NotASpool ∷ []
 
 -- an area of version 1 is read, whatever the version of the other, and the epochs decide between them
 abbrev pub VersionRows : Type 0
