@@ -34,7 +34,7 @@ PASSED_ON = {
     ("command_lines", "push_rules"): 1,
     ("command_lines", "push_sizes"): 1,
     ("device_uri", "options"): 1,
-    # Counts of jobs, in a lane and in the timetable, past the greatest usize: no memory holds so many.
+    # Counts of jobs that are held past the greatest usize: no memory holds so many.
     ("job_table", "reserve"): 2,
     ("print_rounds", "launch"): 1,
     ("print_rounds", "round"): 1,

@@ -30,7 +30,7 @@ ghost use Rattle.decision_facts.specs.ListedRows.{UnchangedRows, FirstVersionRow
 ghost use Rattle.decision_facts.specs.ListedFaults.{ListedFaultRows, QueueFaultRows, PhaseFaultRows, FirstVersionFaultRows, MomentFaultRows};
 ghost use Rattle.decision_facts.specs.Options.{OptionRows, OptionFaultRows, LastValueRows};
 ghost use Rattle.decision_facts.specs.Children.{FileRows, ArgumentRows, EnvironmentRows};
-ghost use Rattle.decision_facts.specs.Devices.{JournalRows, DamagedRows, ClosedRows, LeastAreaRows, MadeRows, MadeAnewRows, AreaRows, HeaderFaultRows, PlanRows};
+ghost use Rattle.decision_facts.specs.Devices.{JournalRows, DamagedRows, ClosedRows, LeastAreaRows, MadeRows, MadeAnewRows, AreaRows, VersionRows, HeaderFaultRows, PlanRows};
 
 /// Limits, texts, media types and the size of effects.
 pub fn values()
@@ -146,6 +146,7 @@ pub fn devices()
     ensures made { MadeRows }
     ensures made_anew { MadeAnewRows }
     ensures area { AreaRows }
+    ensures versions { VersionRows }
     ensures header_faults { HeaderFaultRows }
     ensures plans { PlanRows }
 {}

@@ -250,9 +250,6 @@ by_again Two (Some m) rest h =
     again-then (number_at w8) (to_be_bytes w8) Byte reads_byte 1 (to_be_bytes w64 m) rest (λ flag. flagged_by_at flag.0 flag.1) (omega arith)
     ∙ again-last (ranged_at 0 greatest_moment w64) (to_be_bytes w64) (IsIn 0 greatest_moment) reads_moment m rest (λ m. Ok (Some m.0, m.1)) h
 
-reads_by : (version : Version) → Reads (by_at version) (by_code version) (IsBy version)
-reads_by version = record { takes = by_takes version; again = by_again version }
-
 -- ---- what became of a job
 
 moments_of : (a n : ℕ) (p : Phase) → IsPhaseFor a n p → HasMoments p

@@ -1,8 +1,7 @@
 -- What a change of every job makes of a table, and what the clock makes of one.
-use Rattle.std.proofs.Common.{◌≡◌, ℕ, ◌<◌, ◌≤◌, Bool, true, false, cond, ◌&&◌, List, [], ◌∷◌, length, map, Option, Some, None, refl, sym, ap, subst, ◌∙◌, arith}
+use Rattle.std.proofs.Common.{◌≡◌, ℕ, ◌<◌, Bool, true, false, cond, ◌&&◌, List, [], ◌∷◌, map, Option, Some, None, refl, sym, ap, subst, ◌∙◌, arith}
 use Rattle.std.proofs.lemmas.Bool.{and_parts, and_from}
 use Rattle.std.proofs.lemmas.Bool.Decides.{nat_tests}
-use Rattle.std.proofs.lemmas.List.{length-map}
 use Rattle.std.specs.Prelude.{T, nat_lt}
 use Rattle.std.specs.Option.{option_map}
 use Rattle.std.specs.Ordering.{nat_cmp, is_lt, eq_by_cmp}
@@ -20,7 +19,7 @@ use Rattle.job_table.proofs.Changes.{same_number}
 -- ## A change of every job
 
 -- tables with the same jobs are the same
-pub same_jobs : (a b : Jobs) → ((j : ℕ) → finite.get a j ≡ finite.get b j) → a ≡ b
+same_jobs : (a b : Jobs) → ((j : ℕ) → finite.get a j ≡ finite.get b j) → a ≡ b
 same_jobs a b same = finite.same_map nat_cmp_total finite.nat_cmp-IsAntisymmetric a b same
 
 module _ (f : Job → Job) where
@@ -43,41 +42,20 @@ module _ (f : Job → Job) where
       either true rest = refl
       either false rest = rest
 
-  firsts : (es : List (ℕ × Job)) → map (λ e. e.0) (changed es) ≡ map (λ e. e.0) es
-  firsts [] = refl
-  firsts (e ∷ es) = ap (λ ks. e.0 ∷ ks) (firsts es)
-
-  seconds : (es : List (ℕ × Job)) → map (λ e. e.1) (changed es) ≡ map f (map (λ e. e.1) es)
-  seconds [] = refl
-  seconds (e ∷ es) = ap (λ rs. f e.1 ∷ rs) (seconds es)
-
   module _ (jobs : Jobs) where
-    pub entries_changed : finite.entries (change_jobs f jobs) ≡ changed (finite.entries jobs)
+    entries_changed : finite.entries (change_jobs f jobs) ≡ changed (finite.entries jobs)
     entries_changed = finite.entries-from_sorted nat_cmp (changed (finite.entries jobs)) (subst T (sym (sorted_kept (finite.entries jobs))) (finite.entries_sorted jobs))
 
     -- each number has the changed job
-    pub job_changed : (j : ℕ) → finite.get (change_jobs f jobs) j ≡ option_map f (finite.get jobs j)
+    job_changed : (j : ℕ) → finite.get (change_jobs f jobs) j ≡ option_map f (finite.get jobs j)
     job_changed j =
         finite.get-entries (change_jobs f jobs) j
         ∙ ap (find nat_cmp j) entries_changed
         ∙ find_changed j (finite.entries jobs)
         ∙ ap (option_map f) (sym (finite.get-entries jobs j))
 
-    pub keys_changed : finite.keys (change_jobs f jobs) ≡ finite.keys jobs
-    keys_changed = ap (map (λ e. e.0)) entries_changed ∙ firsts (finite.entries jobs)
-
-    pub values_changed : finite.values (change_jobs f jobs) ≡ map f (finite.values jobs)
-    values_changed = ap (map (λ e. e.1)) entries_changed ∙ seconds (finite.entries jobs)
-
-    pub len_changed : finite.len (change_jobs f jobs) ≡ finite.len jobs
-    len_changed =
-        finite.len-entries (change_jobs f jobs)
-        ∙ ap length entries_changed
-        ∙ length-map (finite.entries jobs) (λ e. (e.0, f e.1))
-        ∙ sym (finite.len-entries jobs)
-
     -- a job that is there was there before, and was changed
-    pub changed_from : (j : ℕ) (x : Job) → finite.get (change_jobs f jobs) j ≡ Some x → (r : Job) × (finite.get jobs j ≡ Some r) × (f r ≡ x)
+    changed_from : (j : ℕ) (x : Job) → finite.get (change_jobs f jobs) j ≡ Some x → (r : Job) × (finite.get jobs j ≡ Some r) × (f r ≡ x)
     changed_from j x there = by_job (finite.get jobs j) refl (sym (job_changed j) ∙ there)
       where
         by_job : (o : Option Job) → finite.get jobs j ≡ o → option_map f o ≡ Some x → (r : Job) × (finite.get jobs j ≡ Some r) × (f r ≡ x)
@@ -85,7 +63,7 @@ module _ (f : Job → Job) where
         by_job (Some r) at is = (r, at, cc)
 
     -- where no job is changed the table stays
-    pub none_changed : ((j : ℕ) (r : Job) → finite.get jobs j ≡ Some r → f r ≡ r) → change_jobs f jobs ≡ jobs
+    none_changed : ((j : ℕ) (r : Job) → finite.get jobs j ≡ Some r → f r ≡ r) → change_jobs f jobs ≡ jobs
     none_changed same = same_jobs (change_jobs f jobs) jobs (λ j. job_changed j ∙ by_job j (finite.get jobs j) refl)
       where
         by_job : (j : ℕ) (o : Option Job) → finite.get jobs j ≡ o → option_map f o ≡ o
@@ -93,7 +71,7 @@ module _ (f : Job → Job) where
         by_job j (Some r) at = ap Some (same j r at)
 
   -- what is put in is changed, and all others are
-  pub changed_insert : (jobs : Jobs) (j : ℕ) (x : Job) → change_jobs f (finite.insert jobs j x) ≡ finite.insert (change_jobs f jobs) j (f x)
+  changed_insert : (jobs : Jobs) (j : ℕ) (x : Job) → change_jobs f (finite.insert jobs j x) ≡ finite.insert (change_jobs f jobs) j (f x)
   changed_insert jobs j x = same_jobs _ _ (λ k.
       job_changed (finite.insert jobs j x) k
       ∙ ap (option_map f) (finite.get-insert nat_cmp_total jobs j x k)
@@ -105,24 +83,12 @@ module _ (f : Job → Job) where
       either k false = sym (job_changed jobs k)
 
 -- what is changed to no end is there already
-pub insert_same : (jobs : Jobs) (j : ℕ) (x : Job) → finite.get jobs j ≡ Some x → finite.insert jobs j x ≡ jobs
+insert_same : (jobs : Jobs) (j : ℕ) (x : Job) → finite.get jobs j ≡ Some x → finite.insert jobs j x ≡ jobs
 insert_same jobs j x there = same_jobs _ _ (λ k. finite.get-insert nat_cmp_total jobs j x k ∙ either k (eq_by_cmp nat_cmp k j) refl)
   where
     either : (k : ℕ) (b : Bool) → eq_by_cmp nat_cmp k j ≡ b → cond b (Some x) (finite.get jobs k) ≡ finite.get jobs k
     either k true same = sym (ap (finite.get jobs) (same_number j k same) ∙ there)
     either k false other = refl
-
--- one change of every job after another
-pub changed_twice : (f g : Job → Job) (jobs : Jobs) → change_jobs f (change_jobs g jobs) ≡ change_jobs (λ r. f (g r)) jobs
-changed_twice f g jobs = same_jobs _ _ (λ j.
-    job_changed f (change_jobs g jobs) j
-    ∙ ap (option_map f) (job_changed g jobs j)
-    ∙ by_job (finite.get jobs j)
-    ∙ sym (job_changed (λ r. f (g r)) jobs j))
-  where
-    by_job : (o : Option Job) → option_map f (option_map g o) ≡ option_map (λ r. f (g r)) o
-    by_job None = refl
-    by_job (Some r) = refl
 
 -- ## What a moment makes of a job
 
@@ -135,49 +101,32 @@ at_either P now r kept late = either (is_late now r) refl
     either false is = kept
 
 -- what a cancel leaves of a job the moment leaves too
-pub at_same : {X : Type 0} (g : Job → X) → ((r : Job) → g (ended Canceled r) ≡ g r) → (now : ℕ) (r : Job) → g (at_moment now r) ≡ g r
+at_same : {X : Type 0} (g : Job → X) → ((r : Job) → g (ended Canceled r) ≡ g r) → (now : ℕ) (r : Job) → g (at_moment now r) ≡ g r
 at_same g same now r = at_either (λ x. g x ≡ g r) now r refl (λ late. same r)
-
-pub at_id : (now : ℕ) (r : Job) → (at_moment now r).id ≡ r.id
-at_id = at_same (λ r. r.id) (λ r. refl)
 
 pub at_queue : (now : ℕ) (r : Job) → (at_moment now r).queue ≡ r.queue
 at_queue = at_same (λ r. r.queue) (λ r. refl)
 
-pub at_attempts : (now : ℕ) (r : Job) → (at_moment now r).attempts ≡ r.attempts
-at_attempts = at_same (λ r. r.attempts) (λ r. refl)
-
-pub at_by : (now : ℕ) (r : Job) → (at_moment now r).by ≡ r.by
-at_by = at_same (λ r. r.by) (λ r. refl)
-
 -- only a job that waits is canceled
-pub late_waits : (now : ℕ) (r : Job) → is_late now r ≡ true → is_waiting r.phase ≡ true
+late_waits : (now : ℕ) (r : Job) → is_late now r ≡ true → is_waiting r.phase ≡ true
 late_waits now r late = (and_parts (is_waiting r.phase) (is_passed now r.by) late).0
 
-pub at_not_waiting : (now : ℕ) (r : Job) → is_waiting r.phase ≡ false → at_moment now r ≡ r
+at_not_waiting : (now : ℕ) (r : Job) → is_waiting r.phase ≡ false → at_moment now r ≡ r
 at_not_waiting now r is = ap (λ b. cond (b && is_passed now r.by) (ended Canceled r) r) is
 
-pub at_kept : (now : ℕ) (r : Job) → is_late now r ≡ false → at_moment now r ≡ r
+at_kept : (now : ℕ) (r : Job) → is_late now r ≡ false → at_moment now r ≡ r
 at_kept now r timely = ap (λ b. cond b (ended Canceled r) r) timely
 
-pub at_late : (now : ℕ) (r : Job) → is_late now r ≡ true → at_moment now r ≡ ended Canceled r
+at_late : (now : ℕ) (r : Job) → is_late now r ≡ true → at_moment now r ≡ ended Canceled r
 at_late now r late = ap (λ b. cond b (ended Canceled r) r) late
 
-ended_waits_not : (p : Phase) → has_ended p ≡ true → is_waiting p ≡ false
+pub ended_waits_not : (p : Phase) → has_ended p ≡ true → is_waiting p ≡ false
 ended_waits_not (Incoming hold) over = refl
 ended_waits_not (Waiting hold not_before first) over = absurd (cc)
 ended_waits_not (Processing attempt stage stages) over = refl
 ended_waits_not Completed over = refl
 ended_waits_not Canceled over = refl
 ended_waits_not (Aborted reason) over = refl
-
-processing_waits_not : (p : Phase) → is_processing p ≡ true → is_waiting p ≡ false
-processing_waits_not (Incoming hold) busy = refl
-processing_waits_not (Waiting hold not_before first) busy = absurd (cc)
-processing_waits_not (Processing attempt stage stages) busy = refl
-processing_waits_not Completed busy = refl
-processing_waits_not Canceled busy = refl
-processing_waits_not (Aborted reason) busy = refl
 
 waiting_idle : (p : Phase) → is_waiting p ≡ true → is_processing p ≡ false
 waiting_idle (Incoming hold) waits = refl
@@ -190,23 +139,12 @@ waiting_idle (Aborted reason) waits = refl
 pub at_ended : (now : ℕ) (r : Job) → has_ended r.phase ≡ true → at_moment now r ≡ r
 at_ended now r over = at_not_waiting now r (ended_waits_not r.phase over)
 
-pub at_busy : (now : ℕ) (r : Job) → is_processing r.phase ≡ true → at_moment now r ≡ r
-at_busy now r busy = at_not_waiting now r (processing_waits_not r.phase busy)
-
 -- it processes as before
-pub at_processing : (now : ℕ) (r : Job) → is_processing (at_moment now r).phase ≡ is_processing r.phase
+at_processing : (now : ℕ) (r : Job) → is_processing (at_moment now r).phase ≡ is_processing r.phase
 at_processing now r = at_either (λ x. is_processing x.phase ≡ is_processing r.phase) now r refl (λ late. sym (waiting_idle r.phase (late_waits now r late)))
 
--- once more it changes nothing
-pub at_twice : (now : ℕ) (r : Job) → at_moment now (at_moment now r) ≡ at_moment now r
-at_twice now r = either (is_late now r) refl
-  where
-    either : (b : Bool) → is_late now r ≡ b → at_moment now (cond b (ended Canceled r) r) ≡ cond b (ended Canceled r) r
-    either true late = refl
-    either false timely = at_kept now r timely
-
 -- a legal job is legal
-pub legal_at : (queues : Queues) (j now : ℕ) (r : Job) → IsLegalJob queues j r → IsLegalJob queues j (at_moment now r)
+legal_at : (queues : Queues) (j now : ℕ) (r : Job) → IsLegalJob queues j r → IsLegalJob queues j (at_moment now r)
 legal_at queues j now r fine = at_either (IsLegalJob queues j) now r fine (λ late. record { id = fine.id; queue = fine.queue; phase = tt; size = fine.size })
 
 -- ## What a moment makes of a table

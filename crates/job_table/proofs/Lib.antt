@@ -32,11 +32,14 @@ pub mod Moves
 pub mod Lanes
 pub mod Timely
 pub mod Seats
+pub mod Retimed
+pub mod Late
 pub mod Indexed
 pub mod Busy
 pub mod Held
 pub mod Drafts
 pub mod Begun
+pub mod Gathered
 pub mod Part
 pub mod PartNext
 pub mod PartLoss

@@ -1,17 +1,18 @@
 -- The timetable of the jobs of a table, and what it is once a job has another deadline.
-use Rattle.std.proofs.Common.{◌≡◌, ℕ, ◌+◌, ◌<◌, ◌≤◌, ◌⊎◌, inl, inr, Bool, true, false, cond, [], ◌∷◌, length, map, Option, Some, None, refl, sym, ap, subst, ◌∙◌, arith, rules}
+use Rattle.std.proofs.Common.{◌≡◌, ℕ, ◌+◌, ◌<◌, ◌≤◌, ◌⊎◌, inl, inr, Bool, true, false, cond, List, [], ◌∷◌, length, map, Option, Some, None, refl, sym, ap, subst, ◌∙◌, arith, rules}
 use Rattle.std.specs.Prelude.{◌↔◌, is_some}
 use Rattle.std.specs.Option.{option_map}
 use Rattle.std.specs.List.{Contains, AllPairs, AllByRecursion}
-use Rattle.std.proofs.lemmas.Bool.{both_ways, cases_eq}
+use Rattle.std.proofs.lemmas.Bool.{cases_eq}
 use Rattle.std.proofs.lemmas.List.{length-map}
 use Rattle.spool_types.specs.Phases.{is_waiting}
 use Rattle.spool_types.specs.State.{Job}
 use Rattle.queue_sched.specs.Deadlines.{Limits, InTurn, LacksDeadline, comes_before}
 use Rattle.queue_sched.specs.declared.deadlines.Deadline.{Deadline}
-use Rattle.job_table.specs.Timely.{deadline_of, deadline_found, has_by, IsTimely, IsRetimed}
+use Rattle.job_table.specs.Lanes.{AtMost}
+use Rattle.job_table.specs.Timely.{deadline_of, deadline_found, has_by, unsorted, IsAdmitted, IsTimely, IsRetimed}
 use Rattle.job_table.specs.declared.timetable.Timetable.{Timetable}
-use Rattle.job_table.proofs.Lanes.{all_from, all_numbers, apart_in_order, differ_numbers, no_more, none_pass}
+use Rattle.job_table.proofs.Lanes.{all_from, all_numbers, apart_in_order, as_many, differ_numbers, no_more, none_pass, one_more}
 
 -- ## The deadline of a job
 
@@ -29,6 +30,11 @@ deadline_own r d is = by_phase (is_waiting r.phase) r.by refl is
     by_phase true None waits same = absurd (cc)
     by_phase true (Some by) waits same = (refl, made by same)
     by_phase false o waits same = absurd (cc)
+
+pub deadline_made : (r : Job) (by : ℕ) → is_waiting r.phase ≡ true → r.by ≡ Some by → deadline_of r ≡ Some (record { by = by; id = r.id })
+deadline_made r by waits is =
+    ap (λ b. cond b (option_map (λ m. record { by = m; id = r.id }) r.by) None) waits
+    ∙ ap (option_map (λ m. record { by = m; id = r.id })) is
 
 pub deadline_timed : (o : Option Job) (d : Deadline) → deadline_found o ≡ Some d → has_by o ≡ true
 deadline_timed None d is = absurd (cc)
@@ -134,3 +140,53 @@ no_deadlines l none jobs absent = record {
   where
     nothing : (d : Deadline) → Contains [] d → ⊥
     nothing d there = omega (arith, there.1)
+
+-- ## Deadlines in order
+
+pub sorted_timely : (items : List Deadline) (timed : ℕ) (l : Limits) → ((d : Deadline) → Contains l.items d ↔ Contains items d) → timed ≤ l.room
+    → (jobs : ℕ → Option Job) → IsTimely jobs (unsorted items timed) → IsTimely jobs (record { deadlines = l; timed = timed })
+sorted_timely items timed l same room jobs is = record {
+  only = λ d there. is.only d ((same d).0 there);
+  listed = λ j d at. (let listed = is.listed j d at in (listed.0, (same d).1 listed.1));
+  few = is.few;
+  room = room;
+}
+
+-- ## A job comes in
+
+-- the timetable goes by the deadlines of the jobs
+pub timely_as : (old new : ℕ → Option Job) (t : Timetable) → ((k : ℕ) → new k ≡ old k) → IsTimely old t → IsTimely new t
+timely_as old new t same is = record {
+  only = λ d there. ap deadline_found (same d.id) ∙ is.only d there;
+  listed = λ j d at. is.listed j d (ap deadline_found (sym (same j)) ∙ at);
+  few = no_more (λ k. has_by (old k)) (λ k. has_by (new k)) t.timed is.few (λ k timed. ap has_by (sym (same k)) ∙ timed);
+  room = is.room;
+}
+
+module _ (old new : ℕ → Option Job) (j : ℕ) (t : Timetable) (is : IsTimely old t) (timed : Bool) (admitted : IsAdmitted old new j timed) where
+  same_deadlines : (k : ℕ) → deadline_found (new k) ≡ deadline_found (old k)
+  same_deadlines k = elim (cases_eq k j) [
+    | inl own ↦ ap (λ i. deadline_found (new i)) own ∙ admitted.own ∙ sym (ap (λ i. deadline_found (old i)) own ∙ ap deadline_found admitted.absent)
+    | inr other ↦ ap deadline_found (admitted.others k other)
+  ]
+
+  others_timed : (k : ℕ) → ¬ (k ≡ j) → has_by (new k) ≡ has_by (old k)
+  others_timed k other = ap has_by (admitted.others k other)
+
+  -- it is to start by no moment
+  pub admitted_free : timed ≡ false → IsTimely new t
+  admitted_free free = record {
+    only = λ d there. same_deadlines d.id ∙ is.only d there;
+    listed = λ k d at. is.listed k d (sym (same_deadlines k) ∙ at);
+    few = as_many (λ k. has_by (old k)) (λ k. has_by (new k)) j t.timed is.few others_timed (admitted.by ∙ free);
+    room = is.room;
+  }
+
+  -- it is one more that is to start by a moment
+  pub admitted_timed : (n : ℕ) → n ≡ t.timed + 1 → t.timed < t.deadlines.room → IsTimely new (record t { timed = n })
+  admitted_timed n more space = record {
+    only = λ d there. same_deadlines d.id ∙ is.only d there;
+    listed = λ k d at. is.listed k d (sym (same_deadlines k) ∙ at);
+    few = subst (AtMost (λ k. has_by (new k))) (sym more) (one_more (λ k. has_by (old k)) (λ k. has_by (new k)) j t.timed is.few others_timed);
+    room = omega (arith, more, space);
+  }

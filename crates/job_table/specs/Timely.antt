@@ -1,5 +1,5 @@
 -- The waiting jobs that are to start by a moment.
-use Rattle.std.specs.Prelude.{◌≡◌, ℕ, ◌≤◌, Bool, true, false, cond, length, is_some, Option, None, Some}
+use Rattle.std.specs.Prelude.{◌≡◌, ℕ, ◌≤◌, Bool, true, false, cond, List, is_some, Option, None, Some}
 use Rattle.std.specs.Option.{option_map}
 use Rattle.std.specs.List.{Contains}
 use Rattle.spool_types.specs.Phases.{is_waiting}
@@ -31,6 +31,17 @@ pub record IsTimely (jobs : ℕ → Option Job) (t : Timetable) : Type 0 where
   pub listed : (j : ℕ) (d : Deadline) → deadline_found (jobs j) ≡ Some d → (d.id ≡ j) × Contains t.deadlines.items d
   pub few : AtMost (λ j. has_by (jobs j)) t.timed
   pub room : t.timed ≤ t.deadlines.room
+
+-- the timetable of these deadlines and so many jobs that are to start by a moment, but for their order
+abbrev pub unsorted : List Deadline → ℕ → Timetable
+unsorted deadlines timed = record { deadlines = record { items = deadlines; room = timed }; timed = timed }
+
+-- a job comes in that doesn't wait, and may be one that is to start by a moment
+pub record IsAdmitted (old new : ℕ → Option Job) (j : ℕ) (timed : Bool) : Type 0 where
+  pub absent : old j ≡ None
+  pub own : deadline_found (new j) ≡ None
+  pub by : has_by (new j) ≡ timed
+  pub others : (k : ℕ) → ¬ (k ≡ j) → new k ≡ old k
 
 -- one job has this deadline, and all others have theirs as before; each is to start by a moment as before
 pub record IsRetimed (old new : ℕ → Option Job) (j : ℕ) (to : Option Deadline) : Type 0 where

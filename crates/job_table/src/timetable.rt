@@ -6,7 +6,7 @@ ghost use Rattle.std.specs.List.{Contains};
 ghost use Rattle.queue_sched.specs.Deadlines.{HasEachDeadlineOnce};
 ghost use Rattle.queue_sched.specs.declared.deadlines.Deadline.{Deadline as AnyDeadline};
 ghost use Rattle.spool_types.specs.State.{Job as AnyJob};
-ghost use Rattle.job_table.specs.Timely.{deadline_of, deadline_found, IsTimely, IsRetimed, MayRetime};
+ghost use Rattle.job_table.specs.Timely.{deadline_of, deadline_found, unsorted, IsAdmitted, IsTimely, IsRetimed, MayRetime};
 
 use queue_sched::{Deadline, Deadlines};
 use spool_types::{Job, JobId, Moment, Phase};
@@ -39,9 +39,7 @@ impl Timetable {
     ) -> Result<Timetable, AllocError>
         requires once { HasEachDeadlineOnce deadlines.items }
         requires few { length deadlines.items ≤ timed }
-        ensures items { IfOk result (λ t. (d : AnyDeadline) → Contains t.deadlines.items d ↔ Contains deadlines.items d) }
-        ensures timed { IfOk result (λ t. t.timed ≡ timed) }
-        ensures room { IfOk result (λ t. timed ≤ t.deadlines.room) }
+        ensures { IfOk result (λ t. (jobs : ℕ → Option AnyJob) → IsTimely jobs (unsorted deadlines.items timed) → IsTimely jobs t) }
     {
         deadlines.reserve(timed - deadlines.len())?;
         Ok(Timetable {
@@ -68,15 +66,18 @@ impl Timetable {
         self.deadlines.first_before(moment)
     }
 
-    /// A new job comes in that is to start by a moment, and doesn't wait yet. It takes no memory.
-    pub(crate) fn admit(&mut self)
+    /// A new job comes in that doesn't wait yet. It is told whether it is to start by a moment. It takes no memory.
+    pub(crate) fn admit(&mut self, timed: bool)
         requires room { self.old.timed < self.old.deadlines.room }
-        ensures timed { self.new.timed ≡ self.old.timed + 1 }
-        ensures deadlines { self.new.deadlines ≡ self.old.deadlines }
+        ensures timely { (old new : ℕ → Option AnyJob) (j : ℕ) → IsTimely old self.old → IsAdmitted old new j timed → IsTimely new self.new }
+        ensures timed { self.new.timed ≤ self.old.timed + 1 }
+        ensures room { self.new.deadlines.room ≡ self.old.deadlines.room }
     {
-        let has_room = self.timed < self.deadlines.room();
-        prove!(has_room);
-        self.timed += 1;
+        if timed {
+            let has_room = self.timed < self.deadlines.room();
+            prove!(has_room);
+            self.timed += 1;
+        }
     }
 
     /// Gives a job the deadline that it has now. It takes no memory.

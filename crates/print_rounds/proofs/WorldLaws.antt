@@ -44,6 +44,16 @@ module _ {D : Type 0} (device : DiskView D) (laws : Laws) (old : Course D) (lega
   legal_mid : IsLegal mid.state
   legal_mid = subst IsLegal (sym (starts_part device old.spool ts mid starts).table) (laws.legal old.spool.state (starting_events old.spool ts) legal)
 
+  -- the events of a round are accepted in turn
+  pub live_accepted : (place : Place) (js : List ℕ) (new : Course D) (runs : IsRunOfStages device place (course mid (current_slots old.spool.state old.slots) old.told) js new) → AreAccepted old.spool.state (starting_events old.spool ts ++ ending_events runs.endings)
+  live_accepted place js new runs =
+      let same = reads_state device mid runs.launchings runs.read runs.reads ∙ (starts_part device old.spool ts mid starts).table in
+      accepted_both old.spool.state (starting_events old.spool ts) (ending_events runs.endings) (starts_accepted device old.spool ts mid starts)
+      (subst (λ s. AreAccepted s (ending_events runs.endings)) same (ends_accepted device (course runs.read runs.slots runs.told) runs.endings new runs.ends))
+
+  pub failed_accepted : AreAccepted old.spool.state (starting_events old.spool ts ++ [])
+  failed_accepted = subst (AreAccepted old.spool.state) (sym (append-nil (starting_events old.spool ts))) (starts_accepted device old.spool ts mid starts)
+
   -- the device failed at a start
   pub failed_turn : HasNoneRunning old.slots → (t : Told) → old.told ≡ Some t → old.spool.dead ≡ false → IsCallTurn t old (starting_events old.spool ts ++ []) (course mid (current_slots old.spool.state old.slots) old.told)
   failed_turn rests t tells alive = record {
@@ -51,8 +61,7 @@ module _ {D : Type 0} (device : DiskView D) (laws : Laws) (old : Course D) (lega
     tells = tells;
     orders = [];
     added = sym (append-nil t.orders);
-    turn = raised_turn laws old.spool.state (starting_events old.spool ts ++ [])
-        (subst (AreAccepted old.spool.state) (sym (append-nil (starting_events old.spool ts))) (starts_accepted device old.spool ts mid starts))
+    turn = raised_turn laws old.spool.state (starting_events old.spool ts ++ []) failed_accepted
         (IsHeld old.spool.state old.slots) [] mid.state (IsHeld mid.state (current_slots old.spool.state old.slots)) mid.dead legal
         ((starts_part device old.spool ts mid starts).table ∙ ap (after_all old.spool.state) (sym (append-nil (starting_events old.spool ts))))
         tt
@@ -94,9 +103,7 @@ module _ {D : Type 0} (device : DiskView D) (laws : Laws) (old : Course D) (lega
           tells = ended.1;
           orders = begun.orders;
           added = ended.2.orders ∙ begun.added;
-          turn = raised_turn laws old.spool.state (starting_events old.spool ts ++ ending_events runs.endings)
-              (accepted_both old.spool.state (starting_events old.spool ts) (ending_events runs.endings) (starts_accepted device old.spool ts mid starts)
-              (subst (λ s. AreAccepted s (ending_events runs.endings)) (still ∙ first) (ends_accepted device (course runs.read runs.slots runs.told) runs.endings new runs.ends)))
+          turn = raised_turn laws old.spool.state (starting_events old.spool ts ++ ending_events runs.endings) (live_accepted place js new runs)
               (IsHeld old.spool.state old.slots) (keys_in begun.orders) new.spool.state (IsHeld new.spool.state new.slots) new.spool.dead legal
               (last ∙ ap (λ s. after_all s (ending_events runs.endings)) first ∙ sym (after_both old.spool.state (starting_events old.spool ts) (ending_events runs.endings)))
               begun.once

@@ -24,8 +24,8 @@ use Rattle.spool_engine.specs.Script.{meaning, runs}
 use Rattle.spool_engine.specs.EventTurns.{Setting, EventTurn, IsEventTurn, IsKept}
 use Rattle.spool_engine.specs.Answers.{Takes}
 use Rattle.spool_engine.specs.Rounds.{Ran, IsRoundWith, IsRan, AreRan, AreRun, AreRunBy}
-use Rattle.spool_engine.specs.Runs.{Turn, TakesTurn, IsHeld, answered, ran}
-use Rattle.spool_engine.proofs.EventLaws.{OnlyNow, unmoved, unmoved_whole}
+use Rattle.spool_engine.specs.Runs.{Turn, TakesTurn, IsHeld, HasSomeIn, answered, ran}
+use Rattle.spool_engine.proofs.EventLaws.{OnlyNow, crash_in, unmoved, unmoved_whole}
 
 -- ## Some events that send nothing
 
