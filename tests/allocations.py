@@ -47,10 +47,12 @@ SHELL_NAME = "shell"
 
 # The scripts whose allocations are refused, up to their first opening.
 REFUSED_SCRIPTS = [
+    "an_older_spool_needs_a_checkpoint_first",
     "checkpoints_over_openings",
     "conversions_with_faults",
     "documents_over_checkpoints",
     "held_jobs",
+    "moments_of_several_queues",
     "queues_listed",
     "quotes_and_backslashes",
     "typed_by_bytes",
@@ -72,6 +74,7 @@ REFUSED = re.compile(r'^error: (?:AllocError|AllocFailed \{ \.\. \}|(?:\w+\()*Me
 # Tests that compare how a run ended, or what was read, and where want of memory is one more such answer: their own assertion
 # fails then. And one whose answer is the same whatever stops the run.
 BY_ANSWER = {
+    "a_checkpoint_raises_an_old_spool",
     "a_dead_spool_leaves_the_bytes_of_the_reader",
     "a_flood_ends_as_a_fault_of_the_reader",
     "driven_until_it_is_full",

@@ -4,16 +4,16 @@
 
 SHELL is the program, and crates/spool_shell/out/spool_shell (made by `rt run` in that folder) where none is given. It makes some
 real spools first: with events of each kind, listings in either area, documents, jobs that are processing, effects of children.
-Then COUNT times (10,000) the bytes of one are changed, cut, swapped and repeated, as SEED says. Changes go by bytes, by fields and by
+Others are these as a program of version 1 would have written them. Then COUNT times (10,000) the bytes of one are changed, cut, swapped and repeated, as SEED says. Changes go by bytes, by fields and by
 whole records, so that many files hold what no spooler would write, but in the right form.
 
 The model of tests/spool_model.py, which was written from docs/PROMISES.md and the definitions that it names, says of each file
 which table it has, or its fault and the place. The shell has to tell that fault, answer nothing and leave the file as it was;
 or it has to give that table: in the replies to `jobs` and `queues`, in a round without programs (which starts the next job of
-each queue, and ends it by the queue's policy), and, byte for byte, in what the round, the opening and a checkpoint leave of the
-file.
+each queue, and ends it by the queue's policy), in the answers to `createby` before and after a checkpoint, and, byte for byte, in
+what all these and the opening leave of the file.
 
-The last line is `N passed`, with how many files had a table, and status 0; or the first difference, with status 1: the file is
+The last line is `N passed`, with how many files had a table, in either version, and status 0; or the first difference, with status 1: the file is
 kept and named then. 10,000 files take a few minutes.
 """
 import os
@@ -22,6 +22,7 @@ import shutil
 import subprocess
 import sys
 import tempfile
+from dataclasses import replace
 
 import journal
 import real_children
@@ -33,10 +34,13 @@ COUNT = 10_000
 SECONDS = 60
 MOST_CHANGES = 3
 
-# Each kind of change has to lead to a table, and to a fault, in so many of a hundred files at least.
+# The changes have to lead to a table, and to a fault, in so many of a hundred files at least, and in so many to a table of version 1.
 LEAST_SHARE = 15
+LEAST_OLD_SHARE = 5
 
-COMMANDS = ["jobs", "queues", "round", "jobs", "queues", "checkpoint"]
+BY = 3_000
+CREATE_BY = f'createby hall u "" 1 50 "" {BY}'
+COMMANDS = ["jobs", "queues", "round", "jobs", "queues", CREATE_BY, "checkpoint", CREATE_BY]
 
 FIRST = """clock 1000
 queue hall s:/0 a/b retry-job 30 5
@@ -59,7 +63,7 @@ close 3 c.x
 create roof carl "Held" 9999 100 "note=x"
 hold 4 2000
 close 4 d.x
-create hall ann "Incoming" 1 50 ""
+createby hall ann "Incoming" 1 50 "" 2050
 send 5 6
 kept..
 hold 5 indefinite
@@ -80,14 +84,23 @@ close 7 f.x
 hold 7 indefinite
 release 7
 hold 7 5000
+createby roof ann "Soon" 3 98 "media=A4" 2060
+send 8 5
+hello
+close 8 g.x
+createby pit bo "Late" 1 50 "" 900
+close 9 h.x
+createby hall bo "Later" 1 50 "" 9000
+close 10 i.x
+hold 10 8000
 """
 LATER = """clock 2100
 round
 abandon 4
 create hall e "A" 1 2 ""
-close 8 g.x
+close 11 j.x
 create hall e "B" 1 1 ""
-close 9 none
+close 12 none
 enable pit
 accept lab
 round
@@ -117,10 +130,45 @@ def real_spools(shell, folder):
         with open(os.path.join(root, "spool.disk"), "rb") as file:
             spools.append(file.read())
     kinds = {payload[0] for spool in spools for half in journal.halves(spool) for payload in journal.payloads_of(half)}
-    missing = {*range(1, 0x10), *range(0x40, 0x44)} - kinds
+    missing = {*range(1, 0x10), 0x11, *range(0x40, 0x44)} - kinds
     if missing:
         raise Difference(f"the spools that were made have no event or row of the kinds {sorted(missing)}")
     return spools
+
+
+# ---- areas of version 1
+
+def without_moment(payload):
+    """An event or a row as version 1 has it: no job is to start by a moment."""
+    if payload[:1] == b"\x11":
+        return b"\x05" + payload[1:-8]
+    if payload[:1] == b"\x42":
+        return replace(journal.read_row(payload), by=None).payload(version=1)
+    return payload
+
+
+def as_version_one(file, base):
+    """The file with the area there as a program of version 1 would have written it."""
+    half = len(file) // 2
+    area = file[base:base + half]
+    payloads = list(map(without_moment, journal.payloads_of(area)))
+    return file[:base] + journal.area(half, journal.epoch_of(area), payloads, version=1) + file[base + half:]
+
+
+def old_spools(spools):
+    """Some of them with all areas of version 1, and all with that of the lower epoch alone, as the first checkpoint leaves it."""
+    old = []
+    for spool in spools:
+        half = len(spool) // 2
+        open_areas = [base for base in (0, half) if journal.epoch_of(spool[base:base + half])]
+        current, _ = model.current_base(spool)
+        first = spool
+        for base in open_areas:
+            first = as_version_one(first, base)
+        old.append(first)
+        if len(open_areas) == 2:
+            old.append(as_version_one(spool, half - current))
+    return old
 
 
 # ---- changes. Each takes a file and gives another one
@@ -214,14 +262,20 @@ def headers(file, chance):
         at = chance.randrange(2)
         epoch = chance.choice([0, 1, 2, 3, 4, 255, 256, 2 ** 63, 2 ** 64 - 2, 2 ** 64 - 1])
         gate = chance.choice([0, 1, 0xA4, journal.OPEN, journal.OPEN, journal.OPEN])
-        areas[at] = journal.header(epoch, gate) + areas[at][journal.HEADER:]
+        areas[at] = journal.header(epoch, gate, told_version(areas[at])) + areas[at][journal.HEADER:]
     return areas[0] + areas[1] + file[2 * half:]
+
+
+def told_version(half):
+    """The version of an area, or the newest where it tells one that isn't known."""
+    version = journal.version_of(half)
+    return version if version in journal.VERSIONS else journal.NEWEST
 
 
 # ---- changes of whole records
 
-def rebuilt(file, chance, change):
-    """The file with the payloads of an area changed, and the records written anew."""
+def rebuilt(file, chance, change, version=None):
+    """The file with the payloads of an area changed, and the records written anew, in its own version or in this one."""
     half = len(file) // 2
     base, _ = area_of(file, chance)
     payloads = payloads_in(file[base:base + half])
@@ -229,7 +283,9 @@ def rebuilt(file, chance, change):
         return file
     change(payloads)
     epoch = journal.epoch_of(file[base:base + half]) or 1
-    area = journal.area(half, epoch, payloads, closed=chance.choice([0, 0, 0, 7, 0xFF]))
+    if version is None:
+        version = told_version(file[base:base + half])
+    area = journal.area(half, epoch, payloads, closed=chance.choice([0, 0, 0, 7, 0xFF]), version=version)
     return file[:base] + area + file[base + half:]
 
 
@@ -296,11 +352,38 @@ def event_added(file, chance):
             journal.stage(job, chance.randrange(1, 4), chance.randrange(1, 4), chance.choice([0, 1, 2, 3, 4, 5, 6, 7, 8, 255])),
             journal.stage(job, 1, 1, chance.choice([journal.SIGNAL, journal.NO_START, journal.LOST])),
             journal.Job(10 + job, "hall").event(), journal.Queue("attic").event(), journal.Queue("hall").event(),
+            journal.Job(10 + job, "hall", by=moment).event(), journal.Job(10 + job, "hall", by=2_500).event(),
             journal.stage(job, chance.randrange(1, 3), 1, 0, journal.set_reasons("z"), journal.pages(1, 2 ** 32 - 1), journal.message("m")),
         ])
         payloads.insert(chance.choice([len(payloads), chance.randrange(len(payloads) + 1)]), event)
 
     return rebuilt(file, chance, change)
+
+
+def version_changed(file, chance):
+    """An area tells one of the versions, and its jobs are those of it, of the other one, or here and there of either."""
+    kind = chance.randrange(4)
+
+    def change(payloads):
+        for at, payload in enumerate(payloads):
+            if payload[:1] == b"\x42" and (kind < 2 or chance.random() < 0.1):
+                payloads[at] = changed_moment(payload, kind == 0, chance)
+            elif payload[:1] == b"\x11" and kind == 0:
+                payloads[at] = b"\x05" + payload[1:-8]
+
+    return rebuilt(file, chance, change, version=1 if kind == 0 else chance.choice(journal.VERSIONS))
+
+
+def changed_moment(payload, is_old, chance):
+    """The row of a job with another moment, or with none, or with no place for one. It stays where it is no row."""
+    for version in journal.VERSIONS:
+        try:
+            row = journal.read_row(payload, version)
+        except (AssertionError, KeyError, IndexError, UnicodeDecodeError):
+            continue
+        by = chance.choice([None, row.by, 0, 900, 1_000, 2_500, model.GREATEST_MOMENT, model.GREATEST_MOMENT + 1])
+        return replace(row, by=None).payload(version=1) if is_old else replace(row, by=by).payload()
+    return payload
 
 
 def cramped(file, chance):
@@ -313,10 +396,10 @@ def cramped(file, chance):
 
 
 CHANGES = [changed, filled, cut, shortened, swapped, repeated, headers, records_moved, records_cut, field_changed, payload_resized,
-           event_added, cramped]
+           event_added, version_changed, cramped]
 
 # How often each is made: those that mostly end at the first damage are rarer.
-WEIGHTS = [4, 1, 1, 1, 1, 1, 2, 4, 3, 6, 2, 6, 3]
+WEIGHTS = [4, 1, 1, 1, 1, 1, 2, 4, 3, 6, 2, 6, 4, 3]
 
 
 def some_file(spools, chance):
@@ -332,24 +415,25 @@ def some_file(spools, chance):
 # ---- what the program makes of a file
 
 def wanted_of(file):
-    """The lines of the replies, the standard error, the status, and the file that is left."""
+    """The lines of the replies, the standard error, the status, the file that is left, and the version of a table."""
     try:
         it = model.opened(file)
     except model.Fault as fault:
-        return [], f"spool: {fault}\n", 1, file
+        return [], f"spool: {fault}\n", 1, file, None
+    version = it.table.version
     lines = it.table.jobs_reply() + it.table.queues_reply()
     lines.append(model.round_without_programs(it))
     lines += it.table.jobs_reply() + it.table.queues_reply()
-    reply, left = model.checkpointed(it)
-    return [*lines, reply], "", 0, left
+    lines += [model.created_by(it, "hall", BY), model.checkpointed(it), model.created_by(it, "hall", BY)]
+    return lines, "", 0, it.file, version
 
 
 def check(shell, root, file):
-    """Whether the file has a table. Refuses what the program does otherwise."""
+    """The version of the file's table, if it has one. Refuses what the program does otherwise."""
     path = os.path.join(root, "spool.disk")
     with open(path, "wb") as out:
         out.write(file)
-    lines, errors, status, left = wanted_of(file)
+    lines, errors, status, left, version = wanted_of(file)
     done = serve(shell, root, "".join(f"{command}\n" for command in COMMANDS))
     with open(path, "rb") as found:
         is_left = found.read() == left
@@ -358,7 +442,7 @@ def check(shell, root, file):
         raise Difference(f"{got} in place of {(lines, errors, status)}")
     if not is_left:
         raise Difference(f"another file is left than the model's, after {lines}")
-    return status == 0
+    return version
 
 
 def main():
@@ -371,19 +455,20 @@ def main():
     count = numbers[1] if len(numbers) > 1 else COUNT
     # In memory, where a sync takes no time.
     folder = tempfile.mkdtemp(prefix="any-", dir="/dev/shm" if os.path.isdir("/dev/shm") else None)
-    tables = 0
+    versions = []
     file, names, turn = b"", ["the real spools"], 0
     try:
         spools = real_spools(shell, folder)
+        spools += old_spools(spools)
         root = os.path.join(folder, "r")
         os.mkdir(root)
         for spool in spools:
             file = spool
-            if not check(shell, root, spool):
+            if check(shell, root, spool) is None:
                 raise Difference("a real spool has no table")
         for turn in range(count):
             file, names = some_file(spools, random.Random(f"{seed} {turn}"))
-            tables += check(shell, root, file)
+            versions.append(check(shell, root, file))
     except (Difference, subprocess.TimeoutExpired) as difference:
         kept = os.path.join(tempfile.gettempdir(), f"image-{seed}-{turn}")
         with open(kept, "wb") as out:
@@ -392,10 +477,11 @@ def main():
         sys.exit(1)
     finally:
         shutil.rmtree(folder)
-    share = 100 * tables // count
-    print(f"seed {seed}: {tables} files with a table, {count - tables} with a fault")
-    if count >= 1_000 and not LEAST_SHARE <= share <= 100 - LEAST_SHARE:
-        sys.exit(f"too few of one kind: the changes show little")
+    tables, old = count - versions.count(None), versions.count(1)
+    print(f"seed {seed}: {tables} files with a table, {old} of them of version 1, {count - tables} with a fault")
+    share, old_share = 100 * tables // count, 100 * old // count
+    if count >= 1_000 and not (LEAST_SHARE <= share <= 100 - LEAST_SHARE and LEAST_OLD_SHARE <= old_share):
+        sys.exit("too few of one kind: the changes show little")
     print(f"{count} passed")
 
 

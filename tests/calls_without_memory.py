@@ -3,8 +3,8 @@
 
 No clause can say that a call takes no memory. This runs the shell under valgrind's callgrind, once for each call of CALLS,
 which collects only from the call's begin to its end. Whoever allocates then is in what it collected. The run prints
-documents with real children, through a filter and a side channel, makes a checkpoint while a job waits with its document, and
-opens the spool again with a job in its second stage.
+documents with real children, through a filter and a side channel, makes a checkpoint while a job waits with its document, lets the
+clock cancel jobs that were to start by a moment, and opens the spool again with a job in its second stage.
 
 PROGRAM is the shell as Rattle's own compiler builds it: crates/spool_shell/out/spool_shell.by-rattle, which `rt ci` makes, where
 none is given. Beside it spool_tools has to be there. That compiler puts fewer functions into their callers than LLVM does. Of
@@ -31,9 +31,13 @@ CALLS = [
     "job_table::table::Table::commit",
     "job_table::table::Table::commit_moves",
     "job_table::table::Table::next",
+    "job_table::table::Table::raise",
     "job_table::store::Store::stage_verdict",
     "queue_sched::index::Index::insert",
     "queue_sched::index::Index::remove",
+    "queue_sched::deadlines::Deadlines::insert",
+    "queue_sched::deadlines::Deadlines::remove",
+    "queue_sched::deadlines::Deadlines::first_before",
     "gate_journal::add::add",
     "child_pipeline::runner::Runner::exchange",
     "child_pipeline::runner::Runner::exchange_progress",
@@ -78,7 +82,12 @@ create hall bo "Lost" 1 50 ""
 send 4 4
 mnop
 close 4 c.txt
+createby hall bo "Late" 1 40 "" 10
+close 5 d.txt
+createby lab bo "Late" 1 40 "" 20
+close 6 e.txt
 round
+clock 30
 jobs
 """
 SECOND = "jobs\ndrain 9\njobs\n"
@@ -127,7 +136,7 @@ def look(program, call, symbols):
             with open(os.path.join(folder, name), "w", encoding="utf-8") as file:
                 file.write(text.replace("TOOLS", os.path.realpath(TOOLS)))
         names, replies = serve(program, folder, functions, FIRST.replace("FOLDER", folder), 1)
-        if "job 3 lab 9 job-completed-successfully" not in replies or "job 4 hall 5" not in replies:
+        if not all(part in replies for part in ("job 3 lab 9 job-completed-successfully", "job 4 hall 5", "job 5 hall 7", "job 6 lab")):
             raise SystemExit(f"the run went otherwise:\n{replies}")
         more, replies = serve(program, folder, functions, SECOND, 2)
         if "job 4 hall 9" not in replies:

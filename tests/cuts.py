@@ -3,14 +3,15 @@
 
 SHELL is the program, and crates/spool_shell/out/spool_shell (made by `rt run` in that folder) where none is given. It serves a
 script under strace (Debian's package `strace`): the spool is made, jobs are printed by rounds with real children, checkpoints are
-written, and the spool is opened again while a job is processing. From the calls comes what a cut may leave at each moment: of the
+written, and the spool is opened again while a job is processing. Another run goes on from a spool of version 1, which its first
+checkpoint makes a newer one. From the calls comes what a cut may leave at each moment: of the
 spool's file all that was written up to the last sync that had returned, and at each place that was written since then any byte.
 So each write since then is there, or isn't, or is in part, or is zeros, FF, A5 or anything; gates are tried most. Until the folder
 is synced its names are the old ones or the new ones. The files of children are anything.
 
-The shell opens each of COUNT such files (2,000), which lists the table after some of the events in their order, with all that
+The shell opens each of COUNT such files (2,000), half of them of each run, which lists the table after some of the events in their order, with all that
 were acknowledged: those that a reply, or the start of a child, came after. Which tables these are is said by the model of
-tests/spool_model.py. Of a checkpoint that is given then the rows are compared too, with the documents. In one file of eight the
+tests/spool_model.py, and of which version. Of a checkpoint that is given then the rows are compared too, with the documents. In one file of eight the
 jobs are printed to their end: no stage of an attempt runs that had run before the cut, or twice, and no job whose end was
 acknowledged.
 
@@ -74,13 +75,17 @@ hello
 close 2 b.x
 round
 checkpoint
-create hall ann "Third" 1 80 ""
+createby hall ann "Third" 1 80 "" 4000
 send 3 4
 kept
 hold 3 2000
 round
 create hall carl "Fourth" 1 50 ""
 close 4 d.x
+createby lab bo "Late" 1 50 "" 1999
+send 5 4
+lost
+close 5 d.x
 round
 """, """jobs
 clock 2000
@@ -88,15 +93,22 @@ checkpoint
 close 3 c.x
 cancel 4
 drain 9
-""", """create lab dora "Fifth" 1 99 ""
-send 5 3
+""", """createby lab dora "Sixth" 1 99 "" 2500
+send 6 3
 abc
 checkpoint
-close 5 e.x
+close 6 e.x
+createby hall dora "Late" 1 99 "" 1000
+close 7 e.x
 round
 round
+clock 0
 checkpoint
 """]
+
+# What the commands are asked before: it shows the version of the area, and changes nothing.
+ASKED = 'createby nobody u "" 1 50 "" 0\n'
+OF_VERSION = {1: "error 17 NeedsCheckpoint", 2: "error 1 NoQueue"}
 
 
 class Difference(Exception):
@@ -184,10 +196,13 @@ class World:
     def command(self, root):
         return [self.shell, "--root", root, "--size", str(SIZE), *self.children.words]
 
-    def traced(self):
-        """The steps of a whole run."""
+    def traced(self, first):
+        """The steps of a whole run, on this file where it isn't empty."""
         root = os.path.join(self.folder, "r")
         os.mkdir(root)
+        if first:
+            with open(os.path.join(root, NAME), "wb") as file:
+                file.write(first)
         tracing = Tracing(root)
         for part in PARTS:
             script = part.replace("DOCUMENT", "0123456789" * 60).encode()
@@ -217,10 +232,10 @@ class Moment:
     ended: frozenset
 
 
-def moments_of(steps):
-    """The moments of a run after each of its calls."""
-    kept, now, written, names = b"", b"", [], (None,)
-    tables, started, ended = [model.Table()], frozenset(), frozenset()
+def moments_of(steps, first):
+    """The moments of a run after each of its calls, which began with this file, or with none."""
+    kept, now, written, names = first, first, [], (NAME,) if first else (None,)
+    tables, started, ended = [table_of(first) or model.Table()], frozenset(), frozenset()
     for step in steps:
         if step.kind == "write":
             length = max(len(now), step.at + len(step.data))
@@ -234,7 +249,7 @@ def moments_of(steps):
         elif step.kind == "folder":
             names = names[-1:]
         table = table_of(now)
-        if table and table.listing() != tables[-1].listing():
+        if table and told(table) != told(tables[-1]):
             tables = [*tables, table]
         if step.kind in ("reply", "start"):
             tables = tables[-1:]
@@ -242,6 +257,11 @@ def moments_of(steps):
         if step.kind == "start":
             started |= {step.key}
         yield Moment(kept, written, names, tables, started, ended)
+
+
+def told(table):
+    """A table's rows, and the version of its area."""
+    return table.version, table.listing()
 
 
 def table_of(file):
@@ -364,10 +384,10 @@ def check(world, moment, chance, is_printed):
     shutil.rmtree(root, ignore_errors=True)
     os.mkdir(root)
     leave(moment, root, chance)
-    lines, errors = world.serve(root, "jobs\nqueues\ncheckpoint\n")
-    fitting = [table for table in moment.tables if lines == [*table.jobs_reply(), *table.queues_reply(), "ok"]]
+    lines, errors = world.serve(root, f"{ASKED}jobs\nqueues\ncheckpoint\n")
+    fitting = [table for table in moment.tables if lines == [OF_VERSION[table.version], *table.jobs_reply(), *table.queues_reply(), "ok"]]
     if errors or not fitting:
-        wanted = " or ".join(str(table.jobs_reply()) for table in moment.tables)
+        wanted = " or ".join(str([OF_VERSION[table.version], *table.jobs_reply()]) for table in moment.tables)
         raise Difference(f"it lists {lines} {errors}, not {wanted}")
     with open(os.path.join(root, NAME), "rb") as file:
         payloads, _ = journal.current(file.read())
@@ -403,7 +423,7 @@ def cuts(world, moments, seed, count):
 
 def is_seen(world, steps, control, seed):
     """In how many cuts a control fails, if it does."""
-    moments = list(moments_of(control(steps)))
+    moments = list(moments_of(control(steps), b""))
     changed = [moment for moment in moments if moment.written]
     for turn in range(CONTROL):
         try:
@@ -427,9 +447,10 @@ def main():
     folder = tempfile.mkdtemp(prefix="cuts-", dir="/dev/shm" if os.path.isdir("/dev/shm") else None)
     try:
         world = World(shell, folder)
-        steps = world.traced()
-        moments = list(moments_of(steps))
-        cuts(world, moments, seed, count)
+        old = journal.image(SIZE, version=1)
+        old_steps, steps = world.traced(old), world.traced(b"")
+        cuts(world, list(moments_of(old_steps, old)), seed, count // 2)
+        cuts(world, list(moments_of(steps, b"")), seed, count - count // 2)
         for control in CONTROLS:
             tries = is_seen(world, steps, control, seed)
             print(f"{control.__name__}: {'not seen' if tries is None else f'seen at cut {tries}'}")

@@ -53,14 +53,20 @@ def each_command_is_its_event(folder):
         ("close 2 f", f"ok type {octets} unprintable", [close(2, None, media=octets)]),
         ('create lab u "" 1 50 ""', "ok job 3", [of_lab(3).event()]),
         ("cancel 3", "ok", [cancel(3)]),
+        ('createby lab u "" 1 50 nocollate 99', "ok job 4", [of_lab(4, options="collate=false", by=99).event()]),
+        (b"send 4 1\n!\n", "ok bytes 1", [send(4, b"!")]),
+        ("close 4 f.x", "ok type a/a stages 2", [close(4, ["f"], media="a/a")]),
+        ("clock 50", "ok", [clock(50)]),
     )
     spool.says(*[(command, reply) for command, reply, _ in story], words=words)
     same("the journal", journal.current(spool.content())[0], [event for _, _, events in story for event in events])
     told = replace(lab, info="Laser", location="Room 5", message="hello", reasons=("door-open", "toner-low"),
                    attributes=(("marker-levels", "5"),))
     done = replace(job, media="a/a", filters=("f",), attempts=2, pages=9, size=5, phase=COMPLETED)
-    same("the rows", spool.listing(), [Head(3, 100), told, done, of_lab(2, media=octets, phase=aborted("no-filter")),
-                                       of_lab(3, phase=CANCELED)])
+    # The fourth was to start by a moment that is over, and the clock that goes back has it canceled.
+    late = of_lab(4, options="collate=false", media="a/a", filters=("f",), size=1, phase=CANCELED, by=99)
+    same("the rows", spool.listing(), [Head(4, 100), told, done, of_lab(2, media=octets, phase=aborted("no-filter")),
+                                       of_lab(3, phase=CANCELED), late])
 
 
 def a_65th_queue(folder):
@@ -270,6 +276,140 @@ def a_mark_moves_to_the_front(folder):
     again.refuses(start(4))
     again.takes(Job(5, "attic", priority=90).event(), close(5))
     again.starts(5)
+
+
+# ---- jobs that are to start by a moment
+
+def timed(number, by, queue="lab", **fields):
+    """The events of a job that waits and is to start by a moment."""
+    return Job(number, queue, by=by, **fields).event(), close(number)
+
+
+def waits(number, by, queue="lab", **fields):
+    return Job(number, queue, media="a/b", by=by, **{"phase": waiting(), **fields})
+
+
+def a_moment_that_is_over_cancels(folder):
+    story = Story(folder, clock(1_000), LAB.event(), *timed(1, 2_000))
+    for moment in (1_000, 2_000):
+        story.takes(clock(moment))
+        story.lists(Head(1, moment), LAB, waits(1, 2_000))
+        story.starts(1)
+    story.takes(clock(2_001))
+    gone = waits(1, 2_000, phase=CANCELED)
+    story.lists(Head(1, 2_001), LAB, gone)
+    story.refuses(start(1), cancel(1), hold(1), release(1), send(1, b"!"), close(1), abandon(1))
+    story.takes(clock(3_000), REOPEN)
+    story.lists(Head(1, 3_000), LAB, gone)
+    again = Story(folder, Head(1, 3_000), LAB, gone)
+    again.refuses(start(1))
+    again.lists(Head(1, 3_000), LAB, gone)
+
+
+def moments_in_any_order(folder):
+    # Two of one moment, one of another queue, and jobs without one, or with the greatest.
+    moments = {1: 500, 2: 300, 3: None, 4: 300, 5: 400, 6: 4_000_000_000_000, 7: 300, 8: 0}
+    queues = {5: "hall", 7: "hall"}
+    story = Story(folder, LAB.event(), HALL.event())
+    for number, by in moments.items():
+        story.takes(*timed(number, by, queues.get(number, "lab")))
+    tables = [story, Story(folder, *story.spool().listing())]
+    for now in (0, 1, 300, 301, 400, 401, 500, 501, 4_000_000_000_000):
+        rows = [waits(number, by, queues.get(number, "lab"), phase=CANCELED if by is not None and by < now else waiting())
+                for number, by in moments.items()]
+        for table in tables:
+            table.takes(clock(now))
+            table.lists(Head(8, now), HALL, LAB, *rows)
+        # As well by one step of the clock as by many.
+        Story(folder, *tables[0].payloads[:18], clock(now)).lists(Head(8, now), HALL, LAB, *rows)
+        left = {row.number for row in rows if row.phase == waiting()}
+        for table in tables:
+            table.runs(*sorted(left - set(queues)))
+            table.runs(*sorted(left & set(queues)))
+
+
+def what_waits_is_canceled_and_nothing_else(folder):
+    # Of one moment: incoming, held while incoming, waiting, held, held until a moment, processing, completed, canceled, aborted.
+    spare = Queue("spare")
+    begun = (LAB.event(), HALL.event(), spare.event(), of_lab(1, by=50).event(), send(1, b"abc"), of_lab(2, by=50).event(), hold(2),
+             *timed(3, 50), *timed(4, 50), hold(4), *timed(5, 50), hold(5, 10_000), *timed(6, 50, "hall"), start(6),
+             *timed(7, 50, "spare"), start(7), stage(7, 1, 1, 0), *timed(8, 50), cancel(8), of_lab(9, by=50).event(), close(9, None))
+    story = Story(folder, *begun)
+    # The opening of the listing loses the attempt of job 6, so its end is told here.
+    story.takes(clock(51), stage(6, 1, 1, 5))
+    rows = [of_lab(1, by=50, size=3), Piece(1, b"abc"), of_lab(2, by=50, phase=incoming(held())),
+            *[waits(number, 50, phase=CANCELED) for number in (3, 4, 5)], waits(6, 50, "hall", attempts=1, phase=CANCELED),
+            waits(7, 50, "spare", attempts=1, phase=COMPLETED), waits(8, 50, phase=CANCELED),
+            waits(9, 50, phase=aborted("no-filter"))]
+    story.lists(Head(9, 51), HALL, LAB, spare, *rows)
+    story = Story(folder, *begun, clock(51))
+    story.takes(stage(6, 1, 1, 0))
+    story.has(waits(6, 50, "hall", attempts=1, phase=COMPLETED))
+    # What was incoming waits once it is closed, until the clock tells the time again.
+    story.takes(close(1), close(2))
+    story.has(waits(1, 50, size=3), Piece(1, b"abc"), waits(2, 50, phase=waiting(held())))
+    story.starts(1)
+    story.takes(clock(51))
+    story.has(waits(1, 50, size=3, phase=CANCELED), waits(2, 50, phase=CANCELED))
+    story.refuses(start(1), start(2), Piece(1, b"abc"))
+
+
+def a_moment_that_is_over_already(folder):
+    for back in (1_000, 999, 0):
+        story = Story(folder, clock(1_000), LAB.event(), of_lab(1, by=999).event())
+        story.takes(clock(back), send(1, b"abc"), clock(back))
+        story.lists(Head(1, 1_000), LAB, of_lab(1, by=999, size=3), Piece(1, b"abc"))
+        story.takes(close(1))
+        story.lists(Head(1, 1_000), LAB, waits(1, 999, size=3), Piece(1, b"abc"))
+        story.starts(1)
+        # A clock that goes back, or stands still, tells the time again.
+        story.takes(clock(back))
+        story.lists(Head(1, 1_000), LAB, waits(1, 999, size=3, phase=CANCELED))
+    # A moment that is now isn't over.
+    story = Story(folder, clock(1_000), LAB.event(), *timed(1, 1_000), clock(0), clock(1_000))
+    story.lists(Head(1, 1_000), LAB, waits(1, 1_000))
+
+
+def a_moment_stays_whatever_comes(folder):
+    lab = Queue("lab", policy="retry-current-job", interval=100)
+    story = Story(folder, lab.event(), *timed(1, 500), hold(1))
+    story.has(waits(1, 500, phase=waiting(held())))
+    story.takes(release(1), hold(1, 40), clock(30))
+    story.has(waits(1, 500, phase=waiting(until(40))))
+    story.takes(release(1), start(1), clock(100), stage(1, 1, 1, 6))
+    tried = waits(1, 500, attempts=1, phase=waiting(not_before=200))
+    story.lists(Head(1, 100), lab, tried)
+    story.takes(clock(200), start(1), stage(1, 2, 1, 7))
+    story.lists(Head(1, 200), lab, replace(tried, attempts=2, phase=waiting(first=True)))
+    story.takes(start(1), stage(1, 3, 1, 2), set_stop("lab", True), set_accept("lab", False))
+    story.lists(Head(1, 200), replace(lab, stopped=True, accepting=False),
+                replace(tried, attempts=3, phase=waiting(held("cups-held-for-authentication"))))
+    story.takes(set_stop("lab", False), release(1), start(1))
+    # It is printed while its moment goes by, and waits again behind it: the next clock cancels it.
+    story.takes(clock(501))
+    running = story.payloads
+    for end, phase in ((abandon(1), waiting(first=True)), (REOPEN, waiting(first=True)), (stage(1, 4, 1, 6), waiting(not_before=601)),
+                       (stage(1, 4, 1, 3), waiting(held("held-by-backend")))):
+        story = Story(folder, *running, end)
+        story.has(replace(tried, attempts=4, phase=phase))
+        story.takes(clock(0))
+        story.has(replace(tried, attempts=4, phase=CANCELED))
+    Story(folder, *running, stage(1, 4, 1, 0), clock(600)).has(replace(tried, attempts=4, phase=COMPLETED))
+
+
+def many_moments(folder):
+    size, count = 1_048_576, 2_000
+    by = [None if number % 7 == 0 else number * 7_919 % 1_009 for number in range(count + 1)]
+    events = [LAB.event()]
+    for number in range(1, count + 1):
+        events += timed(number, by[number], priority=number % 3 + 1)
+    tables = [events, Story(folder, *events, size=size).spool().listing()]
+    for now in (1, 500, 1_010):
+        rows = [waits(number, by[number], priority=number % 3 + 1, phase=CANCELED if by[number] is not None and by[number] < now else waiting())
+                for number in range(1, count + 1)]
+        for table in tables:
+            story = Story(folder, *table, clock(now), size=size)
+            same("the listing is its rows", story.spool().listing() == [Head(count, now), LAB, *rows], True)
 
 
 # What becomes of a job whose attempt is lost at the moment 1000, by its queue's policy and limit, and whether the queue stops.

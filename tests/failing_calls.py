@@ -4,7 +4,8 @@
 SHELL is the program, and crates/spool_shell/out/spool_shell (made by `rt run` in that folder) where none is given. It runs under
 strace (Debian's package `strace`), which answers an error in the place of one call; the call isn't made. Those that are let fail are
 the calls on its files, its folder, its children, its sockets and its streams (ERRORS), one in each run, in some scenes: a first start, an
-opening in which a job is processing, events, a checkpoint, and rounds of two queues with filters, backends and side channels.
+opening in which a job is processing, events, a checkpoint, the first one of a spool of version 1, and rounds of two queues with
+filters, backends and side channels.
 
 What has to come of it is told by `outcome`, a table by the call and what it is made on:
 
@@ -91,17 +92,22 @@ FIRST = [('create lab ann "First" 1 50 "media=A4"\n', "ok job 1"), ("send 1 5\nh
 SECOND = [('create hall bo "Second" 2 60 ""\n', "ok job 2"), ("send 2 6\nothers\n", "ok bytes 6"),
           ("close 2 b.x\n", "ok type a/a stages 2")]
 ROUND = [("round\n", "ok started 2 finished 2")]
+TIMED = [('createby lab bo "Late" 1 50 "" 999\n', "ok job 2"), ("close 2 b.x\n", "ok type a/a stages 2")]
 HOLDS = [("hold 1 indefinite\n", "ok"), ("release 1\n", "ok"), ("clock 1000\n", "ok"), ("reject hall\n", "ok"), ("cancel 1\n", "ok")]
+NOT_YET = [('createby lab bo "Late" 1 50 "" 999\n', "error 17 NeedsCheckpoint")]
 
 # The scenes: what was served before, and the commands in which calls fail, each with its reply.
 SCENES = {
     "start": ([], QUEUES[:1] + FIRST[:1]),
     "opening": (QUEUES + FIRST + SECOND + ROUND, [("clock 1\n", "ok")]),
-    "events": (QUEUES[:1], QUEUES[1:] + FIRST + HOLDS),
+    "events": (QUEUES[:1], QUEUES[1:] + FIRST + TIMED + HOLDS),
     # Behind an event the documents are read anew.
     "checkpoint": (QUEUES + FIRST + SECOND + [("checkpoint\n", "ok")], [("clock 4\n", "ok"), ("checkpoint\n", "ok"), ("clock 5\n", "ok")]),
+    "older": (QUEUES + FIRST, NOT_YET + [("checkpoint\n", "ok")] + TIMED + HOLDS[2:3]),
     "rounds": (QUEUES + FIRST + SECOND, ROUND * 2 + [("clock 5\n", "ok")]),
 }
+# Those that go on from a spool of version 1. What was served before has no moments and no checkpoint.
+OF_VERSION_ONE = ("older",)
 ENDED_ILL = ("aborted", "waiting")
 
 
@@ -137,6 +143,15 @@ class Place:
         os.chmod(side, 0o700)
         self.words = [shell, "--root", self.root, "--size", str(SIZE), *self.children.words]
 
+    def begin(self, scene):
+        """Serves what comes before a scene: its replies."""
+        lines = self.serve(text_of(SCENES[scene][0]))
+        if scene in OF_VERSION_ONE:
+            with open(self.file, "r+b") as file:
+                file.seek(1)
+                file.write(b"\1")
+        return lines
+
     def serve(self, script):
         done = subprocess.run(self.words, input=script, capture_output=True, timeout=SECONDS)
         demand(done.returncode == 0 and not real_children.faults_in(done.stderr.decode()), f"it ended with {done.returncode} and {done.stderr!r}")
@@ -148,6 +163,9 @@ class Place:
     def table(self):
         return self.standing()[0]
 
+    def told(self):
+        return told(self.table())
+
     def standing(self):
         """The table of the file, and its payloads."""
         if not os.path.exists(self.file):
@@ -158,6 +176,11 @@ class Place:
 
 
 # ---- what has to come of a failure
+
+def told(table):
+    """A table's rows, and the version of its area."""
+    return table.version, table.listing()
+
 
 def name_of(call):
     """The name that a call is about: that of a file in the folder, `.` for the folder, or None for none of it."""
@@ -301,18 +324,18 @@ def check_file(place, end, commands, kept, first):
     """The file holds what was answered, and at most what was under way. Before the commands it may be as it was first."""
     table, payloads = place.standing()
     answered = len(commands) if end.outcome in ("same", "stage", "blind") else end.answered
-    tables = [listing for listing, _ in kept[answered:answered + 2]]
+    tables = [found for found, _ in kept[answered:answered + 2]]
     if end.outcome in ("file", "disk"):
         tables = [first, kept[0][0]]
     is_round = commands[answered:answered + 1] == ROUND
-    listed, before = kept[answered]
+    _, before = kept[answered]
     if end.outcome == "blind":
         return
     if end.outcome == "stage":
         check_stage(end, table)
         return
     begins = payloads[:len(before)] == before
-    demand(table.listing() in tables or is_round and begins, f"the file has {table.jobs_reply()}")
+    demand(told(table) in tables or is_round and begins, f"the file has {table.jobs_reply()}, in version {table.version}")
 
 
 def check_again(place, before):
@@ -328,11 +351,11 @@ def check(shell, folder, scene, kept, failure):
     """One run in which a call fails. Gives whether it did: calls that wait for children differ from run to run."""
     earlier, commands = SCENES[scene]
     place = Place(shell, folder)
-    place.serve(text_of(earlier))
+    place.begin(scene)
     if not earlier:
         shutil.rmtree(place.root)
         os.mkdir(place.root)
-    before, first = place.children.stages(), place.table().listing()
+    before, first = place.children.stages(), place.told()
     done, calls = place.traced(commands, failure.inject())
     end = failed_in(done, calls)
     if end and end.outcome:
@@ -344,17 +367,17 @@ def check(shell, folder, scene, kept, failure):
 
 
 def usual(shell, folder, scene):
-    """The calls of a scene without a failure, and for each number of its commands the table in the file, listed, and its payloads."""
+    """The calls of a scene without a failure, and for each number of its commands the table in the file, told, and its payloads."""
     earlier, commands = SCENES[scene]
     kept = []
     for number in range(len(commands) + 1):
         place = Place(shell, os.path.join(folder, f"{scene}{number}"))
-        lines = place.serve(text_of(earlier)) if earlier else []
+        lines = place.begin(scene) if earlier else []
         demand(lines == replies_to(earlier), f"{scene}: before it, it answered {lines}")
         done, calls = place.traced(commands[:number])
         demand(done.stdout.decode().splitlines() == replies_to(commands[:number]) and not done.returncode, f"{scene}: {done}")
         table, payloads = place.standing()
-        kept.append((table.listing(), payloads))
+        kept.append((told(table), payloads))
         shutil.rmtree(place.folder)
     return calls, kept
 

@@ -4,18 +4,19 @@
 SHELL is the program, and crates/spool_shell/out/spool_shell (made by `rt run` in that folder) where none is given. The files are
 spelled by tests/journal.py, a second writer of the formats. A file that no spool writes has to be refused, `spool: damaged PLACE`
 with the place of the gate, and stays as it is. Of any other one the replies, the standard error, the status and the bytes that
-are left have to be those that are wanted here: of headers, gates and records, of the rows of a listing, and of what commands,
-checkpoints and openings leave.
+are left have to be those that are wanted here: of headers, gates and records, of the rows of a listing, of areas of either
+version, and of what commands, checkpoints and openings leave.
 
 Each TEST is the name of a function below; without one all are run. The last line is `N of N`, with status 0, or the first
 difference, with status 1. The folder of that test stays then, and is named.
 """
+import os
 import sys
 from dataclasses import replace
 
 import journal
-from journal import (CANCELED, COMPLETED, REOPEN, Head, Job, Piece, Queue, aborted, cancel, clock, close, hold, image, incoming,
-                     processing, send, stage, start, waiting)
+from journal import (CANCELED, COMPLETED, REOPEN, Head, Job, Piece, Queue, aborted, cancel, clock, close, held, hold, image,
+                     incoming, processing, send, stage, start, until, waiting)
 from stories import (CREATE, FIRST, FIRST_ROWS, GREATEST, GREATEST_NUMBER, LAB, Q, QUEUE, QUEUES, SIZE, Spool, Story, of_lab,
                      of_q, run, same, spelled)
 
@@ -35,6 +36,7 @@ def other_bytes_in_a_fresh_spool(folder):
         (1, "09", "damaged 0"),
         (0, "00", "not-a-spool"),
         (99, fresh[:16].hex(), "not-a-spool"),
+        (99, "A5 02 00 00 00 00 00 00 00 02 00 00 00 00 00 01", "damaged 99"),
         (99, "A5 01 00 00 00 00 00 00 00 02 00 00 00 00 00 01", "damaged 99"),
     ):
         changed = bytes.fromhex(words)
@@ -70,9 +72,9 @@ def one_header_is_the_newest(folder):
 
 def a_header_of_another_form_is_damage(folder):
     half = 99
-    for at, byte in ((1, 0), (1, 3), (10, 1), (15, 1)):
-        for area, place in ((0, 0), (1, half)):
-            halves = [journal.area(half, 1, []), journal.area(half, 2, [])]
+    for at, byte in ((1, 0), (1, 3), (1, 9), (10, 1), (15, 1)):
+        for area, place, version in ((0, 0, 2), (1, half, 2), (0, 0, 1), (1, half, 1)):
+            halves = [journal.area(half, epoch, [], version=version) for epoch in (1, 2)]
             halves[area] = halves[area][:at] + bytes([byte]) + halves[area][at + 1:]
             Spool(folder, b"".join(halves)).is_refused(f"damaged {place}")
 
@@ -176,10 +178,10 @@ def rows_out_of_place_are_damage(folder):
         (34, [head, job]),
         (70, [Head(0, 1_000), Q, job]),
         (70, [head, Q, Q]),
-        (123, [head, Q, job, Piece(2, b"hi")]),
-        (123, [head, Q, job, clock(1_001)]),
-        (123, [head, Q, job]),
-        (139, [head, Q, job, piece, piece]),
+        (124, [head, Q, job, Piece(2, b"hi")]),
+        (124, [head, Q, job, clock(1_001)]),
+        (124, [head, Q, job]),
+        (140, [head, Q, job, piece, piece]),
     ):
         Spool(folder, image(400, list(map(spelled, rows)))).is_refused(f"damaged {place}")
 
@@ -187,7 +189,7 @@ def rows_out_of_place_are_damage(folder):
 def a_listing_is_its_table(folder):
     head, job, piece = Head(1, 1_000), of_q(1, media="a/b", size=2, phase=waiting()), Piece(1, b"hi")
     story = Story(folder, head, Q, job, piece, clock(1_001), size=400)
-    same("where its document lies", story.spool().content()[137:139], b"hi")
+    same("where its document lies", story.spool().content()[138:140], b"hi")
     spool = story.spool()
     spool.says(("jobs", ['job 1 q 3 none "u" 2 0 ""', "ok 1"]), ("queues", QUEUES))
     same("the document", spool.printed(1), b"hi")
@@ -220,13 +222,137 @@ def pieces_make_the_document(folder):
     same("the document", spool.printed(2), whole)
 
 
+# ---- areas of version 1, and moments by which jobs are to start
+
+CREATE_BY = 'createby q u "" 1 50 "" 2000'
+NO_CHECKPOINT = "error 17 NeedsCheckpoint"
+WAITS = 'job 1 q 3 none "u" 0 0 ""'
+
+
+def a_made_area_of_version_one(folder):
+    # As the program makes an area, but for the version.
+    empty = bytes.fromhex("a5010000000000000001000000000000")
+    same("the header", image(198, version=1)[:16], empty)
+    root = Spool(folder, b"")
+    os.remove(root.file)
+    root.says(("jobs", "ok 0"), words=("--size", "4096"))
+    made = root.content()
+    same("what is made", made, bytes.fromhex("a5020000000000000001000000000000").ljust(4_096, b"\0"))
+    spool = Spool(folder, made[:1] + b"\1" + made[2:])
+    spool.says((QUEUE, "ok"), (CREATE, "ok job 1"), ("close 1 f.x", "ok type a/b stages 1"), (CREATE_BY, NO_CHECKPOINT),
+               ("jobs", [WAITS, "ok 1"]), words=spool.options(types="a/b x\n"))
+    same("the file", spool.content(), image(4_096, FIRST, version=1))
+    incoming_job = 'job 2 q 4 job-incoming "u" 0 0 ""'
+    spool.says(("checkpoint", "ok"), (CREATE_BY, "ok job 2"), ("jobs", [WAITS, incoming_job, "ok 2"]))
+    rows = [row.payload() for row in FIRST_ROWS]
+    by = of_q(2, by=2_000)
+    left = image(4_096, FIRST, version=1)[:2_048] + journal.area(2_048, 2, [*rows, by.event()])
+    same("the file", spool.content(), left)
+    for _ in range(2):
+        spool.says(("jobs", [WAITS, incoming_job, "ok 2"]), ("queues", QUEUES))
+        same("the file", spool.content(), left)
+    same("the rows", spool.listing(), [Head(2), Q, FIRST_ROWS[2], by])
+
+
+def a_moment_needs_the_newer_version_first(folder):
+    # Whatever else is to be refused: the queue isn't there, takes no jobs, or there is no number left.
+    spool = Spool(folder, image(400, version=1))
+    spool.says((CREATE_BY, NO_CHECKPOINT), (CREATE, "error 1 NoQueue"), ("checkpoint", "ok"), (CREATE_BY, "error 1 NoQueue"))
+    spool = Spool(folder, image(600, [Q.event()], version=1))
+    spool.says(("reject q", "ok"), (CREATE_BY, NO_CHECKPOINT), (CREATE, "error 4 NotAccepting"), ("checkpoint", "ok"),
+               (CREATE_BY, "error 4 NotAccepting"), ("accept q", "ok"), (CREATE_BY, "ok job 1"))
+    spool = Spool(folder, image(400, [Q.event(), of_q(GREATEST_NUMBER).event()], version=1))
+    spool.says((CREATE_BY, NO_CHECKPOINT), (CREATE, "error 9 NoNumberLeft"), ("checkpoint", "ok"), (CREATE_BY, "error 9 NoNumberLeft"))
+    # A full spool refuses it as any other one, and so does one whose line can't be read before either.
+    spool = Spool(folder, image(46, version=1))
+    spool.says((CREATE_BY, NO_CHECKPOINT), ("checkpoint", "error full"), (CREATE_BY, NO_CHECKPOINT),
+               (CREATE_BY + "0000000000", "error syntax"), (CREATE_BY.removesuffix(" 2000"), "error syntax"),
+               ('createby q u "" 1 50 "c={x=1}" 2000', "error options"))
+
+
+def rows_of_each_version(folder):
+    head, job = Head(1, 1_000), of_q(1, media="a/b", phase=waiting())
+    for version, other in ((1, 2), (2, 1)):
+        story = Story(folder, head, Q, version=version)
+        same("a byte more", len(job.payload(2)), len(job.payload(1)) + 1)
+        story.refuses(job.payload(other))
+        story.takes(job)
+        story.lists(head, Q, job)
+        same("the replies", story.spool().lines(["jobs"]), [WAITS, "ok 1"])
+    # A moment, and what is none.
+    story = Story(folder, head, Q)
+    timed = replace(job, by=2_000)
+    same("its bytes", timed.payload()[48:].hex(), "0100000000000007d0")
+    story.refuses(timed.payload()[:-1], timed.payload() + b"\0", replace(job, by=4_000_000_000_001))
+    story.refuses(job.payload()[:-1] + b"\2", job.payload() + b"\0", job.payload()[:-1] + b"\1")
+    for by in (0, 999, 1_000, 2_000, 4_000_000_000_000):
+        # One that was over before its listing was written stays until the clock tells the time again.
+        again = Story(folder, head, Q, replace(job, by=by))
+        again.lists(head, Q, replace(job, by=by))
+
+
+def events_of_each_version(folder):
+    timed = of_q(2, by=2_000)
+    same("its bytes", timed.event()[-8:].hex(), "00000000000007d0")
+    for version in journal.VERSIONS:
+        story = Story(folder, *FIRST, version=version)
+        story.refuses(timed.event()[:-1], timed.event() + b"\0", of_q(2, by=4_000_000_000_001).event(), of_q(1, by=9).event(), b"\x10\0\0\0\1")
+    Story(folder, *FIRST, version=1).refuses(timed.event())
+    story.takes(timed.event())
+    story.lists(Head(2), Q, FIRST_ROWS[2], timed)
+    story.refuses(timed.event(), of_q(1).event())
+    story.takes(of_q(4_000_000, by=0).event(), of_q(4_000_001).event())
+
+
+def areas_of_both_versions(folder):
+    half = 200
+    old, new = of_q(1, media="a/b", phase=waiting()), of_q(1, media="a/b", phase=waiting(), by=5_000)
+    # The one of the higher epoch counts, and is read in its own version.
+    for base in (0, half):
+        for old_epoch, new_epoch in ((1, 2), (2, 1)):
+            first = journal.area(half, old_epoch, [row.payload(1) for row in (Head(1, 7), Q, old)], version=1)
+            second = journal.area(half, new_epoch, [row.payload() for row in (Head(1, 8), Q, new)])
+            spool = Spool(folder, first + second if base == 0 else second + first)
+            is_old = new_epoch < old_epoch
+            spool.says((CREATE_BY, NO_CHECKPOINT if is_old else "ok job 2"))
+            # A checkpoint takes the other area.
+            same("the rows", spool.listing(), [Head(1, 7), Q, old] if is_old else [Head(2, 8), Q, new, of_q(2, by=2_000)])
+            versions = {journal.version_of(area) for area in journal.halves(spool.content())}
+            same("the versions", versions, {1, 2} if is_old else {2})
+
+
+def a_first_checkpoint_writes_the_newer_version(folder):
+    rows = [Head(3, 40), Q, of_q(1, media="a/b", phase=waiting(until(50))), of_q(3, size=5), Piece(3, b"hello")]
+    story = Story(folder, *rows, version=1)
+    # What was there goes over as it is, with each event that version 1 has.
+    story.takes(Queue("p").event(), send(3, b"!"), clock(60), hold(1))
+    spool = story.spool()
+    wanted = [Head(3, 60), Queue("p"), Q, of_q(1, media="a/b", phase=waiting(held())), of_q(3, size=6), Piece(3, b"hello!")]
+    before = spool.content()
+    same("the rows", spool.listing(), wanted)
+    # The old area is as it was, and the new one takes its place.
+    same("the old area", journal.halves(spool.content())[0], journal.halves(before)[0])
+    same("the new header", journal.halves(spool.content())[1][:16].hex(), "a5020000000000000002000000000000")
+    spool.says((CREATE_BY, "ok job 4"))
+    same("the rows", spool.listing(), [Head(4, 60), *wanted[1:], of_q(4, by=2_000)])
+    same("both areas are of the newer version", [journal.version_of(half) for half in journal.halves(spool.content())], [2, 2])
+
+
+def a_reopening_keeps_the_older_version(folder):
+    started = FIRST + (start(1),)
+    spool = Spool(folder, image(SIZE, started, version=1))
+    for _ in range(2):
+        spool.says((CREATE_BY, NO_CHECKPOINT), ("jobs", ['job 1 q 8 attempt-lost "u" 0 0 ""', "ok 1"]))
+        same("the file", spool.content(), image(SIZE, started + (REOPEN,), version=1))
+
+
 # ---- what checkpoints, commands and openings leave
 
 def a_listing_of_an_empty_table(folder):
     spool = Spool(folder, image(198))
     spool.says(("checkpoint", "ok"))
-    # Its epoch is 2, and the one row is the head: its kind, no number and the moment 0.
-    listed = bytes.fromhex("a5010000000000000002000000000000a50000000d4000000000000000000000000000")
+    # Its version is 2, its epoch is 2, and the one row is the head: its kind, no number and the moment 0.
+    listed = bytes.fromhex("a5020000000000000002000000000000a50000000d4000000000000000000000000000")
     same("the file", spool.content(), image(198)[:99] + listed.ljust(99, b"\0"))
     spool.says(("jobs", "ok 0"))
 
@@ -248,15 +374,16 @@ def a_listing_in_pieces(folder):
 
 
 def room_for_one_reopening(folder):
-    # The rows of the listing take 13, 31 and 48 bytes. An area of 129 bytes has no room for them and a reopening, and one of
-    # 130 just that.
+    # The rows of the listing take 13, 31 and 49 bytes. An area of 130 bytes has no room for them and a reopening, and one of
+    # 131 just that.
     waits = ['job 1 q 3 none "u" 0 0 ""', "ok 1"]
-    spool = Spool(folder, image(258, FIRST))
-    spool.says(("checkpoint", "error full"), ("jobs", waits), ("hold 1 indefinite", "ok"))
-    same("the file", spool.content(), image(258, FIRST + (hold(1),)))
+    same("the bytes of the rows", [len(row.payload()) for row in FIRST_ROWS], [13, 31, 49])
     spool = Spool(folder, image(260, FIRST))
+    spool.says(("checkpoint", "error full"), ("jobs", waits), ("hold 1 indefinite", "ok"))
+    same("the file", spool.content(), image(260, FIRST + (hold(1),)))
+    spool = Spool(folder, image(262, FIRST))
     spool.says(("checkpoint", "ok"), ("jobs", waits), ("round", "error full"))
-    listed = image(260, FIRST)[:130] + journal.area(130, 2, [row.payload() for row in FIRST_ROWS])
+    listed = image(262, FIRST)[:131] + journal.area(131, 2, [row.payload() for row in FIRST_ROWS])
     same("the file", spool.content(), listed)
     spool.says(("jobs", waits), ("queues", QUEUES), ("round", "error full"), ("hold 1 indefinite", "error full"))
     same("the file", spool.content(), listed)

@@ -6,15 +6,18 @@ its bytes. A list of texts is their number, then the texts.
 
 A spool's file has two areas of the same length. An area is a header and records, the last with a closed gate behind it:
 
-    header   gate, version 1, epoch in 8 bytes, 6 zeros
+    header   gate, version, epoch in 8 bytes, 6 zeros
     record   gate, length of the payload in 4 bytes, payload
 
-A gate is open where it is A5. The payload is an event or a row of a listing.
+A gate is open where it is A5. The payload is an event or a row of a listing. The version is 2, or 1 in an area that an older
+program wrote: there a job has no moment by which it is to start, its row has no place for one, and no event brings one.
 """
 import io
 from dataclasses import dataclass
 
 OPEN = 0xA5
+VERSIONS = (1, 2)
+NEWEST = 2
 HEADER = 16
 FRAME = 5  # the gate and the length of a record
 LONGEST_PIECE = 65_536
@@ -40,6 +43,10 @@ def texts(words, width):
 
 def optional(words):
     return b"\0" if words is None else b"\1" + text(words)
+
+
+def optional_moment(moment):
+    return b"\0" if moment is None else b"\1" + number(moment, 8)
 
 
 # ---- phases
@@ -80,7 +87,7 @@ class Head:
     highest: int
     now: int = 0
 
-    def payload(self):
+    def payload(self, version=NEWEST):
         return b"\x40" + number(self.highest, 4) + number(self.now, 8)
 
 
@@ -108,7 +115,7 @@ class Queue:
         """The event that adds it."""
         return b"\x01" + self.fields()
 
-    def payload(self):
+    def payload(self, version=NEWEST):
         state = number(self.accepting, 1) + number(self.stopped, 1) + text(self.message)
         pairs = b"".join(text(name) + text(value) for name, value in self.attributes)
         told = texts(self.reasons, 1) + number(len(self.attributes), 1) + pairs
@@ -130,18 +137,22 @@ class Job:
     pages: int = 0
     size: int = 0
     phase: bytes = incoming()
+    by: int | None = None  # the moment by which it is to start
 
     def event(self):
         """The event that creates it."""
         words = text(self.queue) + number(self.number, 4) + text(self.user) + text(self.title)
-        return b"\x05" + words + number(self.copies, 2) + number(self.priority, 1) + text(self.options)
+        fields = words + number(self.copies, 2) + number(self.priority, 1) + text(self.options)
+        return b"\x05" + fields if self.by is None else b"\x11" + fields + number(self.by, 8)
 
-    def payload(self):
+    def payload(self, version=NEWEST):
+        assert version > 1 or self.by is None, "version 1 has no place for a moment"
         words = number(self.number, 4) + text(self.queue) + text(self.user) + text(self.title)
         wishes = number(self.copies, 2) + number(self.priority, 1) + text(self.options)
         chain = optional(self.media) + texts(self.filters, 1)
         counts = number(self.attempts, 4) + number(self.pages, 4) + number(self.size, 4)
-        return b"\x42" + words + wishes + chain + counts + self.phase
+        by = b"" if version == 1 else optional_moment(self.by)
+        return b"\x42" + words + wishes + chain + counts + self.phase + by
 
 
 @dataclass(frozen=True)
@@ -149,7 +160,7 @@ class Piece:
     job: int
     data: bytes
 
-    def payload(self):
+    def payload(self, version=NEWEST):
         return b"\x43" + number(self.job, 4) + number(len(self.data), 4) + self.data
 
 
@@ -256,20 +267,20 @@ def record(payload):
     return bytes([OPEN]) + number(len(payload), 4) + payload
 
 
-def header(epoch, gate=OPEN, version=1):
+def header(epoch, gate=OPEN, version=NEWEST):
     return bytes([gate, version]) + number(epoch, 8) + bytes(6)
 
 
-def area(length, epoch, payloads, gate=OPEN, closed=0):
+def area(length, epoch, payloads, gate=OPEN, closed=0, version=NEWEST):
     """An area of this length: its records, and a closed gate behind them. It is cut where it is longer."""
-    written = header(epoch, gate) + b"".join(map(record, payloads)) + bytes([closed])
+    written = header(epoch, gate, version) + b"".join(map(record, payloads)) + bytes([closed])
     return written[:length].ljust(length, b"\0")
 
 
-def image(size, payloads=(), epoch=1, closed=0):
+def image(size, payloads=(), epoch=1, closed=0, version=NEWEST):
     """A spool's file: the first area has these payloads, and the other one is as it was made."""
     half = size // 2
-    return (area(half, epoch, payloads, closed=closed) + bytes(half)).ljust(size, b"\0")
+    return (area(half, epoch, payloads, closed=closed, version=version) + bytes(half)).ljust(size, b"\0")
 
 
 def places(payloads):
@@ -288,6 +299,11 @@ def halves(file):
 def epoch_of(half):
     """The epoch of an area whose header is open, or 0."""
     return int.from_bytes(half[2:10], "big") if half[0] == OPEN else 0
+
+
+def version_of(half):
+    """The version that the header of an area tells."""
+    return half[1]
 
 
 def payloads_between(file, base, end):
@@ -320,10 +336,19 @@ def current_payloads(file, size):
     return payloads_between(file, base, base + size // 2)
 
 
+def current_half(file):
+    """The area with the higher epoch."""
+    return max(halves(file), key=epoch_of)
+
+
 def current(file):
-    """The payloads of the area with the higher epoch, and that epoch."""
-    half = max(halves(file), key=epoch_of)
+    """The payloads of that area, and its epoch."""
+    half = current_half(file)
     return payloads_of(half), epoch_of(half)
+
+
+def current_version(file):
+    return version_of(current_half(file))
 
 
 # ---- rows that are read back
@@ -360,6 +385,10 @@ class Reader:
             return kind + self.hold() + self.take(9)
         return kind + self.take({2: 1, 3: 0, 4: 0, 5: 1}[kind[0]])
 
+    def moment(self):
+        """A moment, or None where none is told."""
+        return self.number(8) if self.number(1) else None
+
 
 def read_queue(reader):
     words = [reader.text() for _ in range(3)]
@@ -370,16 +399,17 @@ def read_queue(reader):
     return Queue(*words, *numbers, *notes, *state, reasons, tuple((reader.text(), reader.text()) for _ in range(reader.number(1))))
 
 
-def read_job(reader):
+def read_job(reader, version):
     words = [reader.number(4)] + [reader.text() for _ in range(3)]
     wishes = [reader.number(2), reader.number(1), reader.text()]
     media = reader.text() if reader.number(1) else None
     chain = [media, reader.texts(1)]
-    return Job(*words, *wishes, *chain, *[reader.number(4) for _ in range(3)], reader.phase())
+    state = [reader.number(4) for _ in range(3)] + [reader.phase()]
+    return Job(*words, *wishes, *chain, *state, None if version == 1 else reader.moment())
 
 
-def read_row(payload):
-    """The row of a listing that a payload is."""
+def read_row(payload, version=NEWEST):
+    """The row of a listing that a payload is, in an area of this version."""
     reader = Reader(payload)
     kind = reader.number(1)
     if kind == 0x40:
@@ -387,7 +417,7 @@ def read_row(payload):
     elif kind == 0x41:
         row = read_queue(reader)
     elif kind == 0x42:
-        row = read_job(reader)
+        row = read_job(reader, version)
     elif kind == 0x43:
         row = Piece(reader.number(4), reader.take(reader.number(4)))
     else:

@@ -8,10 +8,11 @@ Each run begins with ten lives that are killed while they make the spool, of 4,0
 a whole making takes. Such a life gets a folder that is fresh, or has what a killed one left unfinished. A life after it
 has to make or open the spool there, with what was answered.
 
-Several lives follow in the last of these folders. A life gets one command at a time, and is killed after some reply,
-inside the text of a command, or with a command under way. One command in five is a checkpoint. The next life's `jobs`
-has to list exactly what was answered, and beside it at most the command that was under way. The documents of the jobs that
-haven't ended have to be on the disk, which this script reads by itself.
+Several lives follow in the last of these folders, in half of the runs on a spool of version 1, which a checkpoint makes a newer
+one. A life gets one command at a time, and is killed after some reply, inside the text of a command, or with a command under
+way. One command in five is a checkpoint, and some jobs are to start by a moment, behind which a clock cancels them. The next
+life's `jobs` has to list exactly what was answered, and beside it at most the command that was under way. The documents of the
+jobs that haven't ended have to be on the disk, and the version has to be that of the table, which this script reads by itself.
 
 What has to be listed is told by a table of this script's own. The last line is `50 of 50`, with status 0, or the first
 difference, with status 1.
@@ -51,8 +52,9 @@ class Lost(Exception):
 
 
 class Job:
-    def __init__(self, title):
+    def __init__(self, title, by=None):
         self.title = title
+        self.by = by
         self.document = ""
         self.shown = "4 job-incoming"
 
@@ -63,6 +65,8 @@ class Table:
     def __init__(self):
         self.queues = []
         self.jobs = []
+        self.now = 0
+        self.version = 2
 
     def listing(self):
         """What `jobs` answers."""
@@ -82,12 +86,20 @@ class Table:
 
     def change(self, name, *words):
         if name == "checkpoint":
+            self.version = 2
             return "ok"
+        if name == "clock":
+            self.tell(words[0])
+            return "ok"
+        if name == "queue" and words[0] in self.queues:
+            return "error 2 QueueExists"
         if name == "queue":
             self.queues.append(words[0])
             return "ok"
-        if name == "create":
-            self.jobs.append(Job(words[0]))
+        if name == "createby" and self.version == 1:
+            return "error 17 NeedsCheckpoint"
+        if name in ("create", "createby"):
+            self.jobs.append(Job(*words))
             return f"ok job {len(self.jobs)}"
         job = self.jobs[words[0] - 1]
         if name == "send":
@@ -99,6 +111,13 @@ class Table:
         job.shown = "7 canceled"
         return "ok"
 
+    def tell(self, moment):
+        """The clock tells a moment, and cancels what waits behind its own."""
+        self.now = max(self.now, moment)
+        for job in self.jobs:
+            if job.shown == "3 none" and job.by is not None and job.by < self.now:
+                job.shown = "7 canceled"
+
 
 def text_of(name, *words):
     """A command as the shell reads it."""
@@ -106,6 +125,10 @@ def text_of(name, *words):
         return f"queue {words[0]} spoolfile:/out {TYPE} abort-job\n"
     if name == "create":
         return f'create lab ann "{words[0]}" 1 50 ""\n'
+    if name == "createby":
+        return f'createby lab ann "{words[0]}" 1 50 "" {words[1]}\n'
+    if name == "clock":
+        return f"clock {words[0]}\n"
     if name == "send":
         return f"send {words[0]} {len(words[1])}\n{words[1]}\n"
     if name == "close":
@@ -121,16 +144,23 @@ def next_command(table, chance):
         return FIRST
     if chance.random() < 0.2:
         return ("checkpoint",)
+    if chance.random() < 0.1:
+        return ("clock", chance.randrange(100))
     number = chance.randrange(len(table.jobs) + 1)
     if number == 0:
-        return ("create", f"Job {len(table.jobs) + 1}")
+        return new_job(table, chance)
     shown = table.jobs[number - 1].shown
     if shown == "4 job-incoming":
         document = "".join(chance.choices(string.ascii_letters, k=chance.randrange(1, 3000)))
         return chance.choice([("send", number, document), ("close", number), ("cancel", number)])
     if shown == "3 none":
         return ("cancel", number)
-    return ("create", f"Job {len(table.jobs) + 1}")
+    return new_job(table, chance)
+
+
+def new_job(table, chance):
+    title = f"Job {len(table.jobs) + 1}"
+    return ("create", title) if chance.random() < 0.5 else ("createby", title, chance.randrange(120))
 
 
 class Life:
@@ -176,11 +206,11 @@ class Life:
 
 
 def on_disk(root):
-    """The documents that the current area of the spool has, by the numbers of their jobs."""
+    """The version of the spool's current area, and the documents that it has, by the numbers of their jobs."""
     with open(os.path.join(root, "spool.disk"), "rb") as it:
         disk = it.read()
     headers = [(HEADER.unpack_from(disk, base), base) for base in (0, len(disk) // 2)]
-    _, base = max((epoch, base) for (gate, _, epoch), base in headers if gate == OPEN)
+    _, base, version = max((epoch, base, version) for (gate, version, epoch), base in headers if gate == OPEN)
     at, documents = base + HEADER.size, {}
     while disk[at] == OPEN:
         _, length = RECORD.unpack_from(disk, at)
@@ -189,19 +219,34 @@ def on_disk(root):
             _, job, _ = PART.unpack_from(payload)
             documents[job] = documents.get(job, "") + payload[PART.size :].decode()
         at += RECORD.size + length
-    return documents
+    return version, documents
 
 
-def look_for_documents(root, table):
-    """Whether the disk has the table's documents."""
-    found = on_disk(root)
-    for job, document in table.documents().items():
+def grow_old(root, tables):
+    """Makes a spool one of version 1, where it was made. It has no moments yet, so the byte in its header says all."""
+    path = os.path.join(root, "spool.disk")
+    if os.path.exists(path):
+        with open(path, "r+b") as file:
+            file.seek(1)
+            file.write(b"\1")
+        for table in tables:
+            table.version = 1
+
+
+def of_disk(root, tables):
+    """Those of the tables that have the version of the disk, which has their documents."""
+    version, found = on_disk(root)
+    tables = [table for table in tables if table.version == version]
+    if not tables:
+        raise Lost(f"the disk has the version {version}")
+    for job, document in tables[0].documents().items():
         if found.get(job, "") != document:
             raise Lost(f"job {job} has the document {found.get(job)!r}, not {document!r}")
+    return tables
 
 
 def recognised(listed, tables):
-    """The tables that are listed so: two where a queue was under way, since `jobs` lists no queues."""
+    """The tables that are listed so: several where a queue, a clock or a checkpoint was under way, which `jobs` doesn't list."""
     found = [table for table in tables if table.listing() == listed]
     if not found:
         raise Lost(f"listed {listed}, answered {tables[0].listing()}")
@@ -212,18 +257,15 @@ def live(root, tables, chance):
     """One life: the tables that the next life may find."""
     life = Life(root)
     try:
-        found = recognised(life.jobs(), tables)
-        look_for_documents(root, found[0])
+        found = of_disk(root, recognised(life.jobs(), tables))
         for _ in range(chance.randrange(12)):
             command = next_command(found[0], chance)
-            after, reply = found[0].after(command)
+            after = [table.after(command) for table in found]
             life.give(text_of(*command))
             answered = life.reply()
-            if answered == "error 2 QueueExists" and len(found) > 1:
-                answered = reply
-            if answered != reply:
-                raise Lost(f"{command} was answered {answered!r}, not {reply!r}")
-            found = [after]
+            found = [table for table, reply in after if reply == answered]
+            if not found:
+                raise Lost(f"{command} was answered {answered!r}, not {after[0][1]!r}")
         if chance.random() < 0.3:
             return found
         command = next_command(found[0], chance)
@@ -233,7 +275,7 @@ def live(root, tables, chance):
             return found
         life.give(text)
         time.sleep(chance.random() * 0.004)
-        return found + [found[0].after(command)[0]]
+        return found + [table.after(command)[0] for table in found]
     finally:
         life.kill()
 
@@ -298,6 +340,8 @@ def run(seed, longest):
     chance = random.Random(seed)
     with tempfile.TemporaryDirectory() as folder:
         root, tables = makings(folder, longest, chance)
+        if chance.random() < 0.5:
+            grow_old(root, tables)
         for _ in range(LIVES):
             tables = live(root, tables, chance)
         life = Life(root)

@@ -1,4 +1,6 @@
 """Parts of tests/large.py: each value of a command at its limit, one below and one above."""
+from dataclasses import replace
+
 from journal import Job, Queue
 from large_run import TYPE, Script, quoted, same
 
@@ -25,11 +27,11 @@ class Asked(Script):
         if taken:
             self.keep_queue(name, target, int(interval), int(limit))
 
-    def job(self, reply="ok", user="ann", title="", copies="1", priority="50", options=""):
-        """A job that is taken, or answered otherwise."""
+    def job(self, reply="ok", user="ann", title="", copies="1", priority="50", options="", by=None):
+        """A job that is taken, or answered otherwise. It may be one that is to start by a moment."""
         number = len(self.jobs) + 1
         words = f"lab {user} {quoted(title)} {copies} {priority} {quoted(options)}"
-        self.ask(f"create {words}", f"ok job {number}" if reply == "ok" else reply)
+        self.ask(f"create {words}" if by is None else f"createby {words} {by}", f"ok job {number}" if reply == "ok" else reply)
         if reply == "ok":
             self.jobs.append(f'job {number} lab 4 job-incoming "{user}" 0 0 {quoted(title)}')
 
@@ -120,6 +122,10 @@ def ask_moments(script):
         script.ask(f"drain {drains}", "error syntax")
     for drains in ("1", "1000"):
         script.ask(f"drain {drains}", "ok rounds 1")
+    for by in ("0", "1", "3999999999999", "4000000000000", "0000000000007"):
+        script.job(by=by)
+    for by in ("4000000000001", "9999999999999", "00000000000007", "-1", "x", "1.5", '""'):
+        script.job("error syntax", by=by)
     script.ask("clock 4000000000001", "error syntax")
     script.ask("clock 4000000000000", "ok")
 
@@ -176,9 +182,12 @@ def look_for_what_is_not_listed(place):
     script = Script()
     script.ask(f"queue {'q' * 127} {uri_of(1_023)} {media_type(255)} stop-printer 86400 65535", "ok")
     script.ask(f"create {'q' * 127} {'u' * 255} {'t' * 255} 9999 100 {options}", "ok job 1")
+    script.ask(f"createby {'q' * 127} {'u' * 255} {'t' * 255} 9999 100 {options} 4000000000000", "ok job 2")
     place.serve(script)
     journal = place.read("spool/spool.disk")
     queue = Queue("q" * 127, uri_of(1_023), media_type(255), "stop-printer", 86_400, 65_535)
     job = Job(1, "q" * 127, "u" * 255, "t" * 255, 9_999, 100, options)
     same("the longest queue is in the journal", queue.event() in journal, True)
     same("the longest job is in the journal", job.event() in journal, True)
+    timed = replace(job, number=2, by=4_000_000_000_000)
+    same("the longest job with a moment is in the journal", timed.event() in journal, True)

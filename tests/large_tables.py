@@ -77,12 +77,14 @@ class Job:
         self.priority = number % 100 + 1
         self.options = options_of(number)
         self.document = document_of(number)
+        # The moment by which it is to start, if there is one: it is over, is now, or comes.
+        self.by = {0: NOW - 1, 1: NOW, 2: NOW + number, 3: 4_000_000_000_000}.get(number % 6)
         # Incoming, closed, held, held until a moment that is over or isn't, canceled before or after it was closed.
         self.kind = number // 64 % 7
 
     def ask(self, script):
         words = f"{self.queue.name} {self.user} {quoted(self.title)} {self.copies} {self.priority} {quoted(self.options)}"
-        script.ask(f"create {words}", f"ok job {self.number}")
+        script.ask(f"create {words}" if self.by is None else f"createby {words} {self.by}", f"ok job {self.number}")
         script.document(self.number, self.document)
         if self.kind not in (0, 5):
             self.ask_close(script)
@@ -100,12 +102,18 @@ class Job:
     def unprintable(self):
         return self.kind not in (0, 5) and self.queue.target != TYPE
 
+    def is_late(self):
+        """Whether the clock cancels it once it waits."""
+        return self.kind in (1, 2, 3, 4) and not self.unprintable() and self.by == NOW - 1
+
     def held_until(self):
         return {2: None, 3: NOW + self.number, 4: NOW}[self.kind]
 
     def shown(self):
         if self.unprintable():
             return "8 no-filter"
+        if self.is_late():
+            return "7 canceled"
         if self.kind in (2, 3):
             return "4 job-hold-until-specified"
         return {0: "4 job-incoming", 1: "3 none", 4: "3 none", 5: "7 canceled", 6: "7 canceled"}[self.kind]
@@ -118,7 +126,7 @@ class Job:
             return journal.aborted("no-filter")
         if self.kind == 0:
             return journal.incoming()
-        if self.kind in (5, 6):
+        if self.kind in (5, 6) or self.is_late():
             return journal.CANCELED
         until = journal.until
         return journal.waiting({1: journal.FREE, 2: journal.held(), 3: until(NOW + self.number), 4: until(NOW)}[self.kind])
@@ -127,7 +135,7 @@ class Job:
         """Its row, and the pieces of its document where it hasn't ended."""
         asked = (self.number, self.queue.name, self.user, self.title, self.copies, self.priority, self.options)
         media = None if self.kind in (0, 5) else TYPE
-        yield journal.Job(*asked, media, size=len(self.document), phase=self.phase()).payload()
+        yield journal.Job(*asked, media, size=len(self.document), phase=self.phase(), by=self.by).payload()
         if self.shown()[0] in "34":
             for piece in journal.pieces(self.number, self.document):
                 yield piece.payload()
@@ -152,7 +160,7 @@ def look_at_rows(place, queues, jobs):
 
 
 def jobs_and_queues(place):
-    """10,000 jobs of 64 queues, with titles, options and documents of all lengths: listed, checkpointed, opened again."""
+    """10,000 jobs of 64 queues, with titles, options, moments and documents of all lengths: listed, checkpointed, opened again."""
     queues = [Queue(turn) for turn in range(QUEUES)]
     jobs = [Job(number, queues) for number in range(1, JOBS + 1)]
     script = Script()
@@ -160,6 +168,8 @@ def jobs_and_queues(place):
     for asked in queues + jobs:
         asked.ask(script)
     script.ask("queue more spoolfile:/out a/b abort-job", "error 3 TooManyQueues")
+    # It goes back, and cancels those that wait behind their moments all the same.
+    script.ask("clock 0", "ok")
     size = ("--size", str(SIZE))
     ask_jobs(script, jobs)
     place.serve(script, *size)

@@ -4,9 +4,9 @@
 It runs SHELL, or else crates/spool_shell/out/spool_shell (made by `rt run` in that folder), with `--root`, again and again in
 one folder. A word of digits is the seed.
 
-Each life gets commands at random: new jobs for four queues, one of each error policy, rounds and drains with children of the
-system, cancels, clocks and checkpoints. It is killed at a random moment, whatever is under way, and the next life opens what
-is left. Some jobs have two stages, a filter and a backend. A backend ends as its job and its attempt say: well, with a fault,
+Each life gets commands at random: new jobs for four queues, one of each error policy, some of them to be started by a moment,
+rounds and drains with children of the system, cancels, clocks and checkpoints. The spool is one of version 1 at first, or of
+the newest one, as the seed says. A life is killed at a random moment, whatever is under way, and the next one opens what is left. Some jobs have two stages, a filter and a backend. A backend ends as its job and its attempt say: well, with a fault,
 or with a wish to be tried again.
 
 Each child first takes a copy of the spool's file, and then writes its job, its attempt and its stage into one file, which it
@@ -15,6 +15,7 @@ syncs before it does anything else. So this script sees, when the children of a 
 - No job, attempt and stage comes twice, in all lives.
 - None was begun before the start of its attempt was in the spool's file: the copy has it.
 - No job whose end was answered, or was listed, begins again or is listed in another way.
+- No job begins an attempt behind a clock that was answered, if it waited and was to start by an earlier moment.
 - Every job that was answered is listed in all later lives, and no cancel that was answered is lost.
 
 A kill leaves what the system holds, so it shows nothing of a power cut. The last line is `200 of 200`, with status 0, or the
@@ -120,10 +121,10 @@ def commands_of_others():
 
 def attempts_in(content):
     """How many attempts a spool's file has of each job: those of its row, and the starts behind it."""
-    found = {}
+    found, version = {}, journal.current_version(content)
     for payload in journal.current(content)[0]:
         if payload[0] == ROW:
-            row = journal.read_row(payload)
+            row = journal.read_row(payload, version)
             found[row.number] = row.attempts
         elif payload[0] == START:
             number = int.from_bytes(payload[1:5], "big")
@@ -183,6 +184,8 @@ class Story:
         self.ended = {}  # with the count of begun stages when its end was seen
         self.shown = {}  # of those that were listed as ended, how
         self.moment = 0
+        self.by = {}  # of the jobs that are to start by a moment, that moment
+        self.late = 0  # how many of them were listed as canceled behind a clock that was answered
         self.looked = 0  # the begun stages that were looked at
 
     def sees_end(self, number):
@@ -235,24 +238,44 @@ class Story:
         if chance < 0.75 and listed:
             return self.cancels(life, self.chance.choice(list(listed)))
         if chance < 0.85:
-            self.moment += self.chance.randrange(40)
-            return bool(life.asks(f"clock {self.moment}\n")) and bool(life.asks("enable stops\n"))
+            return self.tells_the_time(life) and bool(life.asks("enable stops\n"))
         if chance < 0.92:
             return bool(life.asks("checkpoint\n"))
         lines = life.asks("jobs\n")
         return bool(lines) and bool(self.hears_jobs(lines))
+
+    def tells_the_time(self, life):
+        """The clock goes on. What waits then and was to start before is canceled, and is seen to have ended."""
+        before = life.asks("jobs\n")
+        if not before:
+            return False
+        self.hears_jobs(before)
+        self.moment += self.chance.randrange(40)
+        if not life.asks(f"clock {self.moment}\n"):
+            return False
+        waiting = [int(line.split()[1]) for line in before[:-1] if line.split()[4] in ("none", "retry-later")]
+        for number in waiting:
+            if self.by.get(number, self.moment) < self.moment:
+                self.canceled.add(number)
+                self.sees_end(number)
+                self.late += 1
+        return True
 
     def makes_a_job(self, life):
         queue = self.chance.choice(list(QUEUES))
         target = "b/b" if queue in ("again", "abort") else "a/a"
         if not life.asks(f"queue {queue} slow:/x {target} {QUEUES[queue]} 20 3\n"):
             return False
-        made = life.asks(f'create {queue} ann "" 1 50 ""\n')
+        by = self.moment + self.chance.randrange(-5, 60) if self.chance.random() < 0.3 else None
+        is_timed = by is not None and by >= 0
+        made = life.asks(f'createby {queue} ann "" 1 50 "" {by}\n' if is_timed else f'create {queue} ann "" 1 50 ""\n')
         if not made:
             return False
-        if made[0] == "error full":
+        if made[0] in ("error full", "error 17 NeedsCheckpoint"):
             return bool(life.asks("checkpoint\n"))
         number = int(made[0].removeprefix("ok job "))
+        if is_timed:
+            self.by[number] = by
         self.answered = max(self.answered, number)
         return bool(life.asks(f"send {number} 3\nabc\n")) and bool(life.asks(f"close {number} page.txt\n"))
 
@@ -286,17 +309,22 @@ def main():
     seeds = [int(word) for word in sys.argv[1:] if word.isdigit()]
     seed = seeds[0] if seeds else random.randrange(1 << 32)
     folder = Folder()
-    story = Story(folder, random.Random(seed))
+    chance = random.Random(seed)
+    if chance.random() < 0.5:
+        with open(folder.at("spool/spool.disk"), "wb") as file:
+            file.write(journal.image(SIZE, version=1))
+    story = Story(folder, chance)
     turn = 0
     try:
         for turn in range(LIVES):
             story.live()
     except Difference as difference:
         sys.exit(f"life {turn + 1} of `lives.py {seed}` in {folder.path}: {difference}")
-    if story.looked < LEAST or not story.canceled:
-        sys.exit(f"`lives.py {seed}` began {story.looked} stages and canceled {len(story.canceled)} jobs, which shows too little")
+    if story.looked < LEAST or not story.canceled or not story.late:
+        told = f"{len(story.canceled)} jobs, {story.late} of them for being late"
+        sys.exit(f"`lives.py {seed}` began {story.looked} stages and canceled {told}, which shows too little")
     shutil.rmtree(folder.path)
-    print(f"{story.looked} stages of {story.answered} jobs, {len(story.ended)} of them ended")
+    print(f"{story.looked} stages of {story.answered} jobs, {len(story.ended)} of them ended, {story.late} for being late")
     print(f"{LIVES} of {LIVES}")
 
 

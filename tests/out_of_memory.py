@@ -34,8 +34,8 @@ PASSED_ON = {
     ("command_lines", "push_rules"): 1,
     ("command_lines", "push_sizes"): 1,
     ("device_uri", "options"): 1,
-    # A count of jobs that are held past the greatest usize: no memory holds so many.
-    ("job_table", "reserve"): 1,
+    # Counts of jobs that are held past the greatest usize: no memory holds so many.
+    ("job_table", "reserve"): 2,
     ("print_rounds", "launch"): 1,
     ("print_rounds", "round"): 1,
     ("print_rounds", "start"): 1,
@@ -69,7 +69,7 @@ CAPACITIES = {
     ("child_pipeline", "insert"): ["1"],
     ("command_lines", "words_of"): ["MOST_WORDS"],
     ("event_codec", "encode_head_onto"): ["13"],
-    ("event_codec", "encode_job_onto"): ["1 + created_len(job) + job_state_len(job)"],
+    ("event_codec", "encode_job_onto"): ["1 + created_len(job) + job_state_len(job) + by_len(job.by)"],
     ("event_codec", "encode_piece_onto"): ["9 + bytes.as_slice().len()"],
     ("event_codec", "encode_queue_onto"): ["1 + added_len(queue) + queue_state_len(queue)"],
     ("event_codec", "listed_at"): ["(count as usize).min(bytes.len() / 3)"],

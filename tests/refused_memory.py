@@ -3,7 +3,7 @@
 
 SHELL is the program, and crates/spool_shell/out/spool_shell (made by `rt run` in that folder) where none is given. It runs over the
 library of tests/count_allocations.c, which is compiled with gcc, and serves one script, command by command: two queues, two jobs
-with documents and options, `round`, `checkpoint`, `drain 3`. Its first allocation is refused, in a further run the second, and so
+with documents and options, of which one is to start by a moment, `round`, `checkpoint`, `drain 3`. Its first allocation is refused, in a further run the second, and so
 on until none is, or with `--every N` each Nth. The children get their memory as ever.
 
 - A command of one event, or a checkpoint, that is answered `error memory` leaves each byte of the file, and given again it has its
@@ -48,9 +48,10 @@ SCRIPT = [
     ('create lab ann "First page" 1 50 "media=A4"\n', "ok job 1"),
     ("send 1 5\nhello\n", "ok bytes 5"),
     ("close 1 page.x\n", "ok type a/a stages 2"),
-    ("create hall bo \"Second\" 2 60 \"nocollate note='a b'\"\n", "ok job 2"),
+    ("createby hall bo \"Second\" 2 60 \"nocollate note='a b'\" 90000\n", "ok job 2"),
     ("send 2 7\nothers,\n", "ok bytes 7"),
     ("close 2 page.x\n", "ok type a/a stages 2"),
+    ("clock 1000\n", "ok"),
     ("round\n", "ok started 2 finished 2"),
     ("checkpoint\n", "ok"),
     ("drain 3\n", "ok rounds 2"),

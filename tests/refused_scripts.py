@@ -3,8 +3,9 @@
 
 SCRIPTS is the program of the stored scripts, and crates/spool_scripts/out/spool_scripts (made by `rt run` in that folder) where none
 is given. It runs over the library of tests/count_allocations.c, which is compiled with gcc, and serves one script: two queues, two
-jobs with documents and options, `round`, `checkpoint`, `drain 3`. The first allocation behind that of the disk is refused, in a
-further run the second, and so on until none is, or with `--every N` each Nth. Then the spool is opened again.
+jobs with documents and options, of which one is to start by a moment, `round`, `checkpoint`, `drain 3`. The first allocation behind
+that of the disk is refused, in a further run the second, and so on until none is, or with `--every N` each Nth. Then the spool is
+opened again.
 
 The program tells one difference at a time from what is wanted. So what came of a script is found by wanting what was told last.
 
@@ -57,9 +58,10 @@ STORY = [
     'create lab ann "First page" 1 50 "media=A4"',
     "send 1 5\nhello",
     "close 1 page.x",
-    "create hall bo \"Second\" 2 60 \"nocollate note='a b'\"",
+    "createby hall bo \"Second\" 2 60 \"nocollate note='a b'\" 5000",
     "send 2 7\nothers,",
     "close 2 page.x",
+    "clock 5000",
     "round",
     "checkpoint",
     "drain 3",

@@ -137,6 +137,8 @@ class Job:
     stage: int = 0
     reason: str = ""
     document: bytes = b""
+    # The moment by which it is to start.
+    by: int | None = None
 
     def has_ended(self):
         return self.phase in ("completed", "canceled", "aborted")
@@ -149,6 +151,10 @@ class Job:
 
     def is_held(self, now):
         return self.hold is not None and (not isinstance(self.hold, tuple) or now < self.hold[0])
+
+    def is_late(self, now):
+        """Whether it still waits behind the moment by which it was to start."""
+        return self.phase == "waiting" and self.by is not None and self.by < now
 
     def is_ready(self, now):
         return self.phase == "waiting" and not self.is_held(now) and self.not_before <= now
@@ -174,7 +180,7 @@ class Job:
 
     def rows(self):
         wishes = (self.number, self.queue, self.user, self.title, self.copies, self.priority, self.options)
-        state = (self.media, tuple(self.filters), self.attempts, self.pages, self.size, self.spelled_phase())
+        state = (self.media, tuple(self.filters), self.attempts, self.pages, self.size, self.spelled_phase(), self.by)
         return [journal.Job(*wishes, *state), *journal.pieces(self.number, self.document)]
 
     def shown(self, now):
@@ -197,9 +203,10 @@ def quoted(text):
 
 
 class Table:
-    """The queues and jobs, and the rows of a listing of which more may come."""
+    """The queues and jobs, and the rows of a listing of which more may come. It knows the version of the area that it is in."""
 
-    def __init__(self):
+    def __init__(self, version=journal.NEWEST):
+        self.version = version
         self.queues = {}
         self.jobs = {}
         self.highest = 0
@@ -241,6 +248,7 @@ class Table:
         job.filters = fields.texts(FILTER, 1, 0, 15)
         job.attempts, job.pages, job.size = fields.number(4), fields.number(4), fields.number(4, 0, LONGEST_DOCUMENT)
         load_phase(job, fields)
+        job.by = fields.moment() if self.version > 1 and fields.flag() else None
         fields.end()
         demand(self.is_listed and self.partial is None)
         demand(all(other < number for other in self.jobs) and number <= self.highest and queue in self.queues)
@@ -267,7 +275,7 @@ class Table:
         """Takes an event, as it is spelled. One that is refused changes nothing that counts: the image is damaged."""
         fields = Fields(payload)
         kind = fields.number(1)
-        demand(1 <= kind <= 0x0F)
+        demand(kind in EVENTS)
         EVENTS[kind](self, fields)
 
     def add_queue(self, fields):
@@ -295,10 +303,17 @@ class Table:
         self.queue_of(name, fields).stopped = flag
 
     def create(self, fields):
-        name, number = fields.text(NAME), fields.job()
-        job = Job(number, name, *wishes(fields))
-        demand(self.queue_of(name, fields).accepting and number > self.highest)
-        self.jobs[number], self.highest = job, number
+        self.add_job(new_job(fields), fields)
+
+    def create_by(self, fields):
+        job = new_job(fields)
+        job.by = fields.moment()
+        demand(self.version > 1)
+        self.add_job(job, fields)
+
+    def add_job(self, job, fields):
+        demand(self.queue_of(job.queue, fields).accepting and job.number > self.highest)
+        self.jobs[job.number], self.highest = job, job.number
 
     def job_of(self, number, fields, *phases):
         """The job that an event is about: it is there, hasn't ended, and is in one of these phases."""
@@ -342,6 +357,9 @@ class Table:
         moment = fields.moment()
         fields.end()
         self.now = max(self.now, moment)
+        for job in self.jobs.values():
+            if job.is_late(self.now):
+                job.end("canceled")
 
     def start(self, fields):
         job = self.job_of(fields.job(), fields, "waiting")
@@ -413,7 +431,7 @@ class Table:
         return min(ready, key=Job.rank, default=None)
 
     def listing(self):
-        """The payloads of its rows."""
+        """The payloads of its rows, which are always of the newest version."""
         rows = [journal.Head(self.highest, self.now)]
         rows += [self.queues[name].row() for name in sorted(self.queues)]
         for number in sorted(self.jobs):
@@ -439,10 +457,10 @@ class Table:
         return lines + [f"ok {len(lines)}"]
 
 
-EVENTS = [
-    None, Table.add_queue, Table.set_info, Table.set_accept, Table.set_stop, Table.create, Table.send, Table.close, Table.set_hold,
+EVENTS = dict(enumerate([
+    Table.add_queue, Table.set_info, Table.set_accept, Table.set_stop, Table.create, Table.send, Table.close, Table.set_hold,
     Table.release, Table.cancel, Table.clock, Table.start, Table.stage_end, Table.abandon, Table.reopen,
-]
+], 1)) | {0x11: Table.create_by}
 
 
 # ---- parts of payloads
@@ -450,6 +468,11 @@ EVENTS = [
 def new_queue(fields):
     words = fields.text(NAME), fields.text(URI), fields.text(MEDIA)
     return Queue(*words, fields.number(1, 0, 3), fields.number(4, 0, 86_400), fields.number(2))
+
+
+def new_job(fields):
+    name, number = fields.text(NAME), fields.job()
+    return Job(number, name, *wishes(fields))
 
 
 def wishes(fields):
@@ -533,6 +556,7 @@ class Opened:
 
 
 def current_base(image):
+    """Where the current area is, and its epoch."""
     half = len(image) // 2
     if half < HALF_AT_LEAST:
         raise Fault("not-a-spool")
@@ -542,7 +566,7 @@ def current_base(image):
         if header[0] != journal.OPEN:
             continue
         epoch = int.from_bytes(header[2:10], "big")
-        if header != journal.header(epoch):
+        if header not in [journal.header(epoch, version=version) for version in journal.VERSIONS]:
             raise Fault(f"damaged {base}")
         epochs[base] = epoch
     if not epochs or len(epochs) == 2 and len(set(epochs.values())) == 1:
@@ -578,7 +602,8 @@ def opened(image):
 def reading(image):
     """What is found in an image, which is left as it is."""
     base, epoch = current_base(image)
-    end, gate, table, is_listing = base + len(image) // 2, base + journal.HEADER, Table(), True
+    table = Table(journal.version_of(image[base:base + journal.HEADER]))
+    end, gate, is_listing = base + len(image) // 2, base + journal.HEADER, True
     try:
         while image[gate] == journal.OPEN:
             behind = gate + journal.FRAME
@@ -622,14 +647,31 @@ def round_without_programs(it):
     return "error full" if is_full else f"ok started 0 finished {finished}"
 
 
+def created_by(it, queue, by):
+    """What a command that makes a job to be started by a moment is answered on an opened spool, and what it leaves."""
+    table, number = it.table, min(it.table.highest + 1, GREATEST_JOB)
+    if table.version == 1:
+        return "error 17 NeedsCheckpoint"
+    if queue not in table.queues:
+        return "error 1 NoQueue"
+    if not table.queues[queue].accepting:
+        return "error 4 NotAccepting"
+    if table.highest == GREATEST_JOB:
+        return "error 9 NoNumberLeft"
+    return f"ok job {number}" if tried(it, journal.Job(number, queue, by=by).event()) else "error full"
+
+
 def checkpointed(it):
-    """What the command is answered on an opened spool, and the file then."""
+    """What the command is answered on an opened spool, and what it leaves: the table is in the other area, of the newest version."""
     half = len(it.file) // 2
     other = half if it.base == 0 else 0
     if it.epoch == GREATEST_EPOCH:
-        return "error epoch", it.file
+        return "error epoch"
     records = b"".join(map(journal.record, it.table.listing()))
     if journal.HEADER + len(records) + ROOM_KEPT > half:
-        return "error full", it.file
+        return "error full"
     area = journal.header(it.epoch + 1) + records + b"\0"
-    return "ok", it.file[:other] + area + it.file[other + len(area):]
+    it.file = it.file[:other] + area + it.file[other + len(area):]
+    it.base, it.epoch, it.gate = other, it.epoch + 1, other + len(area) - 1
+    it.table.version = journal.NEWEST
+    return "ok"

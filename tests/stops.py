@@ -1,11 +1,12 @@
 #!/usr/bin/env python3
 """Stops a script at each call of its disk, and fails each call alone: stops.py [--scripts PROGRAM] [--shell PROGRAM]
 
-The script has two queues, three jobs with documents and options, a round, a checkpoint and a drain. It is served by
-crates/spool_scripts, over a disk and children in memory, once for each call of the disk: the disk fails from that call on, or at
-that call alone. Then the spool is opened again. It has the table after a prefix of the accepted events, which holds each one that
-was acknowledged, changed by a reopening, and its documents: jobs that can start are then ordered with them, and no stage that was
-ordered before is ordered again.
+The script has two queues, four jobs with documents and options, of which one is to start by a moment and another one misses its
+own, a round, a checkpoint and a drain. It is served by crates/spool_scripts, over a disk and children in memory, once for each call
+of the disk: the disk fails from that call on, or at that call alone. Then the spool is opened again. It has the table after a prefix
+of the accepted events, which holds each one that was acknowledged, changed by a reopening, and its documents: jobs that can start
+are then ordered with them, and no stage that was ordered before is ordered again. Another form of it goes without moments, on a
+spool of version 1, which the checkpoint makes a newer one.
 
 What the table after a prefix is listed as is told by the shell, on a file that tests/journal.py writes. An event takes four calls,
 of which the last is the sync behind its gate: where that one fails, the event is there and wasn't acknowledged. A document that is
@@ -20,10 +21,9 @@ import shutil
 import subprocess
 import sys
 import tempfile
-from dataclasses import dataclass
+from dataclasses import dataclass, replace
 
-import journal
-from journal import Job, Queue, close, image, send, stage, start
+from journal import NEWEST, Job, Queue, clock, close, image, send, stage, start
 
 CRATES = os.path.join(os.path.dirname(os.path.abspath(__file__)), "..", "crates")
 SIZE = 4_096
@@ -34,8 +34,9 @@ T = "application/octet-stream"
 LAB = Queue("lab", uri="spoolfile:/out", target=T)
 HALL = Queue("hall", uri="s:/dev", policy="retry-job", interval=60, limit=3)
 FIRST = Job(1, "lab", user="ann", title="First page")
-SECOND = Job(2, "hall", user="bob", title="Two", copies=2, priority=80, options="collate=false note=a\\ b")
+SECOND = Job(2, "hall", user="bob", title="Two", copies=2, priority=80, options="collate=false note=a\\ b", by=2_000)
 THIRD = Job(3, "lab", user="cyd", options="media=A4")
+LATE = Job(4, "lab", user="cyd", by=1_999)
 JOBS = {job.number: job for job in (FIRST, SECOND, THIRD)}
 QUEUES = {queue.name: queue for queue in (LAB, HALL)}
 DOCUMENTS = {1: "", 2: "hello", 3: "abc"}
@@ -87,17 +88,28 @@ STORY = (
     ("send 1 0\n", "ok bytes 0", [send(1, b"")]),
     ("close 1 page.txt", f"ok type {T} stages 1", [close(1, media=T)]),
     ("queue hall s:/dev a/b retry-job 60 3", "ok", [HALL.event()]),
-    ("create hall bob Two 2 80 \"nocollate note='a b'\"", "ok job 2", [SECOND.event()]),
+    ("createby hall bob Two 2 80 \"nocollate note='a b'\" 2000", "ok job 2", [SECOND.event()]),
     ("send 2 5\nhello", "ok bytes 5", [send(2, b"hello")]),
     ("close 2 f.x", "ok type a/a stages 2", [READ, close(2, ["f"], media="a/a")]),
     ('create lab cyd "" 1 50 "media=A4"', "ok job 3", [THIRD.event()]),
     ("send 3 3\nabc", "ok bytes 3", [send(3, b"abc")]),
     ("close 3 p", f"ok type {T} stages 1", [READ, close(3, media=T)]),
+    ('createby lab cyd "" 1 50 "" 1999', "ok job 4", [LATE.event()]),
+    ("close 4 p", f"ok type {T} stages 1", [close(4, media=T)]),
+    ("clock 2000", "ok", [clock(2_000)]),
     ("round", "ok started 2 finished 2",
      [start(2), start(1), READ, FILTER, LAB_FIRST, stage(2, 1, 1, 0), stage(1, 1, 1, 0)]),
     ("checkpoint", "ok", [CHECKPOINT]),
     ("drain 3", "ok rounds 2", [start(3), BACKEND, READ, LAB_THIRD, stage(2, 1, 2, 1), stage(3, 1, 1, 0)]),
 )
+# The same without moments, which version 1 takes.
+OLD_STORY = (
+    *STORY[:5],
+    ("create hall bob Two 2 80 \"nocollate note='a b'\"", "ok job 2", [replace(SECOND, by=None).event()]),
+    *STORY[6:11],
+    *STORY[14:],
+)
+STORIES = {NEWEST: STORY, 1: OLD_STORY}
 AFTER = "jobs\nqueues\nround\njobs\n"
 
 
@@ -127,12 +139,12 @@ def calls_of_all(story, checkpoint=0):
     return OPENING + sum(calls_of(step, checkpoint) for _, _, steps in story for step in steps)
 
 
-def stopped_at(call, checkpoint):
+def stopped_at(story, call, checkpoint):
     """What comes of the script where that call fails, counted from 0 at the opening."""
     done = Stopped([], [], [])
     left = call - OPENING
     finished = 0
-    for number, (_, reply, steps) in enumerate(STORY):
+    for number, (_, reply, steps) in enumerate(story):
         for step in steps:
             if isinstance(step, Child):
                 done.children.append((step, finished))
@@ -141,7 +153,7 @@ def stopped_at(call, checkpoint):
             if left < calls:
                 if isinstance(step, bytes) and left == APPEND - 1:
                     done.events.append(step)
-                done.replies += ["error disk"] + ["error dead"] * (len(STORY) - number - 1)
+                done.replies += ["error disk"] + ["error dead"] * (len(story) - number - 1)
                 return done
             left -= calls
             if isinstance(step, bytes):
@@ -152,11 +164,11 @@ def stopped_at(call, checkpoint):
     return done
 
 
-def listed(shell, folder, events):
+def listed(shell, folder, version, events):
     """What the shell says to the last commands, on a spool whose journal has these events. It can start no child."""
     root = tempfile.mkdtemp(dir=folder)
     with open(os.path.join(root, "spool.disk"), "wb") as file:
-        file.write(image(SIZE, events))
+        file.write(image(SIZE, events, version=version))
     done = subprocess.run([shell, "--root", root], input=AFTER, capture_output=True, text=True, timeout=60)
     if done.returncode != 0:
         raise Difference(f"the shell ends with {done.returncode}: {done.stderr}")
@@ -177,7 +189,7 @@ def is_closed(events, job):
     return any(close(job, filters, media=MEDIA[job]) in events for filters in ([], ["f"]))
 
 
-def write_case(folder, name, fuse, done, after):
+def write_case(folder, name, version, fuse, done, after):
     """A case of the stored scripts."""
     started, late = [child for child, _ in done.children], can_start(done.events)
     account = "the disk failed\n" if done.failed else ""
@@ -185,17 +197,21 @@ def write_case(folder, name, fuse, done, after):
     account += "".join(child.order(len(started)) for child in late)
     account += f"finished {len(started)}\n" if started else ""
     files = {
-        "script": "".join(f"{command}\n" for command, _, _ in STORY) + "# reopen\n" + AFTER,
+        "script": "".join(f"{command}\n" for command, _, _ in STORIES[version]) + "# reopen\n" + AFTER,
         "replies": "".join(f"{reply}\n" for reply in done.replies) + after,
         "types": "a/a x\n",
         "convs": "a/a a/b 10 f\n",
         "size": str(SIZE),
+        "version": str(version),
         "children": "\n\n".join([child.goes for child in started] + ["no start"] * len(late)) + "\n",
         "account": account,
         "fuse": fuse,
     }
     if not started + late:
         del files["children"]
+    if version == NEWEST:
+        # The spool stays as it is made.
+        del files["version"]
     for kind, words in files.items():
         with open(os.path.join(folder, f"{name}.{kind}"), "w") as file:
             file.write(words)
@@ -208,18 +224,19 @@ def served(program, folder):
     return [line[:-3] for line in lines if line.endswith(" ok")], [line for line in lines if not line.endswith(" ok")]
 
 
-def calls_of_checkpoint(scripts, folder):
+def calls_of_checkpoint(scripts, folder, version):
     """The calls that the checkpoint takes: the least number with which an event behind it is the first to fail."""
-    before = STORY[:[command for command, _, _ in STORY].index("checkpoint")]
+    story = STORIES[version]
+    before = story[:[command for command, _, _ in story].index("checkpoint")]
     first = calls_of_all(before)
     room = tempfile.mkdtemp(dir=folder)
-    done = stopped_at(first, 1)
+    done = stopped_at(story, first, 1)
     done.replies = [reply for _, reply, _ in before] + ["ok", "error disk"]
     done.events = []
     script = "".join(f"{command}\n" for command, _, _ in before) + "checkpoint\nclock 5\n"
     for calls in range(1, 100):
         name = f"c{calls:03}"
-        write_case(room, name, f"{first + calls} {first + calls}\n", done, "")
+        write_case(room, name, version, f"{first + calls} {first + calls}\n", done, "")
         with open(os.path.join(room, f"{name}.script"), "w") as file:
             file.write(script)
     passed, _ = served(scripts, room)
@@ -228,17 +245,17 @@ def calls_of_checkpoint(scripts, folder):
     return int(passed[0][1:])
 
 
-def all_cases(scripts, shell, folder):
-    """Serves the script with each of its calls stopped and failed. How many cases that were."""
-    checkpoint = calls_of_checkpoint(scripts, folder)
-    events = [step for _, _, steps in STORY for step in steps if isinstance(step, bytes)]
-    last = calls_of_all(STORY, checkpoint)
-    after = {count: listed(shell, folder, events[:count]) for count in range(len(events) + 1)}
+def all_cases(scripts, shell, folder, version):
+    """Serves the script of a version with each of its calls stopped and failed. How many cases that were."""
+    story, checkpoint = STORIES[version], calls_of_checkpoint(scripts, folder, version)
+    events = [step for _, _, steps in story for step in steps if isinstance(step, bytes)]
+    last = calls_of_all(story, checkpoint)
+    after = {count: listed(shell, folder, version, events[:count]) for count in range(len(events) + 1)}
     room = tempfile.mkdtemp(dir=folder)
     for call in range(OPENING, last + 1):
-        done = stopped_at(call, checkpoint)
+        done = stopped_at(story, call, checkpoint)
         for kind, before in (("stop", ""), ("once", "once ")):
-            write_case(room, f"{kind}{call:03}", f"{before}{call} {call}\n", done, after[len(done.events)])
+            write_case(room, f"{kind}{call:03}", version, f"{before}{call} {call}\n", done, after[len(done.events)])
     passed, others = served(scripts, room)
     if len(others) != 1 or len(passed) != 2 * (last + 1 - OPENING):
         raise Difference(f"{others[0]}, in {room}")
@@ -252,7 +269,7 @@ def main():
     asked = words.parse_args()
     folder = tempfile.mkdtemp(prefix="spool-stops-")
     try:
-        count = all_cases(os.path.abspath(asked.scripts), os.path.abspath(asked.shell), folder)
+        count = sum(all_cases(os.path.abspath(asked.scripts), os.path.abspath(asked.shell), folder, version) for version in STORIES)
     except (Difference, OSError, subprocess.TimeoutExpired) as difference:
         print(difference)
         return 1

@@ -13,8 +13,8 @@ RUN = b"# run\n"
 # Sends that have a whole line; greater counts and numbers are no commands.
 SEND = re.compile(rb'[ \t]*("?)send\1[ \t]+("?)([0-9]+)\2[ \t]+("?)([0-9]+)\4[ \t]*')
 LEAST_SIZE = 4_096
-# An area of epoch 1 that is open, without records.
-HEADER = b"\xa5\x01" + (1).to_bytes(8, "big") + bytes(6)
+USUAL_SIZE = 4_194_304
+NEWEST = 2
 LONGEST_LINE = 4_096
 GREATEST_JOB = 2_147_483_647
 GREATEST_COUNT = 4_294_967_295
@@ -44,20 +44,26 @@ def names():
     return [name for name in scripts if name not in made_up and RUN not in lines_of(stored_file(name, "script"))]
 
 
+def header(version):
+    """That of an area of epoch 1 that is open."""
+    return bytes([0xA5, version]) + (1).to_bytes(8, "big") + bytes(6)
+
+
 def words_of(name, root):
     """The words behind the program's name that serve a script in a folder, which is made. A spool that is shorter than the
-    program makes one is written there."""
+    program makes one, or of an older version, is written there: an area without records."""
     os.mkdir(root)
     words = ["--root", root]
     for ending in ("types", "convs"):
         if stored_file(name, ending) is not None:
             words += [f"--{ending}", os.path.join(DATA, f"{name}.{ending}")]
-    size = int(stored_file(name, "size") or 0)
-    if size >= LEAST_SIZE:
-        words += ["--size", str(size)]
-    elif size:
+    size = int(stored_file(name, "size") or USUAL_SIZE)
+    version = int(stored_file(name, "version") or NEWEST)
+    if size < LEAST_SIZE or version != NEWEST:
         with open(os.path.join(root, "spool.disk"), "wb") as file:
-            file.write(HEADER.ljust(size, b"\0"))
+            file.write(header(version).ljust(size, b"\0"))
+    elif size != USUAL_SIZE:
+        words += ["--size", str(size)]
     return words
 
 

@@ -76,11 +76,12 @@ class Spool:
         same("the file is as it was", self.content() == before, True)
 
     def listing(self):
-        """The rows that a checkpoint writes."""
+        """The rows that a checkpoint writes, in the newest version."""
         _, before = journal.current(self.content())
         self.says(("checkpoint", "ok"))
         payloads, epoch = journal.current(self.content())
         same("the epoch", epoch, before + 1)
+        same("the version", journal.current_version(self.content()), journal.NEWEST)
         rows = [journal.read_row(payload) for payload in payloads]
         same("the rows spelled again", [row.payload() for row in rows], payloads)
         return rows
@@ -105,29 +106,36 @@ class Spool:
             return file.read()
 
 
-def spelled(payload):
-    return payload if isinstance(payload, bytes) else payload.payload()
+def spelled(payload, version=journal.NEWEST):
+    return payload if isinstance(payload, bytes) else payload.payload(version)
 
 
 class Story:
-    """The rows and events that a spool's journal holds."""
+    """The rows and events that a spool's journal holds, in an area of this version."""
 
-    def __init__(self, folder, *payloads, size=SIZE):
+    def __init__(self, folder, *payloads, size=SIZE, version=journal.NEWEST):
         self.folder = folder
         self.size = size
-        self.payloads = [spelled(payload) for payload in payloads]
+        self.version = version
+        self.payloads = self.spelled(payloads)
+
+    def spelled(self, payloads):
+        return [spelled(payload, self.version) for payload in payloads]
+
+    def image(self, *more):
+        """The file of these, and of some more."""
+        return image(self.size, self.payloads + self.spelled(more), version=self.version)
 
     def spool(self, *more):
         """A spool of these, and of some more."""
-        return Spool(self.folder, image(self.size, self.payloads + [spelled(payload) for payload in more]))
+        return Spool(self.folder, self.image(*more))
 
     def takes(self, *payloads):
         """The journal goes on with these, and the program opens it. It writes nothing but a reopening."""
-        self.payloads = self.payloads + [spelled(payload) for payload in payloads]
+        self.payloads = self.payloads + self.spelled(payloads)
         spool = self.spool()
         same("replies", spool.lines([]), [])
-        as_it_was, reopened = image(self.size, self.payloads), image(self.size, self.payloads + [REOPEN])
-        same("the file is as it was, or reopened", spool.content() in (as_it_was, reopened), True)
+        same("the file is as it was, or reopened", spool.content() in (self.image(), self.image(REOPEN)), True)
 
     def refuses(self, *payloads):
         """Each of these alone, behind the others, is damage at its gate."""
@@ -155,7 +163,7 @@ class Story:
 
     def runs(self, *jobs):
         """The jobs may be started in this order alone, where each is canceled before the next."""
-        copy = Story(self.folder, *self.payloads, size=self.size)
+        copy = Story(self.folder, *self.payloads, size=self.size, version=self.version)
         for at, job in enumerate(jobs):
             copy.starts(job, *jobs[at + 1:])
             copy.takes(start(job), cancel(job))

@@ -94,7 +94,7 @@ class Command:
 
 def script(turn):
     """The commands of one start, without the listings at its begin and its end."""
-    lab, first, second = f"lab{turn}", 2 * turn + 1, 2 * turn + 2
+    lab, first, second, third = f"lab{turn}", 3 * turn + 1, 3 * turn + 2, 3 * turn + 3
 
     def event(text, reply="ok", number=first, shown=None, size=5, title="First"):
         row = f'job {number} {lab} {shown} "ann" {size} 0 "{title}"'
@@ -114,7 +114,9 @@ def script(turn):
         Command("nonsense", "error syntax"),
         event(f'create {lab} ann "Second" 2 60 ""', f"ok job {second}", second, "4 job-incoming", 0, "Second"),
         event(f"cancel {second}", "ok", second, "7 canceled", 0, "Second"),
-        event(f"clock {1000 + turn}"),
+        event(f'createby {lab} ann "Third" 1 50 "" 999', f"ok job {third}", third, "4 job-incoming", 0, "Third"),
+        event(f"close {third} page.txt", f"ok type {TYPE} stages 1", third, "3 none", 0, "Third"),
+        event(f"clock {1000 + turn}", "ok", third, "7 canceled", 0, "Third"),
         event(f"reject {lab}"),
         event(f"accept {lab}"),
         event(f"disable {lab}"),
@@ -359,7 +361,7 @@ def check_commands(calls, commands, gate):
 
 def check_file(root, records):
     """The file is a spool with these records, and zeros."""
-    header = OPEN + b"\x01" + struct.pack(">Q", 1) + bytes(6)
+    header = OPEN + b"\x02" + struct.pack(">Q", 1) + bytes(6)
     with open(os.path.join(root, FILE), "rb") as file:
         disk = file.read()
     demand(disk == (header + records).ljust(SIZE, b"\0"), "the file holds other bytes than those that were written")
@@ -438,12 +440,13 @@ def failing_events(run):
 
 
 def failing_reads(run):
-    """The place of the close among the commands, and the read of its document."""
+    """The place of the first close among the commands, and the read of its document."""
     calls = run.calls[first_index(run.calls, "reply") :]
     read = calls[first_index(calls, "read", FILE)]
     for place, command in enumerate(with_listings([], script(0))):
         if command.text.startswith("close"):
             yield place, read
+            return
 
 
 def failing_starts(run):

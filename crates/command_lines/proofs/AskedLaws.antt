@@ -1,7 +1,7 @@
 -- No line asks for an event that is none of a line.
 use Rattle.std.proofs.Common.{◌≡◌, ℕ, suc, zero, ◌+◌, Bool, true, false, cond, List, [], ◌∷◌, take, drop, length, refl, ltb, leb, Option, None, Some}
 use Rattle.std.specs.List.{All}
-use Rattle.std.specs.Option.{option_map}
+use Rattle.std.specs.Option.{option_map, option_and_then}
 use Rattle.std.specs.Prelude.{codes}
 use Rattle.std.proofs.lemmas.List.Elements.{All-nil, All-cons}
 use Rattle.spool_types.specs.Limits.{longest_send}
@@ -12,7 +12,7 @@ use Rattle.spool_types.specs.declared.event.Event.TheVariants.{SetAccept, SetSto
 use Rattle.command_lines.specs.Asked.{is_line_event, AsksForLineEvent}
 use Rattle.command_lines.specs.Lines.{first_line, after_line}
 use Rattle.command_lines.specs.Words.{words_of}
-use Rattle.command_lines.specs.Grammar.{is_word, policy_in, interval_in, limit_in, copies_in, priority_in, count_in, until_in, job_in, moment_in, queue_in, one_word, one_word_line, new_queue_of, queue_line, info_of, info_line, creation_of, create_line, send_of, send_line, close_of, close_line, hold_of, hold_line, jobs_line, queues_line, rounds_in, round_line, drain_line, checkpoint_line, line_of, or_malformed, kind_of_words, is_remark, kind_of}
+use Rattle.command_lines.specs.Grammar.{is_word, policy_in, interval_in, limit_in, copies_in, priority_in, count_in, until_in, job_in, moment_in, queue_in, one_word, one_word_line, new_queue_of, queue_line, info_of, info_line, creation_of, creation_in, create_line, createby_line, send_of, send_line, close_of, close_line, hold_of, hold_line, jobs_line, queues_line, rounds_in, round_line, drain_line, checkpoint_line, line_of, or_malformed, kind_of_words, is_remark, kind_of}
 use Rattle.command_lines.specs.Text.{is_lf_at, sent, after_bytes, after_kind, commands_within, commands_of}
 use Rattle.command_lines.specs.declared.command.Command.{Command}
 use Rattle.command_lines.specs.declared.command.Command.TheVariants.{Apply, Drain, Malformed}
@@ -96,14 +96,14 @@ info_line_asks (a ∷ b ∷ []) = tt
 info_line_asks (a ∷ b ∷ c ∷ []) = info_asks (text_in is_queue_name a) (text_in is_note b) (text_in is_note c)
 info_line_asks (a ∷ b ∷ c ∷ d ∷ words) = tt
 
-creation_asks : (queue user title : Option (List ℕ)) (copies priority : Option ℕ) (options : Option (List ℕ)) → MayAsk (creation_of queue user title copies priority options)
-creation_asks None user title copies priority options = tt
-creation_asks (Some queue) None title copies priority options = tt
-creation_asks (Some queue) (Some user) None copies priority options = tt
-creation_asks (Some queue) (Some user) (Some title) None priority options = tt
-creation_asks (Some queue) (Some user) (Some title) (Some copies) None options = tt
-creation_asks (Some queue) (Some user) (Some title) (Some copies) (Some priority) None = tt
-creation_asks (Some queue) (Some user) (Some title) (Some copies) (Some priority) (Some options) = tt
+creation_asks : (queue user title : Option (List ℕ)) (copies priority : Option ℕ) (options : Option (List ℕ)) (by : Option ℕ) → MayAsk (creation_of queue user title copies priority options by)
+creation_asks None user title copies priority options by = tt
+creation_asks (Some queue) None title copies priority options by = tt
+creation_asks (Some queue) (Some user) None copies priority options by = tt
+creation_asks (Some queue) (Some user) (Some title) None priority options by = tt
+creation_asks (Some queue) (Some user) (Some title) (Some copies) None options by = tt
+creation_asks (Some queue) (Some user) (Some title) (Some copies) (Some priority) None by = tt
+creation_asks (Some queue) (Some user) (Some title) (Some copies) (Some priority) (Some options) by = tt
 
 create_line_asks : (words : List (List ℕ)) → MayAsk (create_line words)
 create_line_asks [] = tt
@@ -112,8 +112,23 @@ create_line_asks (a ∷ b ∷ []) = tt
 create_line_asks (a ∷ b ∷ c ∷ []) = tt
 create_line_asks (a ∷ b ∷ c ∷ d ∷ []) = tt
 create_line_asks (a ∷ b ∷ c ∷ d ∷ e ∷ []) = tt
-create_line_asks (a ∷ b ∷ c ∷ d ∷ e ∷ f ∷ []) = creation_asks (text_in is_queue_name a) (text_in is_user_name b) (text_in is_title c) (copies_in d) (priority_in e) (text_in is_options f)
+create_line_asks (a ∷ b ∷ c ∷ d ∷ e ∷ f ∷ []) = creation_asks (text_in is_queue_name a) (text_in is_user_name b) (text_in is_title c) (copies_in d) (priority_in e) (text_in is_options f) None
 create_line_asks (a ∷ b ∷ c ∷ d ∷ e ∷ f ∷ g ∷ words) = tt
+
+createby_asks : (a b c d e f : List ℕ) (by : Option ℕ) → MayAsk (option_and_then (λ moment. creation_in a b c d e f (Some moment)) by)
+createby_asks a b c d e f None = tt
+createby_asks a b c d e f (Some moment) = creation_asks (text_in is_queue_name a) (text_in is_user_name b) (text_in is_title c) (copies_in d) (priority_in e) (text_in is_options f) (Some moment)
+
+createby_line_asks : (words : List (List ℕ)) → MayAsk (createby_line words)
+createby_line_asks [] = tt
+createby_line_asks (a ∷ []) = tt
+createby_line_asks (a ∷ b ∷ []) = tt
+createby_line_asks (a ∷ b ∷ c ∷ []) = tt
+createby_line_asks (a ∷ b ∷ c ∷ d ∷ []) = tt
+createby_line_asks (a ∷ b ∷ c ∷ d ∷ e ∷ []) = tt
+createby_line_asks (a ∷ b ∷ c ∷ d ∷ e ∷ f ∷ []) = tt
+createby_line_asks (a ∷ b ∷ c ∷ d ∷ e ∷ f ∷ by ∷ []) = createby_asks a b c d e f (moment_in by)
+createby_line_asks (a ∷ b ∷ c ∷ d ∷ e ∷ f ∷ by ∷ more ∷ words) = tt
 
 send_asks : (job count : Option ℕ) → MayAsk (send_of job count)
 send_asks None count = tt
@@ -185,10 +200,11 @@ line_asks name words =
     (either MayAsk (is_word name (codes "queue")) _ _ (queue_line_asks words)
     (either MayAsk (is_word name (codes "info")) _ _ (info_line_asks words)
     (either MayAsk (is_word name (codes "create")) _ _ (create_line_asks words)
+    (either MayAsk (is_word name (codes "createby")) _ _ (createby_line_asks words)
     (either MayAsk (is_word name (codes "send")) _ _ (send_line_asks words)
     (either MayAsk (is_word name (codes "close")) _ _ (close_line_asks words)
     (either MayAsk (is_word name (codes "hold")) _ _ (hold_line_asks words)
-    (one_word_line_asks name words)))))))))))
+    (one_word_line_asks name words))))))))))))
 
 words_ask : (words : Option (List (List ℕ))) → Asks (kind_of_words words)
 words_ask None = tt

@@ -1,7 +1,7 @@
 //! What a text of commands says.
 use spool_types::{
-    Copies, Event, FileName, JobId, NewQueue, OptionText, Priority, QueueName, Ranged, Title,
-    UserName,
+    Copies, Event, FileName, JobId, Moment, NewQueue, OptionText, Priority, QueueName, Ranged,
+    Title, UserName,
 };
 
 /// How many rounds are run at the most.
@@ -17,6 +17,8 @@ pub struct Creation {
     pub priority: Priority,
     /// The options as they were given.
     pub options: OptionText,
+    /// The moment by which the job is to start, if there is one.
+    pub by: Option<Moment>,
 }
 
 /// A command: an event as it is, or what becomes one by the table or by the text of a document, or none.

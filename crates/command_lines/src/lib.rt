@@ -14,7 +14,8 @@
 //!   quoted text go, and what a backslash means.
 //! - `Numbers`: a number has 1 to 13 digits and no sign.
 //! - `Grammar`: the table of commands, those of one word in a part of their own. The first word chooses a row, and the
-//!   row says which words follow and what each may be. A further command is a further row.
+//!   row says which words follow and what each may be. A further command is a further row. `createby` is `create` with
+//!   one more word, a moment: both are a [`Command::Create`], and one definition reads the words that they share.
 //!   A line of more than 4,096 bytes is malformed; an empty line and a line that begins with `#`, of any length, say
 //!   nothing.
 //! - `Text`: the commands of a text, line after line, where a `send` takes the raw bytes after its line. Too many bytes are

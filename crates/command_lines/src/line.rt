@@ -4,17 +4,17 @@ ghost use Rattle.std.specs.Option.{option_map};
 ghost use Rattle.spool_types.specs.declared.event.Event.{Event};
 ghost use Rattle.command_lines.specs.declared.command.Command.{Command};
 ghost use Rattle.command_lines.specs.declared.command.Kind.{Kind};
-ghost use Rattle.spool_types.specs.Values.{is_queue_name, is_uri, is_user_name, is_title, is_options, is_note, text_in, media_in};
+ghost use Rattle.spool_types.specs.Values.{is_queue_name, is_uri, is_note, text_in, media_in};
 ghost use Rattle.line_words.specs.Seen.{bytes_of};
-ghost use Rattle.command_lines.specs.Grammar.{kind_of, is_remark, kind_in, line_of, one_word, one_word_line, queue_line, new_queue_of, info_line, info_of, create_line, creation_of, send_line, send_of, close_line, close_of, hold_line, jobs_line, queues_line, round_line, drain_line, checkpoint_line, rounds_in, queue_in, copies_in, priority_in, policy_in};
+ghost use Rattle.command_lines.specs.Grammar.{kind_of, is_remark, kind_in, line_of, one_word, one_word_line, queue_line, new_queue_of, info_line, info_of, creation_in, create_line, createby_line, send_line, send_of, close_line, close_of, hold_line, jobs_line, queues_line, round_line, drain_line, checkpoint_line, rounds_in, queue_in, policy_in};
 
 use crate::command::{Command, Creation, Kind, Rounds};
 use crate::numbers::{job_number, moment_number, ranged_number, short_number, small_number};
 use crate::words::words_of;
 use line_words::Word;
 use spool_types::{
-    Copies, Event, FileName, Interval, MediaType, NewQueue, Note, OptionText, Policy, Priority,
-    QueueName, QueueNotes, Title, Uri, UserName,
+    Copies, Event, FileName, Interval, MediaType, Moment, NewQueue, Note, OptionText, Policy,
+    Priority, QueueName, QueueNotes, Title, Uri, UserName,
 };
 use std::alloc::{AllocError, Global};
 
@@ -107,6 +107,9 @@ fn line_of_command(
     }
     if name == b"create".as_slice() {
         return create_line(alloc, words);
+    }
+    if name == b"createby".as_slice() {
+        return createby_line(alloc, words);
     }
     if name == b"send".as_slice() {
         return Ok(send_line(words));
@@ -291,12 +294,35 @@ fn create_line(alloc: Global, words: &[Word<'_>]) -> Result<Option<Kind>, AllocE
             copies.bytes(),
             priority.bytes(),
             options.bytes(),
+            None,
         ),
         _ => Ok(None),
     }
 }
 
-// The job of these words.
+// `createby QUEUE USER TITLE COPIES PRIORITY OPTIONS MOMENT`
+fn createby_line(alloc: Global, words: &[Word<'_>]) -> Result<Option<Kind>, AllocError>
+    ensures { IfOk result (λ kind. kind ≡ createby_line (map bytes_of words.now)) }
+{
+    let [queue, user, title, copies, priority, options, by] = words else {
+        return Ok(None);
+    };
+    let Some(by) = moment_number(by.bytes()) else {
+        return Ok(None);
+    };
+    creation(
+        alloc,
+        queue.bytes(),
+        user.bytes(),
+        title.bytes(),
+        copies.bytes(),
+        priority.bytes(),
+        options.bytes(),
+        Some(by),
+    )
+}
+
+// The job of these words, and the moment by which it is to start, if there is one.
 fn creation(
     alloc: Global,
     queue: &[u8],
@@ -305,8 +331,9 @@ fn creation(
     copies: &[u8],
     priority: &[u8],
     options: &[u8],
+    by: Option<Moment>,
 ) -> Result<Option<Kind>, AllocError>
-    ensures { IfOk result (λ kind. kind ≡ creation_of (text_in is_queue_name queue.now) (text_in is_user_name user.now) (text_in is_title title.now) (copies_in copies.now) (priority_in priority.now) (text_in is_options options.now)) }
+    ensures { IfOk result (λ kind. kind ≡ creation_in queue.now user.now title.now copies.now priority.now options.now by) }
 {
     let queue = QueueName::from_word(alloc, queue)?;
     let user = UserName::from_word(alloc, user)?;
@@ -323,6 +350,7 @@ fn creation(
                 copies,
                 priority,
                 options,
+                by,
             }))))
         }
         _ => Ok(None),

@@ -1,5 +1,5 @@
 -- Examples of what a child is run with: the names of its files, its arguments and its environment.
-use Rattle.std.specs.Prelude.{◌≡◌, ℕ, List, [], ◌∷◌, map, codes, None, Some, true, false}
+use Rattle.std.specs.Prelude.{◌≡◌, [], ◌∷◌, map, codes, None, Some, true, false}
 use Rattle.std.specs.String.{string_bytes}
 use Rattle.spool_types.specs.declared.phase.Policy.TheVariants.{AbortJob}
 use Rattle.spool_types.specs.declared.rows.QueueRow.{QueueRow}
@@ -38,6 +38,7 @@ letter = record {
   pages = 0;
   size = 3;
   phase = processing;
+  by = None;
 }
 
 abbrev front : QueueRow

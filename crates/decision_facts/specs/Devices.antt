@@ -30,11 +30,16 @@ ClosedRows = entry_at (overwritten 10 (0 ∷ []) two_entries) 20 10 ≡ End
 abbrev pub LeastAreaRows : Type 0
 LeastAreaRows = map (λ size. nat_lt (half size) least_area) (45 ∷ 46 ∷ []) ≡ true ∷ false ∷ []
 
+-- open headers of version 2
 abbrev pub epoch_1 : List ℕ
-epoch_1 = hex (codes "A5 01 00 00 00 00 00 00 00 01 00 00 00 00 00 00")
+epoch_1 = hex (codes "A5 02 00 00 00 00 00 00 00 01 00 00 00 00 00 00")
 
 abbrev pub epoch_2 : List ℕ
-epoch_2 = hex (codes "A5 01 00 00 00 00 00 00 00 02 00 00 00 00 00 00")
+epoch_2 = hex (codes "A5 02 00 00 00 00 00 00 00 02 00 00 00 00 00 00")
+
+-- one of version 1
+abbrev pub first_version : List ℕ
+first_version = hex (codes "A5 01 00 00 00 00 00 00 00 01 00 00 00 00 00 00")
 
 -- a header behind a closed gate
 abbrev pub closed : List ℕ
@@ -59,22 +64,30 @@ AreaRows = map current_area (
     ∷ with_headers closed closed ∷ with_headers epoch_2 epoch_2 ∷ times 45 0 ∷ [])
     ≡ Ok 0 ∷ Ok 99 ∷ Ok 0 ∷ Err NotASpool ∷ Err NotASpool ∷ Err NotASpool ∷ []
 
+-- an area of version 1 is read, whatever the version of the other, and the epochs decide between them
+abbrev pub VersionRows : Type 0
+VersionRows = map current_area (
+    with_headers first_version closed ∷ with_headers first_version epoch_2
+    ∷ with_headers epoch_2 first_version ∷ with_headers first_version epoch_1 ∷ [])
+    ≡ Ok 0 ∷ Ok 99 ∷ Ok 0 ∷ Err NotASpool ∷ []
+
 -- an unknown version, a byte behind the epoch, and damage of both areas
 abbrev pub HeaderFaultRows : Type 0
 HeaderFaultRows = map current_area (
-    overwritten 1 (2 ∷ []) (with_headers epoch_1 closed)
+    overwritten 1 (0 ∷ []) (with_headers epoch_1 closed)
+    ∷ overwritten 1 (3 ∷ []) (with_headers epoch_1 closed)
     ∷ overwritten 114 (1 ∷ []) (with_headers epoch_1 epoch_2)
-    ∷ overwritten 1 (2 ∷ []) (overwritten 100 (2 ∷ []) (with_headers epoch_1 epoch_2))
+    ∷ overwritten 1 (3 ∷ []) (overwritten 100 (3 ∷ []) (with_headers epoch_1 epoch_2))
     ∷ [])
-    ≡ Err (DamagedHeader 0) ∷ Err (DamagedHeader 99) ∷ Err (DamagedHeader 0) ∷ []
+    ≡ Err (DamagedHeader 0) ∷ Err (DamagedHeader 0) ∷ Err (DamagedHeader 99) ∷ Err (DamagedHeader 0) ∷ []
 
 -- a spool at this epoch whose current area begins and ends there; its disk doesn't matter
 abbrev pub areas_at : ℕ → ℕ → ℕ → Current ℕ
-areas_at base end epoch = record { disk = 0; base = base; end = end; epoch = epoch; gate = base + 16; dead = false }
+areas_at base end epoch = record { disk = 0; base = base; end = end; epoch = epoch; version = 2; gate = base + 16; dead = false }
 
--- Rows leave the room of one reopening in an area of 130 bytes, and not in one of 129. Where they lie, in turn.
+-- Rows leave the room of one reopening in an area of 131 bytes, and not in one of 130. Where they lie, in turn.
 abbrev pub PlanRows : Type 0
-PlanRows = plan_of (areas_at 0 130 1) (13 ∷ 31 ∷ 48 ∷ []) ∷ plan_of (areas_at 0 129 1) (13 ∷ 31 ∷ 48 ∷ [])
+PlanRows = plan_of (areas_at 0 131 1) (13 ∷ 31 ∷ 49 ∷ []) ∷ plan_of (areas_at 0 130 1) (13 ∷ 31 ∷ 49 ∷ [])
     ∷ plan_of (areas_at 0 99 1) (13 ∷ []) ∷ plan_of (areas_at 99 198 2) []
     ∷ plan_of (areas_at 0 99 last_epoch) [] ∷ plan_of (areas_at 0 99 last_epoch) (13 ∷ []) ∷ []
-    ≡ Ok 146 ∷ Err area_faults.Full ∷ Ok 115 ∷ Ok 16 ∷ Err area_faults.EpochEnd ∷ Err area_faults.EpochEnd ∷ []
+    ≡ Ok 147 ∷ Err area_faults.Full ∷ Ok 115 ∷ Ok 16 ∷ Err area_faults.EpochEnd ∷ Err area_faults.EpochEnd ∷ []

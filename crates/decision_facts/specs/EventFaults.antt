@@ -1,5 +1,5 @@
 -- Examples of bytes that are no event, each beside its first fault.
-use Rattle.std.specs.Prelude.{◌≡◌, ℕ, ◌+◌, ◌-◌, List, [], ◌∷◌, ◌++◌, map, take, codes, length, Option, None, Some, Err}
+use Rattle.std.specs.Prelude.{◌≡◌, ℕ, ◌-◌, List, [], ◌∷◌, ◌++◌, map, take, codes, length, Option, None, Some, Err}
 use Rattle.std.specs.Int.{w16, to_be_bytes}
 use Rattle.std.specs.List.{flat_map}
 use Rattle.std.specs.Result.{result_err}
@@ -32,8 +32,13 @@ FaultRows = AreFaults [] (
     ∷ (codes "08 00 00 00 01 01 00", Length)
     ∷ (codes "03 00 01 71 01 00", Length)
     ∷ (codes "10", Kind)
-    ∷ (codes "11", Kind)
     ∷ (codes "0F 00", Length)
+    ∷ (codes "11", Length)
+    ∷ (codes "11 00 01 71 00 00 00 01 00 01 75 00 00 00 01 32 00 00", Length)
+    ∷ (codes "11 00 01 71 00 00 00 01 00 01 75 00 00 00 01 32 00 00 00 00 00 00 00 00 07", Length)
+    ∷ (codes "11 00 01 71 00 00 00 01 00 01 75 00 00 00 01 32 00 00 00 00 00 00 00 00 07 D0 00", Length)
+    ∷ (codes "11 00 01 71 00 00 00 01 00 01 75 00 00 00 01 32 00 00 00 00 03 A3 52 94 40 01", Range)
+    ∷ (codes "05 00 01 71 00 00 00 01 00 01 75 00 00 00 01 32 00 00 00 00 00 00 00 00 07 D0", Length)
     ∷ (codes "0D 00 00 00 01 00 00 00 00 01 01 00 00 00 00 00 00", Range)
     ∷ (codes "0D 00 00 00 01 00 00 00 01 00 01 00 00 00 00 00 00", Range)
     ∷ (codes "0D 00 00 00 01 00 00 00 01 11 01 00 00 00 00 00 00", Range)

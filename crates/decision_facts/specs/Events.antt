@@ -1,5 +1,5 @@
 -- Examples of the spelling of events.
-use Rattle.std.specs.Prelude.{◌≡◌, ℕ, true, false, List, [], ◌∷◌, ◌++◌, map, codes, None, Some, Ok, Err}
+use Rattle.std.specs.Prelude.{◌≡◌, ℕ, true, false, List, [], ◌∷◌, ◌++◌, map, codes, None, Some, Ok}
 use Rattle.spool_types.specs.declared.phase.Policy.TheVariants.{AbortJob}
 use Rattle.spool_types.specs.declared.effect.Exit.{Exit}
 use Rattle.spool_types.specs.declared.effect.Exit.TheVariants as exits
@@ -39,6 +39,7 @@ EventRows = AreSpelled [] (
     ∷ (codes "0C 00 00 00 01", events.Start 1)
     ∷ (codes "0E 00 00 00 01", events.Abandon 1)
     ∷ (codes "0F", events.Reopen)
+    ∷ (codes "11 00 01 71 00 00 00 01 00 01 75 00 00 00 01 32 00 00 00 00 00 00 00 00 07 D0", events.CreateBy (record { queue = codes "q"; job = 1; user = codes "u"; title = []; copies = 1; priority = 50; options = [] }) 2000)
     ∷ (codes "0D 00 00 00 01 00 00 00 01 01 00 00 00 00 00 00 00 00", stage (exits.Code 0) [])
     ∷ (codes "0D 00 00 00 01 00 00 00 01 01 01 00 00 00 00 00 00", stage exits.Signal [])
     ∷ (codes "0D 00 00 00 01 00 00 00 01 01 00 00 00 00 00 00 00 01 02 00 00 00 09", stage (exits.Code 0) (effects.TotalPages 9 ∷ []))

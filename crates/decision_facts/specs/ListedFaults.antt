@@ -1,15 +1,21 @@
 -- Examples of bytes that are no row of a listing, each beside its first fault.
 use Rattle.std.specs.Prelude.{◌≡◌, ℕ, List, [], ◌∷◌, ◌++◌, map, codes, Err}
+use Rattle.spool_types.specs.declared.version.Version.{Version}
+use Rattle.spool_types.specs.declared.version.Version.TheVariants.{One, Two}
 use Rattle.field_codec.specs.declared.fault.CodecFault.{CodecFault}
 use Rattle.field_codec.specs.declared.fault.CodecFault.TheVariants.{Kind, Length, Range, Utf8}
 use Rattle.event_codec.specs.RowReading.{row_reading}
 use Rattle.decision_facts.specs.Bytes.{hex}
 use Rattle.decision_facts.specs.ListedRows.{before_phase}
 
--- each row: what stands behind these bytes, and the fault
+-- each row: what stands behind these bytes, and the fault in this version
+abbrev pub AreFaultsIn : Version → List ℕ → List (List ℕ × CodecFault) → Type 0
+AreFaultsIn version before rows =
+    map (λ (row : List ℕ × CodecFault). row_reading version (before ++ hex row.0)) rows ≡ map (λ (row : List ℕ × CodecFault). Err row.1) rows
+
+-- the fault in both versions
 abbrev pub AreFaults : List ℕ → List (List ℕ × CodecFault) → Type 0
-AreFaults before rows =
-    map (λ (row : List ℕ × CodecFault). row_reading (before ++ hex row.0)) rows ≡ map (λ (row : List ℕ × CodecFault). Err row.1) rows
+AreFaults before rows = AreFaultsIn One before rows × AreFaultsIn Two before rows
 
 abbrev pub ListedFaultRows : Type 0
 ListedFaultRows = AreFaults [] (
@@ -74,7 +80,21 @@ PhaseFaultRows = AreFaults before_phase (
     ∷ (codes "02", Length)
     ∷ (codes "02 00", Range)
     ∷ (codes "02 11", Range)
-    ∷ (codes "03 00", Length)
     ∷ (codes "05", Length)
     ∷ (codes "05 05", Range)
+    ∷ [])
+
+-- behind the phase of a completed job: version 1 reads no moment, and version 2 never goes without
+abbrev pub FirstVersionFaultRows : Type 0
+FirstVersionFaultRows = AreFaultsIn One (before_phase ++ 3 ∷ []) ((codes "00", Length) ∷ (codes "01 00 00 00 00 00 00 07 D0", Length) ∷ [])
+
+abbrev pub MomentFaultRows : Type 0
+MomentFaultRows = AreFaultsIn Two (before_phase ++ 3 ∷ []) (
+    ([], Length)
+    ∷ (codes "02", Range)
+    ∷ (codes "01", Length)
+    ∷ (codes "01 00 00 00 00 00 00 07", Length)
+    ∷ (codes "01 00 00 03 A3 52 94 40 01", Range)
+    ∷ (codes "01 00 00 00 00 00 00 07 D0 00", Length)
+    ∷ (codes "00 00", Length)
     ∷ [])

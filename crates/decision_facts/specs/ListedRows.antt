@@ -1,22 +1,24 @@
 -- Examples of the spelling of the rows of a listing.
-use Rattle.std.specs.Prelude.{◌≡◌, ℕ, true, false, List, [], ◌∷◌, ◌++◌, map, codes, length, None, Some, Ok}
+use Rattle.std.specs.Prelude.{◌≡◌, ℕ, true, false, List, [], ◌∷◌, ◌++◌, map, codes, length, Option, None, Some, Ok}
 use Rattle.spool_types.specs.declared.phase.Policy.TheVariants.{AbortJob, StopPrinter}
 use Rattle.spool_types.specs.declared.phase.Phase.{Phase}
 use Rattle.spool_types.specs.declared.phase.Phase.TheVariants.{Incoming, Waiting, Processing, Completed, Canceled, Aborted}
 use Rattle.spool_types.specs.declared.phase.Hold.TheVariants.{Free, Indefinite, Until}
 use Rattle.spool_types.specs.declared.phase.HoldReason.TheVariants.{Unspecified, Authentication, Backend}
 use Rattle.spool_types.specs.declared.phase.AbortReason.TheVariants.{FilterFailed, BackendFailed, RetryLimit, AttemptLost, NoFilter}
+use Rattle.spool_types.specs.declared.version.Version.{Version}
+use Rattle.spool_types.specs.declared.version.Version.TheVariants.{One, Two}
 use Rattle.spool_types.specs.declared.listing.Row.{Row}
 use Rattle.spool_types.specs.declared.listing.Row.TheVariants as rows
 use Rattle.event_codec.specs.RowSpelling.{row_spelling}
 use Rattle.event_codec.specs.RowReading.{row_reading}
 use Rattle.decision_facts.specs.Bytes.{hex}
 
--- each row: what stands behind these bytes, and the row that all of them spell
-abbrev pub AreSpelled : List ℕ → List (List ℕ × Row) → Type 0
-AreSpelled before rows =
-    (map (λ (row : List ℕ × Row). row_spelling row.1) rows ≡ map (λ (row : List ℕ × Row). before ++ hex row.0) rows)
-    × (map (λ (row : List ℕ × Row). row_reading (before ++ hex row.0)) rows ≡ map (λ (row : List ℕ × Row). Ok row.1) rows)
+-- each row: what stands between these bytes, and the row that all of them spell in this version
+abbrev pub AreSpelled : Version → List ℕ → List (List ℕ × Row) → List ℕ → Type 0
+AreSpelled version before rows behind =
+    (map (λ (row : List ℕ × Row). row_spelling version row.1) rows ≡ map (λ (row : List ℕ × Row). before ++ hex row.0 ++ behind) rows)
+    × (map (λ (row : List ℕ × Row). row_reading version (before ++ hex row.0 ++ behind)) rows ≡ map (λ (row : List ℕ × Row). Ok row.1) rows)
 
 -- the head of an empty table, and one that is as great as can be
 abbrev pub empty_head : List ℕ
@@ -26,13 +28,13 @@ empty_head = codes "40 00 00 00 00 00 00 00 00 00 00 00 00"
 abbrev pub least_queue : List ℕ
 least_queue = codes "41 00 01 71 00 03 73 3A 2F 00 03 61 2F 62 00 00 00 00 1E 00 05 00 00 00 00 01 00 00 00 00 00"
 
--- the least job
+-- the least job in version 1
 abbrev pub least_job : List ℕ
 least_job = codes "42 00 00 00 01 00 01 71 00 01 75 00 00 00 01 32 00 00 01 00 03 61 2F 62 00 00 00 00 00 00 00 00 00 00 00 00 00 01 00 00 00 00 00 00 00 00 00 00"
 
-abbrev pub ListedRows : Type 0
-ListedRows = AreSpelled [] (
-    (empty_head, rows.Head (record { highest = 0; moment = 0 }))
+-- in both versions
+abbrev pub unchanged : List (List ℕ × Row)
+unchanged = (empty_head, rows.Head (record { highest = 0; moment = 0 }))
     ∷ (codes "40 7F FF FF FF 00 00 03 A3 52 94 40 00", rows.Head (record { highest = 2147483647; moment = 4000000000000 }))
     ∷ (
       least_queue,
@@ -70,38 +72,54 @@ ListedRows = AreSpelled [] (
         attributes = record { name = codes "a-1"; value = codes "x y" } ∷ record { name = codes "b"; value = [] } ∷ [];
       }),
     )
-    ∷ (
-      least_job,
-      rows.Job (record {
-        id = 1;
-        queue = codes "q";
-        user = codes "u";
-        title = [];
-        copies = 1;
-        priority = 50;
-        options = [];
-        media = Some (codes "a/b");
-        filters = [];
-        attempts = 0;
-        pages = 0;
-        size = 0;
-        phase = Waiting Free 0 false;
-      }),
-    )
     ∷ (codes "43 00 00 00 01 00 00 00 02 61 62", rows.Piece 1 (codes "ab"))
-    ∷ [])
+    ∷ []
 
--- how many bytes a head, a queue and a job have at least
+abbrev pub UnchangedRows : Type 0
+UnchangedRows = AreSpelled One [] unchanged [] × AreSpelled Two [] unchanged []
+
+-- the least job, and the moment by which it is to start
+abbrev pub waiting_job : Option ℕ → Row
+waiting_job by = rows.Job (record {
+  id = 1;
+  queue = codes "q";
+  user = codes "u";
+  title = [];
+  copies = 1;
+  priority = 50;
+  options = [];
+  media = Some (codes "a/b");
+  filters = [];
+  attempts = 0;
+  pages = 0;
+  size = 0;
+  phase = Waiting Free 0 false;
+  by = by;
+})
+
+abbrev pub FirstVersionRows : Type 0
+FirstVersionRows = AreSpelled One [] ((least_job, waiting_job None) ∷ []) []
+
+-- no moment, one, and the ends of their range
+abbrev pub MomentRows : Type 0
+MomentRows = AreSpelled Two (hex least_job) (
+    (codes "00", waiting_job None)
+    ∷ (codes "01 00 00 00 00 00 00 07 D0", waiting_job (Some 2000))
+    ∷ (codes "01 00 00 00 00 00 00 00 00", waiting_job (Some 0))
+    ∷ (codes "01 00 00 03 A3 52 94 40 00", waiting_job (Some 4000000000000))
+    ∷ []) []
+
+-- how many bytes a head, a queue and a job have at least in version 2
 abbrev pub LeastRows : Type 0
-LeastRows = map (λ row. length (hex row)) (empty_head ∷ least_queue ∷ least_job ∷ []) ≡ 13 ∷ 31 ∷ 48 ∷ []
+LeastRows = map (λ row. length (hex row)) (empty_head ∷ least_queue ∷ (least_job ++ codes " 00") ∷ []) ≡ 13 ∷ 31 ∷ 49 ∷ []
 
 -- a job of two attempts, three pages and one filter, up to its phase
 abbrev pub before_phase : List ℕ
 before_phase = hex (codes "42 00 00 00 01 00 01 71 00 01 75 00 00 00 01 32 00 00 00 01 00 01 66 00 00 00 02 00 00 00 03 00 10 00 00")
 
--- this job in a phase
-abbrev pub in_phase : List ℕ × Phase → List ℕ × Row
-in_phase row = (
+-- this job in a phase, and the moment by which it is to start
+abbrev pub in_phase : Option ℕ → List ℕ × Phase → List ℕ × Row
+in_phase by row = (
   row.0,
   rows.Job (record {
     id = 1;
@@ -117,12 +135,12 @@ in_phase row = (
     pages = 3;
     size = 1048576;
     phase = row.1;
+    by = by;
   }),
 )
 
-abbrev pub PhaseRows : Type 0
-PhaseRows = AreSpelled before_phase (map in_phase (
-    (codes "00 00", Incoming Free)
+abbrev pub phases : List (List ℕ × Phase)
+phases = (codes "00 00", Incoming Free)
     ∷ (codes "00 01 00", Incoming (Indefinite Unspecified))
     ∷ (codes "00 01 01", Incoming (Indefinite Authentication))
     ∷ (codes "00 01 02", Incoming (Indefinite Backend))
@@ -138,4 +156,10 @@ PhaseRows = AreSpelled before_phase (map in_phase (
     ∷ (codes "05 02", Aborted RetryLimit)
     ∷ (codes "05 03", Aborted AttemptLost)
     ∷ (codes "05 04", Aborted NoFilter)
-    ∷ []))
+    ∷ []
+
+-- in both versions, and with a moment
+abbrev pub PhaseRows : Type 0
+PhaseRows = AreSpelled One before_phase (map (in_phase None) phases) []
+    × AreSpelled Two before_phase (map (in_phase None) phases) (0 ∷ [])
+    × AreSpelled Two before_phase (map (in_phase (Some 2000)) phases) (hex (codes "01 00 00 00 00 00 00 07 D0"))

@@ -24,6 +24,7 @@ job queue id priority phase = record {
   pages = 0;
   size = 3;
   phase = phase;
+  by = None;
 }
 
 -- it may be started at any moment, and it goes first

@@ -1,12 +1,12 @@
 -- Examples of what phases, policies, refusals and warnings tell, and of busy queues.
-use Rattle.std.specs.Prelude.{◌≡◌, ℕ, true, false, List, [], ◌∷◌, map, codes, None, Some}
+use Rattle.std.specs.Prelude.{◌≡◌, true, false, List, [], ◌∷◌, map, codes, None, Some}
 use Rattle.spool_types.specs.declared.phase.Phase.{Phase}
-use Rattle.spool_types.specs.declared.phase.Phase.TheVariants.{Incoming, Waiting, Processing, Completed, Canceled, Aborted}
+use Rattle.spool_types.specs.declared.phase.Phase.TheVariants.{Incoming, Waiting, Canceled, Aborted}
 use Rattle.spool_types.specs.declared.phase.Hold.TheVariants.{Free, Indefinite, Until}
-use Rattle.spool_types.specs.declared.phase.HoldReason.TheVariants.{Unspecified, Authentication, Backend}
+use Rattle.spool_types.specs.declared.phase.HoldReason.TheVariants.{Unspecified, Backend}
 use Rattle.spool_types.specs.declared.phase.AbortReason.TheVariants.{NoFilter}
 use Rattle.spool_types.specs.declared.phase.Policy.TheVariants.{AbortJob, RetryJob, RetryCurrentJob, StopPrinter}
-use Rattle.spool_types.specs.declared.refusal.Refusal.TheVariants.{NoQueue, QueueExists, TooManyQueues, NotAccepting, NoJob, NotIncoming, TooLong, OldNumber, NoNumberLeft, JobEnded, NotWaiting, NotNext, NotProcessing, WrongStage, NotHeld, NotEnded, NeedsCheckpoint}
+use Rattle.spool_types.specs.declared.refusal.Refusal.TheVariants.{NoQueue, TooLong, JobEnded, NeedsCheckpoint}
 use Rattle.spool_types.specs.declared.warning.WarningKind.TheVariants.{UnknownRule, BadLine}
 use Rattle.spool_types.specs.Phases.{job_state, job_reason, with_hold, hold_until, policy_word}
 use Rattle.spool_types.specs.Refusals.{refusal_number, refusal_name}

@@ -8,7 +8,9 @@ use Rattle.spool_types.specs.declared.phase.Hold.TheVariants.{Free, Indefinite, 
 use Rattle.spool_types.specs.declared.phase.HoldReason.TheVariants.{Unspecified}
 use Rattle.spool_types.specs.Phases.{is_waiting}
 use Rattle.spool_types.specs.State.{Job}
+use Rattle.queue_sched.specs.declared.deadlines.Deadline.{Deadline}
 use Rattle.queue_sched.specs.declared.entry.Entry.{Entry}
+use Rattle.queue_sched.specs.Deadlines.{comes_before}
 use Rattle.queue_sched.specs.Index.{entry_of, goes_before, is_startable}
 use Rattle.queue_sched.specs.Next.{beats_job, next_in}
 use Rattle.decision_facts.specs.Samples.{job, lab, ready, marked, processing}
@@ -80,3 +82,14 @@ abbrev pub MarkedEntryRows : Type 0
 MarkedEntryRows = goes_before (entry 3 60 (Until 7) 9 true) (entry 1 100 Free 0 false)
     ∷ map (λ now. is_startable now (entry 3 60 (Until 7) 9 true)) (8 ∷ 9 ∷ [])
     ≡ true ∷ false ∷ true ∷ []
+
+-- a job, and the moment by which it is to start
+abbrev pub deadline : ℕ → ℕ → Deadline
+deadline id by = record { by = by; id = id }
+
+-- the earlier moment comes first, whatever the numbers, and of one moment the lower number
+abbrev pub DeadlineRows : Type 0
+DeadlineRows = comes_before (deadline 9 100) (deadline 1 101) ∷ comes_before (deadline 1 101) (deadline 9 100)
+    ∷ comes_before (deadline 1 100) (deadline 9 100) ∷ comes_before (deadline 9 100) (deadline 1 100)
+    ∷ comes_before (deadline 1 100) (deadline 1 100) ∷ []
+    ≡ true ∷ false ∷ true ∷ false ∷ false ∷ []

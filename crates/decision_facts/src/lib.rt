@@ -11,10 +11,10 @@
 //! - [`states`]: what phases, policies, refusals and warnings tell, and which queue is busy (`spool_types`).
 //! - [`verdicts`]: what becomes of a job whose child ended (`backend_codes`).
 //! - [`effects`]: what effects make of a job's pages and of its queue (`row_effects`).
-//! - [`turns`]: which job is next, and which of two goes first (`queue_sched`). A fact about `next_in` is one about
-//!   `next_job` by the clauses `tested` and `only` of `order_law`.
+//! - [`turns`]: which job is next, and which of two jobs or deadlines goes first (`queue_sched`). A fact about `next_in` is
+//!   one about `next_job` by the clauses `tested` and `only` of `order_law`.
 //! - [`events`], [`full_stages`] and [`listings`]: which bytes spell which event and which row, and the first fault of others
-//!   (`event_codec`, over the fields of `field_codec`).
+//!   (`event_codec`, over the fields of `field_codec`); of rows, in both versions.
 //! - [`options`] and [`children`]: what options say, and what a child is run with (`filter_args`).
 //! - [`devices`]: what bytes of a device are, as entries of a journal and as areas of a spool (`gate_journal`, `spool_areas`).
 #![tactic(auto)]
@@ -23,14 +23,14 @@ ghost use Rattle.decision_facts.specs.Values.{LimitsRows, LaterRows, QueueNameRo
 ghost use Rattle.decision_facts.specs.States.{StateRows, ReasonWordRows, HoldRows, HeldRows, PolicyWordRows, RefusalRows, NameRows, BusyRows};
 ghost use Rattle.decision_facts.specs.Verdicts.{FilterRows, BackendRows, PolicyRows, LostRows, LimitRows};
 ghost use Rattle.decision_facts.specs.Effects.{PageRows, ReasonRows, SixtyFourReasons, SixtyFourAttributes, AttributeRows, MessageRows};
-ghost use Rattle.decision_facts.specs.Turns.{NextRows, StoppedRows, BeatRows, StartableRows, EntryRows, MarkedEntryRows};
+ghost use Rattle.decision_facts.specs.Turns.{NextRows, StoppedRows, BeatRows, StartableRows, EntryRows, MarkedEntryRows, DeadlineRows};
 ghost use Rattle.decision_facts.specs.Events.{EventRows, EffectRows};
 ghost use Rattle.decision_facts.specs.EventFaults.{FaultRows, EffectFaultRows, FullStageRows, LongTypeRows, CutTextRows, RangeRows, IntervalRows, SendRows};
-ghost use Rattle.decision_facts.specs.ListedRows.{ListedRows, LeastRows, PhaseRows};
-ghost use Rattle.decision_facts.specs.ListedFaults.{ListedFaultRows, QueueFaultRows, PhaseFaultRows};
+ghost use Rattle.decision_facts.specs.ListedRows.{UnchangedRows, FirstVersionRows, MomentRows, LeastRows, PhaseRows};
+ghost use Rattle.decision_facts.specs.ListedFaults.{ListedFaultRows, QueueFaultRows, PhaseFaultRows, FirstVersionFaultRows, MomentFaultRows};
 ghost use Rattle.decision_facts.specs.Options.{OptionRows, OptionFaultRows, LastValueRows};
 ghost use Rattle.decision_facts.specs.Children.{FileRows, ArgumentRows, EnvironmentRows};
-ghost use Rattle.decision_facts.specs.Devices.{JournalRows, DamagedRows, ClosedRows, LeastAreaRows, MadeRows, MadeAnewRows, AreaRows, HeaderFaultRows, PlanRows};
+ghost use Rattle.decision_facts.specs.Devices.{JournalRows, DamagedRows, ClosedRows, LeastAreaRows, MadeRows, MadeAnewRows, AreaRows, VersionRows, HeaderFaultRows, PlanRows};
 
 /// Limits, texts, media types and the size of effects.
 pub fn values()
@@ -84,6 +84,7 @@ pub fn turns()
     ensures startable { StartableRows }
     ensures entry { EntryRows }
     ensures marked { MarkedEntryRows }
+    ensures deadlines { DeadlineRows }
 {}
 
 /// How events are spelled, and which bytes are none.
@@ -109,12 +110,16 @@ pub fn full_stages()
 /// How the rows of a listing are spelled, and which bytes are none.
 #[tactic(auto, unfolding(crate::proofs::Computing::reading_rows))]
 pub fn listings()
-    ensures spelled { ListedRows }
+    ensures unchanged { UnchangedRows }
+    ensures first_version { FirstVersionRows }
+    ensures moments { MomentRows }
     ensures least { LeastRows }
     ensures phases { PhaseRows }
     ensures faults { ListedFaultRows }
     ensures queue_faults { QueueFaultRows }
     ensures phase_faults { PhaseFaultRows }
+    ensures first_version_faults { FirstVersionFaultRows }
+    ensures moment_faults { MomentFaultRows }
 {}
 
 /// What options say, and how they are printed.
@@ -141,6 +146,7 @@ pub fn devices()
     ensures made { MadeRows }
     ensures made_anew { MadeAnewRows }
     ensures area { AreaRows }
+    ensures versions { VersionRows }
     ensures header_faults { HeaderFaultRows }
     ensures plans { PlanRows }
 {}

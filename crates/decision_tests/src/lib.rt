@@ -1,11 +1,13 @@
 //! The tests of the crates that decide, read and spell: what no clause says of them.
 //!
 //! Rows of functions that only compute are facts (`decision_facts`). What takes memory runs here once with ample memory,
-//! since a clause lets it answer that there is none; and the index of waiting jobs, change by change.
+//! since a clause lets it answer that there is none; and the index of waiting jobs, change by change, and their deadlines.
 #![tactic(auto)]
 
 #[cfg(test)]
 mod codec;
+#[cfg(test)]
+mod deadlines;
 #[cfg(test)]
 mod indexes;
 #[cfg(test)]

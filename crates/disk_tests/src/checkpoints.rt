@@ -62,7 +62,7 @@ fn planned(alloc: Global, disk: MemDisk, lengths: &[u64]) -> Result<u64, Fail> {
 }
 
 const LISTED: [u8; 35] = [
-    0xA5, 1, 0, 0, 0, 0, 0, 0, 0, 2, 0, 0, 0, 0, 0, 0, 0xA5, 0, 0, 0, 0x0D, 0x40, 0, 0, 0, 0, 0, 0,
+    0xA5, 2, 0, 0, 0, 0, 0, 0, 0, 2, 0, 0, 0, 0, 0, 0, 0xA5, 0, 0, 0, 0x0D, 0x40, 0, 0, 0, 0, 0, 0,
     0, 0, 0, 0, 0, 0, 0,
 ];
 
@@ -86,7 +86,40 @@ fn a_checkpoint_lists_its_rows(rt: HostRuntime) -> Result<(), Fail> {
     Ok(())
 }
 
-// The next checkpoint closes it first.
+// An empty spool of two areas of 99 bytes, in the version 1.
+fn made_old(alloc: Global) -> Result<MemDisk, Fail> {
+    let mut disk = made(alloc, 198)?;
+    if disk.len() == 198 {
+        disk.write(1, &[1])?;
+    }
+    Ok(disk)
+}
+
+// The versions of an old spool's areas before and after a checkpoint, and the disk then.
+fn listed_old(alloc: Global) -> Result<(u8, u8, MemDisk), Fail> {
+    let mut areas = opened(alloc, made_old(alloc)?)?.areas;
+    let before = areas.version();
+    let done = lists(alloc, &mut areas);
+    let after = areas.version();
+    let disk = areas.into_disk();
+    if done? {
+        Ok((before, after, disk))
+    } else {
+        Err(Fail::from("no checkpoint"))
+    }
+}
+
+// The old area stays as it is.
+#[test]
+fn a_checkpoint_writes_the_newest_version(rt: HostRuntime) -> Result<(), Fail> {
+    let (before, after, disk) = listed_old(rt.alloc())?;
+    assert!(rt; (before, after) == (1, 2));
+    assert!(rt; have_at(disk.bytes(), 99, &LISTED));
+    assert!(rt; have_at(disk.bytes(), 0, &[0xA5, 1]));
+    Ok(())
+}
+
+// The next checkpoint closes the header that the last one left behind.
 #[test]
 fn checkpoints_take_turns(rt: HostRuntime) -> Result<(), Fail> {
     let disk = listed_twice(rt.alloc())?;

@@ -5,14 +5,19 @@ use spool_disk::{Disk, FuseDisk, MemDisk};
 use std::alloc::Global;
 use std::test::Fail;
 
-// A header behind an open gate: the version 1, and the epoch 1.
-const EPOCH_1: &[u8] = &[0xA5, 1, 0, 0, 0, 0, 0, 0, 0, 1, 0, 0, 0, 0, 0, 0];
+// A header behind an open gate: the version 2, and the epoch 1.
+const EPOCH_1: &[u8] = &[0xA5, 2, 0, 0, 0, 0, 0, 0, 0, 1, 0, 0, 0, 0, 0, 0];
 
 // The same of the epoch 2.
-const EPOCH_2: &[u8] = &[0xA5, 1, 0, 0, 0, 0, 0, 0, 0, 2, 0, 0, 0, 0, 0, 0];
+const EPOCH_2: &[u8] = &[0xA5, 2, 0, 0, 0, 0, 0, 0, 0, 2, 0, 0, 0, 0, 0, 0];
+
+// Both of the version 1.
+const OLD_EPOCH_1: &[u8] = &[0xA5, 1, 0, 0, 0, 0, 0, 0, 0, 1, 0, 0, 0, 0, 0, 0];
+
+const OLD_EPOCH_2: &[u8] = &[0xA5, 1, 0, 0, 0, 0, 0, 0, 0, 2, 0, 0, 0, 0, 0, 0];
 
 // A header behind a closed gate.
-const CLOSED: &[u8] = &[0, 1, 0, 0, 0, 0, 0, 0, 0, 3, 0, 0, 0, 0, 0, 0];
+const CLOSED: &[u8] = &[0, 2, 0, 0, 0, 0, 0, 0, 0, 3, 0, 0, 0, 0, 0, 0];
 
 // The records of the payloads 0A 00 00 00 01 and 0F, and the closed gate behind them.
 const RECORDS: &[u8] = &[
@@ -29,18 +34,19 @@ type Writes<'a> = &'a [(u64, &'a [u8])];
 
 const FIRST_AREA: Writes = &[(0, EPOCH_1), (99, CLOSED), (16, RECORDS)];
 
-// What is written, the payloads that are found then, the damage, and the gate behind them.
-type Row<'a> = (Writes<'a>, &'a [Extent], Option<u64>, u64);
+// What is written, the payloads that are found then, the damage, the gate behind them, and the version.
+type Row<'a> = (Writes<'a>, &'a [Extent], Option<u64>, u64, u8);
 
-const ROWS: [Row; 7] = [
-    (FIRST_AREA, &[FIVE, ONE], None, 32),
-    (&[(0, EPOCH_1)], &[], None, 16),
+const ROWS: [Row; 10] = [
+    (FIRST_AREA, &[FIVE, ONE], None, 32, 2),
+    (&[(0, EPOCH_1)], &[], None, 16, 2),
     // Any byte but A5 is a closed gate.
     (
         &[(0, EPOCH_1), (16, RECORDS), (32, &[7])],
         &[FIVE, ONE],
         None,
         32,
+        2,
     ),
     // A record of 61 bytes ends with its next gate at 98, the area's last byte; one of 62 leaves the area.
     (
@@ -48,21 +54,33 @@ const ROWS: [Row; 7] = [
         &[FIVE, ONE, Extent { place: 37, len: 61 }],
         None,
         98,
+        2,
     ),
     (
         &[(0, EPOCH_1), (16, RECORDS), (32, &[0xA5, 0, 0, 0, 62])],
         &[FIVE, ONE],
         Some(32),
         32,
+        2,
     ),
-    // The higher epoch wins.
+    // The higher epoch wins, whatever the versions.
     (
         &[(0, EPOCH_1), (99, EPOCH_2), (115, RECORDS)],
         &[Extent { place: 120, len: 5 }, Extent { place: 130, len: 1 }],
         None,
         131,
+        2,
     ),
-    (&[(0, EPOCH_2), (99, EPOCH_1)], &[], None, 16),
+    (&[(0, EPOCH_2), (99, EPOCH_1)], &[], None, 16, 2),
+    (
+        &[(0, OLD_EPOCH_1), (16, RECORDS)],
+        &[FIVE, ONE],
+        None,
+        32,
+        1,
+    ),
+    (&[(0, OLD_EPOCH_2), (99, EPOCH_1)], &[], None, 16, 1),
+    (&[(0, OLD_EPOCH_1), (99, EPOCH_2)], &[], None, 115, 2),
 ];
 
 fn write(disk: &mut MemDisk, at: u64, bytes: &[u8]) -> Result<(), Fail> {
@@ -87,9 +105,14 @@ fn disk_with(alloc: Global, writes: Writes) -> Result<MemDisk, Fail> {
 
 // Whether a row is so.
 fn opens(alloc: Global, row: Row) -> Result<bool, Fail> {
-    let (writes, payloads, damage, gate) = row;
+    let (writes, payloads, damage, gate, version) = row;
     let opened = opened(alloc, disk_with(alloc, writes)?)?;
-    Ok(opened.payloads.as_slice() == payloads && opened.damage == damage && opened.gate == gate)
+    Ok(
+        opened.payloads.as_slice() == payloads
+            && opened.damage == damage
+            && opened.gate == gate
+            && opened.areas.version() == version,
+    )
 }
 
 #[test]

@@ -8,6 +8,7 @@ use Rattle.spool_types.specs.State.{Job}
 use Rattle.spool_types.specs.Limits.{longest_send}
 use Rattle.spool_types.specs.declared.event.Event.{Event}
 use Rattle.spool_types.specs.declared.listing.Row.{Row}
+use Rattle.spool_types.specs.declared.version.Version.{Version}
 use Rattle.spool_types.specs.declared.listing.Row.TheVariants.{Head, Queue, Job as JobRow, Piece}
 use Rattle.event_codec.specs.Spelling.{spelling}
 use Rattle.event_codec.specs.RowSpelling.{row_spelling}
@@ -23,12 +24,12 @@ use Rattle.documents.specs.Placed.{placed, placed_pieces, payloads_of, places_in
 use Rattle.documents.proofs.Joined.{size_of-append}
 use Rattle.documents.proofs.Placed.{front_of, sends_behind, spells_sent, joined-append, LieIn-append, wider_lie, held_all, held_last, lie_between, one_more, sized, gate_after-append}
 
--- a piece spells its bytes behind nine others
-pub spells_pieces : SpellsSent row_spelling piece_of
-spells_pieces (Piece j part) k bytes is = (front_of 0x43 k bytes, refl, sends_behind 0x43 (j, part) (k, bytes) is)
-spells_pieces (Head head) k bytes is = absurd (cc is)
-spells_pieces (Queue q) k bytes is = absurd (cc is)
-spells_pieces (JobRow r) k bytes is = absurd (cc is)
+-- a piece spells its bytes behind nine others, in each version
+pub spells_pieces : (v : Version) → SpellsSent (row_spelling v) piece_of
+spells_pieces v (Piece j part) k bytes is = (front_of 0x43 k bytes, refl, sends_behind 0x43 (j, part) (k, bytes) is)
+spells_pieces v (Head head) k bytes is = absurd (cc is)
+spells_pieces v (Queue q) k bytes is = absurd (cc is)
+spells_pieces v (JobRow r) k bytes is = absurd (cc is)
 
 same_test : (k j : ℕ) → k ≡ j → (k == j) ≡ true
 same_test k j is = grind (arith, nat_tests)
@@ -81,33 +82,33 @@ in_listing documents (q ∷ before) after r one two =
 
 -- ---- a listing, and events behind it
 
-pub history : (base j : ℕ) (rows : List Row) (events : List Event) (bytes : List ℕ) → HasPayloads base (payloads_of rows events) bytes → joined bytes (places_in base rows events j) ≡ document_in rows events j
-history base j rows events bytes has =
-    let gate = gate_after base (map row_spelling rows) in
-    joined-append bytes (placed_pieces (base + header_len) rows j) (placed gate events j)
-    ∙ ap (λ (l : List ℕ). l ++ joined bytes (placed gate events j)) (held_all row_spelling piece_of spells_pieces base bytes (map spelling events) rows j has)
-    ∙ ap (λ (l : List ℕ). listed_pieces rows j ++ l) (held_last spelling sent_by spells_sent base bytes (map row_spelling rows) events j has)
+pub history : (v : Version) (base j : ℕ) (rows : List Row) (events : List Event) (bytes : List ℕ) → HasPayloads base (payloads_of v rows events) bytes → joined bytes (places_in v base rows events j) ≡ document_in rows events j
+history v base j rows events bytes has =
+    let gate = gate_after base (map (row_spelling v) rows) in
+    joined-append bytes (placed_pieces v (base + header_len) rows j) (placed gate events j)
+    ∙ ap (λ (l : List ℕ). l ++ joined bytes (placed gate events j)) (held_all (row_spelling v) piece_of (spells_pieces v) base bytes (map spelling events) rows j has)
+    ∙ ap (λ (l : List ℕ). listed_pieces rows j ++ l) (held_last spelling sent_by spells_sent base bytes (map (row_spelling v) rows) events j has)
 
-pub history_within : (base j : ℕ) (rows : List Row) (events : List Event) → LieIn (base + header_len) (gate_after base (payloads_of rows events)) (places_in base rows events j)
-history_within base j rows events =
+pub history_within : (v : Version) (base j : ℕ) (rows : List Row) (events : List Event) → LieIn (base + header_len) (gate_after base (payloads_of v rows events)) (places_in v base rows events j)
+history_within v base j rows events =
     let first = base + header_len in
-    let gate = gate_after base (map row_spelling rows) in
-    let end = gate_after base (payloads_of rows events) in
-    let sum = gate_after-append base (map row_spelling rows) (map spelling events) in
-    LieIn-append first end (placed_pieces first rows j) (placed gate events j)
-    (wider_lie first gate first end (placed_pieces first rows j) (omega arith) (omega (arith, sum)) (lie_between row_spelling piece_of spells_pieces first rows j))
+    let gate = gate_after base (map (row_spelling v) rows) in
+    let end = gate_after base (payloads_of v rows events) in
+    let sum = gate_after-append base (map (row_spelling v) rows) (map spelling events) in
+    LieIn-append first end (placed_pieces v first rows j) (placed gate events j)
+    (wider_lie first gate first end (placed_pieces v first rows j) (omega arith) (omega (arith, sum)) (lie_between (row_spelling v) piece_of (spells_pieces v) first rows j))
     (wider_lie gate (gate + length (records (map spelling events))) first end (placed gate events j) (omega arith) (omega (arith, sum)) (lie_between spelling sent_by spells_sent gate events j))
 
-pub history_added : (base j : ℕ) (rows : List Row) (events : List Event) (e : Event) → places_in base rows (events ++ e ∷ []) j ≡ places_in base rows events j ++ placed_to (gate_after base (payloads_of rows events) + 5) j (sent_by e)
-history_added base j rows events e =
-    let gate = gate_after base (map row_spelling rows) in
-    let front = placed_pieces (base + header_len) rows j in
+pub history_added : (v : Version) (base j : ℕ) (rows : List Row) (events : List Event) (e : Event) → places_in v base rows (events ++ e ∷ []) j ≡ places_in v base rows events j ++ placed_to (gate_after base (payloads_of v rows events) + 5) j (sent_by e)
+history_added v base j rows events e =
+    let gate = gate_after base (map (row_spelling v) rows) in
+    let front = placed_pieces v (base + header_len) rows j in
     ap (λ (l : List Extent). front ++ l)
     (one_more spelling sent_by spells_sent gate events e j
-    ∙ ap (λ (n : ℕ). placed gate events j ++ placed_to (n + 5) j (sent_by e)) (sym (gate_after-append base (map row_spelling rows) (map spelling events))))
-    ∙ sym (append_assoc front (placed gate events j) (placed_to (gate_after base (payloads_of rows events) + 5) j (sent_by e)))
+    ∙ ap (λ (n : ℕ). placed gate events j ++ placed_to (n + 5) j (sent_by e)) (sym (gate_after-append base (map (row_spelling v) rows) (map spelling events))))
+    ∙ sym (append_assoc front (placed gate events j) (placed_to (gate_after base (payloads_of v rows events) + 5) j (sent_by e)))
 
-pub history_size : (base j : ℕ) (rows : List Row) (events : List Event) → size_of (places_in base rows events j) ≡ length (document_in rows events j)
-history_size base j rows events =
-    let gate = gate_after base (map row_spelling rows) in
-    omega (arith, size_of-append (placed_pieces (base + header_len) rows j) (placed gate events j), sized row_spelling piece_of spells_pieces (base + header_len) rows j, sized spelling sent_by spells_sent gate events j, length-append (listed_pieces rows j) (sent events j))
+pub history_size : (v : Version) (base j : ℕ) (rows : List Row) (events : List Event) → size_of (places_in v base rows events j) ≡ length (document_in rows events j)
+history_size v base j rows events =
+    let gate = gate_after base (map (row_spelling v) rows) in
+    omega (arith, size_of-append (placed_pieces v (base + header_len) rows j) (placed gate events j), sized (row_spelling v) piece_of (spells_pieces v) (base + header_len) rows j, sized spelling sent_by spells_sent gate events j, length-append (listed_pieces rows j) (sent events j))

@@ -3,6 +3,7 @@ use Rattle.std.specs.Prelude.{◌≡◌, ℕ, ◌+◌, List, [], ◌∷◌, ◌+
 use Rattle.spool_types.specs.Sent.{sent_by, piece_of, placed_to, bytes_behind}
 use Rattle.spool_types.specs.declared.event.Event.{Event}
 use Rattle.spool_types.specs.declared.listing.Row.{Row}
+use Rattle.spool_types.specs.declared.version.Version.{Version}
 use Rattle.event_codec.specs.Spelling.{spelling}
 use Rattle.event_codec.specs.RowSpelling.{row_spelling}
 use Rattle.extents.specs.declared.extent.Extent.{Extent}
@@ -18,16 +19,16 @@ placed_in spell sends gate (e ∷ es) j = placed_to (gate + 5) j (sends e) ++ pl
 abbrev pub placed : ℕ → List Event → ℕ → List Extent
 placed gate events j = placed_in spelling sent_by gate events j
 
-abbrev pub placed_pieces : ℕ → List Row → ℕ → List Extent
-placed_pieces gate rows j = placed_in row_spelling piece_of gate rows j
+abbrev pub placed_pieces : Version → ℕ → List Row → ℕ → List Extent
+placed_pieces version gate rows j = placed_in (row_spelling version) piece_of gate rows j
 
--- the payloads of a listing and of the events behind it
-abbrev pub payloads_of : List Row → List Event → List (List ℕ)
-payloads_of rows events = map row_spelling rows ++ map spelling events
+-- the payloads of a listing and of the events behind it, in an area of this version
+abbrev pub payloads_of : Version → List Row → List Event → List (List ℕ)
+payloads_of version rows events = map (row_spelling version) rows ++ map spelling events
 
 -- where a job's document lies in the area that begins at base and has this listing, and these events behind it
-abbrev pub places_in : ℕ → List Row → List Event → ℕ → List Extent
-places_in base rows events j = placed_pieces (base + header_len) rows j ++ placed (gate_after base (map row_spelling rows)) events j
+abbrev pub places_in : Version → ℕ → List Row → List Event → ℕ → List Extent
+places_in version base rows events j = placed_pieces version (base + header_len) rows j ++ placed (gate_after base (map (row_spelling version) rows)) events j
 
 -- ---- what makes both agree
 

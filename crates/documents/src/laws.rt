@@ -10,6 +10,7 @@ ghost use Rattle.spool_areas.specs.Payloads.{HasPayloads, gate_after};
 ghost use Rattle.spool_types.specs.State.{Job};
 ghost use Rattle.spool_types.specs.declared.event.Event.{Event};
 ghost use Rattle.spool_types.specs.declared.listing.Row.{Row};
+ghost use Rattle.spool_types.specs.declared.version.Version.{Version};
 ghost use Rattle.event_codec.specs.Spelling.{spelling};
 ghost use Rattle.event_codec.specs.RowSpelling.{row_spelling};
 ghost use Rattle.job_table.specs.Listing.{job_rows};
@@ -56,23 +57,23 @@ pub fn placed_law()
 /// What a checkpoint moves: in the new area the places of a job hold what the pieces of the rows hold, and what events
 /// behind them sent.
 pub fn moves_law()
-    ensures moved { (base j : ℕ) (rows : List Row) (bytes : List ℕ) → HasPayloads base (map row_spelling rows) bytes →
-        joined bytes (placed_pieces (base + header_len) rows j) ≡ listed_pieces rows j }
-    ensures within { (base j : ℕ) (rows : List Row) →
-        LieIn (base + header_len) (gate_after base (map row_spelling rows)) (placed_pieces (base + header_len) rows j) }
+    ensures moved { (v : Version) (base j : ℕ) (rows : List Row) (bytes : List ℕ) → HasPayloads base (map (row_spelling v) rows) bytes →
+        joined bytes (placed_pieces v (base + header_len) rows j) ≡ listed_pieces rows j }
+    ensures within { (v : Version) (base j : ℕ) (rows : List Row) →
+        LieIn (base + header_len) (gate_after base (map (row_spelling v) rows)) (placed_pieces v (base + header_len) rows j) }
 
     // One row more adds the extent of its piece.
-    ensures added { (gate j : ℕ) (rows : List Row) (row : Row) →
-        placed_pieces gate (rows ++ row ∷ []) j ≡ placed_pieces gate rows j ++ placed_to (gate + length (records (map row_spelling rows)) + 5) j (piece_of row) }
+    ensures added { (v : Version) (gate j : ℕ) (rows : List Row) (row : Row) →
+        placed_pieces v gate (rows ++ row ∷ []) j ≡ placed_pieces v gate rows j ++ placed_to (gate + length (records (map (row_spelling v) rows)) + 5) j (piece_of row) }
 
     // In every image with a listing and events behind it the places of a job hold its document. They lie between the header
     // of the area and the gate behind the payloads, and one event more adds the extent of what it sends.
-    ensures history { (base j : ℕ) (rows : List Row) (events : List Event) (bytes : List ℕ) → HasPayloads base (payloads_of rows events) bytes →
-        joined bytes (places_in base rows events j) ≡ document_in rows events j }
-    ensures history_within { (base j : ℕ) (rows : List Row) (events : List Event) →
-        LieIn (base + header_len) (gate_after base (payloads_of rows events)) (places_in base rows events j) }
-    ensures history_added { (base j : ℕ) (rows : List Row) (events : List Event) (e : Event) →
-        places_in base rows (events ++ e ∷ []) j ≡ places_in base rows events j ++ placed_to (gate_after base (payloads_of rows events) + 5) j (sent_by e) }
+    ensures history { (v : Version) (base j : ℕ) (rows : List Row) (events : List Event) (bytes : List ℕ) → HasPayloads base (payloads_of v rows events) bytes →
+        joined bytes (places_in v base rows events j) ≡ document_in rows events j }
+    ensures history_within { (v : Version) (base j : ℕ) (rows : List Row) (events : List Event) →
+        LieIn (base + header_len) (gate_after base (payloads_of v rows events)) (places_in v base rows events j) }
+    ensures history_added { (v : Version) (base j : ℕ) (rows : List Row) (events : List Event) (e : Event) →
+        places_in v base rows (events ++ e ∷ []) j ≡ places_in v base rows events j ++ placed_to (gate_after base (payloads_of v rows events) + 5) j (sent_by e) }
 
     // The pieces of a document hold it whole, also in a listing of jobs with numbers of their own.
     ensures pieces { (r : Job) (document : List ℕ) → listed_pieces (job_rows r document) r.id ≡ document }
@@ -84,8 +85,8 @@ pub fn moves_law()
 /// How many bytes extents hold: a job's places have as many as were sent to it.
 pub fn size_law()
     ensures sent { (gate j : ℕ) (events : List Event) → size_of (placed gate events j) ≡ length (sent events j) }
-    ensures listed { (gate j : ℕ) (rows : List Row) → size_of (placed_pieces gate rows j) ≡ length (listed_pieces rows j) }
-    ensures history { (base j : ℕ) (rows : List Row) (events : List Event) → size_of (places_in base rows events j) ≡ length (document_in rows events j) }
+    ensures listed { (v : Version) (gate j : ℕ) (rows : List Row) → size_of (placed_pieces v gate rows j) ≡ length (listed_pieces rows j) }
+    ensures history { (v : Version) (base j : ℕ) (rows : List Row) (events : List Event) → size_of (places_in v base rows events j) ≡ length (document_in rows events j) }
     ensures pushed { (xs : List Extent) (x : Extent) → size_of (xs ++ x ∷ []) ≡ size_of xs + x.len }
 
     // On a device on which the extents lie they hold so many bytes.

@@ -32,7 +32,7 @@ pub fn read_joined<D: Disk>(
     ensures unread { IsErrOf result ReadFault.Dead → into.new ≡ into.old }
 
     // A read changes nothing, and a crash meanwhile leaves what one before it may have left.
-    ensures same { (areas.new.base ≡ areas.old.base) × (areas.new.end ≡ areas.old.end) × (areas.new.epoch ≡ areas.old.epoch) × (areas.new.gate ≡ areas.old.gate) }
+    ensures same { (areas.new.base ≡ areas.old.base) × (areas.new.end ≡ areas.old.end) × (areas.new.epoch ≡ areas.old.epoch) × (areas.new.gate ≡ areas.old.gate) × (areas.new.version ≡ areas.old.version) }
     ensures still { ChangesNothing D.device areas.old.disk areas.new.disk }
     ensures keeps { (payloads : List (List ℕ)) → KeepsPayloads D.device areas.old payloads → KeepsPayloads D.device areas.new payloads }
 {

@@ -16,6 +16,8 @@ use Rattle.spool_types.specs.declared.event.NewQueue.{NewQueue}
 use Rattle.spool_types.specs.declared.event.NewJob.{NewJob}
 use Rattle.spool_types.specs.declared.rows.QueueRow.{QueueRow}
 use Rattle.spool_types.specs.declared.rows.Job.{Job as JobOf}
+use Rattle.spool_types.specs.declared.version.Version.{Version}
+use Rattle.spool_types.specs.declared.version.Version.TheVariants.{One, Two}
 use Rattle.spool_types.specs.declared.listing.Row.{Row}
 use Rattle.event_codec.specs.declared.row_reading.QueueState.{QueueState}
 use Rattle.event_codec.specs.declared.row_reading.JobState.{JobState}
@@ -217,19 +219,38 @@ job_state_at bytes = do
   phase ← phase_at attempts.0 (length filters.0 + 1) size.1
   Ok (record { media = media.0; filters = filters.0; attempts = attempts.0; pages = pages.0; size = size.0; phase = phase.0 }, phase.1)
 
--- the row of a job that was created so, and became this
-abbrev pub job_row : NewJob → JobState → JobOf
-job_row job state = record { id = job.job; queue = job.queue; user = job.user; title = job.title; copies = job.copies; priority = job.priority; options = job.options; media = state.media; filters = state.filters; attempts = state.attempts; pages = state.pages; size = state.size; phase = state.phase }
+-- the moment by which a job is to start, where it has one
+unfoldable pub some_by_at : List ℕ → Field (Option ℕ)
+some_by_at bytes = do
+  moment ← ranged_at 0 greatest_moment w64 bytes
+  Ok (Some moment.0, moment.1)
 
-unfoldable pub listed_job_at : List ℕ → Field JobOf
-listed_job_at bytes = do
+unfoldable pub flagged_by_at : ℕ → List ℕ → Field (Option ℕ)
+flagged_by_at flag bytes =
+    if flag == 0 then Ok (None, bytes)
+    else if flag == 1 then some_by_at bytes
+    else Err Range
+
+unfoldable pub by_at : Version → List ℕ → Field (Option ℕ)
+by_at One bytes = Ok (None, bytes)
+by_at Two bytes = do
+  flag ← number_at w8 bytes
+  flagged_by_at flag.0 flag.1
+
+-- the row of a job that was created so, became this, and is to start by this moment
+abbrev pub job_row : NewJob → JobState → Option ℕ → JobOf
+job_row job state by = record { id = job.job; queue = job.queue; user = job.user; title = job.title; copies = job.copies; priority = job.priority; options = job.options; media = state.media; filters = state.filters; attempts = state.attempts; pages = state.pages; size = state.size; phase = state.phase; by = by }
+
+unfoldable pub listed_job_at : Version → List ℕ → Field JobOf
+listed_job_at version bytes = do
   job ← created_at bytes
   state ← job_state_at job.1
-  Ok (job_row job.0 state.0, state.1)
+  by ← by_at version state.1
+  Ok (job_row job.0 state.0 by.0, by.1)
 
-unfoldable pub job_row_at : List ℕ → Field Row
-job_row_at bytes = do
-  job ← listed_job_at bytes
+unfoldable pub job_row_at : Version → List ℕ → Field Row
+job_row_at version bytes = do
+  job ← listed_job_at version bytes
   Ok (Job job.0, job.1)
 
 unfoldable pub piece_row_at : List ℕ → Field Row
@@ -239,21 +260,21 @@ piece_row_at bytes = do
   Ok (Piece job.0 piece.0, piece.1)
 
 -- the fields of a row of this kind
-unfoldable pub row_fields_at : ℕ → List ℕ → Field Row
-row_fields_at kind bytes =
+unfoldable pub row_fields_at : Version → ℕ → List ℕ → Field Row
+row_fields_at version kind bytes =
     if kind == 0x40 then head_at bytes
     else if kind == 0x41 then queue_row_at bytes
-    else if kind == 0x42 then job_row_at bytes
+    else if kind == 0x42 then job_row_at version bytes
     else if kind == 0x43 then piece_row_at bytes
     else Err Kind
 
-unfoldable pub row_at : List ℕ → Field Row
-row_at [] = Err Length
-row_at (kind ∷ bytes) = row_fields_at kind bytes
+unfoldable pub row_at : Version → List ℕ → Field Row
+row_at version [] = Err Length
+row_at version (kind ∷ bytes) = row_fields_at version kind bytes
 
--- the row that all of the bytes spell
-abbrev pub row_reading : List ℕ → Result Row CodecFault
-row_reading payload = whole (row_at payload)
+-- the row that all of the bytes spell in this version
+abbrev pub row_reading : Version → List ℕ → Result Row CodecFault
+row_reading version payload = whole (row_at version payload)
 
 -- ---- memory: where reading comes to a value that is kept in memory of its own
 

@@ -18,6 +18,8 @@ use Rattle.spool_types.specs.declared.event.NewJob.{NewJob}
 use Rattle.spool_types.specs.declared.rows.QueueRow.{QueueRow}
 use Rattle.spool_types.specs.declared.rows.Job.{Job as JobOf}
 use Rattle.spool_types.specs.declared.listing.Head.{Head as HeadOf}
+use Rattle.spool_types.specs.declared.version.Version.{Version}
+use Rattle.spool_types.specs.declared.version.Version.TheVariants.{One, Two}
 use Rattle.spool_types.specs.declared.listing.Row.{Row}
 use Rattle.spool_types.specs.declared.listing.Row.TheVariants.{Head, Queue, Job, Piece}
 use Rattle.spool_types.specs.Limits.{greatest_number, greatest_moment, longest_document, longest_send}
@@ -59,6 +61,12 @@ phase_code (Aborted reason) = to_be_bytes w8 5 ++ to_be_bytes w8 (abort_reason_n
 abbrev pub typed_code : Option (List ℕ) → List ℕ
 typed_code None = to_be_bytes w8 0
 typed_code (Some media) = to_be_bytes w8 1 ++ text_code media
+
+-- 0 where the job may start at any time; else 1, and the moment by which it is to start. Version 1 has no such field
+abbrev pub by_code : Version → Option ℕ → List ℕ
+by_code One by = []
+by_code Two None = to_be_bytes w8 0
+by_code Two (Some m) = to_be_bytes w8 1 ++ to_be_bytes w64 m
 
 -- how many attributes there are in one byte, and each of them
 abbrev pub attributes_code : List Attribute → List ℕ
@@ -105,15 +113,19 @@ job_state_code r =
     ++ to_be_bytes w32 r.size
     ++ phase_code r.phase
 
-abbrev pub job_row_code : JobOf → List ℕ
-job_row_code r = created_code (new_job_of r) ++ job_state_code r
+-- what is said of it behind its creation, in this version
+abbrev pub job_rest_code : Version → JobOf → List ℕ
+job_rest_code version r = job_state_code r ++ by_code version r.by
+
+abbrev pub job_row_code : Version → JobOf → List ℕ
+job_row_code version r = created_code (new_job_of r) ++ job_rest_code version r
 
 -- the row's kind in one byte, its fields in order, and nothing else
-abbrev pub row_spelling : Row → List ℕ
-row_spelling (Head head) = 0x40 ∷ head_code head
-row_spelling (Queue q) = 0x41 ∷ queue_row_code q
-row_spelling (Job r) = 0x42 ∷ job_row_code r
-row_spelling (Piece j bytes) = 0x43 ∷ send_code j bytes
+abbrev pub row_spelling : Version → Row → List ℕ
+row_spelling version (Head head) = 0x40 ∷ head_code head
+row_spelling version (Queue q) = 0x41 ∷ queue_row_code q
+row_spelling version (Job r) = 0x42 ∷ job_row_code version r
+row_spelling version (Piece j bytes) = 0x43 ∷ send_code j bytes
 
 -- ---- what has a spelling. First the limits that the types of a row's fields have
 
@@ -158,19 +170,27 @@ pub record IsJobState (r : JobOf) : Type 0 where
   pub pages : IsIn 0 4294967295 r.pages
   pub phase : HasMoments r.phase
 
-pub record HasJobFields (r : JobOf) : Type 0 where
+-- a job of version 1 has no moment
+abbrev pub IsBy : Version → Option ℕ → Type 0
+IsBy One None = Unit {0}
+IsBy One (Some m) = ⊥
+IsBy Two None = Unit {0}
+IsBy Two (Some m) = IsIn 0 greatest_moment m
+
+pub record HasJobFields (version : Version) (r : JobOf) : Type 0 where
   pub created : IsJob (new_job_of r)
   pub state : IsJobState r
+  pub by : IsBy version r.by
 
 pub record HasPieceFields (j : ℕ) (bytes : List ℕ) : Type 0 where
   pub job : IsJobNumber j
   pub length : length bytes ≤ longest_send
 
-abbrev pub HasFields : Row → Type 0
-HasFields (Head head) = IsIn 0 greatest_moment head.moment
-HasFields (Queue q) = HasQueueFields q
-HasFields (Job r) = HasJobFields r
-HasFields (Piece j bytes) = HasPieceFields j bytes
+abbrev pub HasFields : Version → Row → Type 0
+HasFields version (Head head) = IsIn 0 greatest_moment head.moment
+HasFields version (Queue q) = HasQueueFields q
+HasFields version (Job r) = HasJobFields version r
+HasFields version (Piece j bytes) = HasPieceFields j bytes
 
 -- ---- and then what no type of a field says
 
@@ -211,6 +231,6 @@ IsLegalRow (Queue q) = IsOrderedQueue q
 IsLegalRow (Job r) = IsLegalJob r
 IsLegalRow (Piece j bytes) = 1 ≤ length bytes
 
-pub record IsRowSpellable (row : Row) : Type 0 where
-  pub fields : HasFields row
+pub record IsRowSpellable (version : Version) (row : Row) : Type 0 where
+  pub fields : HasFields version row
   pub legal : IsLegalRow row

@@ -18,7 +18,7 @@ use Rattle.spool_types.specs.declared.event.NewJob.{NewJob}
 use Rattle.spool_types.specs.declared.event.Closing.{Closing}
 use Rattle.spool_types.specs.declared.event.StageEnd.{StageEnd}
 use Rattle.spool_types.specs.declared.event.Event.{Event}
-use Rattle.spool_types.specs.declared.event.Event.TheVariants.{AddQueue, Info, SetAccept, SetStop, Create, Send, Close, Hold, Release, Cancel, Clock, Start, Stage, Abandon, Reopen}
+use Rattle.spool_types.specs.declared.event.Event.TheVariants.{AddQueue, Info, SetAccept, SetStop, Create, CreateBy, Send, Close, Hold, Release, Cancel, Clock, Start, Stage, Abandon, Reopen}
 use Rattle.spool_types.specs.Limits.{greatest_number, greatest_moment, greatest_attempts, longest_send}
 use Rattle.spool_types.specs.Values.{is_queue_name, is_uri, is_media_type, is_user_name, is_title, is_options, is_note, is_filter_name, is_reason, is_attribute_name, is_message}
 use Rattle.spool_types.specs.Effects.{AreEffects}
@@ -82,6 +82,10 @@ ticket_code n =
 
 abbrev pub job_code : NewJob → List ℕ
 job_code n = text_code n.queue ++ to_be_bytes w32 n.job ++ ticket_code n
+
+-- a job, and the moment by which it is to start
+abbrev pub job_by_code : NewJob → ℕ → List ℕ
+job_by_code n by = job_code n ++ to_be_bytes w64 by
 
 abbrev pub send_code : ℕ → List ℕ → List ℕ
 send_code j bytes = to_be_bytes w32 j ++ to_be_bytes w32 (length bytes) ++ bytes
@@ -165,6 +169,7 @@ spelling (Start j) = 0x0C ∷ to_be_bytes w32 j
 spelling (Stage e) = 0x0D ∷ stage_code e
 spelling (Abandon j) = 0x0E ∷ to_be_bytes w32 j
 spelling Reopen = 0x0F ∷ []
+spelling (CreateBy n by) = 0x11 ∷ job_by_code n by
 
 -- ---- what has a spelling: an event whose fields are within their limits, as the event of each value of the type is
 
@@ -199,6 +204,10 @@ pub record IsJob (n : NewJob) : Type 0 where
   pub copies : IsIn 1 9999 n.copies
   pub priority : IsIn 1 100 n.priority
   pub options : IsText is_options n.options
+
+pub record IsJobBy (n : NewJob) (m : ℕ) : Type 0 where
+  pub job : IsJob n
+  pub by : IsIn 0 greatest_moment m
 
 pub record IsSend (j : ℕ) (bytes : List ℕ) : Type 0 where
   pub job : IsJobNumber j
@@ -273,4 +282,5 @@ IsSpellable (Clock m) = IsIn 0 greatest_moment m
 IsSpellable (Start j) = IsJobNumber j
 IsSpellable (Stage e) = IsStageEnd e
 IsSpellable (Abandon j) = IsJobNumber j
+IsSpellable (CreateBy n by) = IsJobBy n by
 IsSpellable Reopen = Unit {0}

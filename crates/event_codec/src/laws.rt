@@ -4,6 +4,7 @@ ghost use Rattle.spool_types.specs.declared.event.Event.{Event};
 ghost use Rattle.spool_types.specs.declared.effect.Effect.{Effect};
 ghost use Rattle.spool_types.specs.Effects.{effects_size};
 ghost use Rattle.spool_types.specs.declared.listing.Row.{Row};
+ghost use Rattle.spool_types.specs.declared.version.Version.{Version};
 ghost use Rattle.event_codec.specs.Spelling.{effects_code, IsSpellable, spelling};
 ghost use Rattle.event_codec.specs.RowSpelling.{IsRowSpellable, row_spelling};
 
@@ -22,17 +23,17 @@ pub fn effects_have_their_size()
     ensures { (effects : List Effect) → length (effects_code effects) ≡ 2 + effects_size effects }
 {}
 
-/// No row's spelling begins another's.
+/// No row's spelling begins another's of the same version.
 pub fn no_proper_prefix_of_rows()
-    ensures { (a b : Row) (rest : List ℕ) → IsRowSpellable a → IsRowSpellable b → row_spelling a ++ rest ≡ row_spelling b → rest ≡ [] }
+    ensures { (v : Version) (a b : Row) (rest : List ℕ) → IsRowSpellable v a → IsRowSpellable v b → row_spelling v a ++ rest ≡ row_spelling v b → rest ≡ [] }
 {}
 
-/// Bytes spell one row at most.
+/// Bytes spell one row at most, in each version.
 pub fn one_row()
-    ensures { (a b : Row) → IsRowSpellable a → IsRowSpellable b → row_spelling a ≡ row_spelling b → a ≡ b }
+    ensures { (v : Version) (a b : Row) → IsRowSpellable v a → IsRowSpellable v b → row_spelling v a ≡ row_spelling v b → a ≡ b }
 {}
 
-/// No row is spelled as an event is, and neither begins the other, whatever stands behind them.
+/// No row of any version is spelled as an event is, and neither begins the other, whatever stands behind them.
 pub fn rows_are_no_events()
-    ensures { (row : Row) (e : Event) (some more : List ℕ) → ¬ (row_spelling row ++ some ≡ spelling e ++ more) }
+    ensures { (v : Version) (row : Row) (e : Event) (some more : List ℕ) → ¬ (row_spelling v row ++ some ≡ spelling e ++ more) }
 {}

@@ -21,6 +21,7 @@
 //! | 0D | Stage | job in 4 bytes, attempt in 4, stage in 1, exit, dropped effects in 4, the number of effects in 2, and each effect |
 //! | 0E | Abandon | job in 4 bytes |
 //! | 0F | Reopen | none |
+//! | 11 | CreateBy | fields of 05, a moment in 8 bytes |
 //!
 //! An exit is 0 and a status in 1 byte; or 1 after a signal, 2 where nothing was started, 3 where the end or the output
 //! isn't known. An effect (filter(7)) is its kind in one byte and its fields in order:
@@ -44,7 +45,7 @@
 //! |---|---|---|
 //! | 40 | Head | highest number in 4 bytes, 0 for none, moment in 8 |
 //! | 41 | Queue | fields of 01, info, location, accepting and stopped in 1 byte each, message, the number of reasons in 1, and each, the number of attributes in 1, and each |
-//! | 42 | Job | job in 4 bytes, queue, user, title, copies in 2, priority in 1, options, 0, or 1 and its media type, the number of filters in 1, and each, attempts in 4, pages in 4, size in 4, phase |
+//! | 42 | Job | job in 4 bytes, queue, user, title, copies in 2, priority in 1, options, 0, or 1 and its media type, the number of filters in 1, and each, attempts in 4, pages in 4, size in 4, phase; in version 2 also 0, or 1 and a moment in 8 |
 //! | 43 | Piece | job in 4 bytes, length in 4, from 1 to 65,536, that many bytes |
 //!
 //! Reasons ascend, and attributes by their names. A phase is its kind in 1 byte and its fields: 0 and a hold, incoming; 1,
@@ -53,6 +54,10 @@
 //! Of a processing job the row tells its stage alone: its attempt is the number of its attempts, and its stages are its
 //! filters and one.
 //!
+//! A row is of a version, that of the area which holds it. The versions differ in a job's row alone: in version 2 it ends with
+//! the moment by which the job is to start, where it has one, and in version 1 no job has one. What is written is version 2,
+//! and [`decode_row`] is told which version it reads.
+//!
 //! # Promises
 //!
 //! - *ExactSpelling*: [`encode`] gives `spelling` of its event (`spelled`), and that event is within its limits
@@ -60,7 +65,8 @@
 //!   bytes are its spelling (`sound`), gives each event from its spelling (`complete`), and answers the first fault from
 //!   the left (`exact`, by `reading`).
 //! - [`no_proper_prefix`]: no spelling is a proper prefix of another. [`one_event`]: bytes spell one event at most.
-//! - So it is with rows: [`encode_row`], [`encode_row_onto`] and [`decode_row`], [`no_proper_prefix_of_rows`] and [`one_row`].
+//! - So it is with rows in each version: [`encode_row`], [`encode_row_onto`] and [`decode_row`],
+//!   [`no_proper_prefix_of_rows`] and [`one_row`].
 //!   [`encode_queue_onto`] and [`encode_job_onto`] add the row of a queue or a job that is only looked at. The types of a
 //!   row's fields leave something open (`IsLegalRow`): that a queue's lists ascend, that a processing job is in a stage of its
 //!   newest attempt, that a number or a size isn't too great, that a piece isn't empty. A row of which that isn't so is

@@ -4,7 +4,7 @@ ghost use Rattle.std.specs.Int.{w8, w16, w32};
 ghost use Rattle.spool_types.specs.declared.event.Event.{Event};
 ghost use Rattle.spool_types.specs.Values.{is_media_type, is_queue_name};
 ghost use Rattle.event_codec.specs.Spelling.{IsSpellable, spelling};
-ghost use Rattle.event_codec.specs.Reading.{Gives, MemoryOnly, text_at, flag_at, until_at, exit_at, policy_at, filters_at, maybe_filters_at, piece_at, new_queue_at, queue_at, notes_at, accept_at, stop_at, ticket_at, new_job_at, job_at, send_at, closing_at, hold_at, numbered_at, clock_at, stage_at, fields_at, closing_copies, stage_copies, fields_copy, reaches_copy, whole, reading};
+ghost use Rattle.event_codec.specs.Reading.{Gives, MemoryOnly, text_at, flag_at, until_at, exit_at, policy_at, filters_at, maybe_filters_at, piece_at, new_queue_at, queue_at, notes_at, accept_at, stop_at, ticket_at, new_job_at, job_at, job_by_at, send_at, closing_at, hold_at, numbered_at, clock_at, stage_at, fields_at, closing_copies, stage_copies, fields_copy, reaches_copy, whole, reading};
 
 use crate::effect_reading::effects_at;
 use crate::fields::texts_at;
@@ -267,6 +267,18 @@ fn job_of(alloc: Global, fields: &[u8]) -> Result<Event, CodecFault>
     Ok(Event::Create(job))
 }
 
+#[tactic(auto, unfolding(crate::specs::Reading::job_by_at, field_codec::specs::Fields::ranged_at, field_codec::specs::Fields::whole))]
+fn job_by_of(alloc: Global, fields: &[u8]) -> Result<Event, CodecFault>
+    ensures read { Gives (λ e. e) result (whole (job_by_at fields.now)) }
+    ensures memory { IfErr result (MemoryOnly (is_ok (text_at is_queue_name fields.now))) }
+{
+    let (job, rest) = new_job_at(alloc, fields)?;
+    let (seconds, rest) = u64_at(rest)?;
+    let by = moment(seconds)?;
+    ended(rest)?;
+    Ok(Event::CreateBy { job, by })
+}
+
 #[tactic(auto, unfolding(crate::specs::Reading::send_at, field_codec::specs::Fields::ranged_at, field_codec::specs::Fields::whole))]
 fn send_of(alloc: Global, fields: &[u8]) -> Result<Event, CodecFault>
     ensures read { Gives (λ e. e) result (whole (send_at fields.now)) }
@@ -392,6 +404,7 @@ fn event_of_kind(alloc: Global, kind: u8, fields: &[u8]) -> Result<Event, CodecF
         0x0D => stage_of(alloc, fields),
         0x0E => Ok(Event::Abandon(only_job(fields)?)),
         0x0F => reopen_of(fields),
+        0x11 => job_by_of(alloc, fields),
         _ => Err(CodecFault::Kind),
     }
 }

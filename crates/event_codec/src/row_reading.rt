@@ -4,14 +4,14 @@ ghost use Rattle.spool_types.specs.declared.listing.Row.{Row};
 ghost use Rattle.spool_types.specs.Values.{is_queue_name};
 ghost use Rattle.event_codec.specs.Reading.{Gives, MemoryOnly, text_at, list_at, ticket_at, whole};
 ghost use Rattle.event_codec.specs.RowSpelling.{name_of, row_spelling, IsRowSpellable};
-ghost use Rattle.event_codec.specs.RowReading.{is_above, typed_at, reason_after, attribute_after, reasons_at, attributes_at, head_at, queue_state_at, queue_row, listed_queue_at, queue_row_at, created_at, job_state_at, job_row, listed_job_at, job_row_at, piece_row_at, job_row_copies, row_reading, reaches_row_copy, last_of};
+ghost use Rattle.event_codec.specs.RowReading.{is_above, typed_at, reason_after, attribute_after, reasons_at, attributes_at, head_at, queue_state_at, queue_row, listed_queue_at, queue_row_at, created_at, job_state_at, by_at, job_row, listed_job_at, job_row_at, piece_row_at, job_row_copies, row_reading, reaches_row_copy, last_of};
 
 use crate::phase_reading::phase_at;
 use crate::reading::{filters_at, flag_at, media_at, new_queue_at, piece_at, ticket_at};
 use field_codec::{CodecFault, ended, job_id, moment, ranged, text_at, u8_at, u32_at, u64_at};
 use spool_types::{
     Attribute, AttributeName, Attributes, Filters, Head, Job, JobId, MOST_KEPT, MediaType, Message,
-    NewJob, NewQueue, Note, Phase, QueueRow, Ranged, Reason, Reasons, Row,
+    Moment, NewJob, NewQueue, Note, Phase, QueueRow, Ranged, Reason, Reasons, Row, Version,
 };
 use std::alloc::Global;
 
@@ -294,9 +294,30 @@ fn job_state_at(alloc: Global, bytes: &[u8]) -> Result<(JobState, &[u8]), CodecF
     }
 }
 
-// The row of a job that was created so, and became this.
-fn job_row(created: NewJob, state: JobState) -> Job
-    ensures { result ≡ job_row created state }
+/// The moment by which a job is to start, where it has one. Version 1 has none.
+#[tactic(auto, unfolding(crate::specs::RowReading::by_at, crate::specs::RowReading::flagged_by_at, crate::specs::RowReading::some_by_at, field_codec::specs::Fields::ranged_at))]
+fn by_at(version: Version, bytes: &[u8]) -> Result<(Option<Moment>, &[u8]), CodecFault>
+    ensures read { Gives (λ x. (x.0, x.1.now)) result (by_at version bytes.now) }
+    ensures memory { IfErr result (MemoryOnly false) }
+{
+    if version == Version::One {
+        return Ok((None, bytes));
+    }
+    let (flag, rest) = u8_at(bytes)?;
+    match flag {
+        0 => Ok((None, rest)),
+        1 => {
+            let (seconds, rest) = u64_at(rest)?;
+            let by = moment(seconds)?;
+            Ok((Some(by), rest))
+        }
+        _ => Err(CodecFault::Range),
+    }
+}
+
+// The row of a job that was created so, became this, and is to start by this moment.
+fn job_row(created: NewJob, state: JobState, by: Option<Moment>) -> Job
+    ensures { result ≡ job_row created state by }
 {
     Job {
         id: created.job,
@@ -312,25 +333,30 @@ fn job_row(created: NewJob, state: JobState) -> Job
         pages: state.pages,
         size: state.size,
         phase: state.phase,
+        by,
     }
 }
 
 #[tactic(auto, unfolding(crate::specs::RowReading::listed_job_at))]
-fn listed_job_at(alloc: Global, bytes: &[u8]) -> Result<(Job, &[u8]), CodecFault>
-    ensures read { Gives (λ x. (x.0, x.1.now)) result (listed_job_at bytes.now) }
+fn listed_job_at(alloc: Global, version: Version, bytes: &[u8]) -> Result<(Job, &[u8]), CodecFault>
+    ensures read { Gives (λ x. (x.0, x.1.now)) result (listed_job_at version bytes.now) }
     ensures memory { IfErr result (MemoryOnly (job_row_copies bytes.now)) }
 {
     let (created, rest) = created_at(alloc, bytes)?;
     let (state, rest) = job_state_at(alloc, rest)?;
-    Ok((job_row(created, state), rest))
+    // `?` isn't proved here: a moment stands beside a slice.
+    match by_at(version, rest) {
+        Ok((by, rest)) => Ok((job_row(created, state, by), rest)),
+        Err(fault) => Err(fault),
+    }
 }
 
 #[tactic(auto, unfolding(crate::specs::RowReading::job_row_at, field_codec::specs::Fields::whole))]
-fn job_row_of(alloc: Global, fields: &[u8]) -> Result<Row, CodecFault>
-    ensures read { Gives (λ row. row) result (whole (job_row_at fields.now)) }
+fn job_row_of(alloc: Global, version: Version, fields: &[u8]) -> Result<Row, CodecFault>
+    ensures read { Gives (λ row. row) result (whole (job_row_at version fields.now)) }
     ensures memory { IfErr result (MemoryOnly (job_row_copies fields.now)) }
 {
-    let (job, rest) = listed_job_at(alloc, fields)?;
+    let (job, rest) = listed_job_at(alloc, version, fields)?;
     ended(rest)?;
     Ok(Row::Job(job))
 }
@@ -348,30 +374,31 @@ fn piece_of(alloc: Global, fields: &[u8]) -> Result<Row, CodecFault>
 }
 
 #[tactic(auto, unfolding(crate::specs::RowReading::row_at, crate::specs::RowReading::row_fields_at, field_codec::specs::Fields::whole, crate::specs::RowReading::reaches_row_copy, crate::specs::RowReading::row_fields_copy))]
-fn row_of(alloc: Global, payload: &[u8]) -> Result<Row, CodecFault>
-    ensures read { Gives (λ row. row) result (row_reading payload.now) }
+fn row_of(alloc: Global, version: Version, payload: &[u8]) -> Result<Row, CodecFault>
+    ensures read { Gives (λ row. row) result (row_reading version payload.now) }
     ensures memory { IfErr result (MemoryOnly (reaches_row_copy payload.now)) }
 {
     match payload {
         [] => Err(CodecFault::Length),
         [0x40, fields @ ..] => head_of(fields),
         [0x41, fields @ ..] => queue_row_of(alloc, fields),
-        [0x42, fields @ ..] => job_row_of(alloc, fields),
+        [0x42, fields @ ..] => job_row_of(alloc, version, fields),
         [0x43, fields @ ..] => piece_of(alloc, fields),
         [_, ..] => Err(CodecFault::Kind),
     }
 }
 
-/// The row that all of the bytes spell. A field is copied once, and nothing is kept of bytes that spell none.
-pub fn decode_row(alloc: Global, payload: &[u8]) -> Result<Row, CodecFault>
+/// The row that all of the bytes spell in this version. A field is copied once, and nothing is kept of bytes that spell
+/// none.
+pub fn decode_row(alloc: Global, payload: &[u8], version: Version) -> Result<Row, CodecFault>
     // What is read is spelled so.
-    ensures sound { IfOk result (λ row. IsRowSpellable row × (payload.now ≡ row_spelling row)) }
+    ensures sound { IfOk result (λ row. IsRowSpellable version row × (payload.now ≡ row_spelling version row)) }
     // What is spelled so is read, unless memory runs out.
-    ensures complete { (row : Row) → IsRowSpellable row → payload.now ≡ row_spelling row → Gives (λ r. r) result (Ok row) }
+    ensures complete { (row : Row) → IsRowSpellable version row → payload.now ≡ row_spelling version row → Gives (λ r. r) result (Ok row) }
     // Which fault it is.
-    ensures exact { Gives (λ r. r) result (row_reading payload.now) }
+    ensures exact { Gives (λ r. r) result (row_reading version payload.now) }
     // Memory is wanted only where a value is copied.
     ensures memory { IfErr result (MemoryOnly (reaches_row_copy payload.now)) }
 {
-    row_of(alloc, payload)
+    row_of(alloc, version, payload)
 }

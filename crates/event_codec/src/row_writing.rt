@@ -4,8 +4,9 @@ ghost use Rattle.std.specs.Int.{w8, w16, w32, w64, to_be_bytes};
 ghost use Rattle.std.specs.List.{flat_map, AllByRecursion};
 ghost use Rattle.spool_types.specs.Limits.{greatest_moment};
 ghost use Rattle.event_codec.specs.Spelling.{attribute_code, queue_code, IsIn, IsQueue, IsJob, IsAttribute};
-ghost use Rattle.event_codec.specs.RowSpelling.{hold_reason_number, holding_code, abort_reason_number, waiting_code, phase_code, typed_code, attributes_code, head_code, new_queue_of, queue_state_code, queue_row_code, new_job_of, created_code, job_state_code, job_row_code, row_spelling, IsHolding, IsWaitingFor, HasMoments, IsTyped, IsQueueState, HasQueueFields, IsJobState, HasJobFields, HasFields, IsLegalRow, IsLegalJob, IsOrderedQueue, IsRowSpellable};
+ghost use Rattle.event_codec.specs.RowSpelling.{hold_reason_number, holding_code, abort_reason_number, waiting_code, phase_code, by_code, typed_code, attributes_code, head_code, new_queue_of, queue_state_code, queue_row_code, new_job_of, created_code, job_state_code, job_rest_code, job_row_code, row_spelling, IsHolding, IsWaitingFor, HasMoments, IsTyped, IsQueueState, HasQueueFields, IsJobState, IsBy, HasJobFields, HasFields, IsLegalRow, IsLegalJob, IsOrderedQueue, IsRowSpellable};
 ghost use Rattle.spool_types.specs.declared.listing.Row.{Row};
+ghost use Rattle.spool_types.specs.declared.version.Version.TheVariants.{Two};
 
 use crate::effect_writing::put_attribute;
 use crate::field_writing::{
@@ -237,15 +238,44 @@ fn put_job_state(out: &mut Vec<u8>, job: &Job)
     put_phase(out, &job.phase);
 }
 
-fn put_job_row(out: &mut Vec<u8>, job: &Job)
-    requires room { vec_len out.old + length (job_row_code job.now) ≤ vec_capacity out.old }
-    ensures written { out.new.items ≡ out.old.items ++ job_row_code job.now }
-    ensures len { vec_len out.new ≡ vec_len out.old + length (job_row_code job.now) }
+// The moment by which a job is to start, where it has one.
+fn put_by(out: &mut Vec<u8>, by: Option<Moment>)
+    requires room { vec_len out.old + length (by_code Two by) ≤ vec_capacity out.old }
+    ensures written { out.new.items ≡ out.old.items ++ by_code Two by }
+    ensures len { vec_len out.new ≡ vec_len out.old + length (by_code Two by) }
     ensures grown { vec_capacity out.old ≤ vec_capacity out.new }
-    ensures legal { HasJobFields job.now }
+    ensures legal { IsBy Two by }
+{
+    match by {
+        None => put_u8(out, 0),
+        Some(moment) => {
+            put_u8(out, 1);
+            put_u64(out, moment.get())
+        }
+    }
+}
+
+fn put_job_rest(out: &mut Vec<u8>, job: &Job)
+    requires room { vec_len out.old + length (job_rest_code Two job.now) ≤ vec_capacity out.old }
+    ensures written { out.new.items ≡ out.old.items ++ job_rest_code Two job.now }
+    ensures len { vec_len out.new ≡ vec_len out.old + length (job_rest_code Two job.now) }
+    ensures grown { vec_capacity out.old ≤ vec_capacity out.new }
+    ensures state { IsJobState job.now }
+    ensures by { IsBy Two job.now.by }
+{
+    put_job_state(out, job);
+    put_by(out, job.by);
+}
+
+fn put_job_row(out: &mut Vec<u8>, job: &Job)
+    requires room { vec_len out.old + length (job_row_code Two job.now) ≤ vec_capacity out.old }
+    ensures written { out.new.items ≡ out.old.items ++ job_row_code Two job.now }
+    ensures len { vec_len out.new ≡ vec_len out.old + length (job_row_code Two job.now) }
+    ensures grown { vec_capacity out.old ≤ vec_capacity out.new }
+    ensures legal { HasJobFields Two job.now }
 {
     put_created(out, job);
-    put_job_state(out, job);
+    put_job_rest(out, job);
 }
 
 fn holding_len(hold: Hold) -> usize
@@ -268,6 +298,16 @@ fn phase_len(phase: Phase) -> usize
         Phase::Waiting { hold, .. } => 10 + holding_len(hold),
         Phase::Processing { .. } | Phase::Aborted(_) => 2,
         Phase::Completed | Phase::Canceled => 1,
+    }
+}
+
+fn by_len(by: Option<Moment>) -> usize
+    ensures value { result ≡ length (by_code Two by) }
+    ensures small { result ≤ 9 }
+{
+    match by {
+        None => 1,
+        Some(_) => 9,
     }
 }
 
@@ -332,10 +372,10 @@ fn job_state_len(job: &Job) -> usize
 }
 
 fn encode_head_onto(head: &Head, out: &mut Vec<u8>) -> Result<(), AllocError>
-    ensures spelled { OnOk result (out.new.items ≡ out.old.items ++ row_spelling (Row.Head head.now)) }
-    ensures spellable { OnOk result (IsLegalRow (Row.Head head.now) → IsRowSpellable (Row.Head head.now)) }
-    ensures short { length (row_spelling (Row.Head head.now)) < 2 ^ 19 }
-    ensures fits { vec_len out.old + length (row_spelling (Row.Head head.now)) ≤ vec_capacity out.old → IsOk result }
+    ensures spelled { OnOk result (out.new.items ≡ out.old.items ++ row_spelling Two (Row.Head head.now)) }
+    ensures spellable { OnOk result (IsLegalRow (Row.Head head.now) → IsRowSpellable Two (Row.Head head.now)) }
+    ensures short { length (row_spelling Two (Row.Head head.now)) < 2 ^ 19 }
+    ensures fits { vec_len out.old + length (row_spelling Two (Row.Head head.now)) ≤ vec_capacity out.old → IsOk result }
     ensures kept { OnErr result (out.new.items ≡ out.old.items) }
     ensures grown { vec_capacity out.old ≤ vec_capacity out.new }
 {
@@ -348,12 +388,12 @@ fn encode_head_onto(head: &Head, out: &mut Vec<u8>) -> Result<(), AllocError>
 /// Adds the one spelling of a queue's row to bytes that are there already, as `encode_row_onto` does. The queue is only
 /// looked at.
 pub fn encode_queue_onto(queue: &QueueRow, out: &mut Vec<u8>) -> Result<(), AllocError>
-    ensures spelled { OnOk result (out.new.items ≡ out.old.items ++ row_spelling (Row.Queue queue.now)) }
-    ensures spellable { OnOk result (IsOrderedQueue queue.now → IsRowSpellable (Row.Queue queue.now)) }
-    ensures short { length (row_spelling (Row.Queue queue.now)) < 2 ^ 19 }
+    ensures spelled { OnOk result (out.new.items ≡ out.old.items ++ row_spelling Two (Row.Queue queue.now)) }
+    ensures spellable { OnOk result (IsOrderedQueue queue.now → IsRowSpellable Two (Row.Queue queue.now)) }
+    ensures short { length (row_spelling Two (Row.Queue queue.now)) < 2 ^ 19 }
 
     // It fails only where the room was missing, and then the bytes are those that were there.
-    ensures fits { vec_len out.old + length (row_spelling (Row.Queue queue.now)) ≤ vec_capacity out.old → IsOk result }
+    ensures fits { vec_len out.old + length (row_spelling Two (Row.Queue queue.now)) ≤ vec_capacity out.old → IsOk result }
     ensures kept { OnErr result (out.new.items ≡ out.old.items) }
     ensures grown { vec_capacity out.old ≤ vec_capacity out.new }
 {
@@ -365,26 +405,26 @@ pub fn encode_queue_onto(queue: &QueueRow, out: &mut Vec<u8>) -> Result<(), Allo
 
 /// The same of a job's row.
 pub fn encode_job_onto(job: &Job, out: &mut Vec<u8>) -> Result<(), AllocError>
-    ensures spelled { OnOk result (out.new.items ≡ out.old.items ++ row_spelling (Row.Job job.now)) }
-    ensures spellable { OnOk result (IsLegalJob job.now → IsRowSpellable (Row.Job job.now)) }
-    ensures short { length (row_spelling (Row.Job job.now)) < 2 ^ 19 }
+    ensures spelled { OnOk result (out.new.items ≡ out.old.items ++ row_spelling Two (Row.Job job.now)) }
+    ensures spellable { OnOk result (IsLegalJob job.now → IsRowSpellable Two (Row.Job job.now)) }
+    ensures short { length (row_spelling Two (Row.Job job.now)) < 2 ^ 19 }
 
     // It fails only where the room was missing, and then the bytes are those that were there.
-    ensures fits { vec_len out.old + length (row_spelling (Row.Job job.now)) ≤ vec_capacity out.old → IsOk result }
+    ensures fits { vec_len out.old + length (row_spelling Two (Row.Job job.now)) ≤ vec_capacity out.old → IsOk result }
     ensures kept { OnErr result (out.new.items ≡ out.old.items) }
     ensures grown { vec_capacity out.old ≤ vec_capacity out.new }
 {
-    out.reserve(1 + created_len(job) + job_state_len(job))?;
+    out.reserve(1 + created_len(job) + job_state_len(job) + by_len(job.by))?;
     put_kind(out, 0x42);
     put_job_row(out, job);
     Ok(())
 }
 
 fn encode_piece_onto(job: JobId, bytes: &Piece, out: &mut Vec<u8>) -> Result<(), AllocError>
-    ensures spelled { OnOk result (out.new.items ≡ out.old.items ++ row_spelling (Row.Piece job bytes.now)) }
-    ensures spellable { OnOk result (IsLegalRow (Row.Piece job bytes.now) → IsRowSpellable (Row.Piece job bytes.now)) }
-    ensures short { length (row_spelling (Row.Piece job bytes.now)) < 2 ^ 19 }
-    ensures fits { vec_len out.old + length (row_spelling (Row.Piece job bytes.now)) ≤ vec_capacity out.old → IsOk result }
+    ensures spelled { OnOk result (out.new.items ≡ out.old.items ++ row_spelling Two (Row.Piece job bytes.now)) }
+    ensures spellable { OnOk result (IsLegalRow (Row.Piece job bytes.now) → IsRowSpellable Two (Row.Piece job bytes.now)) }
+    ensures short { length (row_spelling Two (Row.Piece job bytes.now)) < 2 ^ 19 }
+    ensures fits { vec_len out.old + length (row_spelling Two (Row.Piece job bytes.now)) ≤ vec_capacity out.old → IsOk result }
     ensures kept { OnErr result (out.new.items ≡ out.old.items) }
     ensures grown { vec_capacity out.old ≤ vec_capacity out.new }
 {
@@ -396,12 +436,12 @@ fn encode_piece_onto(job: JobId, bytes: &Piece, out: &mut Vec<u8>) -> Result<(),
 /// Adds the one spelling of a row to bytes that are there already, whose memory is made ready for all of it first. A row
 /// that no table lists is written, too, as by its fields. No bytes are read as it then.
 pub fn encode_row_onto(row: &Row, out: &mut Vec<u8>) -> Result<(), AllocError>
-    ensures spelled { OnOk result (out.new.items ≡ out.old.items ++ row_spelling row.now) }
-    ensures spellable { OnOk result (IsLegalRow row.now → IsRowSpellable row.now) }
-    ensures short { length (row_spelling row.now) < 2 ^ 19 }
+    ensures spelled { OnOk result (out.new.items ≡ out.old.items ++ row_spelling Two row.now) }
+    ensures spellable { OnOk result (IsLegalRow row.now → IsRowSpellable Two row.now) }
+    ensures short { length (row_spelling Two row.now) < 2 ^ 19 }
 
     // It fails only where the room was missing, and then the bytes are those that were there.
-    ensures fits { vec_len out.old + length (row_spelling row.now) ≤ vec_capacity out.old → IsOk result }
+    ensures fits { vec_len out.old + length (row_spelling Two row.now) ≤ vec_capacity out.old → IsOk result }
     ensures kept { OnErr result (out.new.items ≡ out.old.items) }
     ensures grown { vec_capacity out.old ≤ vec_capacity out.new }
 {
@@ -415,9 +455,9 @@ pub fn encode_row_onto(row: &Row, out: &mut Vec<u8>) -> Result<(), AllocError>
 
 /// The one spelling of a row, in memory that is reserved once.
 pub fn encode_row(alloc: Global, row: &Row) -> Result<Vec<u8>, AllocError>
-    ensures spelled { IfOk result (λ bytes. bytes.items ≡ row_spelling row.now) }
-    ensures spellable { OnOk result (IsLegalRow row.now → IsRowSpellable row.now) }
-    ensures short { length (row_spelling row.now) < 2 ^ 19 }
+    ensures spelled { IfOk result (λ bytes. bytes.items ≡ row_spelling Two row.now) }
+    ensures spellable { OnOk result (IsLegalRow row.now → IsRowSpellable Two row.now) }
+    ensures short { length (row_spelling Two row.now) < 2 ^ 19 }
 {
     let mut out = Vec::new(alloc);
     encode_row_onto(row, &mut out)?;

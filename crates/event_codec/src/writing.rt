@@ -4,7 +4,7 @@ ghost use Rattle.std.specs.Int.{w8, w32, w64, to_be_bytes};
 ghost use Rattle.std.specs.List.{flat_map, AllByRecursion};
 ghost use Rattle.spool_types.specs.Limits.{greatest_moment};
 ghost use Rattle.spool_types.specs.Values.{is_media_type, is_filter_name, is_queue_name};
-ghost use Rattle.event_codec.specs.Spelling.{text_code, flag_code, until_code, filters_code, queue_code, notes_code, flagged_code, job_code, send_code, closing_code, hold_code, exit_code, stage_code, policy_number, spelling, IsText, IsQueue, AreNotes, IsIn, IsJobNumber, IsJob, IsSend, IsClosing, IsHold, IsExit, IsStageEnd, AreFilters, IsSpellable};
+ghost use Rattle.event_codec.specs.Spelling.{text_code, flag_code, until_code, filters_code, queue_code, notes_code, flagged_code, job_code, job_by_code, send_code, closing_code, hold_code, exit_code, stage_code, policy_number, spelling, IsText, IsQueue, AreNotes, IsIn, IsJobNumber, IsJob, IsJobBy, IsSend, IsClosing, IsHold, IsExit, IsStageEnd, AreFilters, IsSpellable};
 
 use crate::effect_writing::put_effects;
 use crate::field_writing::{
@@ -85,6 +85,17 @@ fn put_job(out: &mut Vec<u8>, kind: u8, job: &NewJob)
     put_u16(out, job.copies.get() as u16);
     put_u8(out, job.priority.get() as u8);
     put_text(out, &job.options);
+}
+
+fn put_job_by(out: &mut Vec<u8>, kind: u8, job: &NewJob, by: Moment)
+    requires room { vec_len out.old + length (kind ∷ job_by_code job.now by) ≤ vec_capacity out.old }
+    ensures written { out.new.items ≡ out.old.items ++ kind ∷ job_by_code job.now by }
+    ensures len { vec_len out.new ≡ vec_len out.old + length (kind ∷ job_by_code job.now by) }
+    ensures grown { vec_capacity out.old ≤ vec_capacity out.new }
+    ensures legal { IsJobBy job.now by }
+{
+    put_job(out, kind, job);
+    put_u64(out, by.get());
 }
 
 pub(crate) fn put_send(out: &mut Vec<u8>, kind: u8, job: JobId, bytes: &Piece)
@@ -236,6 +247,7 @@ fn put_event(out: &mut Vec<u8>, event: &Event)
         Event::Stage(end) => put_stage(out, 0x0D, end),
         Event::Abandon(job) => put_number(out, 0x0E, *job),
         Event::Reopen => put_kind(out, 0x0F),
+        Event::CreateBy { job, by } => put_job_by(out, 0x11, job, *by),
     }
 }
 
@@ -318,6 +330,7 @@ fn spelled_len(event: &Event) -> usize
         Event::Clock(_) => 9,
         Event::Stage(end) => 1 + stage_len(end),
         Event::Reopen => 1,
+        Event::CreateBy { job, .. } => 9 + job_len(job),
         // A job's number alone.
         _ => 5,
     }

@@ -10,9 +10,10 @@ use Rattle.spool_types.specs.declared.event.Event.{Event}
 use Rattle.spool_types.specs.declared.event.Event.TheVariants.{Send}
 use Rattle.spool_types.specs.declared.refusal.Refusal.{Refusal}
 use Rattle.spool_types.specs.declared.refusal.Refusal.TheVariants.{NoJob}
+use Rattle.spool_types.specs.declared.version.Version.{Version}
 use Rattle.spool_types.specs.Busy.{is_of}
 use Rattle.spool_types.specs.Sent.{sent, sent_by, sent_to}
-use Rattle.spool_types.specs.State.{State, Job, nothing, queue_at, job_at}
+use Rattle.spool_types.specs.State.{State, Job, nothing_in, queue_at, job_at}
 use Rattle.job_table.specs.Apart.{IsPart, own_of, rows_of, names_it, numbers_of, is_in, is_about, events_of, whole_table, own_table, is_own_event, is_own, is_own_job, own_events, if_own}
 use Rattle.job_table.specs.Ended.{IsAbout, subject}
 use Rattle.job_table.specs.Fold.{after_one, after_all, accepted, if_accepted, unless_refused}
@@ -79,12 +80,13 @@ same_rows name s t part =
 
 -- ## Events in turn
 
-begins : (name : List ℕ) → IsPart name nothing nothing
-begins name = record {
+begins : (name : List ℕ) (v : Version) → IsPart name (nothing_in v) (nothing_in v)
+begins name v = record {
   queue = refl;
   only = λ other there. absurd (some_unless_none _ (finite.get-empty (slice_cmp nat_cmp) other) there);
   jobs = λ j. finite.get-empty nat_cmp j ∙ sym (ap (own_of name) (finite.get-empty nat_cmp j));
   moment = refl;
+  version = refl;
   highest = omega arith;
 }
 
@@ -115,28 +117,28 @@ module _ (law : (effects : List Effect) → KeepsOrder effects) (name : List ℕ
   part_all [] = λ s t legal legal_part part. part
   part_all (e ∷ es) = part_next e es (part_all es)
 
-  module _ (es : List Event) where
+  module _ (v : Version) (es : List Event) where
     abbrev whole : State
-    whole = whole_table es
+    whole = whole_table v es
 
     abbrev own : State
-    own = own_table es name
+    own = own_table v es name
 
     parts : IsPart name whole own
-    parts = subst (λ l. IsPart name whole (after_all nothing l)) (named law name es) (part_all es nothing nothing legal_nothing legal_nothing (begins name))
+    parts = subst (λ l. IsPart name whole (after_all (nothing_in v) l)) (named law name v es) (part_all es (nothing_in v) (nothing_in v) (legal_nothing v) (legal_nothing v) (begins name v))
 
     legal_whole : IsLegal whole
-    legal_whole = legal_after_all law (accepted nothing es) nothing legal_nothing
+    legal_whole = legal_after_all law (accepted (nothing_in v) es) (nothing_in v) (legal_nothing v)
 
     legal_own : IsLegal own
-    legal_own = legal_after_all law (events_of name (accepted nothing es)) nothing legal_nothing
+    legal_own = legal_after_all law (events_of name (accepted (nothing_in v) es)) (nothing_in v) (legal_nothing v)
 
     pub rows_apart : rows_of whole name ≡ rows_of own name
     rows_apart = same_rows name whole own parts
 
     -- what was sent to the queue's jobs
-    pub documents_apart : (j : ℕ) (r : Job) → job_at whole j ≡ Some r → r.queue ≡ name → sent (accepted nothing es) j ≡ sent (events_of name (accepted nothing es)) j
-    documents_apart j r there of = sent_kept name (numbers_of name (accepted nothing es)) j (own_number law name es legal_whole j r there ∙ (bytes_decides r.queue name).1 of) (accepted nothing es)
+    pub documents_apart : (j : ℕ) (r : Job) → job_at whole j ≡ Some r → r.queue ≡ name → sent (accepted (nothing_in v) es) j ≡ sent (events_of name (accepted (nothing_in v) es)) j
+    documents_apart j r there of = sent_kept name (numbers_of name (accepted (nothing_in v) es)) j (own_number law name v es legal_whole j r there ∙ (bytes_decides r.queue name).1 of) (accepted (nothing_in v) es)
 
     -- the event is answered alike, and leaves the same of the queue
     abbrev IsAlike : Event → Type 0
@@ -155,14 +157,14 @@ module _ (law : (effects : List Effect) → KeepsOrder effects) (name : List ℕ
     )
 
     -- of a number that was given to a job of the queue
-    of_number : (e : Event) (j : ℕ) → IsAbout e → is_own whole name e ≡ is_own_job name (job_at whole j) → subject e ≡ Some j → is_in j (numbers_of name (accepted nothing es)) ≡ true → IsAlike e
+    of_number : (e : Event) (j : ℕ) → IsAbout e → is_own whole name e ≡ is_own_job name (job_at whole j) → subject e ≡ Some j → is_in j (numbers_of name (accepted (nothing_in v) es)) ≡ true → IsAlike e
     of_number e j about reads names given = by_job (job_at whole j) refl
       where
         by_job : (o : Option Job) → job_at whole j ≡ o → IsAlike e
         by_job None none = alike_refused e NoJob (refused_as_absent whole j legal_whole none e names) (refused_as_absent own j legal_own (parts.jobs j ∙ ap (own_of name) none) e names)
-        by_job (Some r) there = alike_own e about (reads ∙ ap (is_own_job name) there ∙ sym (own_number law name es legal_whole j r there) ∙ given)
+        by_job (Some r) there = alike_own e about (reads ∙ ap (is_own_job name) there ∙ sym (own_number law name v es legal_whole j r there) ∙ given)
 
-    alike_by : (e : Event) (change : Change) → change_by e ≡ change → IsOfOne change → names_it name (λ j. is_in j (numbers_of name (accepted nothing es))) change ≡ true → IsAlike e
+    alike_by : (e : Event) (change : Change) → change_by e ≡ change → IsOfOne change → names_it name (λ j. is_in j (numbers_of name (accepted (nothing_in v) es))) change ≡ true → IsAlike e
     alike_by e (NewQueueRow q) is about named_so = absurd about
     alike_by e (OfQueue k f) is about named_so = alike_own e (subst IsOfOne (sym is) about) (ap (names_it name (λ j. is_own_job name (job_at whole j))) is ∙ named_so)
     alike_by e (NewJobRow r) is about named_so = absurd about
@@ -171,15 +173,15 @@ module _ (law : (effects : List Effect) → KeepsOrder effects) (name : List ℕ
     alike_by e (OfClock m) is about named_so = absurd about
     alike_by e OfAll is about named_so = absurd about
 
-    pub answers_apart : (e : Event) → IsAbout e → is_own_event es name e ≡ true → IsAlike e
+    pub answers_apart : (e : Event) → IsAbout e → is_own_event v es name e ≡ true → IsAlike e
     answers_apart e about is = alike_by e (change_by e) refl about is
 
     -- an event that isn't the queue's own changes nothing of it
-    pub others_apart : (e : Event) → is_own_event es name e ≡ false → rows_of (after_one whole e) name ≡ rows_of whole name
+    pub others_apart : (e : Event) → is_own_event v es name e ≡ false → rows_of (after_one whole e) name ≡ rows_of whole name
     others_apart e other = by_refusal (refusal_of whole e) refl
       where
         by_refusal : (o : Option Refusal) → refusal_of whole e ≡ o → rows_of (after_one whole e) name ≡ rows_of whole name
         by_refusal None taken =
-            same_rows name (after_one whole e) own (part_after_one_other name whole own parts legal_whole e (keeps_each law e) (own_event law name es legal_whole e taken ∙ other) taken)
+            same_rows name (after_one whole e) own (part_after_one_other name whole own parts legal_whole e (keeps_each law e) (own_event law name v es legal_whole e taken ∙ other) taken)
             ∙ sym rows_apart
         by_refusal (Some x) refused = ap (λ (u : State). rows_of u name) (ap (unless_refused whole e) refused)

@@ -12,10 +12,11 @@ use Rattle.spool_types.specs.State.{Job}
 use Rattle.backend_codes.specs.declared.verdicts.Verdict.{Verdict}
 use Rattle.backend_codes.specs.declared.verdicts.Verdict.TheVariants as verdicts
 
--- the job keeps its number and its queue
+-- the job keeps its number, its queue, and the moment by which it is to start
 pub record IsSameJob (r q : Job) : Type 0 where
   pub id : q.id ≡ r.id
   pub queue : q.queue ≡ r.queue
+  pub by : q.by ≡ r.by
 
 -- ## What follows a row
 
@@ -64,5 +65,5 @@ pub closed_same : (c : Closing) (r : Job) → IsSameJob r (closed c r)
 closed_same c r = by_filters c.filters refl
   where
     by_filters : (o : Option (List (List ℕ))) → c.filters ≡ o → IsSameJob r (closed c r)
-    by_filters None is = rw is (record { id = refl; queue = refl })
-    by_filters (Some filters) is = rw is (record { id = refl; queue = refl })
+    by_filters None is = rw is (record { id = refl; queue = refl; by = refl })
+    by_filters (Some filters) is = rw is (record { id = refl; queue = refl; by = refl })

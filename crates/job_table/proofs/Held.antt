@@ -1,24 +1,28 @@
 -- A table over its rows and its lanes.
-use Rattle.std.proofs.Common.{◌≡◌, ℕ, [], None, Result, Ok, refl, sym, ap, ◌∙◌, arith}
+use Rattle.std.proofs.Common.{◌≡◌, ℕ, ◌<◌, [], Option, None, Some, Result, Ok, refl, sym, ap, subst, ◌∙◌, arith}
 use Rattle.std.specs.FinMap as finite
 use Rattle.std.specs.Ordering.{nat_cmp}
 use Rattle.std.specs.Cmp.Lexicographic.{slice_cmp}
 use Rattle.std.proofs.lemmas.List.{length-map}
-use Rattle.spool_types.specs.State.{State, nothing}
+use Rattle.spool_types.specs.State.{State, nothing, job_at}
 use Rattle.spool_types.specs.declared.event.NewJob.{NewJob}
 use Rattle.spool_types.specs.declared.event.Event.{Event}
-use Rattle.spool_types.specs.declared.event.Event.TheVariants.{Create}
 use Rattle.spool_types.specs.declared.event.Reply.{Reply}
 use Rattle.spool_types.specs.declared.rows.QueueRow.{QueueRow}
 use Rattle.job_table.specs.Changes.{new_job}
+use Rattle.job_table.specs.Contents.{Contents, Room, HasRoom}
 use Rattle.job_table.specs.Ended.{IsAbout, subject}
+use Rattle.job_table.specs.Held.{IsInLanes}
 use Rattle.job_table.specs.Lanes.{AreLanes}
 use Rattle.job_table.specs.Legal.{IsLegal}
 use Rattle.job_table.specs.Shapes.{Change, NewQueueRow, OfQueue, NewJobRow, OfJob, OfBoth, OfClock, OfAll, subject_of, IsOfOne, made}
-use Rattle.job_table.specs.Step.{change_by, step, answered, refusal_of, after, reply_to}
+use Rattle.job_table.specs.Step.{change_by, creation, step, answered, refusal_of, after, reply_to}
+use Rattle.job_table.specs.declared.table.Table.TheInside.{Inside}
 use Rattle.job_table.proofs.Accepted.{accepted_create}
 use Rattle.job_table.proofs.Moves.{Stays, stays_queue, put_other, put_own}
-use Rattle.job_table.proofs.Seats.{Gains}
+use Rattle.job_table.proofs.Seats.{Gains, lanes_stay}
+use Rattle.job_table.proofs.Steps.{after_creation}
+use Rattle.job_table.proofs.Timely.{timely_as}
 
 module _ {X Y : Type 0} where
   pub ok_same : (x z : X) (r : Result X Y) → r ≡ Ok x → r ≡ Ok z → x ≡ z
@@ -30,12 +34,41 @@ stepped s e t r none is =
     let both = ok_same (t, r) (after s e, reply_to s e) (step s e) is (ap (answered s e) none) in
     (ap (λ p. p.0) both, ap (λ p. p.1) both)
 
+-- ## No jobs
+
 -- no lanes beside no queues
 pub no_lanes : (v : ℕ) → AreLanes nothing v []
 no_lanes v = record {
   count = sym (length-map (finite.entries nothing.queues) (λ e. e.0) ∙ sym (finite.len-entries nothing.queues) ∙ finite.len-empty (slice_cmp nat_cmp) QueueRow);
   each = λ i k d lt. absurd (omega (arith, lt));
 }
+
+pub no_jobs : (j : ℕ) → job_at nothing j ≡ None
+no_jobs j = finite.get-empty nat_cmp j
+
+-- ## The jobs stay
+
+-- lanes and timetable are those of rows that say the same of each job, and of the moment
+pub held_stays : (a : Inside) (store : Contents) → Stays a.store.state store.state → IsLegal store.state → IsInLanes a → IsInLanes (record a { store = store })
+held_stays a store stays legal is = record {
+  legal = legal;
+  lanes = lanes_stay a.store.state store.state a.vacant a.lanes.items is.lanes stays;
+  timely = timely_as (job_at a.store.state) (job_at store.state) a.timetable stays.jobs is.timely;
+  spare = is.spare;
+}
+
+pub held_same : (a : Inside) (store : Contents) → store.state ≡ a.store.state → IsInLanes a → IsInLanes (record a { store = store })
+held_same a store same is = held_stays a store
+    (record {
+      names = ap (λ (s : State). finite.keys s.queues) same;
+      moment = ap (λ (s : State). s.moment) same;
+      jobs = λ k. ap (λ (s : State). job_at s k) same;
+    })
+    (subst IsLegal (sym same) is.legal) is
+
+-- a moment changes no row
+pub legal_then : (s : State) (then : ℕ) → IsLegal s → IsLegal (record s { moment = then })
+legal_then s then legal = record { few_queues = legal.few_queues; names = legal.names; in_order = legal.in_order; numbers = legal.numbers; jobs = legal.jobs; one_processing = legal.one_processing }
 
 -- an event about a queue that is there leaves the jobs
 stays_by : (s : State) (change : Change) → IsOfOne change → subject_of change ≡ None → Stays s (made s change)
@@ -50,12 +83,19 @@ stays_by s (OfBoth j effects verdict) about none = absurd (cc)
 pub stays_about : (s : State) (e : Event) → IsAbout e → subject e ≡ None → Stays s (after s e)
 stays_about s e about none = stays_by s (change_by e) about none
 
+-- ## A job comes
+
 -- a new job is none that was there
-pub created : (s : State) → IsLegal s → (n : NewJob) → refusal_of s (Create n) ≡ None → Gains s (after s (Create n)) n.job (new_job n)
-created s legal n accepted = record {
+pub created : (s : State) → IsLegal s → (n : NewJob) (by : Option ℕ) → refusal_of s (creation n by) ≡ None → Gains s (after s (creation n by)) n.job (new_job n by)
+created s legal n by accepted = subst (λ t. Gains s t n.job (new_job n by)) (sym (after_creation s n by)) (record {
   names = refl;
   moment = refl;
-  others = λ k other. put_other s n.job (new_job n) k other;
-  absent = legal.numbers n.job (accepted_create s n accepted);
-  there = put_own s n.job (new_job n);
-}
+  others = λ k other. put_other s n.job (new_job n by) k other;
+  absent = legal.numbers n.job (accepted_create s n by accepted);
+  there = put_own s n.job (new_job n by);
+})
+
+-- there is room for it
+pub creation_room : (room : Room) (n : NewJob) (by : Option ℕ) → HasRoom room (creation n by) → 0 < room.jobs
+creation_room room n None has = has
+creation_room room n (Some by) has = has

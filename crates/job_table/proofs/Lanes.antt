@@ -1,15 +1,16 @@
 -- What a lane has when a job leaves it, or is put in.
-use Rattle.std.proofs.Common.{◌≡◌, ℕ, suc, ◌+◌, ◌<◌, ◌≤◌, ◌⊎◌, inl, inr, true, false, List, [], ◌∷◌, length, get_or, set, map, Option, Some, None, IsTrue, refl, sym, ap, subst, ◌∙◌, arith, rules}
+use Rattle.std.proofs.Common.{◌≡◌, ℕ, suc, ◌+◌, ◌<◌, ◌≤◌, ◌⊎◌, inl, inr, Bool, true, false, List, [], ◌∷◌, length, get_or, set, map, Option, Some, None, IsTrue, refl, sym, ap, subst, ◌∙◌, arith, rules}
 use Rattle.std.specs.Prelude.{◌↔◌}
-use Rattle.std.specs.List.{Contains, AllByRecursion}
-use Rattle.std.proofs.lemmas.Bool.{cases_eq}
+use Rattle.std.specs.List.{Contains, AllPairs, AllByRecursion}
+use Rattle.std.proofs.lemmas.Bool.{both_ways, cases_eq}
 use Rattle.std.proofs.lemmas.List.{length-map, length-set, get_or-set_same, get_or-set_other}
+use Rattle.std.proofs.lemmas.List.Elements.{Contains-get_or}
 use Rattle.queue_sched.specs.Index.{Waits, InOrder, goes_before, LacksJob}
 use Rattle.queue_sched.specs.declared.entry.Entry.{Entry}
 use Rattle.job_table.specs.declared.lane.Lane.{Lane}
 use Rattle.job_table.specs.declared.lane.Standing.{Standing}
 use Rattle.job_table.specs.declared.lane.Standing.TheVariants.{Ended, Incoming, Waiting, Processing}
-use Rattle.job_table.specs.Lanes.{is_live, AllDiffer, AtMostLive, IsLane, IsReseated, IsSameLane}
+use Rattle.job_table.specs.Lanes.{is_live, AllDiffer, AtMost, AtMostLive, IsLane, IsReseated, IsSameLane}
 
 -- ## Numbers that differ
 
@@ -25,13 +26,25 @@ module _ {X : Type 0} where
   later : (y : X) (ys : List X) (x : X) → Contains ys x → Contains (y ∷ ys) x
   later y ys x there = (suc there.0, omega (arith, there.1), there.2)
 
-  all_from : (P : X → Type 0) (xs : List X) → ((x : X) → Contains xs x → P x) → AllByRecursion P xs
+  pub all_from : (P : X → Type 0) (xs : List X) → ((x : X) → Contains xs x → P x) → AllByRecursion P xs
   all_from P [] each = tt
   all_from P (x ∷ xs) each = (each x (0, omega arith, refl), all_from P xs (λ y there. each y (later x xs y there)))
 
   all_at : (P : X → Type 0) (xs : List X) → ((k : ℕ) (d : X) → k < length xs → P (get_or xs k d)) → AllByRecursion P xs
   all_at P [] each = tt
   all_at P (x ∷ xs) each = (each 0 x (omega arith), all_at P xs (λ k d lt. each (suc k) d (omega (arith, lt))))
+
+  pub all_numbers : (id : X → ℕ) (xs : List X) (P : ℕ → Type 0) → AllByRecursion (λ x. P (id x)) xs → AllByRecursion P (map id xs)
+  all_numbers id [] P all = tt
+  all_numbers id (x ∷ xs) P all = (all.0, all_numbers id xs P all.1)
+
+  -- of items in their order, each told by its number, no two have the same number
+  pub apart_in_order : (id : X → ℕ) (before : X → X → Bool) → ((x : X) → before x x ≡ false) → (P : X → Type 0) → ((x y : X) → P x → P y → id x ≡ id y → x ≡ y)
+      → (xs : List X) → AllPairs (λ x y. IsTrue (before x y)) xs → ((x : X) → Contains xs x → P x) → AllPairs (λ x y. ¬ (id y ≡ id x)) xs
+  apart_in_order id before itself P told xs order each i k d lt within same =
+      let x = get_or xs i d in
+      let one : x ≡ get_or xs k d = told x (get_or xs k d) (each x (Contains-get_or xs i d (omega (arith, lt, within)))) (each (get_or xs k d) (Contains-get_or xs k d within)) (sym same) in
+      both_ways (before x x) (itself x) (subst (λ y. before x y ≡ true) (sym one) (order i k d lt within))
 
 -- all but one of them
 record Removed (P : ℕ → Type 0) (j : ℕ) (xs : List ℕ) : Type 0 where
@@ -59,6 +72,44 @@ removed P j (x ∷ xs) differ all = elim (cases_eq x j) [
       })
 ]
 
+-- ## How many numbers pass
+
+-- no more than before where each that passes has passed before
+pub no_more : (p q : ℕ → Bool) (n : ℕ) → AtMost p n → ((k : ℕ) → q k ≡ true → p k ≡ true) → AtMost q n
+no_more p q n most before js differ all = most js differ (all_weaker (λ k. q k ≡ true) (λ k. p k ≡ true) before js all)
+
+pub none_pass : (p : ℕ → Bool) → ((k : ℕ) → p k ≡ false) → AtMost p 0
+none_pass p never [] differ all = omega arith
+none_pass p never (j ∷ js) differ all = absurd (both_ways (p j) (never j) all.0)
+
+module _ (p q : ℕ → Bool) (j n : ℕ) (most : AtMost p n) (others : (k : ℕ) → ¬ (k ≡ j) → q k ≡ p k) where
+  pub one_passes : p j ≡ true → 1 ≤ n
+  one_passes is = most (j ∷ []) (tt, tt) (is, tt)
+
+  -- it passes no more
+  pub one_less : q j ≡ false → p j ≡ true → (m : ℕ) → m + 1 ≡ n → AtMost q m
+  one_less not_now was m is = λ js differ all.
+      let apart : AllByRecursion (λ k. ¬ (k ≡ j)) js = all_weaker (λ k. q k ≡ true) (λ k. ¬ (k ≡ j)) (λ k passes same. both_ways (q k) (ap q same ∙ not_now) passes) js all in
+      let were : AllByRecursion (λ k. p k ≡ true) js =
+      all_weaker (λ k. (¬ (k ≡ j)) × (q k ≡ true)) (λ k. p k ≡ true) (λ k has. sym (others k has.0) ∙ has.1) js (all_both _ _ js apart all) in
+      let bound : suc (length js) ≤ n = most (j ∷ js) (apart, differ) (was, were) in
+      omega (arith, bound, is)
+
+  -- it may pass now
+  pub one_more : AtMost q (n + 1)
+  one_more = λ js differ all.
+      let rest = removed (λ k. q k ≡ true) j js differ all in
+      let bound : length rest.kept ≤ n =
+      most rest.kept rest.differ (all_weaker _ (λ k. p k ≡ true) (λ k has. sym (others k has.0) ∙ has.1) rest.kept rest.all) in
+      omega (arith, bound, rest.count)
+
+  -- as many as before where it doesn't pass
+  pub as_many : q j ≡ false → AtMost q n
+  as_many not_now = no_more p q n most (λ k passes. elim (cases_eq k j) [
+    | inl same ↦ absurd (both_ways (q k) (ap q same ∙ not_now) passes)
+    | inr other ↦ sym (others k other) ∙ passes
+  ])
+
 -- ## How many jobs haven't ended
 
 live_waiting : (to : Standing) (e : Entry) → to ≡ Waiting e → is_live to ≡ true
@@ -68,35 +119,32 @@ ended_and_live : (to : Standing) → to ≡ Ended → is_live to ≡ true → �
 ended_and_live to is live = (let no : false ≡ true = sym (ap is_live is) ∙ live in absurd (cc))
 
 module _ (old new : ℕ → Standing) (j : ℕ) (n : ℕ) (most : AtMostLive old n) where
+  abbrev Live : (ℕ → Standing) → ℕ → Bool
+  Live seats k = is_live (seats k)
+
+  live_others : (to : Standing) → IsReseated old new j to → (k : ℕ) → ¬ (k ≡ j) → Live new k ≡ Live old k
+  live_others to seated k other = ap is_live (seated.others k other)
+
   pub one_live : is_live (old j) ≡ true → 1 ≤ n
-  one_live live = most (j ∷ []) (tt, tt) (live, tt)
+  one_live = one_passes (Live old) (Live old) j n most (λ k other. refl)
 
   -- a job that hasn't ended goes
-  pub one_less : IsReseated old new j Ended → is_live (old j) ≡ true → (m : ℕ) → m + 1 ≡ n → AtMostLive new m
-  one_less seated live m is = λ js differ all.
-      let apart : AllByRecursion (λ k. ¬ (k ≡ j)) js = all_weaker (λ k. is_live (new k) ≡ true) (λ k. ¬ (k ≡ j)) (λ k alive same. ended_and_live (new k) (ap new same ∙ seated.own) alive) js all in
-      let were : AllByRecursion (λ k. is_live (old k) ≡ true) js =
-      all_weaker (λ k. (¬ (k ≡ j)) × (is_live (new k) ≡ true)) (λ k. is_live (old k) ≡ true) (λ k has. sym (ap is_live (seated.others k has.0)) ∙ has.1) js (all_both _ _ js apart all) in
-      let bound : suc (length js) ≤ n = most (j ∷ js) (apart, differ) (live, were) in
-      omega (arith, bound, is)
+  pub one_live_less : IsReseated old new j Ended → is_live (old j) ≡ true → (m : ℕ) → m + 1 ≡ n → AtMostLive new m
+  one_live_less seated = one_less (Live old) (Live new) j n most (live_others Ended seated) (ap is_live seated.own)
 
   -- a job is put in
   pub one_live_more : (to : Standing) → IsReseated old new j to → AtMostLive new (n + 1)
-  one_live_more to seated = λ js differ all.
-      let rest = removed (λ k. is_live (new k) ≡ true) j js differ all in
-      let bound : length rest.kept ≤ n =
-      most rest.kept rest.differ (all_weaker _ (λ k. is_live (old k) ≡ true) (λ k has. sym (ap is_live (seated.others k has.0)) ∙ has.1) rest.kept rest.all) in
-      omega (arith, bound, rest.count)
+  one_live_more to seated = one_more (Live old) (Live new) j n most (live_others to seated)
 
-  -- as many as before where the job has ended before and after
-  pub as_many : IsReseated old new j Ended → AtMostLive new n
-  as_many seated = λ js differ all. most js differ (all_weaker (λ k. is_live (new k) ≡ true) (λ k. is_live (old k) ≡ true)
-      (λ k alive. elim (cases_eq k j) [
-        | inl same ↦ absurd (ended_and_live (new k) (ap new same ∙ seated.own) alive)
-        | inr other ↦ sym (ap is_live (seated.others k other)) ∙ alive
-      ]) js all)
+-- ## How many stand in a list
 
--- ## How many wait
+-- those that are told apart by their numbers have different ones
+pub differ_numbers : {X : Type 0} (id : X → ℕ) (xs : List X) → AllPairs (λ x y. ¬ (id y ≡ id x)) xs → AllDiffer (map id xs)
+differ_numbers id [] apart = tt
+differ_numbers id (x ∷ xs) apart = (
+  all_numbers id xs (λ k. ¬ (k ≡ id x)) (all_at (λ y. ¬ (id y ≡ id x)) xs (λ k d lt. apart 0 (suc k) d (omega arith) (omega (arith, lt)))),
+  differ_numbers id xs (λ i k d lt within. apart (suc i) (suc k) d (omega (arith, lt)) (omega (arith, within))),
+)
 
 not_before_itself : (e : Entry) → goes_before e e ≡ false
 not_before_itself e = search rules
@@ -108,34 +156,13 @@ module _ (seats : ℕ → Standing) where
   abbrev IsItem : Entry → Type 0
   IsItem e = seats e.id ≡ Waiting e
 
-  -- those that are in order, and stand where they say, have different numbers
-  differ_numbers : (es : List Entry) → InOrder es → AllByRecursion IsItem es → AllDiffer (map (λ e. e.id) es)
-  differ_numbers [] order items = tt
-  differ_numbers (e ∷ es) order items = (
-    apart es (all_both (λ f. IsTrue (goes_before e f)) IsItem es (all_at (λ f. IsTrue (goes_before e f)) es (λ k d lt. order 0 (suc k) d (omega arith) (omega (arith, lt)))) items.1),
-    differ_numbers es (λ i k d lt within. order (suc i) (suc k) d (omega (arith, lt)) (omega (arith, within))) items.1,
-  )
-    where
-      apart : (fs : List Entry) → AllByRecursion (λ f. IsTrue (goes_before e f) × IsItem f) fs → AllByRecursion (λ k. ¬ (k ≡ e.id)) (map (λ f. f.id) fs)
-      apart [] all = tt
-      apart (f ∷ fs) all = (
-        (λ same.
-            let itself : e ≡ f = same_entry e f (sym items.0 ∙ ap seats (sym same) ∙ all.0.1) in
-            let yes : goes_before e e ≡ true = subst (λ g. goes_before e g ≡ true) (sym itself) all.0.0 in
-            let no : goes_before e e ≡ false = not_before_itself e in
-            absurd (cc)),
-        apart fs all.1,
-      )
-
-  alive : (es : List Entry) → AllByRecursion IsItem es → AllByRecursion (λ k. is_live (seats k) ≡ true) (map (λ e. e.id) es)
-  alive [] items = tt
-  alive (e ∷ es) items = (live_waiting (seats e.id) e items.0, alive es items.1)
-
   pub as_many_wait : (lane : Lane) → IsLane seats lane → InOrder lane.index.items → length lane.index.items ≤ lane.live
   as_many_wait lane is order =
-      let items = all_from IsItem lane.index.items is.waiting in
-      subst (λ n. n ≤ lane.live) (length-map lane.index.items (λ e. e.id))
-      (is.live (map (λ e. e.id) lane.index.items) (differ_numbers lane.index.items order items) (alive lane.index.items items))
+      let items = lane.index.items in
+      let apart = apart_in_order (λ (e : Entry). e.id) goes_before not_before_itself IsItem (λ e f at_e at_f same. same_entry e f (sym at_e ∙ ap seats same ∙ at_f)) items order is.waiting in
+      subst (λ n. n ≤ lane.live) (length-map items (λ e. e.id))
+      (is.live (map (λ e. e.id) items) (differ_numbers (λ (e : Entry). e.id) items apart)
+      (all_numbers (λ (e : Entry). e.id) items (λ k. is_live (seats k) ≡ true) (all_from (λ e. is_live (seats e.id) ≡ true) items (λ e there. live_waiting (seats e.id) e (is.waiting e there)))))
 
 -- ## A job leaves, or is put in
 
@@ -153,7 +180,7 @@ module _ (old new : ℕ → Standing) (j : ℕ) (lane : Lane) (is : IsLane old l
           listed = λ k e waits. is.listed k e (sym (same k) ∙ waits);
           processing = λ k at. same k ∙ is.processing k at;
           found = λ k at. is.found k (sym (same k) ∙ at);
-          live = as_many old new j lane.live is.live seated;
+          live = no_more (λ k. is_live (old k)) (λ k. is_live (new k)) lane.live is.live (λ k alive. ap is_live (sym (same k)) ∙ alive);
           room = is.room;
           reserved = is.reserved;
         }
@@ -171,7 +198,7 @@ module _ (old new : ℕ → Standing) (j : ℕ) (lane : Lane) (is : IsLane old l
       listed = λ k e waits. is.listed k e (stood k (Waiting e) waits refl).1;
       processing = λ k at. seated.others k (λ own. (let no : Processing ≡ Incoming = sym (is.processing k at) ∙ ap old own ∙ was in absurd (cc))) ∙ is.processing k at;
       found = λ k at. is.found k (stood k Processing at refl).1;
-      live = one_less old new j lane.live is.live seated (ap is_live was) n less;
+      live = one_live_less old new j lane.live is.live seated (ap is_live was) n less;
       room = omega (arith, less, is.room);
       reserved = is.reserved;
     }
@@ -184,7 +211,7 @@ module _ (old new : ℕ → Standing) (j : ℕ) (lane : Lane) (is : IsLane old l
       found = λ k at.
           let before = stood k Processing at refl in
           absurd (before.0 (some_number k j (sym (is.found k before.1) ∙ is.found j was)));
-      live = one_less old new j lane.live is.live seated (ap is_live was) n less;
+      live = one_live_less old new j lane.live is.live seated (ap is_live was) n less;
       room = omega (arith, less, is.room);
       reserved = is.reserved;
     }
@@ -204,7 +231,7 @@ module _ (old new : ℕ → Standing) (j : ℕ) (lane : Lane) (is : IsLane old l
           (there.0, (items f).1 (there.1, λ same. before.0 (sym there.0 ∙ ap (λ (g : Entry). g.id) same ∙ (is.listed j e was).0)));
       processing = λ k at. seated.others k (λ own. apart_waiting j e was (ap old (sym own) ∙ is.processing k at)) ∙ is.processing k at;
       found = λ k at. is.found k (stood k Processing at refl).1;
-      live = one_less old new j lane.live is.live seated (ap is_live was) n less;
+      live = one_live_less old new j lane.live is.live seated (ap is_live was) n less;
       room = omega (arith, less, is.room);
       reserved = rw room is.reserved;
     }
@@ -269,15 +296,11 @@ module _ (old new : ℕ → Standing) (j : ℕ) (lane : Lane) (is : IsLane old l
 
   -- a job waits otherwise than before
   module _ (e f : Entry) (was : old j ≡ Waiting e) (seated : IsReseated old new j (Waiting f)) where
-    as_live : (js : List ℕ) → AllByRecursion (λ k. is_live (new k) ≡ true) js → AllByRecursion (λ k. is_live (old k) ≡ true) js
-    as_live [] all = tt
-    as_live (k ∷ js) all = (
-      elim (cases_eq k j) [
-        | inl own ↦ ap is_live (ap old own ∙ was)
-        | inr other ↦ ap is_live (sym (seated.others k other)) ∙ all.0
-      ],
-      as_live js all.1,
-    )
+    as_live : (k : ℕ) → is_live (new k) ≡ true → is_live (old k) ≡ true
+    as_live k alive = elim (cases_eq k j) [
+      | inl own ↦ ap is_live (ap old own ∙ was)
+      | inr other ↦ ap is_live (sym (seated.others k other)) ∙ alive
+    ]
 
     pub changed_waiting : f.id ≡ j → (w : Waits) → ((g : Entry) → Contains w.items g ↔ ((Contains lane.index.items g × (¬ (g ≡ e))) ⊎ (g ≡ f))) → w.room ≡ lane.index.room → IsLane new (record lane { index = w })
     changed_waiting own_number w items room = record {
@@ -293,7 +316,7 @@ module _ (old new : ℕ → Standing) (j : ℕ) (lane : Lane) (is : IsLane old l
       ];
       processing = λ k at. seated.others k (λ own. apart_waiting j e was (ap old (sym own) ∙ is.processing k at)) ∙ is.processing k at;
       found = λ k at. is.found k (sym (seated.others k (λ own. (let no : Waiting f ≡ Processing = sym seated.own ∙ ap new (sym own) ∙ at in absurd (cc)))) ∙ at);
-      live = λ js differ all. is.live js differ (as_live js all);
+      live = no_more (λ k. is_live (old k)) (λ k. is_live (new k)) lane.live is.live as_live;
       room = is.room;
       reserved = rw room is.reserved;
     }
@@ -310,17 +333,13 @@ empty_lane w none seats ended = record {
   listed = λ j e waits. (let no : Waiting e ≡ Ended = sym waits ∙ ended j in absurd (cc));
   processing = λ j at. absurd (cc);
   found = λ j at. (let no : Processing ≡ Ended = sym at ∙ ended j in absurd (cc));
-  live = λ js differ all. none_live js all;
+  live = none_pass (λ j. is_live (seats j)) (λ j. ap is_live (ended j));
   room = omega arith;
   reserved = omega arith;
 }
   where
     nothing : (e : Entry) → Contains [] e → ⊥
     nothing e there = omega (arith, there.1)
-
-    none_live : (js : List ℕ) → AllByRecursion (λ j. is_live (seats j) ≡ true) js → length js ≤ 0
-    none_live [] all = omega arith
-    none_live (j ∷ js) all = absurd (ended_and_live (seats j) (ended j) all.0)
 
 -- the same entries, and no less room
 pub lane_with : (lane : Lane) (w : Waits) → w.items ≡ lane.index.items → (n : ℕ) → lane.live ≤ n → n ≤ w.room → (seats : ℕ → Standing) → IsLane seats lane → IsLane seats (record lane { index = w; reserved = n })

@@ -4,6 +4,7 @@ pub mod Rooms
 pub mod Steps
 pub mod Accepted
 pub mod Changes
+pub mod Clocked
 pub mod Rules
 pub mod Keys
 pub mod Follows
@@ -11,6 +12,7 @@ mod RowChanges
 pub mod Legal
 pub mod Ended
 pub mod Reopened
+pub mod Raised
 pub mod Choice
 pub mod Next
 pub mod Stages
@@ -28,12 +30,16 @@ pub mod Reloaded
 pub mod Names
 pub mod Moves
 pub mod Lanes
+pub mod Timely
 pub mod Seats
+pub mod Retimed
+pub mod Late
 pub mod Indexed
 pub mod Busy
 pub mod Held
 pub mod Drafts
 pub mod Begun
+pub mod Gathered
 pub mod Part
 pub mod PartNext
 pub mod PartLoss

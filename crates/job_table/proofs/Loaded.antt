@@ -8,6 +8,7 @@ use Rattle.spool_types.specs.Limits.{longest_send}
 use Rattle.spool_types.specs.Phases.{has_ended}
 use Rattle.spool_types.specs.State.{State, Job}
 use Rattle.spool_types.specs.declared.rows.QueueRow.{QueueRow}
+use Rattle.spool_types.specs.declared.version.Version.{Version}
 use Rattle.spool_types.specs.declared.listing.Head.{Head}
 use Rattle.spool_types.specs.declared.listing.Row.{Row}
 use Rattle.spool_types.specs.declared.listing.Row.TheVariants.{Head as HeadRow, Queue, Job as JobRow, Piece}
@@ -20,21 +21,21 @@ use Rattle.job_table.proofs.Changes.{apart, some_same, one_more, legal_queue, le
 use Rattle.job_table.proofs.Legal.{legal_nothing}
 use Rattle.job_table.proofs.Rules.{busy_found}
 
-pub reading_begin : IsReading begin_loading
-reading_begin = record { legal = legal_nothing; fresh = λ e. record { state = refl; whole = refl }; partial = tt }
+pub reading_begin : (v : Version) → IsReading (begin_loading v)
+reading_begin v = record { legal = legal_nothing v; fresh = λ e. record { state = refl; whole = refl }; partial = tt }
 
-legal_headed : (head : Head) → IsLegal (headed head)
-legal_headed head = record {
-  few_queues = legal_nothing.few_queues;
-  names = legal_nothing.names;
-  in_order = legal_nothing.in_order;
+legal_headed : (v : Version) (head : Head) → IsLegal (headed v head)
+legal_headed v head = record {
+  few_queues = (legal_nothing v).few_queues;
+  names = (legal_nothing v).names;
+  in_order = (legal_nothing v).in_order;
   numbers = λ j lt. finite.get-empty nat_cmp j;
-  jobs = legal_nothing.jobs;
-  one_processing = legal_nothing.one_processing;
+  jobs = (legal_nothing v).jobs;
+  one_processing = (legal_nothing v).one_processing;
 }
 
 pub reading_head : (p : Progress) (head : Head) → IsReading (loaded p (HeadRow head))
-reading_head p head = record { legal = legal_headed head; fresh = λ e. absurd (cc); partial = tt }
+reading_head p head = record { legal = legal_headed p.state.version head; fresh = λ e. absurd (cc); partial = tt }
 
 pub legal_next_queue : (p : Progress) (q : QueueRow) → IsNextQueue p q → IsLegal p.state → IsLegal (with_queue p.state q)
 legal_next_queue p q next legal = legal_queue p.state q (one_more p.state.queues q.name q next.new.few) next.new.in_order legal

@@ -37,7 +37,7 @@ pub record Stays (s t : State) : Type 0 where
   pub jobs : (k : ℕ) → job_at t k ≡ job_at s k
 
 same_job : (r : Job) → IsSameJob r r
-same_job r = record { id = refl; queue = refl }
+same_job r = record { id = refl; queue = refl; by = refl }
 
 stays_same : (s : State) → Stays s s
 stays_same s = record { names = refl; moment = refl; jobs = λ k. refl }
@@ -54,7 +54,7 @@ moves_then s t u j first second = record {
   own = λ r there.
       let q = first.own r there in
       let p = second.own q.0 q.1 in
-      (p.0, p.1, record { id = p.2.id ∙ q.2.id; queue = p.2.queue ∙ q.2.queue });
+      (p.0, p.1, record { id = p.2.id ∙ q.2.id; queue = p.2.queue ∙ q.2.queue; by = p.2.by ∙ q.2.by });
 }
 
 moves_stays : (s t : State) (j : ℕ) → Stays s t → Moves s t j
@@ -85,7 +85,7 @@ moves_found s j f keeps (Some x) is = record {
   others = λ k apart. put_other s j (f x) k apart;
   own = λ r there.
       let same : x ≡ r = some_same x r (sym is ∙ there) in
-      (f x, put_own s j (f x), record { id = (keeps x).id ∙ ap (λ (y : Job). y.id) same; queue = (keeps x).queue ∙ ap (λ (y : Job). y.queue) same });
+      (f x, put_own s j (f x), record { id = (keeps x).id ∙ ap (λ (y : Job). y.id) same; queue = (keeps x).queue ∙ ap (λ (y : Job). y.queue) same; by = (keeps x).by ∙ ap (λ (y : Job). y.by) same });
 }
 
 moves_change : (s : State) (j : ℕ) (f : Job → Job) → ((r : Job) → IsSameJob r (f r)) → Moves s (change_job s j f) j
@@ -103,16 +103,16 @@ stays_own : (s : State) (f : QueueRow → QueueRow) (o : Option Job) → Stays s
 stays_own s f None = stays_same s
 stays_own s f (Some r) = stays_queue s r.queue f
 
--- a verdict keeps a job's number and its queue
+-- a verdict keeps a job's number, its queue and its moment
 ruled_same : (now interval : ℕ) (v : Verdict) (r : Job) → IsSameJob r (ruled now interval v r)
-ruled_same now interval verdicts.NextStage r = record { id = refl; queue = refl }
-ruled_same now interval verdicts.Completed r = record { id = refl; queue = refl }
-ruled_same now interval (verdicts.Aborted reason) r = record { id = refl; queue = refl }
-ruled_same now interval verdicts.Canceled r = record { id = refl; queue = refl }
-ruled_same now interval (verdicts.Held reason) r = record { id = refl; queue = refl }
-ruled_same now interval verdicts.StopQueue r = record { id = refl; queue = refl }
-ruled_same now interval verdicts.RetryAt r = record { id = refl; queue = refl }
-ruled_same now interval verdicts.RetryFirst r = record { id = refl; queue = refl }
+ruled_same now interval verdicts.NextStage r = record { id = refl; queue = refl; by = refl }
+ruled_same now interval verdicts.Completed r = record { id = refl; queue = refl; by = refl }
+ruled_same now interval (verdicts.Aborted reason) r = record { id = refl; queue = refl; by = refl }
+ruled_same now interval verdicts.Canceled r = record { id = refl; queue = refl; by = refl }
+ruled_same now interval (verdicts.Held reason) r = record { id = refl; queue = refl; by = refl }
+ruled_same now interval verdicts.StopQueue r = record { id = refl; queue = refl; by = refl }
+ruled_same now interval verdicts.RetryAt r = record { id = refl; queue = refl; by = refl }
+ruled_same now interval verdicts.RetryFirst r = record { id = refl; queue = refl; by = refl }
 
 names_stopped : (s : State) (q : QueueRow) (b : Bool) → queue_at s q.name ≡ Some q → finite.keys (cond b (finite.insert s.queues q.name (with_stopped true q)) s.queues) ≡ finite.keys s.queues
 names_stopped s q true there = keys_insert (slice_cmp nat_cmp) nat_list_cmp_total s.queues q.name (with_stopped true q) q there
@@ -136,12 +136,12 @@ moves_ruled s legal j verdict (Some x) is = by_queue (queue_at s x.queue) refl
           others = λ k apart. put_other s x.id y k (λ is_own. apart (is_own ∙ id));
           own = λ r there.
               let found : x ≡ r = some_same x r (sym is ∙ there) in
-              (y, ap (finite.get (finite.insert s.jobs x.id y)) (sym id) ∙ put_own s x.id y, record { id = same.id ∙ ap (λ (z : Job). z.id) found; queue = same.queue ∙ ap (λ (z : Job). z.queue) found });
+              (y, ap (finite.get (finite.insert s.jobs x.id y)) (sym id) ∙ put_own s x.id y, record { id = same.id ∙ ap (λ (z : Job). z.id) found; queue = same.queue ∙ ap (λ (z : Job). z.queue) found; by = same.by ∙ ap (λ (z : Job). z.by) found });
         }
 
 moves_effects : (s : State) (j : ℕ) (effects : List Effect) → Moves s (with_effects s j effects) j
 moves_effects s j effects = moves_then s (change_job s j (with_pages effects)) (with_effects s j effects) j
-    (moves_change s j (with_pages effects) (λ r. record { id = refl; queue = refl }))
+    (moves_change s j (with_pages effects) (λ r. record { id = refl; queue = refl; by = refl }))
     (moves_stays _ _ j (stays_own (change_job s j (with_pages effects)) (queue_after effects) (job_at (change_job s j (with_pages effects)) j)))
 
 -- an event about a job moves no other

@@ -6,7 +6,6 @@ use Rattle.std.proofs.lemmas.Bool.Decides.{nat_tests}
 use Rattle.spool_types.specs.Phases.{has_ended}
 use Rattle.spool_types.specs.declared.effect.Effect.{Effect}
 use Rattle.spool_types.specs.declared.event.Event.{Event}
-use Rattle.spool_types.specs.declared.event.Event.TheVariants.{Create}
 use Rattle.spool_types.specs.declared.event.NewJob.{NewJob}
 use Rattle.spool_types.specs.declared.refusal.Refusal.{Refusal}
 use Rattle.spool_types.specs.declared.refusal.Refusal.TheVariants.{NoJob, JobEnded}
@@ -17,7 +16,7 @@ use Rattle.job_table.specs.Fold.{after_all, after_one, unless_refused}
 use Rattle.job_table.specs.Legal.{IsLegal}
 use Rattle.job_table.specs.Over.{is_over_by, is_over, IsOver, late_refusal}
 use Rattle.job_table.specs.Shapes.{Change, NewQueueRow, OfQueue, NewJobRow, OfJob, OfBoth, OfClock, OfAll, subject_of, causes_of, where_it}
-use Rattle.job_table.specs.Step.{row, change_by, refusal_of, after, first_cause}
+use Rattle.job_table.specs.Step.{creation, row, change_by, refusal_of, after, first_cause}
 use Rattle.job_table.proofs.Accepted.{accepted_create}
 use Rattle.job_table.proofs.Ended.{unchanged, refused_as_ended, number_refused, number_of, lose_other, some_unless}
 use Rattle.job_table.proofs.Legal.{KeepsOrder, Keeps, keeps_each, legal_after_one}
@@ -73,15 +72,15 @@ module _ (s : State) (j : ℕ) (legal : IsLegal s) where
   pub refused_late : (e : Event) → subject e ≡ Some j → IsOver s j → refusal_of s e ≡ Some (late_refusal (job_at s j))
   refused_late e same over = refused_by e same (job_at s j) refl over
 
-  not_again : (n : NewJob) → n.job ≡ j → (o : Option Job) → job_at s j ≡ o → is_over_by s.highest j o ≡ true → IsSome (refusal_of s (Create n))
-  not_again n same None none given = some_unless _ (λ accepted.
-      let above = accepted_create s n accepted in
+  not_again : (n : NewJob) (by : Option ℕ) → n.job ≡ j → (o : Option Job) → job_at s j ≡ o → is_over_by s.highest j o ≡ true → IsSome (refusal_of s (creation n by))
+  not_again n by same None none given = some_unless _ (λ accepted.
+      let above = accepted_create s n by accepted in
       let within = given_by j s.highest given in
       omega (arith, above, within, same))
-  not_again n same (Some r) there over = number_refused s j r (record { legal = legal; there = there; ended = over }) n same
+  not_again n by same (Some r) there over = number_refused s j r (record { legal = legal; there = there; ended = over }) n by same
 
-  pub number_not_again : (n : NewJob) → n.job ≡ j → IsOver s j → IsSome (refusal_of s (Create n))
-  number_not_again n same over = not_again n same (job_at s j) refl over
+  pub number_not_again : (n : NewJob) (by : Option ℕ) → n.job ≡ j → IsOver s j → IsSome (refusal_of s (creation n by))
+  number_not_again n by same over = not_again n by same (job_at s j) refl over
 
 -- after all events it is over, and the table is legal
 pub over_after_all : ((effects : List Effect) → KeepsOrder effects) → (es : List Event) (s : State) (j : ℕ) → IsLegal s → IsOver s j → IsLegal (after_all s es) × IsOver (after_all s es) j

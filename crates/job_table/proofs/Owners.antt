@@ -1,6 +1,6 @@
 -- A job is of the queue that its making named, as long as it is there; so a queue's own events are those that name it, or a
 -- number that was given to a job of it.
-use Rattle.std.proofs.Common.{◌≡◌, inl, inr, ℕ, ◌<◌, ◌≤◌, ◌==◌, Bool, true, false, cond, ◌&&◌, ◌||◌, ◌⊎◌, List, [], ◌∷◌, ◌++◌, Some, None, Option, refl, sym, ap, subst, ◌∙◌, arith, append_assoc, append-nil}
+use Rattle.std.proofs.Common.{◌≡◌, inl, inr, ℕ, ◌<◌, ◌≤◌, ◌==◌, Bool, true, false, cond, max, ◌&&◌, ◌||◌, ◌⊎◌, List, [], ◌∷◌, ◌++◌, Some, None, Option, refl, sym, ap, subst, ◌∙◌, arith, append_assoc, append-nil}
 use Rattle.std.specs.Prelude.{nat_eq, filter}
 use Rattle.std.specs.Option.{option_map}
 use Rattle.std.specs.Ordering.{nat_cmp, eq_by_cmp}
@@ -16,17 +16,19 @@ use Rattle.spool_types.specs.declared.effect.Effect.{Effect}
 use Rattle.spool_types.specs.declared.event.Event.{Event}
 use Rattle.spool_types.specs.declared.refusal.Refusal.{Refusal}
 use Rattle.spool_types.specs.declared.rows.QueueRow.{QueueRow}
+use Rattle.spool_types.specs.declared.version.Version.{Version}
 use Rattle.spool_types.specs.Busy.{is_of}
-use Rattle.spool_types.specs.State.{State, Job, nothing, queue_at, job_at}
+use Rattle.spool_types.specs.State.{State, Job, nothing_in, queue_at, job_at}
 use Rattle.job_table.specs.Apart.{whole_table, is_own_event, names_it, job_made, with_number, numbers_of, is_in, is_about, events_of, is_own, is_own_job, own_events, if_own}
 use Rattle.job_table.specs.Attempts.{ruled, rule_by, rule_found, lost_by, reopened, with_pages, with_effects}
-use Rattle.job_table.specs.Changes.{change_found, change_found_queue, change_job}
+use Rattle.job_table.specs.Changes.{at_moment, at_clock, change_found, change_found_queue, change_job}
 use Rattle.job_table.specs.Fold.{after_one, after_all, accepted, if_accepted, unless_refused}
 use Rattle.job_table.specs.Legal.{IsLegal}
 use Rattle.job_table.specs.Shapes.{Change, NewQueueRow, OfQueue, NewJobRow, OfJob, OfBoth, OfClock, OfAll, causes_of, made}
 use Rattle.job_table.specs.Step.{row, change_by, refusal_of, after, first_cause}
 use Rattle.job_table.proofs.Accepted.{accepted_new, job_found}
 use Rattle.job_table.proofs.Changes.{some_same, at_most_highest, change_queue_other, change_own_other, same_number, same_itself}
+use Rattle.job_table.proofs.Clocked.{at_queue, clock_job}
 use Rattle.job_table.proofs.Legal.{KeepsOrder, KeepsBy, Keeps, keeps_each, IsSound, sound, legal_nothing, legal_after_one, legal_effects}
 use Rattle.job_table.proofs.Reopened.{reopened_onward, reopened_counts}
 use Rattle.job_table.proofs.Rules.{ruled_queue}
@@ -86,6 +88,13 @@ reopened_owner s legal j = by_job (job_at s j) refl
           ∙ sym (ap (option_map (λ (r : Job). r.queue)) at)
     ]
 
+clock_owner : (s : State) (now j : ℕ) → owner (at_clock now s) j ≡ owner s j
+clock_owner s now j = ap (option_map (λ (r : Job). r.queue)) (clock_job s now j _ refl) ∙ by_job (job_at s j)
+  where
+    by_job : (o : Option Job) → option_map (λ (r : Job). r.queue) (option_map (at_moment now) o) ≡ option_map (λ (r : Job). r.queue) o
+    by_job None = refl
+    by_job (Some r) = ap Some (at_queue now r)
+
 queue_owner : (s : State) (name : List ℕ) (f : QueueRow → QueueRow) (j : ℕ) → owner (change_found_queue s name f (queue_at s name)) j ≡ owner s j
 queue_owner s name f j = ap (option_map (λ (r : Job). r.queue)) (change_queue_other s name f j (queue_at s name))
 
@@ -101,7 +110,7 @@ owner_made s legal (NewJobRow r) keeps fine j = ap (option_map (λ (x : Job). x.
 owner_made s legal (OfJob k f) keeps fine j = change_owner s k f (λ x. (fine.same x).queue) j
 owner_made s legal (OfBoth k None verdict) keeps fine j = rule_owner s legal k verdict j
 owner_made s legal (OfBoth k (Some effects) verdict) keeps fine j = rule_owner (with_effects s k effects) (legal_effects s k effects keeps legal) k verdict j ∙ effects_owner s k effects j
-owner_made s legal (OfClock m) keeps fine j = refl
+owner_made s legal (OfClock m) keeps fine j = clock_owner s (max s.moment m) j
 owner_made s legal OfAll keeps fine j = reopened_owner s legal j
 
 owner_after : (s : State) → IsLegal s → (e : Event) → Keeps e → refusal_of s e ≡ None → (j : ℕ) → owner (after s e) j ≡ owner_by (job_made (change_by e)) j (owner s j)
@@ -343,17 +352,17 @@ module _ (law : (effects : List Effect) → KeepsOrder effects) (name : List ℕ
   named_all [] = λ s old legal given. refl
   named_all (e ∷ es) = named_next e es (named_all es)
 
-  none_given : IsGiven [] nothing
-  none_given = record {
+  none_given : (v : Version) → IsGiven [] (nothing_in v)
+  none_given v = record {
     owners = λ j q at. absurd (never j q at);
     up = λ j among. absurd (cc);
   }
     where
-      never : (j : ℕ) (q : List ℕ) → owner nothing j ≡ Some q → ⊥
-      never j q at = let none : owner nothing j ≡ None = ap (option_map (λ (r : Job). r.queue)) (finite.get-empty nat_cmp j) in cc
+      never : (j : ℕ) (q : List ℕ) → owner (nothing_in v) j ≡ Some q → ⊥
+      never j q at = let none : owner (nothing_in v) j ≡ None = ap (option_map (λ (r : Job). r.queue)) (finite.get-empty nat_cmp j) in cc
 
-  pub named : (es : List Event) → own_events nothing name (accepted nothing es) ≡ events_of name (accepted nothing es)
-  named es = named_all es nothing [] legal_nothing none_given
+  pub named : (v : Version) (es : List Event) → own_events (nothing_in v) name (accepted (nothing_in v) es) ≡ events_of name (accepted (nothing_in v) es)
+  named v es = named_all es (nothing_in v) [] (legal_nothing v) (none_given v)
 
   -- ## The numbers after all events
 
@@ -377,18 +386,18 @@ module _ (law : (effects : List Effect) → KeepsOrder effects) (name : List ℕ
   ends [] = λ s old legal given. subst (λ js. IsGiven js s) (sym (append-nil old)) given
   ends (e ∷ es) = ends_next e es (ends es)
 
-  module _ (es : List Event) (legal : IsLegal (whole_table es)) where
+  module _ (v : Version) (es : List Event) (legal : IsLegal (whole_table v es)) where
     abbrev numbers : List ℕ
-    numbers = numbers_of name (accepted nothing es)
+    numbers = numbers_of name (accepted (nothing_in v) es)
 
-    given_all : IsGiven numbers (whole_table es)
-    given_all = ends es nothing [] legal_nothing none_given
+    given_all : IsGiven numbers (whole_table v es)
+    given_all = ends es (nothing_in v) [] (legal_nothing v) (none_given v)
 
     -- a job that is there is the queue's where its number was given to a job of it
-    pub own_number : (j : ℕ) (r : Job) → job_at (whole_table es) j ≡ Some r → is_in j numbers ≡ is_of name r
+    pub own_number : (j : ℕ) (r : Job) → job_at (whole_table v es) j ≡ Some r → is_in j numbers ≡ is_of name r
     own_number j r there = given_all.owners j r.queue (ap (option_map (λ (r : Job). r.queue)) there)
 
     -- an event that is accepted is the queue's in both ways
-    pub own_event : (e : Event) → refusal_of (whole_table es) e ≡ None → is_own (whole_table es) name e ≡ is_own_event es name e
+    pub own_event : (e : Event) → refusal_of (whole_table v es) e ≡ None → is_own (whole_table v es) name e ≡ is_own_event v es name e
     own_event e taken =
-        same_own (whole_table es) legal numbers [] given_all (λ j low. refl) e taken ∙ ap (λ js. is_about name js e) (append-nil numbers)
+        same_own (whole_table v es) legal numbers [] given_all (λ j low. refl) e taken ∙ ap (λ js. is_about name js e) (append-nil numbers)

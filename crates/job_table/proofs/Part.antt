@@ -1,6 +1,7 @@
 -- A queue's part of a table: what is put into both, or into the table alone, leaves it the part.
 use Rattle.std.proofs.Common.{◌≡◌, ℕ, ◌≤◌, Bool, true, false, cond, List, Some, None, Option, IsSome, refl, sym, ap, subst, ◌∙◌}
 use Rattle.std.specs.Prelude.{nat_eq}
+use Rattle.std.specs.Option.{option_map}
 use Rattle.std.specs.Ordering.{nat_cmp, eq_by_cmp}
 use Rattle.std.specs.Cmp.{nat_cmp_total}
 use Rattle.std.specs.Cmp.Lexicographic.{slice_cmp, nat_list_cmp_total, pointwise, bytes_decides}
@@ -12,8 +13,9 @@ use Rattle.spool_types.specs.declared.rows.QueueRow.{QueueRow}
 use Rattle.spool_types.specs.Busy.{is_of}
 use Rattle.spool_types.specs.State.{State, Job, queue_at, job_at}
 use Rattle.job_table.specs.Apart.{IsPart, own_of, is_own_job}
-use Rattle.job_table.specs.Changes.{change_found, change_job, change_found_queue, change_queue}
+use Rattle.job_table.specs.Changes.{at_moment, at_clock, change_found, change_job, change_found_queue, change_queue}
 use Rattle.job_table.proofs.Changes.{same_number}
+use Rattle.job_table.proofs.Clocked.{at_queue, clock_job}
 
 -- what is so of two values is so of two that equal them
 pub of_both : {X : Type 0} (P : X → X → Type 0) (a b c d : X) → a ≡ c → b ≡ d → P c d → P a b
@@ -78,10 +80,10 @@ module _ (name : List ℕ) where
         either false same = part.jobs k
 
     pub part_put : (j : ℕ) (x : Job) (h g : ℕ) → g ≤ h → is_of name x ≡ true → IsPart name (record s { jobs = finite.insert s.jobs j x; highest = h }) (record t { jobs = finite.insert t.jobs j x; highest = g })
-    part_put j x h g most own = record { queue = part.queue; only = part.only; jobs = put_both j x own; moment = part.moment; highest = most }
+    part_put j x h g most own = record { queue = part.queue; only = part.only; jobs = put_both j x own; moment = part.moment; version = part.version; highest = most }
 
     pub part_put_other : (j : ℕ) (x : Job) (h : ℕ) → t.highest ≤ h → own_of name (job_at s j) ≡ None → is_of name x ≡ false → IsPart name (record s { jobs = finite.insert s.jobs j x; highest = h }) t
-    part_put_other j x h most before other = record { queue = part.queue; only = part.only; jobs = put_one j x before other; moment = part.moment; highest = most }
+    part_put_other j x h most before other = record { queue = part.queue; only = part.only; jobs = put_one j x before other; moment = part.moment; version = part.version; highest = most }
 
     -- ## Queues
 
@@ -94,6 +96,7 @@ module _ (name : List ℕ) where
       only = λ other there. either other (eq_by_cmp (slice_cmp nat_cmp) other name) refl (subst IsSome (finite.get-insert nat_list_cmp_total t.queues name x other) there);
       jobs = part.jobs;
       moment = part.moment;
+      version = part.version;
       highest = part.highest;
     }
       where
@@ -110,8 +113,33 @@ module _ (name : List ℕ) where
       only = part.only;
       jobs = part.jobs;
       moment = part.moment;
+      version = part.version;
       highest = part.highest;
     }
+
+    -- ## The clock
+
+    pub part_clock : (m n : ℕ) → n ≡ m → IsPart name (at_clock m s) (at_clock n t)
+    part_clock m n same = record {
+      queue = part.queue;
+      only = part.only;
+      jobs = λ j.
+          clock_job t n j _ (part.jobs j)
+          ∙ ap (λ k. option_map (at_moment k) (own_of name (job_at s j))) same
+          ∙ own_at m (job_at s j)
+          ∙ sym (ap (own_of name) (clock_job s m j _ refl));
+      moment = same;
+      version = part.version;
+      highest = part.highest;
+    }
+      where
+        own_at : (now : ℕ) (o : Option Job) → option_map (at_moment now) (own_of name o) ≡ own_of name (option_map (at_moment now) o)
+        own_at now None = refl
+        own_at now (Some r) = either (is_of name r) refl
+          where
+            either : (b : Bool) → is_of name r ≡ b → option_map (at_moment now) (cond b (Some r) None) ≡ own_of name (Some (at_moment now r))
+            either true own = sym (own_some (at_moment now r) (own_queue r (at_moment now r) (at_queue now r) true own))
+            either false other = sym (own_none (at_moment now r) (own_queue r (at_moment now r) (at_queue now r) false other))
 
     -- ## Changes
 

@@ -215,6 +215,7 @@ module _ (name : List ℕ) (s t : State) (part : IsPart name s t) (legal : IsLeg
     only = λ other there. by_queue other (queue_at t other) refl there;
     jobs = reopened_job;
     moment = (reopened_counts t).1 ∙ part.moment ∙ sym (reopened_counts s).1;
+    version = (reopened_counts t).2 ∙ part.version ∙ sym (reopened_counts s).2;
     highest = let whole = (reopened_counts s).0 in let own = (reopened_counts t).0 in let most = part.highest in omega (arith, whole, own, most);
   }
     where

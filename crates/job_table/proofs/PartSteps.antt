@@ -12,7 +12,7 @@ use Rattle.spool_types.specs.declared.event.Event.{Event}
 use Rattle.spool_types.specs.declared.event.Event.TheVariants.{Send, Close, Hold, Release, Start, Stage, Abandon}
 use Rattle.spool_types.specs.declared.event.Reply.TheVariants.{Size, Phase as PhaseNow}
 use Rattle.spool_types.specs.declared.refusal.Refusal.{Refusal}
-use Rattle.spool_types.specs.declared.refusal.Refusal.TheVariants.{NoQueue, QueueExists, TooManyQueues, NotAccepting, NoJob, NotIncoming, TooLong, OldNumber, NoNumberLeft, JobEnded, NotWaiting, NotNext, NotProcessing, WrongStage, NotHeld}
+use Rattle.spool_types.specs.declared.refusal.Refusal.TheVariants.{NoQueue, QueueExists, TooManyQueues, NotAccepting, NoJob, NotIncoming, TooLong, OldNumber, NoNumberLeft, JobEnded, NotWaiting, NotNext, NotProcessing, WrongStage, NotHeld, NeedsCheckpoint}
 use Rattle.spool_types.specs.declared.rows.QueueRow.{QueueRow}
 use Rattle.spool_types.specs.Busy.{is_of}
 use Rattle.spool_types.specs.Limits.{most_queues, longest_document, greatest_number}
@@ -24,13 +24,13 @@ use Rattle.job_table.specs.Changes.{change_job}
 use Rattle.job_table.specs.Ended.{IsAbout, subject}
 use Rattle.job_table.specs.Fold.{after_one, unless_refused}
 use Rattle.job_table.specs.Legal.{IsLegal}
-use Rattle.job_table.specs.Shapes.{Change, NewQueueRow, OfQueue, NewJobRow, OfJob, OfBoth, OfClock, OfAll, IsOfOne, subject_of, causes_of, made, where_it, passes, about_queue, about_job}
+use Rattle.job_table.specs.Shapes.{Change, NewQueueRow, OfQueue, NewJobRow, OfJob, OfBoth, OfClock, OfAll, IsOfOne, subject_of, causes_of, made, lacks_by, where_it, passes, about_queue, about_job}
 use Rattle.job_table.specs.Step.{row, change_by, refusal_of, after, reply_to, answer_to, unless_refused_reply, first_cause, phase_found, size_found}
 use Rattle.job_table.proofs.Accepted.{none_first, accepted_new, queue_absent}
 use Rattle.job_table.proofs.Changes.{not_both, changed_there}
 use Rattle.job_table.proofs.Ended.{number_of}
 use Rattle.job_table.proofs.Legal.{KeepsBy, Keeps, IsSound, sound, legal_effects}
-use Rattle.job_table.proofs.Part.{of_both, own_job, own_queue, same_name, part_there, part_queue, part_put, part_put_other, part_named, part_named_other, part_change, part_change_other, part_change_queue, part_change_queue_other}
+use Rattle.job_table.proofs.Part.{of_both, own_job, own_queue, same_name, part_there, part_queue, part_put, part_put_other, part_named, part_named_other, part_clock, part_change, part_change_other, part_change_queue, part_change_queue_other}
 use Rattle.job_table.proofs.PartLoss.{HasOwn, part_rule, part_rule_other, rule_own, effects_own, part_effects, part_effects_other, part_reopened}
 use Rattle.job_table.proofs.PartNext.{same_next}
 
@@ -129,15 +129,17 @@ module _ (name : List ℕ) (s t : State) (part : IsPart name s t) (legal : IsLeg
       ∙ ap first_cause same
       ∙ two.1
   accepted_by (NewJobRow r) a b own same accepted =
-      let one = none_first (is_none (queue_at s r.queue)) NoQueue (where_it (queue_at s r.queue) (λ q. not q.accepting) NotAccepting ∷ (nat_le greatest_number s.highest, NoNumberLeft) ∷ (nat_le r.id s.highest, OldNumber) ∷ b) accepted in
+      let zero = none_first (lacks_by s.version r.by) NeedsCheckpoint (about_queue s r.queue (where_it (queue_at s r.queue) (λ q. not q.accepting) NotAccepting ∷ (nat_le greatest_number s.highest, NoNumberLeft) ∷ (nat_le r.id s.highest, OldNumber) ∷ b)) accepted in
+      let one = none_first (is_none (queue_at s r.queue)) NoQueue (where_it (queue_at s r.queue) (λ q. not q.accepting) NotAccepting ∷ (nat_le greatest_number s.highest, NoNumberLeft) ∷ (nat_le r.id s.highest, OldNumber) ∷ b) zero.1 in
       let two = none_first (passes (λ q. not q.accepting) (queue_at s r.queue)) NotAccepting ((nat_le greatest_number s.highest, NoNumberLeft) ∷ (nat_le r.id s.highest, OldNumber) ∷ b) one.1 in
       let three = none_first (nat_le greatest_number s.highest) NoNumberLeft ((nat_le r.id s.highest, OldNumber) ∷ b) two.1 in
       let four = none_first (nat_le r.id s.highest) OldNumber b three.1 in
-      ap (λ o. first_cause ((is_none o, NoQueue) ∷ where_it o (λ (q : QueueRow). not q.accepting) NotAccepting ∷ (nat_le greatest_number t.highest, NoNumberLeft) ∷ (nat_le r.id t.highest, OldNumber) ∷ a)) (part_queue name s t part r.queue own)
+      further (lacks_by t.version r.by) NeedsCheckpoint (about_queue t r.queue (where_it (queue_at t r.queue) (λ q. not q.accepting) NotAccepting ∷ (nat_le greatest_number t.highest, NoNumberLeft) ∷ (nat_le r.id t.highest, OldNumber) ∷ a)) (ap (λ v. lacks_by v r.by) part.version ∙ zero.0)
+      (ap (λ o. first_cause ((is_none o, NoQueue) ∷ where_it o (λ (q : QueueRow). not q.accepting) NotAccepting ∷ (nat_le greatest_number t.highest, NoNumberLeft) ∷ (nat_le r.id t.highest, OldNumber) ∷ a)) (part_queue name s t part r.queue own)
       ∙ further (is_none (queue_at s r.queue)) NoQueue (where_it (queue_at s r.queue) (λ q. not q.accepting) NotAccepting ∷ (nat_le greatest_number t.highest, NoNumberLeft) ∷ (nat_le r.id t.highest, OldNumber) ∷ a) one.0
       (further (passes (λ q. not q.accepting) (queue_at s r.queue)) NotAccepting ((nat_le greatest_number t.highest, NoNumberLeft) ∷ (nat_le r.id t.highest, OldNumber) ∷ a) two.0
       (further (nat_le greatest_number t.highest) NoNumberLeft ((nat_le r.id t.highest, OldNumber) ∷ a) (below_too greatest_number t.highest s.highest part.highest three.0)
-      (further (nat_le r.id t.highest) OldNumber a (below_too r.id t.highest s.highest part.highest four.0) (ap first_cause same ∙ four.1))))
+      (further (nat_le r.id t.highest) OldNumber a (below_too r.id t.highest s.highest part.highest four.0) (ap first_cause same ∙ four.1)))))
   accepted_by (OfQueue k f) a b own same accepted = ap first_cause (same_causes (OfQueue k f) a b tt own same) ∙ accepted
   accepted_by (OfJob j f) a b own same accepted = ap first_cause (same_causes (OfJob j f) a b tt own same) ∙ accepted
   accepted_by (OfBoth j effects verdict) a b own same accepted = ap first_cause (same_causes (OfBoth j effects verdict) a b tt own same) ∙ accepted
@@ -162,7 +164,7 @@ module _ (name : List ℕ) (s t : State) (part : IsPart name s t) (legal : IsLeg
       let found = own_job name (job_at s j) own in
       part_rule name (with_effects s j effects) (with_effects t j effects) (part_effects name s t part j effects found.0 found.1 found.2)
       (legal_effects s j effects keeps legal) j verdict _ (effects_own name s t part j effects found.0 found.1) found.2
-  part_by (OfClock m) keeps fine own = record { queue = part.queue; only = part.only; jobs = part.jobs; moment = ap (λ n. max n m) part.moment; highest = part.highest }
+  part_by (OfClock m) keeps fine own = part_clock name s t part (max s.moment m) (max t.moment m) (ap (λ n. max n m) part.moment)
   part_by OfAll keeps fine own = part_reopened name s t part legal legal_part
 
   part_after : (e : Event) → Keeps e → is_own s name e ≡ true → refusal_of s e ≡ None → IsPart name (after s e) (after t e)

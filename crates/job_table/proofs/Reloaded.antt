@@ -230,15 +230,15 @@ module _ (s : State) (legal : IsLegal s) (documents : ℕ → List ℕ) (fit : A
   queues_lead [] m split = subst (λ queues. Leads (whole_at (of_queues m)) [] (whole_at (of_queues queues))) (finite.same_entries_map m s.queues (sym (append_none (finite.entries m)) ∙ split)) (leads_none (whole_at (of_queues m)))
   queues_lead (e ∷ todo) m split = one_queue m e todo split (map (λ q. Queue q) (map (λ e. e.1) todo)) (whole_at (of_queues s.queues)) (queues_lead todo (finite.insert m e.0 e.1) (next_queues m e todo split))
 
-  listing_leads : s.highest ≤ greatest_number → Leads begin_loading (listing s documents) (whole_at s)
+  listing_leads : s.highest ≤ greatest_number → Leads (begin_loading s.version) (listing s documents) (whole_at s)
   listing_leads within =
-      leads_one begin_loading (HeadRow (record { highest = s.highest; moment = s.moment })) (map (λ q. Queue q) (finite.values s.queues) ++ flat_map (λ r. job_rows r (documents r.id)) (finite.values s.jobs)) (whole_at s) (record { first = refl; highest = within })
+      leads_one (begin_loading s.version) (HeadRow (record { highest = s.highest; moment = s.moment })) (map (λ q. Queue q) (finite.values s.queues) ++ flat_map (λ r. job_rows r (documents r.id)) (finite.values s.jobs)) (whole_at s) (record { first = refl; highest = within })
       (leads_then (whole_at (of_queues finite.empty)) (map (λ q. Queue q) (finite.values s.queues)) (flat_map (λ r. job_rows r (documents r.id)) (finite.values s.jobs)) (whole_at (of_queues s.queues)) (whole_at s)
       (queues_lead (finite.entries s.queues) finite.empty (ap (λ es. es ++ finite.entries s.queues) (entries_none (slice_cmp nat_cmp))))
       (jobs_lead (finite.entries s.jobs) finite.empty (ap (λ es. es ++ finite.entries s.jobs) (entries_none nat_cmp))))
 
 -- the listing of a legal table makes that table
-pub listed_again : (s : State) (documents : ℕ → List ℕ) → IsLegal s → s.highest ≤ greatest_number → AreDocuments s documents → ArePlaced begin_loading (listing s documents) × IsWhole (loaded_all begin_loading (listing s documents)) × ((loaded_all begin_loading (listing s documents)).state ≡ s)
+pub listed_again : (s : State) (documents : ℕ → List ℕ) → IsLegal s → s.highest ≤ greatest_number → AreDocuments s documents → ArePlaced (begin_loading s.version) (listing s documents) × IsWhole (loaded_all (begin_loading s.version) (listing s documents)) × ((loaded_all (begin_loading s.version) (listing s documents)).state ≡ s)
 listed_again s documents legal within fit =
     let leads = listing_leads s legal documents fit within in
     (leads.placed, ap (λ (p : Progress). p.partial) leads.is, ap (λ (p : Progress). p.state) leads.is)

@@ -1,6 +1,6 @@
 -- Where jobs stand in the lanes of their queues, and the lanes after a change.
-use Rattle.std.proofs.Common.{◌≡◌, ℕ, zero, suc, ◌+◌, ◌<◌, ◌≤◌, ◌⊎◌, inl, inr, Bool, true, false, cond, List, [], ◌∷◌, length, get_or, set, Option, Some, None, IsSome, refl, sym, ap, subst, ◌∙◌, arith}
-use Rattle.std.specs.List.{insert, AllByRecursion}
+use Rattle.std.proofs.Common.{◌≡◌, ℕ, zero, suc, ◌+◌, ◌<◌, ◌≤◌, ◌⊎◌, inl, inr, Bool, true, false, cond, List, [], length, get_or, set, Option, Some, None, IsSome, refl, sym, ap, subst, ◌∙◌, arith}
+use Rattle.std.specs.List.{insert}
 use Rattle.std.specs.Cmp.Lexicographic.{bytes_decides}
 use Rattle.std.specs.FinMap as finite
 use Rattle.std.proofs.lemmas.Bool.{cases_eq, cases_lt}
@@ -29,6 +29,7 @@ use Rattle.spool_types.specs.declared.refusal.Refusal.{Refusal}
 use Rattle.job_table.proofs.Accepted.{job_found}
 use Rattle.job_table.proofs.Changes.{some_same}
 use Rattle.job_table.proofs.Ended.{number_of, refused_and_not, refused_as_ended}
+use Rattle.job_table.proofs.Lanes.{no_more}
 use Rattle.job_table.proofs.Legal.{KeepsOrder, keeps_each, legal_after}
 use Rattle.job_table.proofs.Moves.{Moves, Stays, moves}
 use Rattle.job_table.proofs.Tables.{needed_and_not}
@@ -119,14 +120,10 @@ lane_as old new lane same is = record {
   listed = λ k e waits. is.listed k e (sym (same k) ∙ waits);
   processing = λ k at. same k ∙ is.processing k at;
   found = λ k at. is.found k (sym (same k) ∙ at);
-  live = λ js differ all. is.live js differ (alike js all);
+  live = no_more (λ k. is_live (old k)) (λ k. is_live (new k)) lane.live is.live (λ k alive. sym (ap is_live (same k)) ∙ alive);
   room = is.room;
   reserved = is.reserved;
 }
-  where
-    alike : (js : List ℕ) → AllByRecursion (λ j. is_live (new j) ≡ true) js → AllByRecursion (λ j. is_live (old j) ≡ true) js
-    alike [] all = tt
-    alike (j ∷ js) all = (sym (ap is_live (same j)) ∙ all.0, alike js all.1)
 
 -- ## Lists beside one another
 

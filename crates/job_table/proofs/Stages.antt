@@ -1,5 +1,5 @@
 -- A stage that is spent stays spent, and one that is left is spent.
-use Rattle.std.proofs.Common.{◌≡◌, ◌⊎◌, inl, inr, ℕ, ◌+◌, ◌≤◌, ◌==◌, Bool, true, false, cond, List, [], ◌∷◌, Some, None, Option, IsSome, refl, sym, ap, subst, ◌∙◌, arith}
+use Rattle.std.proofs.Common.{◌≡◌, ◌⊎◌, inl, inr, ℕ, ◌+◌, ◌≤◌, ◌==◌, Bool, true, false, cond, max, List, [], ◌∷◌, Some, None, Option, IsSome, refl, sym, ap, subst, ◌∙◌, arith}
 use Rattle.std.specs.Prelude.{nat_le}
 use Rattle.std.specs.Ordering.{nat_cmp, eq_by_cmp}
 use Rattle.std.specs.Cmp.{nat_cmp_total}
@@ -7,7 +7,7 @@ use Rattle.std.specs.FinMap as finite
 use Rattle.std.proofs.lemmas.Bool.Decides.{nat_tests}
 use Rattle.std.proofs.lemmas.Bool.{and_parts, both_ways}
 use Rattle.job_table.specs.Attempts.{is_in_stage, next_stage, rule, ruled, with_pages, with_effects, rule_by, rule_found, stage_verdict, lost_by, reopened}
-use Rattle.job_table.specs.Changes.{change_found, change_found_queue, change_job, change_own_queue}
+use Rattle.job_table.specs.Changes.{at_moment, change_found, change_found_queue, change_job, change_own_queue}
 use Rattle.job_table.specs.Fold.{after_all, after_one, unless_refused}
 use Rattle.job_table.specs.Legal.{IsLegal, Fits}
 use Rattle.job_table.specs.Stages.{Key, key_of, IsUpTo, IsSpentOf, IsSpentBy, IsSpent, IsIn}
@@ -28,6 +28,7 @@ use Rattle.backend_codes.specs.declared.verdicts.Verdict.{Verdict}
 use Rattle.backend_codes.specs.declared.verdicts.Verdict.TheVariants as verdicts
 use Rattle.job_table.proofs.Accepted.{accepted_new, job_there, accepted_stage}
 use Rattle.job_table.proofs.Changes.{not_both, at_most_highest, same_itself, same_number, some_same, change_queue_other, change_own_other}
+use Rattle.job_table.proofs.Clocked.{at_either, clock_job}
 use Rattle.job_table.proofs.Ended.{unchanged, below_number}
 use Rattle.job_table.proofs.Follows.{Follows, in_place, ruled_follows}
 use Rattle.job_table.proofs.Legal.{IsSound, sound, KeepsOrder, KeepsBy, Keeps, keeps_each, legal_effects, legal_after, legal_after_one}
@@ -109,7 +110,9 @@ module _ (s : State) (j : ℕ) (r : Job) (there : job_at s j ≡ Some r) (legal 
       let found = folded s j r there k effects in
       alike_then j (made s (OfBoth k (Some effects) verdict)) r found.0 found.2
       (verdict_on (with_effects s k effects) j found.0 found.1 (legal_effects s k effects keeps legal) k verdict _ refl)
-  goes_on_by (OfClock m) own keeps sound accepted = found_same s (made s (OfClock m)) j r there refl
+  goes_on_by (OfClock m) own keeps sound accepted =
+      let now = max s.moment m in
+      (at_moment now r, clock_job s now j _ there, at_either (Follows r.attempts r.phase) now r (in_place r) (λ late. inl refl))
   goes_on_by OfAll own keeps sound accepted = lost s j r there legal (is_processing r.phase) refl
 
   goes_on : (e : Event) → Keeps e → refusal_of s e ≡ None → IsFollowed j r.attempts r.phase (after s e)
@@ -182,7 +185,7 @@ module _ (s : State) (j : ℕ) (none : job_at s j ≡ None) (given : j ≤ s.hig
       let first = absent_folded s j none k effects in
       absent_then s (with_effects s k effects) (made s (OfBoth k (Some effects) verdict)) j first
       (absent_ruled (with_effects s k effects) j first.absent (legal_effects s k effects keeps legal) k verdict _ refl)
-  absent_by (OfClock m) own keeps accepted = absent_same s (made s (OfClock m)) j none refl refl
+  absent_by (OfClock m) own keeps accepted = record { highest = omega arith; absent = clock_job s (max s.moment m) j _ none }
   absent_by OfAll own keeps accepted = absent_same s (reopened s) j none (sym (reopened_counts s).0) ((reopened_onward s legal).absent j none ∙ sym none)
 
   pub stays_absent : (e : Event) → Keeps e → refusal_of s e ≡ None → IsStillAbsent s (after s e) j

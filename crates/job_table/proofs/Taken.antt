@@ -13,6 +13,7 @@ use Rattle.std.specs.Cmp.Lexicographic.{slice_cmp, nat_list_cmp_total}
 use Rattle.std.specs.FinMap as finite
 use Rattle.spool_types.specs.State.{State, Job, job_at}
 use Rattle.spool_types.specs.declared.rows.QueueRow.{QueueRow}
+use Rattle.spool_types.specs.declared.version.Version.{Version}
 use Rattle.spool_types.specs.declared.listing.Head.{Head}
 use Rattle.spool_types.specs.declared.listing.Row.{Row}
 use Rattle.spool_types.specs.declared.listing.Row.TheVariants.{Head as HeadRow, Queue, Job as JobRow, Piece}
@@ -205,10 +206,10 @@ some_begun p rows taken some = either p.begun refl
     either false e = absurd (some (taken.are ∙ ap (λ b. cond b (listing p.state taken.documents ++ partial_rows p.partial taken.bytes) []) e))
 
 -- nothing else is taken
-pub only_listings : (rows : List Row) → ArePlaced begin_loading rows → IsWhole (loaded_all begin_loading rows) → rows ≢ [] →
-    IsLegal (loaded_all begin_loading rows).state × ((documents : ℕ → List ℕ) × AreDocuments (loaded_all begin_loading rows).state documents × (rows ≡ listing (loaded_all begin_loading rows).state documents))
-only_listings rows placed whole some =
-    let none : AreTaken begin_loading [] = record { documents = λ j. []; bytes = []; fit = λ j r there. absurd (not_both _ r (finite.get-empty nat_cmp j) there); come = tt; are = refl } in
-    let taken = all_taken rows begin_loading placed reading_begin [] none in
-    let begun = some_begun (loaded_all begin_loading rows) rows taken some in
-    ((reading_all rows begin_loading placed reading_begin).legal, (taken.documents, taken.fit, taken.are ∙ rows_whole (loaded_all begin_loading rows) taken.documents taken.bytes begun whole))
+pub only_listings : (v : Version) (rows : List Row) → ArePlaced (begin_loading v) rows → IsWhole (loaded_all (begin_loading v) rows) → rows ≢ [] →
+    IsLegal (loaded_all (begin_loading v) rows).state × ((documents : ℕ → List ℕ) × AreDocuments (loaded_all (begin_loading v) rows).state documents × (rows ≡ listing (loaded_all (begin_loading v) rows).state documents))
+only_listings v rows placed whole some =
+    let none : AreTaken (begin_loading v) [] = record { documents = λ j. []; bytes = []; fit = λ j r there. absurd (not_both _ r (finite.get-empty nat_cmp j) there); come = tt; are = refl } in
+    let taken = all_taken rows (begin_loading v) placed (reading_begin v) [] none in
+    let begun = some_begun (loaded_all (begin_loading v) rows) rows taken some in
+    ((reading_all rows (begin_loading v) placed (reading_begin v)).legal, (taken.documents, taken.fit, taken.are ∙ rows_whole (loaded_all (begin_loading v) rows) taken.documents taken.bytes begun whole))

@@ -4,8 +4,9 @@ use Rattle.std.specs.Cmp.Lexicographic.{pointwise}
 use Rattle.std.specs.List.{list_any}
 use Rattle.spool_types.specs.declared.event.Event.{Event}
 use Rattle.spool_types.specs.declared.rows.QueueRow.{QueueRow}
+use Rattle.spool_types.specs.declared.version.Version.{Version}
 use Rattle.spool_types.specs.Busy.{is_of}
-use Rattle.spool_types.specs.State.{State, Job, nothing, queue_at, job_at}
+use Rattle.spool_types.specs.State.{State, Job, nothing_in, queue_at, job_at}
 use Rattle.job_table.specs.Fold.{after_one, after_all, accepted}
 use Rattle.job_table.specs.Shapes.{Change, NewQueueRow, OfQueue, NewJobRow, OfJob, OfBoth, OfClock, OfAll}
 use Rattle.job_table.specs.Step.{change_by}
@@ -31,6 +32,7 @@ pub record IsPart (name : List ℕ) (s t : State) : Type 0 where
   pub only : (other : List ℕ) → IsSome (queue_at t other) → other ≡ name
   pub jobs : (j : ℕ) → job_at t j ≡ own_of name (job_at s j)
   pub moment : t.moment ≡ s.moment
+  pub version : t.version ≡ s.version
   pub highest : t.highest ≤ s.highest
 
 -- ## The events
@@ -73,15 +75,15 @@ events_of name es = filter (is_about name (numbers_of name es)) es
 -- ## Apart
 
 -- the table after a list of events, and the one after those of them that are the queue's own
-abbrev pub whole_table : List Event → State
-whole_table es = after_all nothing (accepted nothing es)
+abbrev pub whole_table : Version → List Event → State
+whole_table version es = after_all (nothing_in version) (accepted (nothing_in version) es)
 
-abbrev pub own_table : List Event → List ℕ → State
-own_table es name = after_all nothing (events_of name (accepted nothing es))
+abbrev pub own_table : Version → List Event → List ℕ → State
+own_table version es name = after_all (nothing_in version) (events_of name (accepted (nothing_in version) es))
 
 -- the event names the queue, or a job that was given to it, or is of every queue
-abbrev pub is_own_event : List Event → List ℕ → Event → Bool
-is_own_event es name e = is_about name (numbers_of name (accepted nothing es)) e
+abbrev pub is_own_event : Version → List Event → List ℕ → Event → Bool
+is_own_event version es name e = is_about name (numbers_of name (accepted (nothing_in version) es)) e
 
 -- ## From any table on
 

@@ -1,8 +1,10 @@
 -- What the fields of a table mean.
-use Rattle.std.specs.Prelude.{◌-◌, min, vec_len, vec_capacity}
+use Rattle.std.specs.Prelude.{◌+◌, ◌-◌, ◌≤◌, min, vec_len, vec_capacity}
 use Rattle.job_table.specs.Contents.{Contents}
 use Rattle.job_table.specs.Lanes.{AreLanes}
 use Rattle.job_table.specs.Legal.{IsLegal}
+use Rattle.job_table.specs.Timely.{IsTimely}
+use Rattle.spool_types.specs.State.{job_at}
 use Rattle.job_table.specs.declared.table.Table.TheInside.{Inside}
 
 abbrev pub table_of : Inside → Contents
@@ -16,7 +18,10 @@ table_of a = record {
   moves = a.new_places;
 }
 
--- each queue has its lane, which has room for all of the queue's jobs that haven't ended and for the new ones
+-- each queue has its lane, which has room for all of the queue's jobs that haven't ended and for the new ones; the timetable is
+-- that of the jobs, and has room for the new ones too
 pub record IsInLanes (a : Inside) : Type 0 where
   pub legal : IsLegal a.store.state
   pub lanes : AreLanes a.store.state a.vacant a.lanes.items
+  pub timely : IsTimely (job_at a.store.state) a.timetable
+  pub spare : a.timetable.timed + a.vacant ≤ a.timetable.deadlines.room

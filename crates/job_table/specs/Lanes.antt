@@ -46,9 +46,13 @@ abbrev pub AllDiffer : List ℕ → Type 0
 AllDiffer [] = Unit {0}
 AllDiffer (j ∷ js) = AllByRecursion (λ k. ¬ (k ≡ j)) js × AllDiffer js
 
+-- no more than so many numbers pass
+abbrev pub AtMost : (ℕ → Bool) → ℕ → Type 0
+AtMost p n = (js : List ℕ) → AllDiffer js → AllByRecursion (λ j. p j ≡ true) js → length js ≤ n
+
 -- no more than so many jobs haven't ended
 abbrev pub AtMostLive : (ℕ → Standing) → ℕ → Type 0
-AtMostLive seats n = (js : List ℕ) → AllDiffer js → AllByRecursion (λ j. is_live (seats j) ≡ true) js → length js ≤ n
+AtMostLive seats n = AtMost (λ j. is_live (seats j)) n
 
 -- the lane is that of the jobs that stand so
 pub record IsLane (seats : ℕ → Standing) (lane : Lane) : Type 0 where

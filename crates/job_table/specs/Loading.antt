@@ -10,8 +10,9 @@ use Rattle.extents.specs.declared.extent.Extent.{Extent}
 use Rattle.spool_types.specs.Busy.{is_busy}
 use Rattle.spool_types.specs.Limits.{most_queues, longest_document, longest_send, greatest_number}
 use Rattle.spool_types.specs.Phases.{is_processing}
-use Rattle.spool_types.specs.State.{State, Job, nothing, queue_at}
+use Rattle.spool_types.specs.State.{State, Job, nothing_in, queue_at}
 use Rattle.spool_types.specs.declared.rows.QueueRow.{QueueRow}
+use Rattle.spool_types.specs.declared.version.Version.{Version}
 use Rattle.spool_types.specs.declared.listing.Head.{Head}
 use Rattle.spool_types.specs.declared.listing.Row.{Row}
 use Rattle.spool_types.specs.declared.listing.Row.TheVariants.{Head as HeadRow, Queue, Job as JobRow, Piece}
@@ -36,8 +37,8 @@ pub record Loaded : Type 0 where
   pub progress : Progress
   pub places : List (ℕ × List Extent)
 
-abbrev pub begin_loading : Progress
-begin_loading = record { state = nothing; begun = false; partial = None }
+abbrev pub begin_loading : Version → Progress
+begin_loading version = record { state = nothing_in version; begun = false; partial = None }
 
 -- no document is short
 abbrev pub IsWhole : Progress → Type 0
@@ -49,8 +50,8 @@ IsWhole p = p.partial ≡ None
 abbrev pub begun_part : Job → Part
 begun_part r = record { row = r; read = 0 }
 
-abbrev pub headed : Head → State
-headed head = record nothing { highest = head.highest; moment = head.moment }
+abbrev pub headed : Version → Head → State
+headed version head = record (nothing_in version) { highest = head.highest; moment = head.moment }
 
 abbrev pub with_queue : State → QueueRow → State
 with_queue s q = record s { queues = finite.insert s.queues q.name q }
@@ -71,7 +72,7 @@ with_next_piece p bytes (Some x) = with_last p (with_piece bytes x)
 
 -- the rows so far and this one, where it may come next
 abbrev pub loaded : Progress → Row → Progress
-loaded p (HeadRow head) = record { state = headed head; begun = true; partial = None }
+loaded p (HeadRow head) = record { state = headed p.state.version head; begun = true; partial = None }
 loaded p (Queue q) = record p { state = with_queue p.state q }
 loaded p (JobRow r) = with_last p (begun_part r)
 loaded p (Piece j bytes) = with_next_piece p bytes p.partial

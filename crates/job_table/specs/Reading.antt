@@ -6,7 +6,7 @@ use Rattle.extents.specs.Extents.{size_of}
 use Rattle.spool_types.specs.Limits.{longest_send}
 use Rattle.spool_types.specs.Phases.{has_ended}
 use Rattle.spool_types.specs.Sent.{with_placed, extent_behind, piece_of}
-use Rattle.spool_types.specs.State.{State, nothing}
+use Rattle.spool_types.specs.State.{State, nothing_in}
 use Rattle.spool_types.specs.declared.listing.Row.{Row}
 use Rattle.job_table.specs.Contents.{places_of}
 use Rattle.job_table.specs.Legal.{IsLegal}
@@ -46,7 +46,7 @@ IsPartialIn s (Some x) = IsPartial s x
 
 -- nothing was read
 pub record IsFresh (p : Progress) : Type 0 where
-  pub state : p.state ≡ nothing
+  pub state : p.state ≡ nothing_in p.state.version
   pub whole : p.partial ≡ None
 
 -- the table is legal, and the job that is still to come into it may do so

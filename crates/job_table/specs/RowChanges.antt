@@ -3,6 +3,7 @@ use Rattle.std.specs.Prelude.{◌≡◌, ℕ, true, None}
 use Rattle.spool_types.specs.Phases.{has_ended}
 use Rattle.spool_types.specs.State.{State, Job}
 use Rattle.spool_types.specs.declared.event.Event.{Event}
+use Rattle.spool_types.specs.declared.event.Event.TheVariants.{Clock, Reopen}
 use Rattle.job_table.specs.Changes.{closed, ended, held}
 use Rattle.job_table.specs.Shapes.{OfJob}
 use Rattle.job_table.specs.Step.{change_by, refusal_of}
@@ -25,3 +26,9 @@ pub record IsAsked (s : State) (j : ℕ) (change : RowChange) : Type 0 where
   pub event : Event
   pub accepted : refusal_of s event ≡ None
   pub changes : change_by event ≡ OfJob j (meant change)
+
+-- it changes rows at once, and not one after another as the clock and a reopening do
+abbrev pub IsOfRows : Event → Type 0
+IsOfRows (Clock m) = ⊥
+IsOfRows Reopen = ⊥
+IsOfRows event = Unit {0}

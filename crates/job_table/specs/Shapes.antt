@@ -1,16 +1,18 @@
 -- Shapes of change: what an event changes, and the causes of refusal that go with it. A row an event is in `Step`.
-use Rattle.std.specs.Prelude.{ℕ, Bool, false, not, List, ◌∷◌, max, nat_le, Option, None, Some, is_none, is_some}
+use Rattle.std.specs.Prelude.{ℕ, Bool, true, false, not, List, ◌∷◌, max, nat_le, Option, None, Some, is_none, is_some}
 use Rattle.std.specs.FinMap as map
 use Rattle.spool_types.specs.declared.effect.Effect.{Effect}
 use Rattle.spool_types.specs.declared.refusal.Refusal.{Refusal}
-use Rattle.spool_types.specs.declared.refusal.Refusal.TheVariants.{NoQueue, QueueExists, TooManyQueues, NotAccepting, NoJob, OldNumber, NoNumberLeft, JobEnded}
+use Rattle.spool_types.specs.declared.refusal.Refusal.TheVariants.{NoQueue, QueueExists, TooManyQueues, NotAccepting, NoJob, OldNumber, NoNumberLeft, JobEnded, NeedsCheckpoint}
 use Rattle.spool_types.specs.declared.rows.QueueRow.{QueueRow}
+use Rattle.spool_types.specs.declared.version.Version.{Version}
+use Rattle.spool_types.specs.declared.version.Version.TheVariants.{One, Two}
 use Rattle.backend_codes.specs.declared.verdicts.Verdict.{Verdict}
 use Rattle.spool_types.specs.Limits.{most_queues, greatest_number}
 use Rattle.spool_types.specs.Phases.{has_ended}
 use Rattle.spool_types.specs.State.{State, Job, queue_at, job_at}
 use Rattle.job_table.specs.Attempts.{with_effects, rule_at, reopened}
-use Rattle.job_table.specs.Changes.{change_queue, change_job}
+use Rattle.job_table.specs.Changes.{change_queue, change_job, at_clock}
 
 -- a new queue, a change of a queue, a new job, a change of a job, a verdict on a job and its queue (behind the effects that
 -- were told, if any), the moment, or the policy on every processing job
@@ -35,7 +37,7 @@ made s (OfQueue name f) = change_queue s name f
 made s (NewJobRow r) = record s { jobs = map.insert s.jobs r.id r; highest = r.id }
 made s (OfJob j f) = change_job s j f
 made s (OfBoth j effects verdict) = rule_at (told s j effects) j verdict
-made s (OfClock m) = record s { moment = max s.moment m }
+made s (OfClock m) = at_clock (max s.moment m) s
 made s OfAll = reopened s
 
 -- ## What it is about
@@ -77,6 +79,12 @@ about_job s j more =
     ∷ where_it (job_at s j) (λ r. has_ended r.phase) JobEnded
     ∷ more
 
+-- a job that is to start by a moment is none of the first version
+abbrev pub lacks_by : Version → Option ℕ → Bool
+lacks_by version None = false
+lacks_by One (Some by) = true
+lacks_by Two (Some by) = false
+
 -- the causes of the shape, and then the event's own
 abbrev pub causes_of : State → Change → List (Bool × Refusal) → List (Bool × Refusal)
 causes_of s (NewQueueRow q) own =
@@ -84,7 +92,9 @@ causes_of s (NewQueueRow q) own =
     ∷ (nat_le most_queues (map.len s.queues), TooManyQueues)
     ∷ own
 causes_of s (OfQueue name f) own = about_queue s name own
-causes_of s (NewJobRow r) own = about_queue s r.queue (
+causes_of s (NewJobRow r) own =
+    (lacks_by s.version r.by, NeedsCheckpoint)
+    ∷ about_queue s r.queue (
     where_it (queue_at s r.queue) (λ q. not q.accepting) NotAccepting
     ∷ (nat_le greatest_number s.highest, NoNumberLeft)
     ∷ (nat_le r.id s.highest, OldNumber)

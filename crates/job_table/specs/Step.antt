@@ -4,7 +4,8 @@ use Rattle.spool_types.specs.declared.phase.Phase.{Phase}
 use Rattle.spool_types.specs.declared.phase.Phase.TheVariants.{Canceled}
 use Rattle.spool_types.specs.declared.phase.Hold.TheVariants.{Free}
 use Rattle.spool_types.specs.declared.event.Event.{Event}
-use Rattle.spool_types.specs.declared.event.Event.TheVariants.{AddQueue, Info, SetAccept, SetStop, Create, Send, Close, Hold, Release, Cancel, Clock, Start, Stage, Abandon, Reopen}
+use Rattle.spool_types.specs.declared.event.Event.TheVariants.{AddQueue, Info, SetAccept, SetStop, Create, CreateBy, Send, Close, Hold, Release, Cancel, Clock, Start, Stage, Abandon, Reopen}
+use Rattle.spool_types.specs.declared.event.NewJob.{NewJob}
 use Rattle.spool_types.specs.declared.event.Reply.{Reply}
 use Rattle.spool_types.specs.declared.event.Reply.TheVariants.{Done, Number, Size, Phase as PhaseNow}
 use Rattle.spool_types.specs.declared.refusal.Refusal.{Refusal}
@@ -53,7 +54,8 @@ row (AddQueue q) = record { change = NewQueueRow (new_queue q); own = no_own; re
 row (Info notes) = record { change = OfQueue notes.queue (with_notes notes); own = no_own; reply = λ s t. Done }
 row (SetAccept queue accepting) = record { change = OfQueue queue (with_accepting accepting); own = no_own; reply = λ s t. Done }
 row (SetStop queue stopped) = record { change = OfQueue queue (with_stopped stopped); own = no_own; reply = λ s t. Done }
-row (Create n) = record { change = NewJobRow (new_job n); own = no_own; reply = λ s t. Number n.job }
+row (Create n) = record { change = NewJobRow (new_job n None); own = no_own; reply = λ s t. Number n.job }
+row (CreateBy n by) = record { change = NewJobRow (new_job n (Some by)); own = no_own; reply = λ s t. Number n.job }
 row (Send j bytes) = record {
   change = OfJob j (with_bytes bytes);
   own = λ s. where_it (job_at s j) (λ r. not (is_incoming r.phase)) NotIncoming
@@ -103,6 +105,11 @@ row (Abandon j) = record {
   reply = phase_then j;
 }
 row Reopen = record { change = OfAll; own = no_own; reply = λ s t. Done }
+
+-- the event that makes a job, which is to start by a moment if one is told
+abbrev pub creation : NewJob → Option ℕ → Event
+creation n None = Create n
+creation n (Some by) = CreateBy n by
 
 -- ## What the table says
 

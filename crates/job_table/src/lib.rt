@@ -8,8 +8,9 @@
 //! neither be refused nor find no memory.
 //!
 //! A table is its rows (`Store`) and, for each queue, a lane (`Lane`): the index of the queue's waiting jobs, its processing
-//! job, and how many of its jobs haven't ended. The lanes tell nothing that the rows don't; they are there so that no choice
-//! looks through the rows.
+//! job, and how many of its jobs haven't ended. Beside the lanes it has one timetable (`Timetable`): the deadlines of the
+//! waiting jobs of all queues that are to start by a moment, and how many jobs are to. Lanes and timetable tell nothing that
+//! the rows don't; they are there so that no choice and no clock looks through the rows.
 //!
 //! # What an event does
 //!
@@ -19,7 +20,8 @@
 //!   is answered (`answer_to`); `Shapes`: the shapes, each with the causes that go with it; `Changes`: what events change in
 //!   a row; `Fold`: many events in turn.
 //! - `Apart`: a queue's part of a table, and the events that are its own.
-//! - `Over`: the numbers of jobs that are over. `Turns`: what a call does with the stages of attempts.
+//! - `Over`: the numbers of jobs that are over. `Turns`: what a call does with the stages of attempts. `Versions`: the same
+//!   table in an area of the newest version.
 //! - `Legal`: what is so of each table that events lead to. `Documents`: how long the documents of a table are.
 //! - `Contents`: what an event adds to the places of documents (`AddsPlaces`).
 //! - `Attempts`: how an attempt at a job starts, and what its end, or its loss, makes of the job and its queue. The effects
@@ -46,6 +48,8 @@
 //!   (`is_next`). [`Table::index`] lends the index of a queue, which has exactly its waiting jobs (`IsIndexOf`), each before
 //!   those that it beats. [`Table::processing`] names the job of a queue that is processing (`busy_of`), and
 //!   [`Table::is_idle`] tells whether none is in any queue (`HasNoProcessing`).
+//! - The clock: an event Clock cancels each job that waits and was to start by a moment below the new one, in whatever queue
+//!   it is, and changes no other job (`at_clock`, `is_late`).
 //! - *Reopening* ([`reopening`]): the event Reopen applies to each processing job the error policy of its queue, and
 //!   changes nothing else but that a queue stops where the policy says so. No job is processing after it, and where none
 //!   was before, it changes nothing.
@@ -80,16 +84,22 @@
 //!    table's moment, its processing job is the queue's, and no more of the queue's jobs haven't ended than it counts
 //!    (`IsLane`). It has room for all of these to wait, and for as many new jobs as the table has room for: whichever of
 //!    them comes to wait, by an event or by a reopening, its index takes no memory.
-//! 7. The rows of a loading are legal. Its last job stands beside them while the document is short: whole pieces of it are
+//! 7. The timetable has the deadline of each job that waits and is to start by a moment, and no other (`IsTimely`). No more
+//!    jobs are to start by a moment than it counts, whatever their phases. It has room for all of these to wait, and for as
+//!    many new jobs as the table has room for (`IsInLanes`). So whichever of them comes to wait, it takes no memory. An event
+//!    about a job never changes the moment by which it is to start, so a deadline comes, goes or stays (`MayRetime`).
+//! 8. The rows of a loading are legal. Its last job stands beside them while the document is short: whole pieces of it are
 //!    there, and the job may be put in as the last row (`IsReading`). The memory for the row and for the extents of all its
-//!    pieces is asked for when the job comes. No clause says so. The lanes are made once all rows are there.
+//!    pieces is asked for when the job comes. No clause says so. The lanes and the timetable are made once all rows are
+//!    there.
 //!
 //! # Cost
 //!
 //! A row is found by binary search. The next job, and the processing one, is read from a lane. An event about a job takes
-//! its entry from the lane's index and puts it where it goes now, each by binary search. A clock goes to each lane, and
-//! looks through the jobs of one only where a job of it may be started from then on. [`Loading::into_table`] sorts each
-//! queue's waiting jobs once.
+//! its entry from the lane's index and puts it where it goes now, each by binary search. So does its deadline come or go. A
+//! clock looks at the first deadline, and at one job for each that it cancels: where it cancels none, it looks at no job.
+//! Then it goes to each lane, and looks through the jobs of one only where a job of it may be started from then on.
+//! [`Loading::into_table`] sorts each queue's waiting jobs and all deadlines once.
 //!
 //! # Faults
 //!
@@ -106,10 +116,11 @@ mod new_places;
 mod places;
 mod store;
 mod table;
+mod timetable;
 
 pub use laws::{
     ended_jobs_stay, legal_tables_stay_legal, listings_are_loaded, queues_stay_apart, reopening,
-    spent_stages_stay_spent,
+    spent_stages_stay_spent, versions_rise,
 };
 pub use loading::{LoadFault, Loading};
 pub use places::document_len;

@@ -23,7 +23,7 @@ use crate::store::Store;
 use crate::table::Table;
 use spool_types::{
     Attribute, Head, Job, JobId, JobRow, LONGEST_DOCUMENT, LONGEST_SEND, MOST_QUEUES, Phase,
-    QueueRow, Reason, Row, is_busy,
+    QueueRow, Reason, Row, Version, is_busy,
 };
 use std::alloc::{AllocError, Global};
 use std::marker::Model;
@@ -84,13 +84,13 @@ impl Model for Loading {
 }
 
 impl Loading {
-    /// No rows yet, which stand for the empty table. It takes no memory.
-    pub fn new(alloc: Global) -> Loading
-        ensures progress { result.progress ≡ begin_loading }
+    /// No rows yet, which stand for the empty table, in an area of this version. It takes no memory.
+    pub fn new(alloc: Global, version: Version) -> Loading
+        ensures progress { result.progress ≡ begin_loading version }
         ensures places { result.places ≡ [] }
     {
         Loading {
-            store: Store::new(alloc),
+            store: Store::new(alloc, version),
             begun: false,
             partial: None,
             alloc,
@@ -115,6 +115,13 @@ impl Loading {
             Row::Job(job) => self.load_job(job),
             Row::Piece { job, bytes } => self.load_piece(job, bytes.as_slice(), at),
         }
+    }
+
+    /// The version of the area that the rows are of.
+    pub fn version(&self) -> Version
+        ensures { result ≡ self.now.progress.state.version }
+    {
+        self.store.version()
     }
 
     /// Whether no document is short, so that the rows are a whole listing.

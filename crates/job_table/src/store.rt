@@ -4,17 +4,18 @@ ghost use Rattle.std.specs.Option.{option_copied, option_map};
 ghost use Rattle.std.specs.List.{Contains};
 ghost use Rattle.std.specs.FinMap as finite;
 ghost use Rattle.spool_types.specs.Limits.{greatest_number};
-ghost use Rattle.spool_types.specs.State.{Job, nothing, job_of, queue_at, job_at};
+ghost use Rattle.spool_types.specs.State.{Job, nothing_in, job_of, queue_at, job_at};
 ghost use Rattle.job_table.specs.Contents.{no_room, places_at, AreSized, HasOwnPlaces, IsFreedWhenEnded};
 ghost use Rattle.job_table.specs.Documents.{document_len};
 ghost use Rattle.job_table.specs.Legal.{IsLegal};
 ghost use Rattle.job_table.specs.Rows.{job_entry, place_entry};
+ghost use Rattle.job_table.specs.Versions.{raised};
 ghost use Rattle.extents.specs.Extents.{size_of};
 ghost use Rattle.spool_types.specs.Phases.{has_ended};
 
 use lookup::{job_place, queue_place};
 use row_effects::Spare;
-use spool_types::{JobId, JobRow, Moment, QueueName, QueueRow};
+use spool_types::{JobId, JobRow, Moment, QueueName, QueueRow, Version};
 use std::alloc::Global;
 use std::marker::Model;
 
@@ -37,6 +38,7 @@ pub(crate) struct Store {
     jobs: Vec<JobRow>,
     highest: u32,
     moment: Moment,
+    version: Version,
     // Set aside for the effects of a stage.
     spare: Spare,
 }
@@ -58,9 +60,9 @@ impl Model for Store {
 }
 
 impl Store {
-    /// No queues and no jobs, at the moment 0. It takes no memory.
-    pub fn new(alloc: Global) -> Store
-        ensures state { result.state ≡ nothing }
+    /// No queues and no jobs, at the moment 0, in an area of this version. It takes no memory.
+    pub fn new(alloc: Global, version: Version) -> Store
+        ensures state { result.state ≡ nothing_in version }
         ensures places { result.places ≡ [] }
         ensures room { result.room ≡ no_room }
     {
@@ -69,6 +71,7 @@ impl Store {
             jobs: Vec::new(alloc),
             highest: 0,
             moment: Moment::ZERO,
+            version,
             spare: Spare::new(alloc),
         }
     }
@@ -78,6 +81,22 @@ impl Store {
         ensures { result ≡ self.now.state.moment }
     {
         self.moment
+    }
+
+    /// The version of the area that the rows are written in.
+    pub fn version(&self) -> Version
+        ensures { result ≡ self.now.state.version }
+    {
+        self.version
+    }
+
+    /// The same rows, in an area of the newest version.
+    pub fn raise(&mut self)
+        ensures state { self.new.state ≡ raised self.old.state }
+        ensures places { self.new.places ≡ self.old.places }
+        ensures room { self.new.room ≡ self.old.room }
+    {
+        self.version = Version::Two;
     }
 
     /// The highest number that a job was given, or 0.

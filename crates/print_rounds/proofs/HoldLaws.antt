@@ -12,7 +12,7 @@ use Rattle.spool_types.specs.declared.phase.Phase.TheVariants.{Incoming, Waiting
 use Rattle.spool_types.specs.declared.rows.QueueRow.{QueueRow}
 use Rattle.spool_types.specs.State.{State, Job, job_at}
 use Rattle.job_table.specs.Attempts.{is_in_stage}
-use Rattle.job_table.specs.Fold.{after_all}
+use Rattle.job_table.specs.Fold.{after_all, AreAccepted}
 use Rattle.job_table.specs.Legal.{IsLegal}
 use Rattle.job_table.specs.Stages.{Key, key_of, IsIn, IsSpent}
 use Rattle.job_table.specs.Step.{after, refusal_of}
@@ -31,6 +31,7 @@ use Rattle.print_rounds.specs.Courses.{Answer, Course, Launching, IsLaunch, AreL
 use Rattle.print_rounds.specs.Script.{current_slots, is_current}
 use Rattle.print_rounds.specs.World.{key_in, keys_in, IsEndedSlot, IsHeld}
 use Rattle.job_table.specs.Turns.{IsAmong, AreOnce}
+use Rattle.job_table.specs.Versions.{raised}
 use Rattle.print_rounds.specs.declared.outcome.Launch.{Launch}
 use Rattle.print_rounds.specs.declared.outcome.Launch.TheVariants.{Unlaunched, Launched, NoMemory, Disk, Dead}
 use Rattle.print_rounds.specs.declared.outcome.Report.{Report}
@@ -285,6 +286,8 @@ pub record Laws : Type 0 where
   pub left : (s : State) (k : Key) (events : List Event) → IsLegal s → IsIn s k → IsIn (after_all s events) k ⊎ IsSpent (after_all s events) k
   pub either : (s : State) (k : Key) → IsLegal s → IsIn s k → ¬ (IsSpent s k)
   pub ended : (s : State) (e : StageEnd) → IsLegal s → refusal_of s (Stage e) ≡ None → IsSpent (after s (Stage e)) (key_of e)
+  pub rises : (s : State) (events : List Event) → AreAccepted s events → AreAccepted (raised s) events × (after_all (raised s) events ≡ raised (after_all s events))
+  pub raised_legal : (s : State) → IsLegal s → IsLegal (raised s)
 
 -- a finish that is kept for a job
 waited_begun : (old new : Slots) (j : ℕ) (told told' : Option Told) (p : Progress ℕ) → p ≡ (slot_in old j).progress → FinishesFrom p told old j new told' → (k : Key) → HasBegun old k → HasBegun new k

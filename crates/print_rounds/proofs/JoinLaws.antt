@@ -3,6 +3,7 @@ use Rattle.std.proofs.Common.{◌≡◌, ◌⊎◌, inl, inr, Bool, true, false,
 use Rattle.std.proofs.lemmas.Bool.{both_ways}
 use Rattle.std.proofs.lemmas.List.{map-append}
 use Rattle.spool_types.specs.declared.event.Event.{Event}
+use Rattle.spool_types.specs.State.{State}
 use Rattle.job_table.specs.Fold.{after_all, AreAccepted}
 use Rattle.job_table.specs.Legal.{IsLegal}
 use Rattle.job_table.specs.Stages.{Key, IsSpent}
@@ -10,6 +11,7 @@ use Rattle.child_pipeline.specs.Told.{Told}
 use Rattle.print_rounds.specs.Courses.{Course}
 use Rattle.print_rounds.specs.World.{key_in, keys_in, IsHeld, IsCallTurn}
 use Rattle.job_table.specs.Turns.{AreOnce, IsAmong, IsReached}
+use Rattle.job_table.specs.Versions.{raised}
 use Rattle.print_rounds.proofs.HoldLaws.{Laws}
 use Rattle.print_rounds.proofs.KeyLaws.{accepted_both, among_either, once_both, reached_later, reached_sooner}
 use Rattle.print_rounds.proofs.PrefixLaws.{after_both}
@@ -21,8 +23,12 @@ module _ {D : Type 0} (laws : Laws) (old mid new : Course D) (t : Told) (more fu
   abbrev later_keys : List Key
   later_keys = keys_in two.orders
 
-  mid_legal : IsLegal mid.spool.state
-  mid_legal = subst IsLegal (sym one.turn.table) (laws.legal old.spool.state more one.turn.legal)
+  -- the table between them, as the newest version has it
+  abbrev between : State
+  between = raised mid.spool.state
+
+  legal_between : IsLegal between
+  legal_between = laws.raised_legal mid.spool.state two.turn.legal
 
   -- the second call starts no stage that the first started, or that was held
   apart : (k : Key) → IsHeld old.spool.state old.slots k ⊎ IsAmong first_keys k → IsAmong later_keys k → ⊥
@@ -34,8 +40,8 @@ module _ {D : Type 0} (laws : Laws) (old mid new : Course D) (t : Told) (more fu
         | inl held ↦ two.turn.outside k among held
         | inr gone ↦
             let reached = two.turn.reached k among in
-            laws.either (after_all mid.spool.state reached.first) k (laws.legal mid.spool.state reached.first mid_legal) reached.reached
-            (laws.spent mid.spool.state k reached.first mid_legal gone)
+            laws.either (after_all between reached.first) k (laws.legal between reached.first legal_between) reached.reached
+            (laws.spent between k reached.first legal_between gone)
       ]
 
   -- the device hadn't failed between them where it hasn't after them
@@ -53,7 +59,7 @@ module _ {D : Type 0} (laws : Laws) (old mid new : Course D) (t : Told) (more fu
   settled_on : new.spool.dead ≡ false → (k : Key) → IsHeld old.spool.state old.slots k ⊎ IsAmong first_keys k → IsHeld new.spool.state new.slots k ⊎ IsSpent new.spool.state k
   settled_on alive k before = elim (one.turn.settled (lived alive mid.spool.dead refl) k before) [
     | inl held ↦ two.turn.settled alive k (inl held)
-    | inr gone ↦ inr (subst (λ s. IsSpent s k) (sym two.turn.table) (laws.spent mid.spool.state k further mid_legal gone))
+    | inr gone ↦ inr (subst (λ s. IsSpent s k) (sym two.turn.table) (laws.spent between k further legal_between gone))
   ]
 
   pub joined : IsCallTurn t old (more ++ further) new
@@ -64,16 +70,16 @@ module _ {D : Type 0} (laws : Laws) (old mid new : Course D) (t : Told) (more fu
     added = two.added ∙ ap (λ l. l ++ two.orders) one.added ∙ append_assoc t.orders one.orders two.orders;
     turn = record {
       legal = one.turn.legal;
-      accepted = accepted_both old.spool.state more further one.turn.accepted (subst (λ s. AreAccepted s further) one.turn.table two.turn.accepted);
-      table = two.turn.table ∙ ap (λ s. after_all s further) one.turn.table ∙ sym (after_both old.spool.state more further);
+      accepted = accepted_both (raised old.spool.state) more further one.turn.accepted (subst (λ s. AreAccepted s further) one.turn.table two.turn.accepted);
+      table = two.turn.table ∙ ap (λ s. after_all s further) one.turn.table ∙ sym (after_both (raised old.spool.state) more further);
       distinct = subst AreOnce (sym all_keys) (once_both (keys_in one.orders) (keys_in two.orders) one.turn.distinct two.turn.distinct (λ k first later. apart k (inr first) later));
       outside = λ k among held. elim (of_all k among) [
         | inl first ↦ one.turn.outside k first held
         | inr later ↦ apart k (inl held) later
       ];
       reached = λ k among. elim (of_all k among) [
-        | inl first ↦ reached_sooner old.spool.state more further k (one.turn.reached k first)
-        | inr later ↦ reached_later old.spool.state more further k (subst (λ s. IsReached s further k) one.turn.table (two.turn.reached k later))
+        | inl first ↦ reached_sooner (raised old.spool.state) more further k (one.turn.reached k first)
+        | inr later ↦ reached_later (raised old.spool.state) more further k (subst (λ s. IsReached s further k) one.turn.table (two.turn.reached k later))
       ];
       settled = λ alive k some. elim some [
         | inl held ↦ settled_on alive k (inl held)

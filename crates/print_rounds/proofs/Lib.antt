@@ -16,6 +16,7 @@ pub mod CurrentLaws
 pub mod ToldLaws
 pub mod KeyLaws
 pub mod HoldLaws
+pub mod VersionLaws
 pub mod WorldLaws
 pub mod JoinLaws
 pub mod RoundLaws

@@ -14,6 +14,7 @@ use Rattle.job_table.specs.Fold.{after_all}
 use Rattle.job_table.specs.Legal.{IsLegal}
 use Rattle.job_table.specs.Stages.{Key, IsIn, IsSpent}
 use Rattle.job_table.specs.Turns.{IsAmong, AreOnce}
+use Rattle.job_table.specs.Versions.{raised}
 use Rattle.child_pipeline.specs.Slots.{Slots, is_ended}
 use Rattle.child_pipeline.specs.Told.{Told}
 use Rattle.child_pipeline.specs.declared.order.Placed.{Placed}
@@ -39,28 +40,35 @@ module _ (laws : Laws) where
   came_on s k es legal (inl now) = laws.left s k es legal now
   came_on s k es legal (inr gone) = inr (laws.spent s k es legal gone)
 
+  -- The tables of a turn are seen as the newest version has them.
   module _ (t : Turn) (turn : IsTurnOf t) where
-    legal_then : IsLegal t.table_after
-    legal_then = subst IsLegal (sym turn.table) (laws.legal t.table t.more turn.legal)
+    abbrev before : State
+    before = raised t.table
+
+    legal_before : IsLegal before
+    legal_before = laws.raised_legal t.table turn.legal
+
+    legal_then : IsLegal (raised t.table_after)
+    legal_then = subst IsLegal (sym turn.table) (laws.legal before t.more legal_before)
 
     -- what is spent before it isn't started in it
     not_again : (k : Key) → IsSpent t.table k → IsAmong t.keys k → ⊥
     not_again k gone among =
         let r = turn.reached k among in
-        laws.either (after_all t.table r.first) k (laws.legal t.table r.first turn.legal) r.reached (laws.spent t.table k r.first turn.legal gone)
+        laws.either (after_all before r.first) k (laws.legal before r.first legal_before) r.reached (laws.spent before k r.first legal_before gone)
 
     still_spent : (k : Key) → IsSpent t.table k → IsSpent t.table_after k
-    still_spent k gone = subst (λ s. IsSpent s k) (sym turn.table) (laws.spent t.table k t.more turn.legal gone)
+    still_spent k gone = subst (λ s. IsSpent s k) (sym turn.table) (laws.spent before k t.more legal_before gone)
 
-    still_came : (k : Key) → Came t.table k → Came t.table_after k
-    still_came k came = subst (λ s. Came s k) (sym turn.table) (came_on t.table k t.more turn.legal came)
+    still_came : (k : Key) → Came before k → Came (raised t.table_after) k
+    still_came k came = subst (λ s. Came s k) (sym turn.table) (came_on before k t.more legal_before came)
 
     -- what it starts has come by its end
-    has_come : (k : Key) → IsAmong t.keys k → Came t.table_after k
+    has_come : (k : Key) → IsAmong t.keys k → Came (raised t.table_after) k
     has_come k among =
         let r = turn.reached k among in
-        subst (λ s. Came s k) (sym (turn.table ∙ ap (after_all t.table) r.split ∙ after_both t.table r.first r.rest))
-        (came_on (after_all t.table r.first) k r.rest (laws.legal t.table r.first turn.legal) (inl r.reached))
+        subst (λ s. Came s k) (sym (turn.table ∙ ap (after_all before) r.split ∙ after_both before r.first r.rest))
+        (came_on (after_all before r.first) k r.rest (laws.legal before r.first legal_before) (inl r.reached))
 
     -- what was held, spent or started by it is held or spent after it, unless it is over
     settled_then : t.over ≡ false → (k : Key) → Has t.held k ⊎ IsSpent t.table k → Has t.held_after k ⊎ IsSpent t.table_after k
@@ -104,16 +112,16 @@ module _ (laws : Laws) where
       once_both t.keys (keys_of_turns ts) turn.distinct (turns_once ts t.table_after t.held_after (over || t.over) turns)
       (λ k now later. none_again ts t.table_after t.held_after (over || t.over) turns k (λ lives. turn.settled (or_parts over t.over lives).1 k (inr now)) later)
 
-  turns_legal : (ts : List Turn) (s : State) (held : Keys) (over : Bool) → AreTurns s held over ts → IsLegal s → IsLegal (last_table s ts)
+  turns_legal : (ts : List Turn) (s : State) (held : Keys) (over : Bool) → AreTurns s held over ts → IsLegal (raised s) → IsLegal (raised (last_table s ts))
   turns_legal [] s held over turns legal = legal
   turns_legal (t ∷ ts) s held over (same_table, same_held, turn, quiet, turns) legal = turns_legal ts t.table_after t.held_after (over || t.over) turns (legal_then t turn)
 
-  came_through : (ts : List Turn) (s : State) (held : Keys) (over : Bool) → AreTurns s held over ts → (k : Key) → Came s k → Came (last_table s ts) k
+  came_through : (ts : List Turn) (s : State) (held : Keys) (over : Bool) → AreTurns s held over ts → (k : Key) → Came (raised s) k → Came (raised (last_table s ts)) k
   came_through [] s held over turns k came = came
   came_through (t ∷ ts) s held over (same_table, same_held, turn, quiet, turns) k came =
-      came_through ts t.table_after t.held_after (over || t.over) turns k (still_came t turn k (subst (λ u. Came u k) (sym same_table) came))
+      came_through ts t.table_after t.held_after (over || t.over) turns k (still_came t turn k (subst (λ u. Came (raised u) k) (sym same_table) came))
 
-  came_in : (ts : List Turn) (s : State) (held : Keys) (over : Bool) → AreTurns s held over ts → (k : Key) → IsAmong (keys_of_turns ts) k → Came (last_table s ts) k
+  came_in : (ts : List Turn) (s : State) (held : Keys) (over : Bool) → AreTurns s held over ts → (k : Key) → IsAmong (keys_of_turns ts) k → Came (raised (last_table s ts)) k
   came_in [] s held over turns k among = absurd among
   came_in (t ∷ ts) s held over (same_table, same_held, turn, quiet, turns) k among = elim (among_either t.keys (keys_of_turns ts) k among) [
     | inl now ↦ came_through ts t.table_after t.held_after (over || t.over) turns k (has_come t turn k now)
@@ -130,37 +138,37 @@ module _ (laws : Laws) where
     life_once = once_both first.keys (keys_of_turns l.later) (life.turn).distinct (turns_once l.later first.table_after first.held_after first.over life.turns)
         (λ k now later. none_again l.later first.table_after first.held_after first.over life.turns k (λ lives. (life.turn).settled lives k (inr now)) later)
 
-    life_legal : IsLegal (end_of l)
+    life_legal : IsLegal (raised (end_of l))
     life_legal = turns_legal l.later first.table_after first.held_after first.over life.turns (legal_then first life.turn)
 
     -- what it has started has come by its end
-    life_came : (k : Key) → IsAmong (keys_of_life l) k → Came (end_of l) k
+    life_came : (k : Key) → IsAmong (keys_of_life l) k → Came (raised (end_of l)) k
     life_came k among = elim (among_either first.keys (keys_of_turns l.later) k among) [
       | inl now ↦ came_through l.later first.table_after first.held_after first.over life.turns k (has_come first life.turn k now)
       | inr later ↦ came_in l.later first.table_after first.held_after first.over life.turns k later
     ]
 
     -- what has come before it is spent at its start: nothing is processing then
-    spent_first : (k : Key) → Came first.table k → IsSpent first.table k
+    spent_first : (k : Key) → Came (raised first.table) k → IsSpent first.table k
     spent_first k (inl now) = absurd (both_ways _ (life.idle k.job now.row now.there) (ap is_processing now.phase))
     spent_first k (inr gone) = gone
 
     -- and isn't started in it
-    life_none : (k : Key) → Came first.table k → IsAmong (keys_of_life l) k → ⊥
+    life_none : (k : Key) → Came (raised first.table) k → IsAmong (keys_of_life l) k → ⊥
     life_none k came among = elim (among_either first.keys (keys_of_turns l.later) k among) [
       | inl now ↦ not_again first life.turn k (spent_first k came) now
       | inr later ↦ none_again l.later first.table_after first.held_after first.over life.turns k (λ lives. inr (still_spent first life.turn k (spent_first k came))) later
     ]
 
-    life_through : (k : Key) → Came first.table k → Came (end_of l) k
+    life_through : (k : Key) → Came (raised first.table) k → Came (raised (end_of l)) k
     life_through k came = came_through l.later first.table_after first.held_after first.over life.turns k (still_came first life.turn k came)
 
   -- ## A world
 
-  lives_none : (ls : List Life) (s : State) → IsLegal s → AreLives s ls → (k : Key) → Came s k → IsAmong (keys_of ls) k → ⊥
+  lives_none : (ls : List Life) (s : State) → IsLegal (raised s) → AreLives s ls → (k : Key) → Came (raised s) k → IsAmong (keys_of ls) k → ⊥
   lives_none [] s legal lives k came among = among
   lives_none (l ∷ ls) s legal (life, further, lives) k came among =
-      let at_first : Came (l.first).table k = subst (λ u. Came u k) (sym further.1) (came_on s k further.0 legal came) in
+      let at_first : Came (raised (l.first).table) k = subst (λ u. Came u k) (sym further.1) (came_on (raised s) k further.0 legal came) in
       elim (among_either (keys_of_life l) (keys_of ls) k among) [
         | inl now ↦ life_none l life k at_first now
         | inr later ↦ lives_none ls (end_of l) (life_legal l life) lives k (life_through l life k at_first) later

@@ -36,7 +36,7 @@ use Rattle.print_rounds.proofs.StartLaws.{starts_keys}
 use Rattle.print_rounds.proofs.PartLaws.{IsPart, starts_part}
 use Rattle.print_rounds.proofs.ReadLaws.{reads_state, some_handed}
 use Rattle.print_rounds.proofs.ToldLaws.{all_told, suit_in}
-use Rattle.print_rounds.proofs.WorldLaws.{failed_turn, live_turn}
+use Rattle.print_rounds.proofs.WorldLaws.{failed_accepted, failed_turn, live_accepted, live_turn}
 
 -- where no child is asked for, none is to be finished
 pub none_asked : (t : Told) (slots : Slots) (told : Option Told) → told ≡ Some t → t.running ≡ [] → EachFinishedOnce t told []
@@ -128,6 +128,7 @@ module _ {D : Type 0} (device : DiskView D) where
         ended = sym (ap (jobs_run mid) dead);
       };
       answer = answer ∙ ap (result_of (record { started = 0; finished = 0 })) (sym (or_none (starting_fault ts)));
+      accepted = failed_accepted device laws old legal mid ts starts;
       table = part.table;
       any_moment = any_moment device lawful old.spool mid ts starts [] mid refl slots old.told [] failed refl kept;
       any_whole = any_whole device lawful old.spool mid ts starts [] mid refl slots old.told [] failed refl kept;
@@ -195,6 +196,7 @@ module _ {D : Type 0} (device : DiskView D) where
           ended = runs.ended ∙ jobs ∙ sym (ap (jobs_run mid) alive);
         };
         answer = answer;
+        accepted = live_accepted device laws old legal mid ts starts place js new runs;
         table = part.table;
         any_moment = any_moment device lawful old.spool mid ts starts runs.launchings runs.read runs.reads runs.slots runs.told runs.endings new runs.ends kept;
         any_whole = any_whole device lawful old.spool mid ts starts runs.launchings runs.read runs.reads runs.slots runs.told runs.endings new runs.ends kept;

@@ -14,7 +14,7 @@ use Rattle.print_rounds.specs.Counts.{starting_events, ending_events}
 use Rattle.print_rounds.specs.Courses.{Course, course, Starting, AreStartings, IsRunOfStages}
 use Rattle.print_rounds.specs.Finished.{AreDistinct, HasNoneRunning, running_in}
 use Rattle.print_rounds.specs.Script.{current_slots}
-use Rattle.print_rounds.specs.World.{IsHeld, IsCallTurn}
+use Rattle.print_rounds.specs.World.{keys_in, IsHeld, IsCallTurn}
 use Rattle.print_rounds.proofs.BusyLaws.{all_rest}
 use Rattle.print_rounds.proofs.EndLaws.{ends_finished}
 use Rattle.print_rounds.proofs.FreeLaws.{current_rests}
@@ -24,6 +24,7 @@ use Rattle.print_rounds.proofs.LaunchLaws.{HasNumbers, all_started, some_of}
 use Rattle.print_rounds.proofs.PartLaws.{starts_part, ends_part}
 use Rattle.print_rounds.proofs.PrefixLaws.{after_both}
 use Rattle.print_rounds.proofs.ReadLaws.{reads_state}
+use Rattle.print_rounds.proofs.VersionLaws.{raised_turn}
 
 -- a stage that goes on is held where no child runs
 going_held : (s : State) (slots : Slots) (k : Key) → HasNoneRunning slots → (IsIn s k × HasBegun slots k) ⊎ IsSpent s k → IsHeld s slots k ⊎ IsSpent s k
@@ -43,6 +44,16 @@ module _ {D : Type 0} (device : DiskView D) (laws : Laws) (old : Course D) (lega
   legal_mid : IsLegal mid.state
   legal_mid = subst IsLegal (sym (starts_part device old.spool ts mid starts).table) (laws.legal old.spool.state (starting_events old.spool ts) legal)
 
+  -- the events of a round are accepted in turn
+  pub live_accepted : (place : Place) (js : List ℕ) (new : Course D) (runs : IsRunOfStages device place (course mid (current_slots old.spool.state old.slots) old.told) js new) → AreAccepted old.spool.state (starting_events old.spool ts ++ ending_events runs.endings)
+  live_accepted place js new runs =
+      let same = reads_state device mid runs.launchings runs.read runs.reads ∙ (starts_part device old.spool ts mid starts).table in
+      accepted_both old.spool.state (starting_events old.spool ts) (ending_events runs.endings) (starts_accepted device old.spool ts mid starts)
+      (subst (λ s. AreAccepted s (ending_events runs.endings)) same (ends_accepted device (course runs.read runs.slots runs.told) runs.endings new runs.ends))
+
+  pub failed_accepted : AreAccepted old.spool.state (starting_events old.spool ts ++ [])
+  failed_accepted = subst (AreAccepted old.spool.state) (sym (append-nil (starting_events old.spool ts))) (starts_accepted device old.spool ts mid starts)
+
   -- the device failed at a start
   pub failed_turn : HasNoneRunning old.slots → (t : Told) → old.told ≡ Some t → old.spool.dead ≡ false → IsCallTurn t old (starting_events old.spool ts ++ []) (course mid (current_slots old.spool.state old.slots) old.told)
   failed_turn rests t tells alive = record {
@@ -50,18 +61,16 @@ module _ {D : Type 0} (device : DiskView D) (laws : Laws) (old : Course D) (lega
     tells = tells;
     orders = [];
     added = sym (append-nil t.orders);
-    turn = record {
-      legal = legal;
-      accepted = subst (AreAccepted old.spool.state) (sym (append-nil (starting_events old.spool ts))) (starts_accepted device old.spool ts mid starts);
-      table = (starts_part device old.spool ts mid starts).table ∙ ap (after_all old.spool.state) (sym (append-nil (starting_events old.spool ts)));
-      distinct = tt;
-      outside = λ k among. absurd among;
-      reached = λ k among. absurd among;
-      settled = λ goes_on k some. elim some [
-        | inl held ↦ going_held mid.state (current_slots old.spool.state old.slots) k (current_rests old.spool.state old.slots rests) (held_going k held)
-        | inr none ↦ absurd none
-      ];
-    };
+    turn = raised_turn laws old.spool.state (starting_events old.spool ts ++ []) failed_accepted
+        (IsHeld old.spool.state old.slots) [] mid.state (IsHeld mid.state (current_slots old.spool.state old.slots)) mid.dead legal
+        ((starts_part device old.spool ts mid starts).table ∙ ap (after_all old.spool.state) (sym (append-nil (starting_events old.spool ts))))
+        tt
+        (λ k among. absurd among)
+        (λ k among. absurd among)
+        (λ goes_on k some. elim some [
+          | inl held ↦ going_held mid.state (current_slots old.spool.state old.slots) k (current_rests old.spool.state old.slots rests) (held_going k held)
+          | inr none ↦ absurd none
+        ]);
     after_over = λ died. absurd (both_ways _ alive died);
   }
 
@@ -94,24 +103,21 @@ module _ {D : Type 0} (device : DiskView D) (laws : Laws) (old : Course D) (lega
           tells = ended.1;
           orders = begun.orders;
           added = ended.2.orders ∙ begun.added;
-          turn = record {
-            legal = legal;
-            accepted = accepted_both old.spool.state (starting_events old.spool ts) (ending_events runs.endings) (starts_accepted device old.spool ts mid starts)
-                (subst (λ s. AreAccepted s (ending_events runs.endings)) (still ∙ first) (ends_accepted device (course runs.read runs.slots runs.told) runs.endings new runs.ends));
-            table = last ∙ ap (λ s. after_all s (ending_events runs.endings)) first ∙ sym (after_both old.spool.state (starting_events old.spool ts) (ending_events runs.endings));
-            distinct = begun.once;
-            outside = λ k among held. elim (held_going k held) [
-              | inl now ↦ begun.fresh k among now.1
-              | inr gone ↦ laws.either mid.state k legal_mid (begun.inside k among) gone
-            ];
-            reached = λ k among. record { first = starting_events old.spool ts; rest = ending_events runs.endings; split = refl; reached = subst (λ s. IsIn s k) first (begun.inside k among) };
-            settled = λ goes_on k some. elim some [
-              | inl held ↦ going_held new.spool.state new.slots k rests_then (going_on k (elim (held_going k held) [
-                | inl now ↦ inl (now.0, begun.kept k now.0 now.1)
-                | inr gone ↦ inr gone
-              ]))
-              | inr among ↦ going_held new.spool.state new.slots k rests_then (going_on k (inl (begun.inside k among, begun.begun k among)))
-            ];
-          };
+          turn = raised_turn laws old.spool.state (starting_events old.spool ts ++ ending_events runs.endings) (live_accepted place js new runs)
+              (IsHeld old.spool.state old.slots) (keys_in begun.orders) new.spool.state (IsHeld new.spool.state new.slots) new.spool.dead legal
+              (last ∙ ap (λ s. after_all s (ending_events runs.endings)) first ∙ sym (after_both old.spool.state (starting_events old.spool ts) (ending_events runs.endings)))
+              begun.once
+              (λ k among held. elim (held_going k held) [
+                | inl now ↦ begun.fresh k among now.1
+                | inr gone ↦ laws.either mid.state k legal_mid (begun.inside k among) gone
+              ])
+              (λ k among. record { first = starting_events old.spool ts; rest = ending_events runs.endings; split = refl; reached = subst (λ s. IsIn s k) first (begun.inside k among) })
+              (λ goes_on k some. elim some [
+                | inl held ↦ going_held new.spool.state new.slots k rests_then (going_on k (elim (held_going k held) [
+                  | inl now ↦ inl (now.0, begun.kept k now.0 now.1)
+                  | inr gone ↦ inr gone
+                ]))
+                | inr among ↦ going_held new.spool.state new.slots k rests_then (going_on k (inl (begun.inside k among, begun.begun k among)))
+              ]);
           after_over = λ died. absurd (both_ways _ alive died);
         }

@@ -7,6 +7,7 @@ use Rattle.job_table.specs.Attempts.{HasNoProcessing, is_in_stage}
 use Rattle.job_table.specs.Fold.{after_all}
 use Rattle.job_table.specs.Stages.{Key}
 use Rattle.job_table.specs.Turns.{IsTurn}
+use Rattle.job_table.specs.Versions.{raised}
 use Rattle.child_pipeline.specs.Slots.{Slots, is_ended}
 use Rattle.child_pipeline.specs.Told.{Told}
 use Rattle.child_pipeline.specs.declared.runner.Slot.{Slot}
@@ -67,10 +68,10 @@ end_of l = last_table (l.first).table_after l.later
 -- ## Worlds
 
 -- Each life begins with the table after the last one of the life before and some further events: the one in hand, and the
--- opening's Reopen.
+-- opening's Reopen. A checkpoint in hand may have raised the version, so the tables are seen as the newest has them.
 abbrev pub AreLives : State → List Life → Type 0
 AreLives s [] = Unit {0}
-AreLives s (l ∷ ls) = IsLife l × ((further : List Event) × ((l.first).table ≡ after_all s further)) × AreLives (end_of l) ls
+AreLives s (l ∷ ls) = IsLife l × ((further : List Event) × (raised (l.first).table ≡ after_all (raised s) further)) × AreLives (end_of l) ls
 
 abbrev pub IsWorld : List Life → Type 0
 IsWorld [] = Unit {0}

@@ -5,7 +5,7 @@ use Rattle.std.specs.Option.{option_or}
 use Rattle.spool_disk.specs.Disk.{DiskView, LeavesOnly}
 use Rattle.spool_types.specs.declared.event.Event.{Event}
 use Rattle.spool_types.specs.State.{State}
-use Rattle.job_table.specs.Fold.{after_all}
+use Rattle.job_table.specs.Fold.{AreAccepted, after_all}
 use Rattle.spool_core.specs.Driving.{HasPrefixTable}
 use Rattle.spool_core.specs.Image.{HasDocuments, HasWhole}
 use Rattle.spool_core.specs.Standing.{Standing}
@@ -86,7 +86,8 @@ pub record IsRoundOf {D : Type 0} (device : DiskView D) (place : Place) (old new
   pub steps : RoundSteps D
   pub made : IsRound device place old steps new
   pub answer : result ≡ result_of (counts_of steps.launchings steps.endings) (fault_in steps)
-  -- the table is that of the events acknowledged in it
+  -- the events acknowledged in it are accepted in turn, and the table is the one after them
+  pub accepted : AreAccepted old.spool.state (events_in old steps)
   pub table : new.spool.state ≡ after_all old.spool.state (events_in old steps)
   -- Unless the device had failed before, a crash at any moment of the round leaves the table after the first of the events
   -- that were tried, some or all.

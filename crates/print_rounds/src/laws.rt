@@ -17,7 +17,7 @@ ghost use Rattle.print_rounds.specs.World.{IsCallTurn, keys_in};
 ghost use Rattle.print_rounds.specs.declared.outcome.Round.{Round as RoundOf};
 ghost use Rattle.print_rounds.specs.declared.outcome.RoundFault.{RoundFault as FaultOf};
 
-use job_table::{legal_tables_stay_legal, spent_stages_stay_spent};
+use job_table::{legal_tables_stay_legal, spent_stages_stay_spent, versions_rise};
 use spool_disk::Disk;
 
 /// Two calls one after the other are one turn of World (`IsCallTurn`). So no stage of an attempt is started in both.
@@ -27,6 +27,7 @@ pub fn calls_join<D: Disk>()
 {
     legal_tables_stay_legal();
     spent_stages_stay_spent();
+    versions_rise();
 }
 
 /// *RightInput* of one round: where the slots keep what earlier orders gave (`AreKeptFrom`), each of its orders is handed what
@@ -45,6 +46,7 @@ pub fn no_stage_comes_twice()
 {
     legal_tables_stay_legal();
     spent_stages_stay_spent();
+    versions_rise();
 }
 
 /// Calls one after the other, at least one, from a table without a processing job and with no slots, are a life.

@@ -14,8 +14,8 @@
 //! # Promises
 //!
 //! - *The steps* (`IsRoundOf`): what was done and in which order, each event with the answer of the spool, its cause and what
-//!   it left. The answer is the counts, or the first fault (`answer`), and the table is that of the acknowledged events
-//!   (`table`).
+//!   it left. The answer is the counts, or the first fault (`answer`), and the table is that of the acknowledged events, which
+//!   are accepted in turn (`accepted`, `table`). So no round changes the version of the area.
 //! - *A crash in a round*: unless the device had failed before, a crash at any moment of it leaves the table after the first of
 //!   the events that were tried in it, some or all (`any_moment`). These are the acknowledged ones and, behind them, the one at
 //!   which the device failed, if it did (`tried_in`, `all_acknowledged`, `in_hand`). The documents stay as they are, in a crash
@@ -29,7 +29,8 @@
 //! - *NoStageTwice* for one round: where the children tell it is a turn of World (`turn`, `IsCallTurn`), and two calls one after
 //!   the other are one turn ([`calls_join`]). So no stage of an attempt that was ordered is ordered again. Over any number of
 //!   lives it is a law of every world (`Lives`, [`no_stage_comes_twice`]), and calls one after the other are a life of one
-//!   ([`calls_make_a_life`]).
+//!   ([`calls_make_a_life`]). World sees each table as the newest version has it (`raised`), so that a checkpoint may come
+//!   between rounds.
 //! - *RightInput*: each start's order is exactly `order_in` of the job's slot, with the document that was read in a first stage
 //!   and the output in the slot in a later one (`Launched`). What was read is as long as the table says (`IsInput`), and where
 //!   the disk tells its bytes it is the document that these have for the job (`IsReadFor`, `handed`): what the accepted events

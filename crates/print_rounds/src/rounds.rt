@@ -12,7 +12,7 @@ use crate::stages::run_stages;
 use crate::starts::start_jobs;
 use child_pipeline::{Children, Runner};
 use filter_args::Place;
-use job_table::{legal_tables_stay_legal, spent_stages_stay_spent};
+use job_table::{legal_tables_stay_legal, spent_stages_stay_spent, versions_rise};
 use spool_core::Spool;
 use spool_disk::Disk;
 use std::alloc::Global;
@@ -46,6 +46,7 @@ pub fn round<D: Disk, C: Children>(
     let _legal = spool.table().jobs();
     legal_tables_stay_legal();
     spent_stages_stay_spent();
+    versions_rise();
     let mut jobs = match Vec::with_capacity(alloc, spool.table().queues().len()) {
         Ok(jobs) => jobs,
         Err(_) => return Err(RoundFault::Memory),

@@ -2,6 +2,9 @@ pub mod Order
 pub mod Any
 pub mod Best
 pub mod Next
+pub mod Ordered
+pub mod Numbered
+pub mod Earliest
 pub mod Turns
 pub mod Sorted
 pub mod Startable

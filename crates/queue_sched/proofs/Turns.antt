@@ -1,16 +1,11 @@
 -- Entries in the order of their turns, with one more and with one less.
-use Rattle.std.proofs.Common.{◌≡◌, ℕ, ◌+◌, ◌-◌, ◌<◌, ◌≤◌, ◌⊎◌, ◌↔◌, true, false, List, [], ◌∷◌, length, get_or, inl, inr, refl, sym, subst, ◌∙◌, arith, IsTrue}
-use Rattle.std.proofs.Math.Logic.{⊎_elim}
-use Rattle.std.proofs.lemmas.Bool.{both_ways, cases_lt, cases_order}
-use Rattle.std.proofs.lemmas.List.Edits.{length-insert, length-remove, get_or-insert_below, get_or-insert_at, get_or-insert_above, get_or-remove_below, get_or-remove_above}
-use Rattle.std.proofs.lemmas.List.Elements.{Contains-get_or, Contains-append_right, Contains-append_cases, Contains-push_cases}
-use Rattle.std.proofs.lemmas.List.Quantifiers.{all_pairs_remove}
-use Rattle.std.proofs.lemmas.List.Sorted.{IsPermutation-insert, IsPermutation-remove, IsPermutation-sym, Contains-permutation}
+use Rattle.std.proofs.Common.{◌≡◌, ℕ, ◌<◌, ◌≤◌, ◌⊎◌, ◌↔◌, true, false, List, length, get_or, sym}
 use Rattle.std.specs.List.{Contains, AllWithin, insert, remove}
 use Rattle.std.specs.List.Sorted.{IsPartitionedBy}
 use Rattle.queue_sched.specs.Index.{goes_before, InOrder, LacksJob}
 use Rattle.queue_sched.specs.declared.entry.Entry.{Entry}
 use Rattle.queue_sched.proofs.Order.{first_itself, first_on, first_not_on, first_other_way}
+use Rattle.queue_sched.proofs.Ordered as ordered
 
 pub itself : (e : Entry) → goes_before e e ≡ false
 itself e = first_itself e.first e.priority e.id
@@ -24,10 +19,6 @@ not_onward e f g = first_not_on e.first e.priority e.id f.first f.priority f.id 
 pub other_way : (e f : Entry) → ¬ (e.id ≡ f.id) → goes_before f e ≡ false → goes_before e f ≡ true
 other_way e f = first_other_way e.first e.priority e.id f.first f.priority f.id
 
--- the only entry of a list of one
-single : (e f : Entry) → Contains (e ∷ []) f → f ≡ e
-single e f there = ⊎_elim (λ (none : Contains [] f). absurd (omega (arith, none.1))) (λ (same : e ≡ f). sym same) (Contains-push_cases [] e f there)
-
 module _ (xs : List Entry) (e : Entry) where
   abbrev pub AreBefore : ℕ → Type 0
   AreBefore at = AllWithin (λ f. goes_before f e ≡ true) xs 0 at
@@ -37,124 +28,27 @@ module _ (xs : List Entry) (e : Entry) where
 
   -- what goes before an entry stands before what doesn't
   pub parted : InOrder xs → IsPartitionedBy (λ f. goes_before f e) xs
-  parted order i j d le inside passes =
-      ⊎_elim (λ (same : i ≡ j). subst (λ k. goes_before (get_or xs k d) e ≡ true) (sym same) passes)
-      (λ other. ⊎_elim (λ (lt : i < j). onward (get_or xs i d) (get_or xs j d) e (order i j d lt inside) passes) (λ (gt : j < i). absurd (omega arith)) other)
-      (cases_order i j)
+  parted = ordered.parted goes_before itself onward xs e
 
   -- an entry of the list stands where it would go
   pub place_at : InOrder xs → (at : ℕ) → at ≤ length xs → AreBefore at → AreBehind at → (there : Contains xs e) → at ≡ there.0
-  place_at order at le before behind there =
-      ⊎_elim (λ (same : at ≡ there.0). same)
-      (λ other. ⊎_elim
-      (λ (lt : at < there.0).
-      absurd (both_ways (goes_before (get_or xs at e) e) (behind at e (omega arith) (omega (arith, lt, there.1)))
-      (subst (λ f. goes_before (get_or xs at e) f ≡ true) there.2 (order at there.0 e lt there.1))))
-      (λ (gt : there.0 < at).
-      absurd (both_ways (goes_before e e) (itself e)
-      (subst (λ f. goes_before f e ≡ true) there.2 (before there.0 e (omega arith) gt))))
-      other)
-      (cases_order at there.0)
+  place_at = ordered.place_at goes_before itself onward xs e
 
-  module _ (at : ℕ) (le : at ≤ length xs) where
-    -- where an entry of the longer list comes from
-    abbrev Comes : ℕ → Type 0
-    Comes k = ((k < at) × ((d : Entry) → get_or (insert xs at e) k d ≡ get_or xs k d))
-        ⊎ (((k ≡ at) × ((d : Entry) → get_or (insert xs at e) k d ≡ e))
-        ⊎ ((m : ℕ) × (k ≡ m + 1) × (at ≤ m) × ((d : Entry) → get_or (insert xs at e) k d ≡ get_or xs m d)))
-
-    comes : (k : ℕ) → Comes k
-    comes k =
-        ⊎_elim (λ (same : k ≡ at). inr (inl (same, λ d. subst (λ n. get_or (insert xs at e) n d ≡ e) (sym same) (get_or-insert_at xs at e d le))))
-        (λ other. ⊎_elim (λ (lt : k < at). inl (lt, λ d. get_or-insert_below xs at e d k lt le))
-        (λ (gt : at < k).
-        let before : k ≡ (k - 1) + 1 = omega arith in
-        inr (inr (k - 1, before, omega arith, λ d. subst (λ n. get_or (insert xs at e) n d ≡ get_or xs (k - 1) d) (sym before) (get_or-insert_above xs at e d (k - 1) (omega arith) le))))
-        other)
-        (cases_order k at)
-
-    abbrev Goes : Entry → Entry → Type 0
-    Goes f g = IsTrue (goes_before f g)
-
-    pub in_order_insert : InOrder xs → LacksJob xs e.id → AreBefore at → AreBehind at → InOrder (insert xs at e)
-    in_order_insert order lacks before behind i j d lt inside =
-        let long : length (insert xs at e) ≡ length xs + 1 = length-insert xs at e le in
-        ⊎_elim
-        (λ (low : (i < at) × ((d : Entry) → get_or (insert xs at e) i d ≡ get_or xs i d)).
-        ⊎_elim
-        (λ (low' : (j < at) × ((d : Entry) → get_or (insert xs at e) j d ≡ get_or xs j d)).
-        subst (λ f. Goes f (get_or (insert xs at e) j d)) (sym (low.1 d))
-        (subst (λ g. Goes (get_or xs i d) g) (sym (low'.1 d)) (order i j d lt (omega (arith, low'.0)))))
-        (λ rest. ⊎_elim
-        (λ (here : (j ≡ at) × ((d : Entry) → get_or (insert xs at e) j d ≡ e)).
-        subst (λ f. Goes f (get_or (insert xs at e) j d)) (sym (low.1 d))
-        (subst (λ g. Goes (get_or xs i d) g) (sym (here.1 d)) (before i d (omega arith) low.0)))
-        (λ (up : (m : ℕ) × (j ≡ m + 1) × (at ≤ m) × ((d : Entry) → get_or (insert xs at e) j d ≡ get_or xs m d)).
-        subst (λ f. Goes f (get_or (insert xs at e) j d)) (sym (low.1 d))
-        (subst (λ g. Goes (get_or xs i d) g) (sym (up.3 d)) (order i up.0 d (omega (arith, low.0, up.2)) (omega (arith, inside, long, up.1)))))
-        rest)
-        (comes j))
-        (λ rest. ⊎_elim
-        (λ (here : (i ≡ at) × ((d : Entry) → get_or (insert xs at e) i d ≡ e)).
-        ⊎_elim
-        (λ (low' : (j < at) × ((d : Entry) → get_or (insert xs at e) j d ≡ get_or xs j d)). absurd (omega (arith, lt, here.0, low'.0)))
-        (λ rest. ⊎_elim
-        (λ (here' : (j ≡ at) × ((d : Entry) → get_or (insert xs at e) j d ≡ e)). absurd (omega (arith, lt, here.0, here'.0)))
-        (λ (up : (m : ℕ) × (j ≡ m + 1) × (at ≤ m) × ((d : Entry) → get_or (insert xs at e) j d ≡ get_or xs m d)).
-        let within : up.0 < length xs = omega (arith, inside, long, up.1) in
-        subst (λ f. Goes f (get_or (insert xs at e) j d)) (sym (here.1 d))
-        (subst (λ g. Goes e g) (sym (up.3 d))
-        (other_way e (get_or xs up.0 d) (λ same. lacks (get_or xs up.0 d) (Contains-get_or xs up.0 d within) (sym same)) (behind up.0 d up.2 within))))
-        rest)
-        (comes j))
-        (λ (up : (m : ℕ) × (i ≡ m + 1) × (at ≤ m) × ((d : Entry) → get_or (insert xs at e) i d ≡ get_or xs m d)).
-        ⊎_elim
-        (λ (low' : (j < at) × ((d : Entry) → get_or (insert xs at e) j d ≡ get_or xs j d)). absurd (omega (arith, lt, up.1, up.2, low'.0)))
-        (λ rest. ⊎_elim
-        (λ (here' : (j ≡ at) × ((d : Entry) → get_or (insert xs at e) j d ≡ e)). absurd (omega (arith, lt, up.1, up.2, here'.0)))
-        (λ (up' : (m : ℕ) × (j ≡ m + 1) × (at ≤ m) × ((d : Entry) → get_or (insert xs at e) j d ≡ get_or xs m d)).
-        subst (λ f. Goes f (get_or (insert xs at e) j d)) (sym (up.3 d))
-        (subst (λ g. Goes (get_or xs up.0 d) g) (sym (up'.3 d)) (order up.0 up'.0 d (omega (arith, lt, up.1, up'.1)) (omega (arith, inside, long, up'.1)))))
-        rest)
-        (comes j))
-        rest)
-        (comes i)
+  pub in_order_insert : (at : ℕ) → at ≤ length xs → InOrder xs → LacksJob xs e.id → AreBefore at → AreBehind at → InOrder (insert xs at e)
+  in_order_insert at le order lacks =
+      ordered.in_order_insert goes_before itself onward xs e at le order (λ f there not_so. other_way e f (λ same. lacks f there (sym same)) not_so)
 
   -- what the longer list has
   pub has_more : (at : ℕ) (f : Entry) → Contains (insert xs at e) f ↔ (Contains xs f ⊎ (f ≡ e))
-  has_more at f = (
-    λ there. ⊎_elim (λ (one : Contains (e ∷ []) f). inr (single e f one)) (λ rest. inl rest)
-        (Contains-append_cases (e ∷ []) xs f (Contains-permutation (insert xs at e) (e ∷ xs) f (IsPermutation-sym (e ∷ xs) (insert xs at e) (IsPermutation-insert xs at e)) there)),
-    λ either. Contains-permutation (e ∷ xs) (insert xs at e) f (IsPermutation-insert xs at e)
-        (⊎_elim (λ old. Contains-append_right (e ∷ []) xs f old) (λ (same : f ≡ e). subst (λ g. Contains (e ∷ xs) g) (sym same) (0, omega arith, refl)) either),
-  )
+  has_more = ordered.has_more goes_before itself onward xs e
 
   module _ (at : ℕ) (inside : at < length xs) (here : get_or xs at e ≡ e) where
     pub in_order_remove : InOrder xs → InOrder (remove xs at)
-    in_order_remove order = all_pairs_remove (λ f g. IsTrue (goes_before f g)) xs at inside order
+    in_order_remove = ordered.in_order_remove goes_before itself onward xs e at inside here
 
     pub not_left : InOrder xs → ¬ (Contains (remove xs at) e)
-    not_left order there =
-        let k = there.0 in
-        let short : length (remove xs at) + 1 ≡ length xs = length-remove xs at inside in
-        ⊎_elim
-        (λ (lt : k < at).
-        both_ways (goes_before e e) (itself e)
-        (subst (λ f. goes_before f e ≡ true) (sym (get_or-remove_below xs at e k lt inside) ∙ there.2)
-        (subst (λ f. goes_before (get_or xs k e) f ≡ true) here (order k at e lt inside))))
-        (λ (ge : at ≤ k).
-        both_ways (goes_before e e) (itself e)
-        (subst (λ f. goes_before e f ≡ true) (sym (get_or-remove_above xs at e k ge inside) ∙ there.2)
-        (subst (λ f. goes_before f (get_or xs (k + 1) e) ≡ true) here (order at (k + 1) e (omega arith) (omega (arith, short, there.1))))))
-        (cases_lt k at)
+    not_left = ordered.not_left goes_before itself onward xs e at inside here
 
     -- what the shorter list has
     pub has_less : InOrder xs → (f : Entry) → Contains (remove xs at) f ↔ (Contains xs f × ¬ (f ≡ e))
-    has_less order f = (
-      λ there. (
-        Contains-permutation (e ∷ remove xs at) xs f (IsPermutation-sym xs (e ∷ remove xs at) (IsPermutation-remove xs at e inside (sym here))) (Contains-append_right (e ∷ []) (remove xs at) f there),
-        λ (same : f ≡ e). not_left order (subst (λ g. Contains (remove xs at) g) same there),
-      ),
-      λ both. ⊎_elim (λ (one : Contains (e ∷ []) f). absurd (both.1 (single e f one))) (λ rest. rest)
-          (Contains-append_cases (e ∷ []) (remove xs at) f (Contains-permutation xs (e ∷ remove xs at) f (IsPermutation-remove xs at e inside (sym here)) both.0)),
-    )
+    has_less = ordered.has_less goes_before itself onward xs e at inside here

@@ -1,7 +1,8 @@
-//! Which job of a queue is to be started next.
+//! Which job of a queue is to be started next, and which can't be started in time any more.
 //!
 //! [`next_job`] chooses among the rows of all jobs, at a moment, for one queue. An [`Index`] keeps the waiting jobs of one
-//! queue in the order of their turns, and chooses among them.
+//! queue in the order of their turns, and chooses among them. [`Deadlines`] keep those that are to start by a moment, the
+//! earliest moment first.
 //!
 //! # The rule
 //!
@@ -20,6 +21,8 @@
 //!   (`InOrder`), and `next` is the first that may be started. [`index_law`]: the order is that of the rule, and where the
 //!   entries are those of a queue's waiting jobs (`IsIndexOf`), the first that may be started is the next job of the queue,
 //!   if the queue is free; where there is none, none is eligible.
+//! - The deadlines of a queue: [`Deadlines::first_before`] names a job whose moment is below the given one (`found`), and none
+//!   exactly where no moment is (`none`). Adding and taking away change what is there by that one (`items`).
 //!
 //! # What an index keeps
 //!
@@ -28,6 +31,11 @@
 //! 3. Until the due moment no other entry may be started, and where there is no due moment, none ever will. So a moment
 //!    before it changes no list.
 //! 4. Each of the three lists has the index's room, since all entries may come to be ones that may be started.
+//!
+//! # What deadlines keep
+//!
+//! 1. Each comes before all later ones: by the moment, and of one moment by the number of the job (`InTurn`).
+//! 2. The list has the room that is told.
 //!
 //! # Cost and faults
 //!
@@ -39,15 +47,21 @@
 //! it stands, and only the ready ones beside it move. A moment before the due one looks at none, and any other goes through
 //! all. [`Index::of_entries`] sorts its entries once. Only that and [`Index::reserve`] take memory,
 //! and where `reserve` fails, the index is as before.
+//!
+//! To tell whether a deadline has passed, the first one alone is looked at. Adding and taking away find their place by binary
+//! search and move the deadlines before it or behind it, whichever are fewer. [`Deadlines::of_items`] sorts them once. Only
+//! [`Deadlines::reserve`] takes memory, and where it fails, the deadlines are as before.
 #![tactic(auto)]
 
 mod choice;
+mod deadlines;
 mod entry;
 mod index;
 mod laws;
 mod lists;
 
 pub use choice::{beats, next_job};
+pub use deadlines::{Deadline, Deadlines};
 pub use entry::Entry;
 pub use index::Index;
 pub use laws::{index_law, order_law};

@@ -15,8 +15,8 @@ use Rattle.gate_journal.specs.declared.journal.JournalFault.TheVariants.{Full, D
 use Rattle.gate_journal.specs.Frame.{payload_of}
 use Rattle.gate_journal.specs.Window.{Stretch}
 use Rattle.gate_journal.proofs.Steps.{length-records-push}
-use Rattle.spool_areas.specs.Header.{half, header_len, header_at, epoch_of}
-use Rattle.spool_areas.specs.Payloads.{HasPayloads, HasBeforeOrAfter, gate_after}
+use Rattle.spool_areas.specs.Header.{half, header_len, header_at, version_of, epoch_of}
+use Rattle.spool_areas.specs.Payloads.{HasPayloads, HasVersionAndPayloads, HasBeforeOrAfter, gate_after}
 use Rattle.spool_areas.specs.Current.{Current, KeepsPayloads}
 use Rattle.spool_areas.specs.AreaAppends.{AreaAppends, journal_of}
 use Rattle.spool_areas.specs.Seen.{current_of, IsInside}
@@ -46,8 +46,20 @@ module _ {D : Type 0} (v : DiskView D) (lawful : IsLawful v)
     gate_at = omega (arith, keeps.gate_at, starts);
   }
 
+  -- the header of an image's current area is that of an old one
+  header_in : (c : List ℕ) (outside : IsOldOutside (v.image old.disk) old.gate (old.end - old.gate) c) → header_at old.base c ≡ header_at old.base outside.0
+  header_in c outside =
+      let before : old.base + header_len ≤ old.gate = omega (arith, keeps.gate_at) in
+      header_same old.base old.gate (old.end - old.gate) outside.0 c (inl before) outside.2
+
+  epoch_in : (c : List ℕ) → IsOldOutside (v.image old.disk) old.gate (old.end - old.gate) c → epoch_of (header_at old.base c) ≡ old.epoch
+  epoch_in c outside = ap epoch_of (header_in c outside) ∙ keeps.epoch outside.0 outside.1
+
+  version_in : (c : List ℕ) → IsOldOutside (v.image old.disk) old.gate (old.end - old.gate) c → version_of (header_at old.base c) ≡ old.version
+  version_in c outside = ap version_of (header_in c outside) ∙ keeps.version outside.0 outside.1
+
   -- the headers of an image are those of an old one
-  payloads_in : (others : List (List ℕ)) (c : List ℕ) → IsOldOutside (v.image old.disk) old.gate (old.end - old.gate) c → HasEntries start others c → gate_after old.base others < old.end → HasPayloads old.base others c
+  payloads_in : (others : List (List ℕ)) (c : List ℕ) → IsOldOutside (v.image old.disk) old.gate (old.end - old.gate) c → HasEntries start others c → gate_after old.base others < old.end → HasVersionAndPayloads old.base old.version others c
   payloads_in others c outside has before_end =
       let b = outside.0 in
       let same = outside.2 in
@@ -59,18 +71,19 @@ module _ {D : Type 0} (v : DiskView D) (lawful : IsLawful v)
       (λ second. inr (omega (arith, keeps.gate_at, second)))
       (base_is b old.base was.current) in
       record {
-        current = current_same old.gate (old.end - old.gate) b c behind same ∙ was.current;
-        entries = subst (λ (n : ℕ). HasEntries n others c) starts has;
-        within = omega (arith, before_end, ends, same.size, long);
+        area = record {
+          current = current_same old.gate (old.end - old.gate) b c behind same ∙ was.current;
+          entries = subst (λ (n : ℕ). HasEntries n others c) starts has;
+          within = omega (arith, before_end, ends, same.size, long);
+        };
+        version_is = version_in c outside;
       }
 
-  -- the epoch of an image is that of an old one
-  epoch_in : (c : List ℕ) → IsOldOutside (v.image old.disk) old.gate (old.end - old.gate) c → epoch_of (header_at old.base c) ≡ old.epoch
-  epoch_in c outside =
-      let before : old.base + header_len ≤ old.gate = omega (arith, keeps.gate_at) in
-      ap epoch_of (header_same old.base old.gate (old.end - old.gate) outside.0 c (inl before) outside.2) ∙ keeps.epoch outside.0 outside.1
+  -- an old image has the payloads in its version
+  now_in : (c : List ℕ) → v.image old.disk c → HasVersionAndPayloads old.base old.version payloads c
+  now_in c left = record { area = keeps.each c left; version_is = keeps.version c left }
 
-  pub old_in : (c : List ℕ) → IsOldOutside (v.image old.disk) old.gate (old.end - old.gate) c → HasEntries start payloads c → HasPayloads old.base payloads c
+  pub old_in : (c : List ℕ) → IsOldOutside (v.image old.disk) old.gate (old.end - old.gate) c → HasEntries start payloads c → HasVersionAndPayloads old.base old.version payloads c
   old_in c outside has =
       let was = keeps.each outside.0 outside.1 in
       payloads_in payloads c outside has (omega (arith, was.within, ends, lawful.image_size old.disk outside.0 outside.1))
@@ -86,31 +99,32 @@ module _ {D : Type 0} (v : DiskView D) (lawful : IsLawful v)
     pub gate_behind : old.gate + length frame ≡ gate_after old.base more
     gate_behind = omega (arith, whole, keeps.gate_at, length-records-push payloads payload, length-take (length frame - 5) (drop 4 frame), length-drop 4 frame)
 
-    pub new_in : old.gate + length frame < old.end → (c : List ℕ) → IsOldOutside (v.image old.disk) old.gate (old.end - old.gate) c → HasEntries start more c → HasPayloads old.base more c
+    pub new_in : old.gate + length frame < old.end → (c : List ℕ) → IsOldOutside (v.image old.disk) old.gate (old.end - old.gate) c → HasEntries start more c → HasVersionAndPayloads old.base old.version more c
     new_in fits c outside has = payloads_in more c outside has (omega (arith, fits, gate_behind))
 
     pub run : (new : D) (room : ℕ)
         → 1 ≤ room → (new ≡ old.disk) ⊎ (old.gate + length frame + room ≤ old.end)
         → LeavesOnly v old.disk new (IsOldOutside (v.image old.disk) old.gate (old.end - old.gate))
         → LeavesOnly v old.disk new (IsBeforeOrAfter start payloads payload)
-        → LeavesOnly v old.disk new (HasBeforeOrAfter old.base payloads payload)
+        → LeavesOnly v old.disk new (HasBeforeOrAfter old.base old.version payloads payload)
     run new room some (inl same) inside entries =
-        subst (λ d. LeavesOnly v old.disk d (HasBeforeOrAfter old.base payloads payload)) (sym same)
-        (started v old.disk (HasBeforeOrAfter old.base payloads payload) (λ c left. inl (keeps.each c (lawful.only_now old.disk c left))))
+        subst (λ d. LeavesOnly v old.disk d (HasBeforeOrAfter old.base old.version payloads payload)) (sym same)
+        (started v old.disk (HasBeforeOrAfter old.base old.version payloads payload) (λ c left. inl (now_in c (lawful.only_now old.disk c left))))
     run new room some (inr fits) inside entries =
-        weaker_run v old.disk new (HasBeforeOrAfter old.base payloads payload) _
+        weaker_run v old.disk new (HasBeforeOrAfter old.base old.version payloads payload) _
         (both_runs v old.disk new (IsOldOutside (v.image old.disk) old.gate (old.end - old.gate)) (IsBeforeOrAfter start payloads payload) inside entries)
         (λ c h. ⊎_elim (λ before. inl (old_in c h.0 before)) (λ after. inr (new_in (omega (arith, fits, some)) c h.0 after)) h.1)
 
-    pub added : (new : Current D) (new_start : ℕ) → new.base ≡ old.base → new.epoch ≡ old.epoch → new_start ≡ start → IsSynced v new.disk → old.gate + length frame < old.end
+    pub added : (new : Current D) (new_start : ℕ) → new.base ≡ old.base → new.epoch ≡ old.epoch → new.version ≡ old.version → new_start ≡ start → IsSynced v new.disk → old.gate + length frame < old.end
         → ((c : List ℕ) → v.image new.disk c → IsOldOutside (v.image old.disk) old.gate (old.end - old.gate) c)
         → KeepsEntries v new.disk new_start new.gate more → KeepsPayloads v new more
-    added new new_start same_base same_epoch same_start synced fits outside entries = record {
+    added new new_start same_base same_epoch same_version same_start synced fits outside entries = record {
       tells = entries.tells;
       synced = synced;
       each = λ c now. subst (λ (n : ℕ). HasPayloads n more c) (sym same_base)
-          (new_in fits c (outside c now) (subst (λ (n : ℕ). HasEntries n more c) same_start (entries.each c now)));
+          (new_in fits c (outside c now) (subst (λ (n : ℕ). HasEntries n more c) same_start (entries.each c now))).area;
       epoch = λ c now. ap (λ (n : ℕ). epoch_of (header_at n c)) same_base ∙ epoch_in c (outside c now) ∙ sym same_epoch;
+      version = λ c now. ap (λ (n : ℕ). version_of (header_at n c)) same_base ∙ version_in c (outside c now) ∙ sym same_version;
       gate_at = omega (arith, entries.gate_at, same_base, same_start, starts);
     }
 
@@ -126,7 +140,7 @@ module _ {D : Type 0} (v : DiskView D) (lawful : IsLawful v) (room : ℕ) (some 
     (after : D) (journal : Journal) (dead : Bool) (window : Stretch) (frame filled : List ℕ) (whole : 5 ≤ length frame) (result : Result ℕ JournalFault)
     (step : Appends v room (state_of old.journal) (state_of journal) old.disk after frame filled result) (dies : IsTrue dead ↔ IsErrOf result Disk) where
   abbrev new : Inside D
-  new = record { disk = after; base = old.base; len = old.len; epoch = old.epoch; journal = journal; dead = dead; window = window }
+  new = record { disk = after; base = old.base; len = old.len; epoch = old.epoch; version = old.version; journal = journal; dead = dead; window = window }
 
   old_state : state_of old.journal ≡ journal_of (current_of old)
   old_state = λ i. record { base = inv.journal i; end = old.journal.end; place = old.journal.place; dead = (inv.alive alive ∙ sym alive) i }
@@ -151,11 +165,11 @@ module _ {D : Type 0} (v : DiskView D) (lawful : IsLawful v) (room : ℕ) (some 
         let place = ap (λ s. s.place) same.0 in
         let end = ap (λ s. s.end) same.0 in
         let still : dead ≡ old.dead = sym new_dead ∙ ap (λ s. s.dead) same.0 ∙ inv.alive alive ∙ sym alive in
-        (λ i. record { disk = same.1 i; base = old.base; end = end i; epoch = old.epoch; gate = place i; dead = still i });
-    same = (refl, step.same.1, refl);
+        (λ i. record { disk = same.1 i; base = old.base; end = end i; epoch = old.epoch; version = old.version; gate = place i; dead = still i });
+    same = (refl, step.same.1, refl, refl);
     added = both_ok result step.durable (ok_not _ result Full step.added) (λ synced both payloads keeps.
         added v lawful (current_of old) old.journal.base payloads inv.journal inv.area.end_is keeps frame whole
-        (current_of new) journal.base refl refl step.same.0 synced (fits both.0)
+        (current_of new) journal.base refl refl refl step.same.0 synced (fits both.0)
         (at_return v lawful old.disk after _ step.inside.images)
         (both.1 payloads (entries_kept v lawful (current_of old) old.journal.base payloads inv.journal inv.area.end_is keeps)));
     any_moment = λ payloads keeps.
@@ -189,7 +203,8 @@ refused v lawful room old frame dead = record {
     any_moment = λ payloads keeps. started v old.disk (IsBeforeOrAfter (old.base + header_len) payloads (payload_of frame)) (λ c left. inl (keeps.each c (lawful.only_now old.disk c left)));
   };
   untouched = λ why. refl;
-  same = (refl, refl, refl);
+  same = (refl, refl, refl, refl);
   added = tt;
-  any_moment = λ payloads keeps. started v old.disk (HasBeforeOrAfter old.base payloads (payload_of frame)) (λ c left. inl (keeps.each c (lawful.only_now old.disk c left)));
+  any_moment = λ payloads keeps. started v old.disk (HasBeforeOrAfter old.base old.version payloads (payload_of frame))
+      (λ c left. let now = lawful.only_now old.disk c left in inl (record { area = keeps.each c now; version_is = keeps.version c now }));
 }

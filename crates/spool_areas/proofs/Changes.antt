@@ -8,8 +8,8 @@ use Rattle.spool_disk.specs.Disk.{DiskView, IsLawful, overwritten, SameOutside, 
 use Rattle.spool_disk.proofs.Moments.{started, runs_on, weaker_run, at_return}
 use Rattle.spool_disk.proofs.Ranges.{wider, twice, told, tells_still}
 use Rattle.gate_journal.specs.Entries.{KeepsEntries}
-use Rattle.spool_areas.specs.Header.{half, least_area, header_len, header_at, epoch_of}
-use Rattle.spool_areas.specs.Payloads.{HasPayloads}
+use Rattle.spool_areas.specs.Header.{half, least_area, header_len, header_at, newest_version, epoch_of}
+use Rattle.spool_areas.specs.Payloads.{HasVersionAndPayloads}
 use Rattle.spool_areas.specs.Checkpoint.{HasHeader, HasOldOrNew, IsClosing, Stands, StandsNew, ChangesOver}
 use Rattle.spool_areas.proofs.Chosen.{AreTwo}
 use Rattle.spool_areas.proofs.Switch.{stands, epoch_stands, switched, all_same, same_byte}
@@ -20,9 +20,9 @@ written_byte at x old new inside is =
     ap (λ (l : List ℕ). get_or l at 0) (is ∙ append_assoc (take at old) (x ∷ []) (drop (at + 1) old)) ∙ get_or_at (take at old) x (drop (at + 1) old) 0 at (length-take-le at old (omega arith))
 
 module _ {D : Type 0} (v : DiskView D) (lawful : IsLawful v)
-    (old : D) (len base other epoch : ℕ) (payloads : List (List ℕ)) (st : Stands v old len base other epoch payloads) (is_half : len ≡ half (v.size old)) (least : least_area ≤ len) where
+    (old : D) (len base other epoch version : ℕ) (payloads : List (List ℕ)) (st : Stands v old len base other epoch version payloads) (is_half : len ≡ half (v.size old)) (least : least_area ≤ len) where
   abbrev Old : List ℕ → Type 0
-  Old = HasPayloads base payloads
+  Old = HasVersionAndPayloads base version payloads
 
   -- what it told at the start
   first : (r : List ℕ) × (v.bytes old ≡ Some r)
@@ -45,7 +45,7 @@ module _ {D : Type 0} (v : DiskView D) (lawful : IsLawful v)
 
   -- while the other gate is closed
   old_stands : (c : List ℕ) → SameOutside other len first.0 c → (get_or c other 0 ≡ 165 → ⊥) → Old c
-  old_stands c same closed = stands (v.size old) base other long two payloads first.0 c first_len first_has (subst (λ (n : ℕ). SameOutside other n first.0 c) is_half same) closed
+  old_stands c same closed = stands (v.size old) base other long two version payloads first.0 c first_len first_has (subst (λ (n : ℕ). SameOutside other n first.0 c) is_half same) closed
 
   closing : (c : List ℕ) → IsClosing v old other c → Old c
   closing c (inl now) = st.each c now
@@ -61,9 +61,9 @@ module _ {D : Type 0} (v : DiskView D) (lawful : IsLawful v)
   part_one mid run = weaker_run v old mid Old (IsClosing v old other) run closing
 
   -- a run that ends before the header is opened
-  pub ends_old : (other_payloads : List (List ℕ)) (mid : D) → LeavesOnly v old mid Old → ChangesOver v old mid base payloads other other_payloads
+  pub ends_old : (other_payloads : List (List ℕ)) (mid : D) → LeavesOnly v old mid Old → ChangesOver v old mid base version payloads other other_payloads
   ends_old rows mid run =
-      (mid, run, started v mid (HasOldOrNew base payloads other rows) (λ c left. inl (at_return v lawful old mid Old run c (lawful.only_now mid c left))))
+      (mid, run, started v mid (HasOldOrNew base version payloads other rows) (λ c left. inl (at_return v lawful old mid Old run c (lawful.only_now mid c left))))
 
   module _ (mid : D) (run : LeavesOnly v old mid (IsClosing v old other)) (stays : Tells (SameOutside other 1) (v.bytes old) (v.bytes mid))
       (closed : (r : List ℕ) → v.bytes mid ≡ Some r → get_or r other 0 ≢ 165) (synced : IsSynced v mid) where
@@ -113,12 +113,12 @@ module _ {D : Type 0} (v : DiskView D) (lawful : IsLawful v)
       third_len : length third.0 ≡ v.size old
       third_len = third_same.size ∙ first_len
 
-      new_stands : (c : List ℕ) → SameOutside other 1 third.0 c → get_or c other 0 ≡ 165 → HasPayloads other rows c × (epoch_of (header_at other c) ≡ new_epoch)
+      new_stands : (c : List ℕ) → SameOutside other 1 third.0 c → get_or c other 0 ≡ 165 → HasVersionAndPayloads other newest_version rows c × (epoch_of (header_at other c) ≡ new_epoch)
       new_stands c same opened =
-          switched (v.size old) base other long two payloads rows new_epoch third.0 c third_len third_has (omega (arith, third_epoch, newer)) fits
+          switched (v.size old) base other long two payloads rows new_epoch third.0 c third_len third_has.area (omega (arith, third_epoch, newer)) fits
           (header third.0 third.1) (kept.each third.0 (lawful.reads_image filled third.0 third.1)) (omega (arith, kept.gate_at, within, is_half)) same opened
 
-      opening : (c : List ℕ) → IsOldOutside (v.image filled) other 1 c → HasOldOrNew base payloads other rows c
+      opening : (c : List ℕ) → IsOldOutside (v.image filled) other 1 c → HasOldOrNew base version payloads other rows c
       opening c o =
           let same : SameOutside other 1 third.0 c = subst (λ l. SameOutside other 1 l c) (filled_synced third.0 third.1 o.0 o.1) o.2 in
           ⊎_elim
@@ -127,8 +127,8 @@ module _ {D : Type 0} (v : DiskView D) (lawful : IsLawful v)
           (cases_eq (get_or c other 0) 165)
 
       -- 3. the header is opened
-      pub part_three : (new : D) → LeavesOnly v filled new (IsOldOutside (v.image filled) other 1) → ChangesOver v old new base payloads other rows
-      part_three new run_on = (filled, part_two filled fill, weaker_run v filled new (HasOldOrNew base payloads other rows) (IsOldOutside (v.image filled) other 1) run_on opening)
+      pub part_three : (new : D) → LeavesOnly v filled new (IsOldOutside (v.image filled) other 1) → ChangesOver v old new base version payloads other rows
+      part_three new run_on = (filled, part_two filled fill, weaker_run v filled new (HasOldOrNew base version payloads other rows) (IsOldOutside (v.image filled) other 1) run_on opening)
 
       pub changed : (new : D) → Tells (SameOutside other 1) (v.bytes filled) (v.bytes new) → IsWritten v filled new other (165 ∷ []) → IsSynced v new → StandsNew v new other new_epoch place rows
       changed new opened_stays written new_synced =
@@ -138,7 +138,7 @@ module _ {D : Type 0} (v : DiskView D) (lawful : IsLawful v)
           let now = new_stands there same (written_byte other 165 third.0 there (omega (arith, inside, third_len)) refl) in
           record {
             tells = tells_still (SameOutside other 1) (v.bytes filled) (v.bytes new) opened_stays kept.tells;
-            each = λ c left. subst (HasPayloads other rows) (sym (new_synced there tells c left)) now.0;
+            each = λ c left. subst (HasVersionAndPayloads other newest_version rows) (sym (new_synced there tells c left)) now.0;
             epoch_is = λ c left. subst (λ l. epoch_of (header_at other l) ≡ new_epoch) (sym (new_synced there tells c left)) now.1;
             gate_at = kept.gate_at;
           }

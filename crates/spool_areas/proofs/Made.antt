@@ -5,14 +5,14 @@ use Rattle.std.proofs.lemmas.List.{get_or-take, get_or-drop, get_or_at, length-t
 use Rattle.std.proofs.lemmas.Bool.{le-ltb, cases_eq}
 use Rattle.std.specs.Option.{option_map}
 use Rattle.std.specs.Prelude.{◌==◌, ◌&&◌, not, if◌then◌else◌, Err, IsSome}
-use Rattle.spool_disk.specs.Disk.{DiskView, IsLawful, overwritten, SameOutside, Tells, IsOldOutside, IsSynced, IsWritten, LeavesOnly, ChangesOnly}
+use Rattle.spool_disk.specs.Disk.{DiskView, IsLawful, overwritten, SameOutside, Tells, IsOldOutside, IsSynced, LeavesOnly}
 use Rattle.spool_disk.proofs.Moments.{weaker_run, runs_on, at_return}
 use Rattle.spool_disk.proofs.Ranges.{same_all, told}
 use Rattle.spool_disk.proofs.Writes.{overwrites}
 use Rattle.spool_areas.specs.declared.fault.OpenFault.TheVariants.{NotASpool, Damaged}
-use Rattle.spool_areas.specs.Header.{half, least_area, header_at, header_behind_gate, first_epoch, is_open, is_known, epoch_of, newer, chosen, current_area}
-use Rattle.spool_areas.specs.Making.{first_bytes, empty_spool, IsOldButGates, IsNoSpoolOrEmpty, ClosesFirst}
-use Rattle.spool_areas.specs.Payloads.{HasPayloads}
+use Rattle.spool_areas.specs.Header.{half, least_area, header_at, header_behind_gate, first_epoch, newest_version, is_open, is_known, epoch_of, newer, chosen, current_area}
+use Rattle.spool_areas.specs.Making.{empty_spool, IsOldButGates, IsNoSpoolOrEmpty, ClosesFirst}
+use Rattle.spool_areas.specs.Payloads.{HasVersionAndPayloads}
 use Rattle.spool_areas.proofs.Headers.{by_headers}
 use Rattle.spool_areas.proofs.Filled.{told_same}
 use Rattle.spool_areas.proofs.Switch.{is_closed, same_byte}
@@ -55,17 +55,20 @@ chosen_none second header other shut other_shut =
     else if o then Ok second
     else Err NotASpool) other_shut
 
-is_empty : (rest : List ℕ) → least_area ≤ half (length (first_area rest)) → get_or rest (half (length (first_area rest)) - 17) 0 ≡ 0 → HasPayloads 0 [] (first_area rest)
+is_empty : (rest : List ℕ) → least_area ≤ half (length (first_area rest)) → get_or rest (half (length (first_area rest)) - 17) 0 ≡ 0 → HasVersionAndPayloads 0 newest_version [] (first_area rest)
 is_empty rest room closed =
     let second = half (length (first_area rest)) in
     let header = header_at 0 (first_area rest) in
     let other = header_at second (first_area rest) in
     record {
-      current =
-          ap (λ short. if short then Err NotASpool else chosen second header other) (le-ltb second least_area room)
-          ∙ chosen_first second rest other (other_gate second rest (omega (arith, room)) closed);
-      entries = record { short = tt; gate = 0; rest = rest; closed = λ is. absurd (omega (arith, is)); stands = refl };
-      within = omega (arith, room);
+      area = record {
+        current =
+            ap (λ short. if short then Err NotASpool else chosen second header other) (le-ltb second least_area room)
+            ∙ chosen_first second rest other (other_gate second rest (omega (arith, room)) closed);
+        entries = record { short = tt; gate = 0; rest = rest; closed = λ is. absurd (omega (arith, is)); stands = refl };
+        within = omega (arith, room);
+      };
+      version_is = refl;
     }
 
 -- a closed gate was written there
@@ -123,7 +126,7 @@ module _ (second : ℕ) (r : List ℕ) (is_half : second ≡ half (length r)) (r
       laid (closed_of second r) (omega (arith, room, is_half, closed_len)) ∙ ap first_area (behind_first second r (omega (arith, room)) (omega (arith, room, is_half)))
       ∙ ap (λ (n : ℕ). first_area (drop 17 (overwritten n (0 ∷ []) r))) is_half
 
-  empty : HasPayloads 0 [] (empty_spool r)
+  empty : HasVersionAndPayloads 0 newest_version [] (empty_spool r)
   empty =
       let w = overwritten second (0 ∷ []) r in
       let rest = drop 17 w in
@@ -132,7 +135,7 @@ module _ (second : ℕ) (r : List ℕ) (is_half : second ≡ half (length r)) (r
       let behind : 17 + (second - 17) ≡ second = omega (arith, room) in
       let closed : get_or rest (second - 17) 0 ≡ 0 =
       get_or-drop 17 w (second - 17) 0 ∙ ap (λ (n : ℕ). get_or w n 0) behind ∙ closed_at second r (omega (arith, room, is_half)) in
-      subst (HasPayloads 0 []) (ap (λ (n : ℕ). first_area (drop 17 (overwritten n (0 ∷ []) r))) is_half)
+      subst (HasVersionAndPayloads 0 newest_version []) (ap (λ (n : ℕ). first_area (drop 17 (overwritten n (0 ∷ []) r))) is_half)
       (is_empty rest (omega (arith, same, room)) (ap (λ (n : ℕ). get_or rest (n - 17) 0) same ∙ closed))
 
 pub made : (second size : ℕ) (old new : Option (List ℕ)) → second ≡ half size → least_area ≤ second → ((r : List ℕ) → old ≡ Some r → length r ≡ size)
@@ -143,9 +146,9 @@ made second size (Some r) new is_half room long is = is ∙ ap Some (all_laid se
 
 -- the one image is what is told
 pub each_made : (size : ℕ) (image : List ℕ → Type 0) (old new : Option (List ℕ)) → least_area ≤ half size → ((r : List ℕ) → old ≡ Some r → length r ≡ size) → new ≡ option_map empty_spool old
-    → ((r : List ℕ) → new ≡ Some r → (c : List ℕ) → image c → c ≡ r) → IsSome old → (c : List ℕ) → image c → HasPayloads 0 [] c
+    → ((r : List ℕ) → new ≡ Some r → (c : List ℕ) → image c → c ≡ r) → IsSome old → (c : List ℕ) → image c → HasVersionAndPayloads 0 newest_version [] c
 each_made size image (Some r) new room long is synced told c now =
-    subst (HasPayloads 0 []) (sym (synced (empty_spool r) is c now)) (empty (half (length r)) r refl (omega (arith, room, ap half (long r refl))))
+    subst (HasVersionAndPayloads 0 newest_version []) (sym (synced (empty_spool r) is c now)) (empty (half (length r)) r refl (omega (arith, room, ap half (long r refl))))
 each_made size image None new room long is synced told c now = absurd (cc told)
 
 pub still_told : (old new : Option (List ℕ)) → new ≡ option_map empty_spool old → IsSome old → IsSome new
@@ -222,7 +225,7 @@ module _ {D : Type 0} (v : DiskView D) (lawful : IsLawful v) where
           let other : get_or c second 0 ≡ 0 =
           later_byte 0 1 full c second (omega (arith, room)) same ∙ later_byte 1 16 shut full second (omega (arith, room)) full_same ∙ second_gate second first.0 is_half room in
           ⊎_elim
-          (λ opened. inr (subst (HasPayloads 0 []) (sym (first_byte 165 full c (omega (arith, size, room)) same opened ∙ all_laid second first.0 is_half room)) (empty second first.0 is_half room)))
+          (λ opened. inr (subst (HasVersionAndPayloads 0 newest_version []) (sym (first_byte 165 full c (omega (arith, size, room)) same opened ∙ all_laid second first.0 is_half room)) (empty second first.0 is_half room)))
           (λ still. inl (no_spool c size still (λ is. absurd (omega (arith, is, other)))))
           (cases_eq (get_or c 0 0) 165)
 

@@ -9,8 +9,8 @@ use Rattle.gate_journal.specs.Entries.{open_gate}
 use Rattle.gate_journal.specs.Frame.{payload_of}
 use Rattle.spool_areas.specs.declared.fault.AreaFault.{AreaFault}
 use Rattle.spool_areas.specs.declared.fault.AreaFault.TheVariants.{Dead, EpochEnd, Full}
-use Rattle.spool_areas.specs.Header.{header_len, header_at, header_behind_gate, is_open, epoch_of}
-use Rattle.spool_areas.specs.Payloads.{HasPayloads, gate_after}
+use Rattle.spool_areas.specs.Header.{header_len, header_at, header_behind_gate, newest_version, is_open, epoch_of}
+use Rattle.spool_areas.specs.Payloads.{HasVersionAndPayloads, gate_after}
 use Rattle.spool_areas.specs.Current.{Current}
 
 -- the greatest epoch
@@ -42,7 +42,7 @@ plan_of a lengths =
     else if has_room (other_base a + area_len a) (other_base a + header_len) lengths then Ok (other_base a + header_len)
     else Err Full
 
--- a header of this epoch lies there, behind whatever gate
+-- a header of this epoch and the newest version lies there, behind whatever gate
 pub record HasHeader (other epoch : ℕ) (bytes : List ℕ) : Type 0 where
   pub behind : take 15 (drop (other + 1) bytes) ≡ header_behind_gate epoch
 
@@ -51,9 +51,10 @@ abbrev pub IsClosedOrOlder : ℕ → ℕ → List ℕ → Type 0
 IsClosedOrOlder base other bytes =
     (is_open (header_at other bytes) ≡ false) ⊎ (epoch_of (header_at other bytes) < epoch_of (header_at base bytes))
 
--- the old payloads in the old area, or the new ones in the new area
-abbrev pub HasOldOrNew : ℕ → List (List ℕ) → ℕ → List (List ℕ) → List ℕ → Type 0
-HasOldOrNew base old other new bytes = HasPayloads base old bytes ⊎ HasPayloads other new bytes
+-- the old payloads in the old area, in its version, or the new ones in the new area, in the newest version
+abbrev pub HasOldOrNew : ℕ → ℕ → List (List ℕ) → ℕ → List (List ℕ) → List ℕ → Type 0
+HasOldOrNew base version old other new bytes =
+    HasVersionAndPayloads base version old bytes ⊎ HasVersionAndPayloads other newest_version new bytes
 
 -- each row is given as a frame: four free bytes, the payload and one free byte
 abbrev pub frames_of : List (Vec ℕ Global) → List (List ℕ)
@@ -76,29 +77,31 @@ abbrev pub IsClosing : {D : Type 0} → DiskView D → D → ℕ → List ℕ �
 IsClosing v disk at c = v.image disk c ⊎ (IsOldOutside (v.image disk) at 1 c × ((r : List ℕ) → v.bytes disk ≡ Some r → slice_index_or r at 0 ≡ open_gate))
 
 -- Of the two areas of this length the one at base is the current one: nothing is unsynced, and each image has these
--- payloads there, with this epoch.
-pub record Stands {D : Type 0} (v : DiskView D) (disk : D) (len base other epoch : ℕ) (payloads : List (List ℕ)) : Type 0 where
+-- payloads there, with this epoch and version.
+pub record Stands {D : Type 0} (v : DiskView D) (disk : D) (len base other epoch version : ℕ) (payloads : List (List ℕ)) : Type 0 where
   pub two : ((base ≡ 0) × (other ≡ len)) ⊎ ((base ≡ len) × (other ≡ 0))
   pub tells : IsSome (v.bytes disk)
   pub synced : IsSynced v disk
-  pub each : (c : List ℕ) → v.image disk c → HasPayloads base payloads c
+  pub each : (c : List ℕ) → v.image disk c → HasVersionAndPayloads base version payloads c
   pub epoch_is : (c : List ℕ) → v.image disk c → epoch_of (header_at base c) ≡ epoch
 
--- the same once it was changed over, with the gate behind the rows
+-- the same once it was changed over, in the newest version, with the gate behind the rows
 pub record StandsNew {D : Type 0} (v : DiskView D) (disk : D) (base epoch gate : ℕ) (payloads : List (List ℕ)) : Type 0 where
   pub tells : IsSome (v.bytes disk)
-  pub each : (c : List ℕ) → v.image disk c → HasPayloads base payloads c
+  pub each : (c : List ℕ) → v.image disk c → HasVersionAndPayloads base newest_version payloads c
   pub epoch_is : (c : List ℕ) → v.image disk c → epoch_of (header_at base c) ≡ epoch
   pub gate_at : gate ≡ gate_after base payloads
 
--- There is a moment such that a crash before it leaves the old payloads, and a crash after it the old ones or the new.
-abbrev pub ChangesOver : {D : Type 0} → DiskView D → D → D → ℕ → List (List ℕ) → ℕ → List (List ℕ) → Type 0
-ChangesOver {D} v before after base old other new =
-    (filled : D) × LeavesOnly v before filled (HasPayloads base old) × LeavesOnly v filled after (HasOldOrNew base old other new)
+-- There is a moment such that a crash before it leaves the old payloads in their version, and a crash after it these or the
+-- new ones in the newest version.
+abbrev pub ChangesOver : {D : Type 0} → DiskView D → D → D → ℕ → ℕ → List (List ℕ) → ℕ → List (List ℕ) → Type 0
+ChangesOver {D} v before after base version old other new =
+    (filled : D) × LeavesOnly v before filled (HasVersionAndPayloads base version old) × LeavesOnly v filled after (HasOldOrNew base version old other new)
 
--- the other area is the current one now, with the next epoch, and its gate lies behind these rows
+-- the other area is the current one now, with the next epoch and the newest version, and its gate lies behind these rows
 pub record IsChanged {D : Type 0} (old : Current D) (rows : List (List ℕ)) (new : Current D) : Type 0 where
   pub base : new.base ≡ other_base old
   pub end : new.end ≡ other_base old + area_len old
   pub epoch : new.epoch ≡ old.epoch + 1
+  pub version : new.version ≡ newest_version
   pub gate : new.gate ≡ gate_after (other_base old) rows

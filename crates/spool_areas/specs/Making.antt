@@ -3,10 +3,11 @@ use Rattle.std.specs.Prelude.{◌≡◌, ◌⊎◌, ℕ, List, [], ◌∷◌, �
 use Rattle.spool_disk.specs.Disk.{DiskView, overwritten, IsOldOutside, LeavesOnly}
 use Rattle.gate_journal.specs.Entries.{open_gate}
 use Rattle.spool_areas.specs.declared.fault.OpenFault.TheVariants.{NotASpool}
-use Rattle.spool_areas.specs.Header.{half, header_behind_gate, first_epoch, current_area}
-use Rattle.spool_areas.specs.Payloads.{HasPayloads}
+use Rattle.spool_areas.specs.Header.{half, header_behind_gate, first_epoch, newest_version, current_area}
+use Rattle.spool_areas.specs.Payloads.{HasVersionAndPayloads}
 
--- area 0 begins so: an open header of the first epoch, and the closed gate of a journal without records
+-- area 0 begins so: an open header of the newest version and the first epoch, and the closed gate of a journal without
+-- records
 abbrev pub first_bytes : List ℕ
 first_bytes = open_gate ∷ (header_behind_gate first_epoch ++ 0 ∷ [])
 
@@ -18,9 +19,9 @@ empty_spool old = overwritten 0 first_bytes (overwritten (half (length old)) (0 
 abbrev pub IsOldButGates : (List ℕ → Type 0) → ℕ → List ℕ → Type 0
 IsOldButGates image second c = IsOldOutside (IsOldOutside image 0 1) second 1 c
 
--- no spool, or one without payloads
+-- no spool, or one of the newest version without payloads
 abbrev pub IsNoSpoolOrEmpty : List ℕ → Type 0
-IsNoSpoolOrEmpty c = (current_area c ≡ Err NotASpool) ⊎ HasPayloads 0 [] c
+IsNoSpoolOrEmpty c = (current_area c ≡ Err NotASpool) ⊎ HasVersionAndPayloads 0 newest_version [] c
 
 -- The gates of both headers are closed first. Where the device doesn't fail before that is done, there is a moment from
 -- which on a crash leaves bytes that have P.

@@ -3,7 +3,7 @@ use Rattle.std.specs.Prelude.{◌≡◌, ◌⊎◌, ◌<◌, ℕ, ◌+◌, List,
 use Rattle.gate_journal.specs.Entries.{HasEntries, HasFirst, records}
 use Rattle.gate_journal.specs.Found.{entry_at}
 use Rattle.gate_journal.specs.declared.entry.Found.TheVariants as found
-use Rattle.spool_areas.specs.Header.{half, header_len, current_area}
+use Rattle.spool_areas.specs.Header.{half, header_len, header_at, version_of, current_area}
 
 -- where the gate behind the records of these payloads stands, in the area that begins at base
 abbrev pub gate_after : ℕ → List (List ℕ) → ℕ
@@ -16,9 +16,15 @@ pub record HasPayloads (base : ℕ) (payloads : List (List ℕ)) (bytes : List �
   pub entries : HasEntries (base + header_len) payloads bytes
   pub within : gate_after base payloads < base + half (length bytes)
 
--- these payloads, or these and this one
-abbrev pub HasBeforeOrAfter : ℕ → List (List ℕ) → List ℕ → List ℕ → Type 0
-HasBeforeOrAfter base payloads payload bytes = HasPayloads base payloads bytes ⊎ HasPayloads base (payloads ++ payload ∷ []) bytes
+-- The current area begins at base, has these payloads, and is of this version.
+pub record HasVersionAndPayloads (base version : ℕ) (payloads : List (List ℕ)) (bytes : List ℕ) : Type 0 where
+  pub area : HasPayloads base payloads bytes
+  pub version_is : version_of (header_at base bytes) ≡ version
+
+-- these payloads, or these and this one, in the same version
+abbrev pub HasBeforeOrAfter : ℕ → ℕ → List (List ℕ) → List ℕ → List ℕ → Type 0
+HasBeforeOrAfter base version payloads payload bytes =
+    HasVersionAndPayloads base version payloads bytes ⊎ HasVersionAndPayloads base version (payloads ++ payload ∷ []) bytes
 
 -- The current area begins at base. Its first records are those of these payloads, and behind them a gate lies in the
 -- area, whatever it is.

@@ -3,7 +3,7 @@ ghost use Rattle.std.specs.Prelude.{◌≡◌, ◌≢◌, ◌<◌, ◌≤◌, �
 ghost use Rattle.spool_disk.specs.Disk.{Blames, Reads, IsSynced, ChangesNothing, ChangesOnly};
 ghost use Rattle.gate_journal.specs.Appends.{kept_room};
 ghost use Rattle.gate_journal.specs.Window.{Holds};
-ghost use Rattle.spool_areas.specs.Header.{header_len};
+ghost use Rattle.spool_areas.specs.Header.{header_len, IsVersion};
 ghost use Rattle.spool_areas.specs.Seen.{IsArea};
 ghost use Rattle.spool_areas.specs.AreaAppends.{AreaAppends};
 ghost use Rattle.spool_areas.specs.Current.{KeepsPayloads};
@@ -11,7 +11,7 @@ ghost use Rattle.spool_areas.specs.Checkpoint.{plan_of, frames_of, AreFrames, pa
 
 use crate::checkpoint::{change_over, have_room, rows_have_room};
 use crate::fault::{AreaFault, ReadFault};
-use crate::header::{HEADER_LEN, LAST_EPOCH};
+use crate::header::{HEADER_LEN, LAST_EPOCH, NEWEST_VERSION};
 use gate_journal::{Journal, JournalFault, Window};
 use spool_disk::Disk;
 use std::marker::Model;
@@ -24,6 +24,7 @@ pub struct Areas<D: Disk> {
     // how many bytes each of the two areas has
     len: u64,
     epoch: u64,
+    version: u8,
     journal: Journal,
     dead: bool,
     // What was read last. Each call that may write clears it first.
@@ -43,21 +44,23 @@ impl<D: Disk> Model for Areas<D> {
 }
 
 impl<D: Disk> Areas<D> {
-    /// The areas of a disk whose current area lies from `base` up to `end` and has this epoch, with the gate behind its
-    /// records at `gate`. The window is on this disk. It calls no device.
+    /// The areas of a disk whose current area lies from `base` up to `end` and has this epoch and version, with the gate
+    /// behind its records at `gate`. The window is on this disk. It calls no device.
     pub(crate) fn resume(
         disk: D,
         window: Window,
         base: u64,
         end: u64,
         epoch: u64,
+        version: u8,
         gate: u64,
     ) -> Areas<D>
         requires held { Holds D.device disk window }
         requires area { IsArea base end (D.device.size disk) }
+        requires known { IsVersion version }
         requires header { base + header_len ≤ gate }
         requires inside { gate < end }
-        ensures { result ≡ record { disk = disk; base = base; end = end; epoch = epoch; gate = gate; dead = false } }
+        ensures { result ≡ record { disk = disk; base = base; end = end; epoch = epoch; version = version; gate = gate; dead = false } }
     {
         let first = base + HEADER_LEN;
         Areas {
@@ -65,6 +68,7 @@ impl<D: Disk> Areas<D> {
             base,
             len: end - base,
             epoch,
+            version,
             journal: Journal::resume(first, end - first, gate),
             dead: false,
             window,
@@ -135,9 +139,9 @@ impl<D: Disk> Areas<D> {
         }
     }
 
-    /// Puts the rows into the other area and makes it the current one, with the next epoch, in three parts: the gate of
-    /// its header is closed where it reads open; the rest of the header and the records of the rows are written; and that
-    /// gate is opened. Each row is a frame, as in `append`.
+    /// Puts the rows into the other area and makes it the current one, with the next epoch and in version 2, in three
+    /// parts: the gate of its header is closed where it reads open; the rest of the header and the records of the rows
+    /// are written; and that gate is opened. Each row is a frame, as in `append`.
     pub fn checkpoint(&mut self, rows: &mut [Vec<u8>]) -> Result<(), AreaFault>
         requires frames { AreFrames (frames_of rows.old) }
 
@@ -148,18 +152,18 @@ impl<D: Disk> Areas<D> {
         ensures blames { Blames (D.device.failures self.old.disk) (D.device.failures self.new.disk) (IsErrOf result AreaFault.Disk) }
         ensures dies { IsTrue self.new.dead ↔ (IsTrue self.old.dead ⊎ IsErrOf result AreaFault.Disk) }
         ensures changed { OnOk result (IsChanged self.old (payloads_in (frames_of rows.old)) self.new) }
-        ensures held { OnErr result ((self.new.base ≡ self.old.base) × (self.new.end ≡ self.old.end) × (self.new.epoch ≡ self.old.epoch) × (self.new.gate ≡ self.old.gate)) }
+        ensures held { OnErr result ((self.new.base ≡ self.old.base) × (self.new.end ≡ self.old.end) × (self.new.epoch ≡ self.old.epoch) × (self.new.gate ≡ self.old.gate) × (self.new.version ≡ self.old.version)) }
 
         // The bytes of the old area stay, and a disk that tells nothing goes on so.
         ensures changes { ChangesOnly D.device self.old.disk self.new.disk (other_base self.old) (area_len self.old) }
 
         // Where each image has these payloads and no others, it has the rows and no others afterwards. A crash leaves the
-        // payloads until the new header is opened, and from then on these or the rows.
+        // payloads, in their version, until the new header is opened, and from then on these or the rows in version 2.
         ensures added { OnOk result ((payloads : List (List ℕ)) →
             KeepsPayloads D.device self.old payloads → KeepsPayloads D.device self.new (payloads_in (frames_of rows.old))) }
         ensures durable { OnOk result (IsSynced D.device self.new.disk) }
         ensures any_moment { (payloads : List (List ℕ)) → KeepsPayloads D.device self.old payloads →
-            ChangesOver D.device self.old.disk self.new.disk self.old.base payloads (other_base self.old) (payloads_in (frames_of rows.old)) }
+            ChangesOver D.device self.old.disk self.new.disk self.old.base self.old.version payloads (other_base self.old) (payloads_in (frames_of rows.old)) }
     {
         let first = self.plan_rows(rows)?;
         let other = first - HEADER_LEN;
@@ -168,6 +172,7 @@ impl<D: Disk> Areas<D> {
             Ok(journal) => {
                 self.base = other;
                 self.epoch += 1;
+                self.version = NEWEST_VERSION;
                 self.journal = journal;
                 Ok(())
             }
@@ -201,7 +206,7 @@ impl<D: Disk> Areas<D> {
         ensures blames { Blames (D.device.failures self.old.disk) (D.device.failures self.new.disk) (IsErrOf result ReadFault.Disk) }
         ensures dies { IsTrue self.new.dead ↔ (IsTrue self.old.dead ⊎ IsErrOf result ReadFault.Disk) }
         ensures untouched { IsErrOf result ReadFault.Dead → self.new ≡ self.old }
-        ensures same { (self.new.base ≡ self.old.base) × (self.new.end ≡ self.old.end) × (self.new.epoch ≡ self.old.epoch) × (self.new.gate ≡ self.old.gate) }
+        ensures same { (self.new.base ≡ self.old.base) × (self.new.end ≡ self.old.end) × (self.new.epoch ≡ self.old.epoch) × (self.new.gate ≡ self.old.gate) × (self.new.version ≡ self.old.version) }
         ensures still { ChangesNothing D.device self.old.disk self.new.disk }
         ensures keeps { (payloads : List (List ℕ)) → KeepsPayloads D.device self.old payloads → KeepsPayloads D.device self.new payloads }
     {
@@ -215,6 +220,15 @@ impl<D: Disk> Areas<D> {
                 Err(ReadFault::Disk)
             }
         }
+    }
+
+    /// The version of the current area, 1 or 2: that of its header when it was opened, and 2 once a checkpoint has
+    /// answered `Ok`.
+    pub fn version(&self) -> u8
+        ensures value { result ≡ self.now.version }
+        ensures known { IsVersion result }
+    {
+        self.version
     }
 
     /// Whether a call has met a fault of the device.

@@ -174,11 +174,11 @@ pub(crate) fn change_over<D: Disk>(
 
     // Where each image has the old payloads in the old area, it has the rows in the other one afterwards. A crash leaves
     // the old ones until the header is opened, and then these or the rows.
-    ensures changed { IfOk result (λ j. (base old_epoch : ℕ) (payloads : List (List ℕ)) → Stands D.device disk.old len base other old_epoch payloads → old_epoch < epoch →
+    ensures changed { IfOk result (λ j. (base old_epoch version : ℕ) (payloads : List (List ℕ)) → Stands D.device disk.old len base other old_epoch version payloads → old_epoch < epoch →
         StandsNew D.device disk.new other epoch (place_of j) (payloads_in (frames_of rows.old))) }
     ensures durable { OnOk result (IsSynced D.device disk.new) }
-    ensures any_moment { (base old_epoch : ℕ) (payloads : List (List ℕ)) → Stands D.device disk.old len base other old_epoch payloads → old_epoch < epoch →
-        ChangesOver D.device disk.old disk.new base payloads other (payloads_in (frames_of rows.old)) }
+    ensures any_moment { (base old_epoch version : ℕ) (payloads : List (List ℕ)) → Stands D.device disk.old len base other old_epoch version payloads → old_epoch < epoch →
+        ChangesOver D.device disk.old disk.new base version payloads other (payloads_in (frames_of rows.old)) }
     ensures changes { ChangesOnly D.device disk.old disk.new other len }
     ensures cause { HasCause D.device disk.old disk.new result }
 {

@@ -1,4 +1,5 @@
 -- The frames of all documents, job by job.
+use Rattle.spool_types.specs.declared.version.Version.TheVariants.{Two}
 use Rattle.std.proofs.Common.{◌≡◌, ◌≢◌, ℕ, ◌+◌, ◌*◌, ◌^◌, ◌<◌, ◌≤◌, List, [], ◌∷◌, ◌++◌, length, take, drop, map, get_or, Option, Some, IsSome, replicate, unwrap_or, refl, sym, subst, ap, ◌∙◌, arith, append_assoc, length-append}
 use Rattle.std.proofs.lemmas.List.{map-append, append-nil, drop_more, take_more, take_all, drop_all, take_at, take-append-drop, length-map, length-replicate}
 use Rattle.std.proofs.lemmas.List.Concat.{flat_map-append}
@@ -56,19 +57,19 @@ blank_listing s are = ap (λ (l : List Row). head_rows s ++ l) (blank_same s (fi
 pub blank_fits : (s : State) → AreDocuments s (blank s)
 blank_fits s j r there = length-replicate (len_found (job_at s j)) 0 ∙ ap len_found there
 
-pub placed-append : (gate : ℕ) (rows more : List Row) (j : ℕ) → placed_pieces gate (rows ++ more) j ≡ placed_pieces gate rows j ++ placed_pieces (gate + length (records (map row_spelling rows))) more j
+pub placed-append : (gate : ℕ) (rows more : List Row) (j : ℕ) → placed_pieces Two gate (rows ++ more) j ≡ placed_pieces Two gate rows j ++ placed_pieces Two (gate + length (records (map (row_spelling Two) rows))) more j
 placed-append gate [] more j =
     let at : gate ≡ gate + 0 = omega arith in
-    ap (λ (n : ℕ). placed_pieces n more j) at
+    ap (λ (n : ℕ). placed_pieces Two n more j) at
 placed-append gate (row ∷ rows) more j =
-    let next = gate + 5 + length (row_spelling row) in
-    let at : next + length (records (map row_spelling rows)) ≡ gate + length (records (map row_spelling (row ∷ rows))) = omega (arith, length-append (row_spelling row) (records (map row_spelling rows))) in
-    ap (λ (l : List Extent). placed_to (gate + 5) j (piece_of row) ++ l) (placed-append next rows more j ∙ ap (λ (n : ℕ). placed_pieces next rows j ++ placed_pieces n more j) at)
-    ∙ sym (append_assoc (placed_to (gate + 5) j (piece_of row)) (placed_pieces next rows j) (placed_pieces (gate + length (records (map row_spelling (row ∷ rows)))) more j))
+    let next = gate + 5 + length (row_spelling Two row) in
+    let at : next + length (records (map (row_spelling Two) rows)) ≡ gate + length (records (map (row_spelling Two) (row ∷ rows))) = omega (arith, length-append (row_spelling Two row) (records (map (row_spelling Two) rows))) in
+    ap (λ (l : List Extent). placed_to (gate + 5) j (piece_of row) ++ l) (placed-append next rows more j ∙ ap (λ (n : ℕ). placed_pieces Two next rows j ++ placed_pieces Two n more j) at)
+    ∙ sym (append_assoc (placed_to (gate + 5) j (piece_of row)) (placed_pieces Two next rows j) (placed_pieces Two (gate + length (records (map (row_spelling Two) (row ∷ rows)))) more j))
 
-pub none_placed : (gate : ℕ) (qs : List QueueRow) (j : ℕ) → placed_pieces gate (map (λ (q : QueueRow). Queue q) qs) j ≡ []
+pub none_placed : (gate : ℕ) (qs : List QueueRow) (j : ℕ) → placed_pieces Two gate (map (λ (q : QueueRow). Queue q) qs) j ≡ []
 none_placed gate [] j = refl
-none_placed gate (q ∷ qs) j = none_placed (gate + 5 + length (row_spelling (Queue q))) qs j
+none_placed gate (q ∷ qs) j = none_placed (gate + 5 + length (row_spelling Two (Queue q))) qs j
 
 -- ## The first jobs are filled
 
@@ -82,8 +83,8 @@ pub record AreSomeFilled (tells : Option (List ℕ)) (c : Contents) (first i : �
   pub framed : AreFramesOf (rows ++ rows_behind c.state i) frames
   pub told : (r : List ℕ) → tells ≡ Some r → rows ≡ head_rows c.state ++ rows_of (lying c r) (take i (finite.values c.state.jobs))
   pub frame : now.frame ≡ length (rows_before c.state i)
-  pub gate : now.gate ≡ first + length (records (map row_spelling (rows_before c.state i)))
-  pub places : (j : ℕ) (r : Job) → job_at c.state j ≡ Some r → places_of noted.places j ≡ placed_pieces first (rows_before c.state i) j
+  pub gate : now.gate ≡ first + length (records (map (row_spelling Two) (rows_before c.state i)))
+  pub places : (j : ℕ) (r : Job) → job_at c.state j ≡ Some r → places_of noted.places j ≡ placed_pieces Two first (rows_before c.state i) j
   pub there : (j : ℕ) (r : Job) → job_at c.state j ≡ Some r → IsSome (finite.find nat_cmp j noted.places)
   pub room : AllByRecursion (λ (q : Job). document_len q ≤ move_room noted q.id * longest_send) (drop i (finite.values c.state.jobs))
 
@@ -100,18 +101,18 @@ module _ (tells : Option (List ℕ)) (c : Contents) (first : ℕ) (frames : List
       let rest = flat_map blank_rows jobs in
       let same : rows_before c.state 0 ≡ head = append-nil head in
       let many : length head ≡ 1 + count = omega (arith, is, length-map (finite.values c.state.queues) (λ (q : QueueRow). Queue q)) in
-      let spelt : payloads_in (frames_of frames) ≡ map row_spelling head ++ map row_spelling rest =
-      framed.payloads ∙ ap (map row_spelling) (blank_listing c.state found) ∙ map-append row_spelling head rest in
-      let front : take (1 + count) (payloads_in (frames_of frames)) ≡ map row_spelling head =
-      ap (take (1 + count)) spelt ∙ take_at (map row_spelling head) (map row_spelling rest) (1 + count) (length-map head row_spelling ∙ many) in
+      let spelt : payloads_in (frames_of frames) ≡ map (row_spelling Two) head ++ map (row_spelling Two) rest =
+      framed.payloads ∙ ap (map (row_spelling Two)) (blank_listing c.state found) ∙ map-append (row_spelling Two) head rest in
+      let front : take (1 + count) (payloads_in (frames_of frames)) ≡ map (row_spelling Two) head =
+      ap (take (1 + count)) spelt ∙ take_at (map (row_spelling Two) head) (map (row_spelling Two) rest) (1 + count) (length-map head (row_spelling Two) ∙ many) in
       record {
         rows = rows_before c.state 0;
         alike = alike_itself (rows_before c.state 0);
         framed = subst (λ (l : List Row). AreFramesOf l frames) (blank_listing c.state found ∙ ap (λ (l : List Row). l ++ rest) (sym same)) framed;
         told = λ r told. refl;
         frame = omega (arith, frame, many, ap length same);
-        gate = gate ∙ ap (λ (l : List (List ℕ)). first + length (records l)) (front ∙ ap (map row_spelling) (sym same));
-        places = λ j r there. ap (λ o. unwrap_or o []) (none j r there) ∙ sym (ap (λ (l : List Row). placed_pieces first l j) same ∙ none_placed (first + 5 + length (row_spelling (Head (head_of c.state)))) (finite.values c.state.queues) j);
+        gate = gate ∙ ap (λ (l : List (List ℕ)). first + length (records l)) (front ∙ ap (map (row_spelling Two)) (sym same));
+        places = λ j r there. ap (λ o. unwrap_or o []) (none j r there) ∙ sym (ap (λ (l : List Row). placed_pieces Two first l j) same ∙ none_placed (first + 5 + length (row_spelling Two (Head (head_of c.state)))) (finite.values c.state.queues) j);
         there = λ j r there. subst IsSome (sym (none j r there)) refl;
         room = all_by (λ (q : Job). job_at c.state q.id ≡ Some q) (λ (q : Job). job_at c.state q.id ≡ Some q) (λ (q : Job). document_len q ≤ move_room c.moves q.id * longest_send) jobs (λ q there same. room q.id q there) found found;
       }
@@ -155,14 +156,14 @@ module _ (tells : Option (List ℕ)) (c : Contents) (first i : ℕ) (now : Curso
       ∙ ap (λ (l : List Row). head_rows c.state ++ l) (flat_map-append blank_rows (take i all_jobs) (drop i all_jobs) ∙ ap (λ (l : List Row). flat_map blank_rows (take i all_jobs) ++ l) behind_is)
       ∙ sym (append_assoc (head_rows c.state) (flat_map blank_rows (take i all_jobs)) (blank_rows q ++ others))
 
-  short_here : (bound : ℕ) → first + length (records (listed_payloads c.state (blank c.state))) < bound → now.gate + length (records (map row_spelling (blank_rows q))) < bound
+  short_here : (bound : ℕ) → first + length (records (listed_payloads c.state (blank c.state))) < bound → now.gate + length (records (map (row_spelling Two) (blank_rows q))) < bound
   short_here bound short =
-      let front = map row_spelling (rows_before c.state i) in
-      let own = map row_spelling (blank_rows q) in
-      let back = map row_spelling others in
+      let front = map (row_spelling Two) (rows_before c.state i) in
+      let own = map (row_spelling Two) (blank_rows q) in
+      let back = map (row_spelling Two) others in
       let sum : length (records (listed_payloads c.state (blank c.state))) ≡ length (records (front ++ (own ++ back))) =
-      ap (λ (l : List Row). length (records (map row_spelling l))) all_is
-      ∙ ap (λ (l : List (List ℕ)). length (records l)) (map-append row_spelling (rows_before c.state i) (blank_rows q ++ others) ∙ ap (λ (l : List (List ℕ)). front ++ l) (map-append row_spelling (blank_rows q) others)) in
+      ap (λ (l : List Row). length (records (map (row_spelling Two) l))) all_is
+      ∙ ap (λ (l : List (List ℕ)). length (records l)) (map-append (row_spelling Two) (rows_before c.state i) (blank_rows q ++ others) ∙ ap (λ (l : List (List ℕ)). front ++ l) (map-append (row_spelling Two) (blank_rows q) others)) in
       omega (arith, short, p.gate, sum, ap length (records-append front (own ++ back)), length-append (records front) (records (own ++ back)), ap length (records-append own back), length-append (records own) (records back))
 
   pub next_there : (d : Contents) → d.state ≡ c.state → job_at d.state q.id ≡ Some q
@@ -186,9 +187,9 @@ module _ (tells : Option (List ℕ)) (c : Contents) (first i : ℕ) (now : Curso
   pub some_next : AreApart all_jobs → (end : Cursor) (new : List (Vec ℕ Global)) (after : Noted) → IsDocumentFilled tells (places_at c q.id) q now frames end new → IsDocumentNoted q now.gate noted after
       → AreSomeFilled tells c first (i + 1) end new after
   some_next apart end new after f n =
-      let front = map row_spelling (rows_before c.state i) in
-      let own = map row_spelling (blank_rows q) in
-      let spelt : map row_spelling (rows_before c.state (i + 1)) ≡ front ++ own = ap (map row_spelling) before_more ∙ map-append row_spelling (rows_before c.state i) (blank_rows q) in
+      let front = map (row_spelling Two) (rows_before c.state i) in
+      let own = map (row_spelling Two) (blank_rows q) in
+      let spelt : map (row_spelling Two) (rows_before c.state (i + 1)) ≡ front ++ own = ap (map (row_spelling Two)) before_more ∙ map-append (row_spelling Two) (rows_before c.state i) (blank_rows q) in
       record {
         rows = p.rows ++ f.rows;
         alike = subst (λ (l : List Row). AreAlike l (p.rows ++ f.rows)) (sym before_more) (alike_then (rows_before c.state i) p.rows (blank_rows q) f.rows p.alike f.alike);
@@ -203,9 +204,9 @@ module _ (tells : Option (List ℕ)) (c : Contents) (first i : ℕ) (now : Curso
         gate = omega (arith, f.gate, p.gate, ap (λ (l : List (List ℕ)). length (records l)) spelt, ap length (records-append front own), length-append (records front) (records own));
         places = λ j r there.
             n.noted j
-            ∙ (λ i. p.places j r there i ++ placed_pieces (p.gate i) (blank_rows q) j)
+            ∙ (λ i. p.places j r there i ++ placed_pieces Two (p.gate i) (blank_rows q) j)
             ∙ sym (placed-append first (rows_before c.state i) (blank_rows q) j)
-            ∙ ap (λ (l : List Row). placed_pieces first l j) (sym before_more);
+            ∙ ap (λ (l : List Row). placed_pieces Two first l j) (sym before_more);
         there = λ j r there. n.there j (p.there j r there);
         room = all_by (λ (r : Job). r.id ≢ q.id) (λ (r : Job). document_len r ≤ move_room noted r.id * longest_send) (λ (r : Job). document_len r ≤ move_room after r.id * longest_send) (drop (i + 1) all_jobs)
             (λ r other fits. subst (λ (m : ℕ). document_len r ≤ m * longest_send) (sym (n.room r.id (λ same. other (sym same)))) fits)
@@ -233,6 +234,6 @@ module _ (tells : Option (List ℕ)) (c : Contents) (first i : ℕ) (now : Curso
 
   pub all_noted : AreDocumentsNoted c.state first noted
   all_noted = record {
-    places = λ j r there. p.places j r there ∙ ap (λ (l : List Row). placed_pieces first l j) all_before;
+    places = λ j r there. p.places j r there ∙ ap (λ (l : List Row). placed_pieces Two first l j) all_before;
     there = p.there;
   }

@@ -1,4 +1,5 @@
 -- What a checkpoint answers, and what it leaves.
+use Rattle.spool_types.specs.declared.version.Version.TheVariants.{Two}
 use Rattle.std.proofs.Common.{◌≡◌, inl, inr, ⊎_elim, ℕ, ◌+◌, ◌-◌, ◌^◌, ◌<◌, ◌≤◌, Bool, true, false, ◌&&◌, ◌==◌, List, [], ◌∷◌, ◌++◌, Ok, Err, Result, length, map, refl, sym, subst, ap, ◌∙◌, arith, length-append}
 use Rattle.std.specs.Prelude.{if◌then◌else◌, nat_le}
 use Rattle.std.proofs.lemmas.Bool.{and_parts, leb-true}
@@ -90,7 +91,7 @@ room_of end gate (p ∷ ps) short room =
 pub listing_room : (len : ℕ) (s : State) → holds_listing len s ≡ true → gate_after 0 (listed_payloads s (blank s)) + kept_room ≤ len
 listing_room len s holds =
     let rows : List Row = map (λ q. Queue q) (finite.values s.queues) ++ rows_of (blank s) (finite.values s.jobs) in
-    room_of len header_len (listed_payloads s (blank s)) (first_room len header_len (length (row_spelling (Head (head_of s)))) (map length (map row_spelling rows)) holds) holds
+    room_of len header_len (listed_payloads s (blank s)) (first_room len header_len (length (row_spelling Two (Head (head_of s)))) (map length (map (row_spelling Two) rows)) holds) holds
 
 -- ## What it answers before anything is read
 

@@ -7,6 +7,8 @@ use Rattle.std.proofs.lemmas.Bool.Decides.{Decides-ltb}
 use Rattle.std.proofs.lemmas.List.{length-drop, length-take-le}
 use Rattle.spool_types.specs.declared.event.Event.{Event}
 use Rattle.spool_types.specs.declared.listing.Row.{Row}
+use Rattle.spool_types.specs.declared.version.Version.{Version}
+use Rattle.spool_types.specs.declared.version.Version.TheVariants.{One, Two}
 use Rattle.spool_types.specs.declared.refusal.Refusal.{Refusal}
 use Rattle.spool_types.specs.State.{State}
 use Rattle.field_codec.specs.declared.fault.CodecFault.{CodecFault}
@@ -27,12 +29,14 @@ use Rattle.job_table.specs.Attempts.{HasNoProcessing}
 use Rattle.job_table.specs.Fold.{after_all}
 use Rattle.job_table.specs.Loading.{Progress, IsWhole, IsPlaced, begin_loading, loaded}
 use Rattle.job_table.specs.Step.{refusal_of}
-use Rattle.spool_areas.specs.Header.{half, least_area, header_len, header_at, is_open, is_known, epoch_of, newer, chosen, current_area}
+use Rattle.spool_areas.specs.Header.{half, least_area, header_len, header_at, is_open, is_known, epoch_of, version_of, IsVersion, newer, chosen, current_area}
 use Rattle.spool_areas.specs.Payloads.{HasPayloads, HasFirstPayloads, gate_after}
 use Rattle.spool_areas.specs.declared.fault.OpenFault.{OpenFault}
 use Rattle.spool_areas.specs.declared.fault.OpenFault.TheVariants.{NotASpool, Damaged, Memory, Disk}
 use Rattle.spool_areas.proofs.Headers.{too_short, by_headers}
+use Rattle.spool_areas.proofs.Plans.{current_version}
 use Rattle.spool_areas.proofs.Sames.{chosen_is_base}
+use Rattle.spool_core.specs.Versions.{number_of}
 use Rattle.spool_core.specs.Image.{HasTable, HasFault, Begins, IsNoNext, AreBytes, area_end}
 use Rattle.spool_core.proofs.Decided.{whole_decided, placed_decided, idle_decided}
 use Rattle.spool_core.proofs.FoldLaws.{gate_push}
@@ -54,10 +58,10 @@ not_both : {A B : Type 0} (r : Result A CodecFault) (x : A) (fault : CodecFault)
 not_both r x fault ok err = absurd (cc)
 
 -- the row that a payload spells, if it spells one
-row_in : (payload : List ℕ) → IsBytes payload → (r : Result Row CodecFault) → row_reading payload ≡ r
-    → ((row : Row) × IsRowSpellable row × (payload ≡ row_spelling row)) ⊎ ((row : Row) → IsRowSpellable row → payload ≡ row_spelling row → ⊥)
-row_in payload fits (Ok row) is = let found = is_found_row payload (Ok row) fits is in inl (row, found.0, found.1)
-row_in payload fits (Err fault) is = inr (λ row able spelt. not_both (row_reading payload) row fault (ap row_reading spelt ∙ row_reading_again row able) is)
+row_in : (v : Version) (payload : List ℕ) → IsBytes payload → (r : Result Row CodecFault) → row_reading v payload ≡ r
+    → ((row : Row) × IsRowSpellable v row × (payload ≡ row_spelling v row)) ⊎ ((row : Row) → IsRowSpellable v row → payload ≡ row_spelling v row → ⊥)
+row_in v payload fits (Ok row) is = let found = is_found_row v payload (Ok row) fits is in inl (row, found.0, found.1)
+row_in v payload fits (Err fault) is = inr (λ row able spelt. not_both (row_reading v payload) row fault (ap (row_reading v) spelt ∙ row_reading_again v row able) is)
 
 event_in : (payload : List ℕ) → IsBytes payload → (r : Result Event CodecFault) → reading payload ≡ r
     → ((e : Event) × IsSpellable e × (payload ≡ spelling e)) ⊎ ((e : Event) → IsSpellable e → payload ≡ spelling e → ⊥)
@@ -67,9 +71,9 @@ event_in payload fits (Err fault) is = inr (λ e able spelt. not_both (reading p
 not_none : {B : Type 0} (o : Option Refusal) (r : Refusal) → o ≡ Some r → o ≡ None → B
 not_none o r some none = absurd (cc)
 
-module _ (p : Progress) (events : List Event) (payload : List ℕ) (fits : IsBytes payload) where
+module _ (v : Version) (p : Progress) (events : List Event) (payload : List ℕ) (fits : IsBytes payload) where
   -- where it is no row that may come next, it is an event that may, or neither
-  event_next : ((row : Row) → IsRowSpellable row → payload ≡ row_spelling row → events ≡ [] → ¬ (IsPlaced p row)) → IsNext p events payload ⊎ IsNoNext p events payload
+  event_next : ((row : Row) → IsRowSpellable v row → payload ≡ row_spelling v row → events ≡ [] → ¬ (IsPlaced p row)) → IsNext v p events payload ⊎ IsNoNext v p events payload
   event_next no_row = elim (event_in payload fits (reading payload) refl) [
     | inl found ↦ elim (whole_decided p) [
       | inl whole ↦ answer found.0 found.1 found.2 whole (refusal_of (after_all p.state events) found.0) refl
@@ -78,7 +82,7 @@ module _ (p : Progress) (events : List Event) (payload : List ℕ) (fits : IsByt
     | inr none ↦ inr (record { no_row = no_row; no_event = λ e able spelt whole accepted. none e able spelt })
   ]
     where
-      answer : (e : Event) → IsSpellable e → payload ≡ spelling e → IsWhole p → (o : Option Refusal) → refusal_of (after_all p.state events) e ≡ o → IsNext p events payload ⊎ IsNoNext p events payload
+      answer : (e : Event) → IsSpellable e → payload ≡ spelling e → IsWhole p → (o : Option Refusal) → refusal_of (after_all p.state events) e ≡ o → IsNext v p events payload ⊎ IsNoNext v p events payload
       answer e able spelt whole None is = inl (inr (whole, record { event = e; spellable = able; spelt = spelt; accepted = is }))
       answer e able spelt whole (Some r) is = inr (record {
         no_row = no_row;
@@ -87,18 +91,18 @@ module _ (p : Progress) (events : List Event) (payload : List ℕ) (fits : IsByt
             (subst (λ (x : Event). refusal_of (after_all p.state events) x ≡ None) (same_event d e is_able able (sym is_spelt ∙ spelt)) accepted);
       })
 
-  row_next : events ≡ [] → IsNext p events payload ⊎ IsNoNext p events payload
-  row_next none = elim (row_in payload fits (row_reading payload) refl) [
+  row_next : events ≡ [] → IsNext v p events payload ⊎ IsNoNext v p events payload
+  row_next none = elim (row_in v payload fits (row_reading v payload) refl) [
     | inl found ↦ elim (placed_decided p found.0) [
       | inl placed ↦ inl (inl (none, record { row = found.0; spellable = found.1; spelt = found.2; placed = placed }))
-      | inr out ↦ event_next (λ row able spelt first placed. out (subst (IsPlaced p) (same_row row found.0 able found.1 (sym spelt ∙ found.2)) placed))
+      | inr out ↦ event_next (λ row able spelt first placed. out (subst (IsPlaced p) (same_row v row found.0 able found.1 (sym spelt ∙ found.2)) placed))
     ]
     | inr no_row ↦ event_next (λ row able spelt first placed. no_row row able spelt)
   ]
 
-next_decided : (p : Progress) (events : List Event) (payload : List ℕ) → IsBytes payload → IsNext p events payload ⊎ IsNoNext p events payload
-next_decided p [] payload fits = row_next p [] payload fits refl
-next_decided p (e ∷ events) payload fits = event_next p (e ∷ events) payload fits (λ row able spelt none. absurd (cc))
+next_decided : (v : Version) (p : Progress) (events : List Event) (payload : List ℕ) → IsBytes payload → IsNext v p events payload ⊎ IsNoNext v p events payload
+next_decided v p [] payload fits = row_next v p [] payload fits refl
+next_decided v p (e ∷ events) payload fits = event_next v p (e ∷ events) payload fits (λ row able spelt none. absurd (cc))
 
 -- ---- what stands at a gate
 
@@ -107,7 +111,7 @@ by_tests true true place n at len is = (refl, cc is, cc is)
 by_tests true false place n at len is = absurd (cc)
 by_tests false b place n at len is = absurd (cc)
 
-module _ (c : List ℕ) (fits : IsBytes c) (base : ℕ) (current : current_area c ≡ Ok base) (inside : base + half (length c) ≤ length c) where
+module _ (c : List ℕ) (fits : IsBytes c) (base : ℕ) (current : current_area c ≡ Ok base) (v : Version) (version_is : version_of (header_at base c) ≡ number_of v) (inside : base + half (length c) ≤ length c) where
   abbrev end : ℕ
   end = base + half (length c)
 
@@ -135,7 +139,7 @@ module _ (c : List ℕ) (fits : IsBytes c) (base : ℕ) (current : current_area 
 
   -- ---- the payloads end
 
-  finished : (payloads : List (List ℕ)) (p : Progress) (events : List Event) → Begins payloads p events → HasPayloads base payloads c → TableOrFault c
+  finished : (payloads : List (List ℕ)) (p : Progress) (events : List Event) → Begins v payloads p events → HasPayloads base payloads c → TableOrFault c
   finished payloads p events begins area = elim (whole_decided p) [
     | inl whole ↦ ends whole
     | inr short ↦ ⊎_elim (λ none. cut short none) (λ whole. absurd (short whole)) begins.whole
@@ -146,10 +150,12 @@ module _ (c : List ℕ) (fits : IsBytes c) (base : ℕ) (current : current_area 
         Damaged (gate_after base payloads),
         inr (inr (inl (record {
           base = base;
+          version = v;
           payloads = payloads;
           progress = p;
           area = area;
-          begins = subst (Begins payloads p) none begins;
+          version_is = version_is;
+          begins = subst (Begins v payloads p) none begins;
           short = short;
           gate = refl;
         }))),
@@ -158,24 +164,26 @@ module _ (c : List ℕ) (fits : IsBytes c) (base : ℕ) (current : current_area 
       ends : IsWhole p → TableOrFault c
       ends whole =
           let s = after_all p.state events in
-          let history = history_of payloads p events begins whole in
+          let history = history_of v payloads p events begins whole in
           elim (idle_decided s) [
-            | inl idle ↦ inl (s, record { base = base; payloads = payloads; area = area; history = history; room = λ busy. absurd (busy idle) })
+            | inl idle ↦ inl (s, record { base = base; version = v; payloads = payloads; area = area; version_is = version_is; history = history; room = λ busy. absurd (busy idle) })
             | inr busy ↦ elim (cases_lt (area_end base c) (gate_after base payloads + kept_room)) [
               | inl cramped ↦ inr (
                 Damaged (gate_after base payloads),
                 inr (inr (inr (record {
                   base = base;
+                  version = v;
                   payloads = payloads;
                   table = s;
                   area = area;
+                  version_is = version_is;
                   history = history;
                   processing = busy;
                   gate = refl;
                   cramped = cramped;
                 }))),
               )
-              | inr roomy ↦ inl (s, record { base = base; payloads = payloads; area = area; history = history; room = λ again. roomy })
+              | inr roomy ↦ inl (s, record { base = base; version = v; payloads = payloads; area = area; version_is = version_is; history = history; room = λ again. roomy })
             ]
           ]
 
@@ -186,7 +194,7 @@ module _ (c : List ℕ) (fits : IsBytes c) (base : ℕ) (current : current_area 
     payloads : List (List ℕ)
     progress : Progress
     events : List Event
-    begins : Begins payloads progress events
+    begins : Begins v payloads progress events
     stands : HasFirstPayloads base payloads c
 
   -- one payload more
@@ -194,31 +202,31 @@ module _ (c : List ℕ) (fits : IsBytes c) (base : ℕ) (current : current_area 
     to : IsReadTo
     behind : from < gate_after base to.payloads
 
-  row_more : (payloads : List (List ℕ)) (p : Progress) (payload : List ℕ) → Begins payloads p [] → IsNextRow p payload → HasFirstPayloads base (payloads ++ payload ∷ []) c → IsFurther (gate_after base payloads)
+  row_more : (payloads : List (List ℕ)) (p : Progress) (payload : List ℕ) → Begins v payloads p [] → IsNextRow v p payload → HasFirstPayloads base (payloads ++ payload ∷ []) c → IsFurther (gate_after base payloads)
   row_more payloads p payload begins row stands = record {
     to = record {
       payloads = payloads ++ payload ∷ [];
       progress = loaded p row.row;
       events = [];
-      begins = subst (λ (x : List ℕ). Begins (payloads ++ x ∷ []) (loaded p row.row) []) (sym row.spelt) (begins_row payloads p row.row begins row.spellable row.placed);
+      begins = subst (λ (x : List ℕ). Begins v (payloads ++ x ∷ []) (loaded p row.row) []) (sym row.spelt) (begins_row v payloads p row.row begins row.spellable row.placed);
       stands = stands;
     };
     behind = omega (arith, gate_push base payloads payload);
   }
 
-  event_more : (payloads : List (List ℕ)) (p : Progress) (events : List Event) (payload : List ℕ) → Begins payloads p events → IsWhole p → IsNextEvent (after_all p.state events) payload → HasFirstPayloads base (payloads ++ payload ∷ []) c → IsFurther (gate_after base payloads)
+  event_more : (payloads : List (List ℕ)) (p : Progress) (events : List Event) (payload : List ℕ) → Begins v payloads p events → IsWhole p → IsNextEvent (after_all p.state events) payload → HasFirstPayloads base (payloads ++ payload ∷ []) c → IsFurther (gate_after base payloads)
   event_more payloads p events payload begins whole event stands = record {
     to = record {
       payloads = payloads ++ payload ∷ [];
       progress = p;
       events = events ++ event.event ∷ [];
-      begins = subst (λ (x : List ℕ). Begins (payloads ++ x ∷ []) p (events ++ event.event ∷ [])) (sym event.spelt) (begins_event payloads p events event.event begins whole event.spellable event.accepted);
+      begins = subst (λ (x : List ℕ). Begins v (payloads ++ x ∷ []) p (events ++ event.event ∷ [])) (sym event.spelt) (begins_event v payloads p events event.event begins whole event.spellable event.accepted);
       stands = stands;
     };
     behind = omega (arith, gate_push base payloads payload);
   }
 
-  module _ (payloads : List (List ℕ)) (p : Progress) (events : List Event) (begins : Begins payloads p events) (stands : HasFirstPayloads base payloads c) where
+  module _ (payloads : List (List ℕ)) (p : Progress) (events : List Event) (begins : Begins v payloads p events) (stands : HasFirstPayloads base payloads c) where
     -- an entry there
     entry_there : (at len : ℕ) → Entry at len ≡ entry_at c end (gate_after base payloads) → TableOrFault c ⊎ IsFurther (gate_after base payloads)
     entry_there at len is =
@@ -234,22 +242,24 @@ module _ (c : List ℕ) (fits : IsBytes c) (base : ℕ) (current : current_area 
         ⊎_elim
         (λ next.
         ⊎_elim
-        (λ row. inr (row_more payloads p payload (subst (Begins payloads p) row.0 begins) row.1 more))
+        (λ row. inr (row_more payloads p payload (subst (Begins v payloads p) row.0 begins) row.1 more))
         (λ event. inr (event_more payloads p events payload begins event.0 event.1 more))
         next)
         (λ strange. inl (inr (
           Damaged (gate_after base payloads),
           inr (inl (record {
             base = base;
+            version = v;
             payloads = payloads;
             progress = p;
             events = events;
+            version_is = version_is;
             begins = begins;
             gate = refl;
             damage = inr (record { payload = payload; stands = more; strange = strange });
           })),
         )))
-        (next_decided p events payload (IsBytes-take (at + len - at) (drop at c) (IsBytes-drop at c fits)))
+        (next_decided v p events payload (IsBytes-take (at + len - at) (drop at c) (IsBytes-drop at c fits)))
 
     -- whatever stands there
     what_there : (what : Found) → what ≡ entry_at c end (gate_after base payloads) → TableOrFault c ⊎ IsFurther (gate_after base payloads)
@@ -257,9 +267,11 @@ module _ (c : List ℕ) (fits : IsBytes c) (base : ℕ) (current : current_area 
       Damaged (gate_after base payloads),
       inr (inl (record {
         base = base;
+        version = v;
         payloads = payloads;
         progress = p;
         events = events;
+        version_is = version_is;
         begins = begins;
         gate = refl;
         damage = inl (record { first = stands; torn = sym is });
@@ -285,13 +297,18 @@ module _ (c : List ℕ) (fits : IsBytes c) (base : ℕ) (current : current_area 
   read_all long =
       read_on end (record {
         payloads = [];
-        progress = begin_loading;
+        progress = begin_loading v;
         events = [];
         begins = record { rows = []; spelt = refl; spellable_rows = tt; spellable = tt; placed = tt; progress = refl; whole = inl refl; accepted = tt };
         stands = record { current = current; first = record { short = tt; place_at = refl; rest = drop (base + header_len) c; stands = refl }; within = omega (arith, long) };
       }) (omega arith)
 
 -- ---- the headers
+
+-- a number that is known is that of a version
+pub version_there : (base n : ℕ) → IsVersion n → (v : Version) × (n ≡ number_of v)
+version_there base n (inl old) = (One, old)
+version_there base n (inr new) = (Two, new)
 
 -- the answer is no want of memory and no failed device
 abbrev IsOfHeaders : Result ℕ OpenFault → Type 0
@@ -330,7 +347,8 @@ module _ (c : List ℕ) (fits : IsBytes c) where
     | inr long ↦
         let two = chosen_is_base (half (length c)) base (header_at 0 c) (header_at (half (length c)) c)
         (sym (by_headers (length c) c (header_at 0 c) (header_at (half (length c)) c) (chosen (half (length c)) (header_at 0 c) (header_at (half (length c)) c)) refl long refl refl refl) ∙ is) in
-        read_all c fits base is (⊎_elim (λ first. omega (arith, first)) (λ second. omega (arith, second)) two) long
+        let version = version_there base (version_of (header_at base c)) (current_version base c is) in
+        read_all c fits base is version.0 version.1 (⊎_elim (λ first. omega (arith, first)) (λ second. omega (arith, second)) two) long
   ]
   by_area (Err NotASpool) is = inr (NotASpool, is)
   by_area (Err (Damaged place)) is = inr (Damaged place, inl is)

@@ -1,4 +1,5 @@
 -- Frames that get the bytes of their pieces.
+use Rattle.spool_types.specs.declared.version.Version.TheVariants.{Two}
 use Rattle.std.proofs.Common.{◌≡◌, ℕ, zero, suc, ◌+◌, ◌-◌, ◌<◌, ◌≤◌, List, [], ◌∷◌, ◌++◌, length, get_or, set, take, drop, map, Option, None, refl, sym, subst, ap, ◌∙◌, arith, append_assoc, length-append, length-drop}
 use Rattle.std.proofs.lemmas.List.{map-append, map-set, set_at, get_or_at, take-take, take_at, drop-append-le, drop-drop, drop-take, length-take-le, get_or-map, length-map, get_or-set_same, take_more, take-append-drop}
 use Rattle.std.specs.List.{AllByRecursion}
@@ -41,7 +42,7 @@ filled_payload count old new front part bytes whole nine long is put =
     ∙ ap (take (9 + count)) (behind ∙ sym (append_assoc front bytes rest))
     ∙ take_at (front ++ bytes) rest (9 + count) (omega (arith, nine, long, length-append front bytes))
 
-same_front : (job : ℕ) (part bytes : List ℕ) → length part ≡ length bytes → row_spelling (Piece job part) ≡ front_of 0x43 job bytes ++ part
+same_front : (job : ℕ) (part bytes : List ℕ) → length part ≡ length bytes → row_spelling Two (Piece job part) ≡ front_of 0x43 job bytes ++ part
 same_front job part bytes same = ap (λ (n : ℕ). 0x43 ∷ (to_be_bytes w32 job ++ to_be_bytes w32 n) ++ part) same
 
 -- what is written back of a frame in which the bytes from 13 on were lent
@@ -57,31 +58,31 @@ put_back items lent bytes len n count same own is long whole =
 -- ## A frame among others
 
 module _ (frames : List (Vec ℕ Global)) (front : List Row) (row : Row) (back : List Row) (at : ℕ) (are : AreFramesOf (front ++ row ∷ back) frames) (is : length front ≡ at) where
-  spelt : payloads_in (frames_of frames) ≡ map row_spelling front ++ row_spelling row ∷ map row_spelling back
-  spelt = are.payloads ∙ map-append row_spelling front (row ∷ back)
+  spelt : payloads_in (frames_of frames) ≡ map (row_spelling Two) front ++ row_spelling Two row ∷ map (row_spelling Two) back
+  spelt = are.payloads ∙ map-append (row_spelling Two) front (row ∷ back)
 
-  here : length (map row_spelling front) ≡ at
-  here = length-map front row_spelling ∙ is
+  here : length (map (row_spelling Two) front) ≡ at
+  here = length-map front (row_spelling Two) ∙ is
 
   pub within_frames : at < length frames
   within_frames =
-      omega (arith, ap length spelt, here, length-append (map row_spelling front) (row_spelling row ∷ map row_spelling back), length-map (frames_of frames) payload_of, length-map frames (λ (f : Vec ℕ Global). f.items))
+      omega (arith, ap length spelt, here, length-append (map (row_spelling Two) front) (row_spelling Two row ∷ map (row_spelling Two) back), length-map (frames_of frames) payload_of, length-map frames (λ (f : Vec ℕ Global). f.items))
 
-  payload_here : (d : Vec ℕ Global) → payload_of (get_or frames at d).items ≡ row_spelling row
+  payload_here : (d : Vec ℕ Global) → payload_of (get_or frames at d).items ≡ row_spelling Two row
   payload_here d =
       let first : get_or (frames_of frames) at d.items ≡ (get_or frames at d).items = get_or-map (λ (f : Vec ℕ Global). f.items) frames at d d.items within_frames in
       let inside : at < length (frames_of frames) = omega (arith, within_frames, length-map frames (λ (f : Vec ℕ Global). f.items)) in
       ap payload_of (sym first)
-      ∙ sym (get_or-map payload_of (frames_of frames) at d.items (row_spelling row) inside)
-      ∙ ap (λ (ps : List (List ℕ)). get_or ps at (row_spelling row)) spelt
-      ∙ get_or_at (map row_spelling front) (row_spelling row) (map row_spelling back) (row_spelling row) at here
+      ∙ sym (get_or-map payload_of (frames_of frames) at d.items (row_spelling Two row) inside)
+      ∙ ap (λ (ps : List (List ℕ)). get_or ps at (row_spelling Two row)) spelt
+      ∙ get_or_at (map (row_spelling Two) front) (row_spelling Two row) (map (row_spelling Two) back) (row_spelling Two row) at here
 
   frame_here : (d : Vec ℕ Global) → IsFrame (get_or frames at d).items
   frame_here d =
       let inside : at < length (frames_of frames) = omega (arith, within_frames, length-map frames (λ (f : Vec ℕ Global). f.items)) in
       subst IsFrame (get_or-map (λ (f : Vec ℕ Global). f.items) frames at d d.items within_frames) (all_at IsFrame (frames_of frames) at d.items inside are.framed)
 
-  pub len_here : (d : Vec ℕ Global) → length (get_or frames at d).items ≡ length (row_spelling row) + 5
+  pub len_here : (d : Vec ℕ Global) → length (get_or frames at d).items ≡ length (row_spelling Two row) + 5
   len_here d = omega (arith, frame_here d, payload_len (get_or frames at d).items (frame_here d).0, ap length (payload_here d))
 
 all_set : {X : Type 0} (P : X → Type 0) (xs : List X) (i : ℕ) (y : X) → AllByRecursion P xs → P y → AllByRecursion P (set xs i y)
@@ -95,7 +96,7 @@ all_instead P (z ∷ front) x y back more all = (all.0, all_instead P front x y 
 
 -- a row goes into the stead of another, in a frame of the same length
 row_instead : (frames : List (Vec ℕ Global)) (new d : Vec ℕ Global) (front : List Row) (row other : Row) (back : List Row) (at : ℕ) → length front ≡ at → AreFramesOf (front ++ row ∷ back) frames
-    → length new.items ≡ length (get_or frames at d).items → payload_of new.items ≡ row_spelling other → (IsRowSpellable row → IsRowSpellable other) → AreFramesOf (front ++ other ∷ back) (set frames at new)
+    → length new.items ≡ length (get_or frames at d).items → payload_of new.items ≡ row_spelling Two other → (IsRowSpellable Two row → IsRowSpellable Two other) → AreFramesOf (front ++ other ∷ back) (set frames at new)
 row_instead frames new d front row other back at is are long spelling spellable =
     let put : frames_of (set frames at new) ≡ set (frames_of frames) at new.items = map-set (λ (f : Vec ℕ Global). f.items) frames at new in
     let own = frame_here frames front row back at are is d in
@@ -105,9 +106,9 @@ row_instead frames new d front row other back at is are long spelling spellable 
           ap payloads_in put
           ∙ map-set payload_of (frames_of frames) at new.items
           ∙ (λ i. set (spelt frames front row back at are is i) at (spelling i))
-          ∙ set_at (map row_spelling front) (row_spelling row) (map row_spelling back) (row_spelling other) at (here frames front row back at are is)
-          ∙ sym (map-append row_spelling front (other ∷ back));
-      spellable = all_instead IsRowSpellable front row other back spellable are.spellable;
+          ∙ set_at (map (row_spelling Two) front) (row_spelling Two row) (map (row_spelling Two) back) (row_spelling Two other) at (here frames front row back at are is)
+          ∙ sym (map-append (row_spelling Two) front (other ∷ back));
+      spellable = all_instead (IsRowSpellable Two) front row other back spellable are.spellable;
     }
 
 -- ## Frames one after another
@@ -149,7 +150,7 @@ all_there P (y ∷ front) x back all = all_there P front x back all.1
 
 -- a piece has bytes
 piece_some : (frames : List (Vec ℕ Global)) (job count at : ℕ) → HasPieceAt job count at frames → 1 ≤ count
-piece_some frames job count at has = omega (arith, (all_there IsRowSpellable has.front (Piece job has.part) has.back has.framed.spellable).legal, has.long)
+piece_some frames job count at has = omega (arith, (all_there (IsRowSpellable Two) has.front (Piece job has.part) has.back has.framed.spellable).legal, has.long)
 
 -- so no piece is of a job that isn't there
 pub piece_there : (s : State) (frames : List (Vec ℕ Global)) (job from count at : ℕ) → HasPieceAt job count at frames → from + count ≤ len_at s job → job_at s job ≡ None → ⊥

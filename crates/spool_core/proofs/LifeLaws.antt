@@ -4,7 +4,8 @@ use Rattle.std.proofs.Math.Seq.{take-add}
 use Rattle.std.proofs.lemmas.List.{append-nil}
 use Rattle.spool_types.specs.declared.event.Event.{Event}
 use Rattle.spool_types.specs.declared.event.Event.TheVariants.{Reopen}
-use Rattle.spool_types.specs.State.{State, nothing}
+use Rattle.spool_types.specs.declared.version.Version.{Version}
+use Rattle.spool_types.specs.State.{State, nothing_in}
 use Rattle.job_table.specs.Fold.{after_one, after_all}
 use Rattle.job_table.specs.Legal.{IsLegal}
 use Rattle.spool_core.specs.Driving.{documents_after}
@@ -33,10 +34,10 @@ one_history_sends s documents (l ∷ ls) =
     ∙ sym (documents_after-append s documents left (Reopen ∷ history_of ls))
 
 -- the table of an image is legal, as the empty one is and those that events lead to
-pub legal_found : IsLegal nothing → ((s : State) (events : List Event) → IsLegal s → IsLegal (after_all s events)) → (s : State) (image : List ℕ) → HasTable s image → IsLegal s
+pub legal_found : ((v : Version) → IsLegal (nothing_in v)) → ((s : State) (events : List Event) → IsLegal s → IsLegal (after_all s events)) → (s : State) (image : List ℕ) → HasTable s image → IsLegal s
 legal_found begins stays s image has =
     subst IsLegal (sym has.history.table)
-    (stays has.history.start has.history.events (⊎_elim (λ none. subst IsLegal (sym none.1) begins) (λ listed. listed.legal) has.history.stand))
+    (stays has.history.start has.history.events (⊎_elim (λ none. subst IsLegal (sym none.1) (begins has.version)) (λ listed. listed.0.legal) has.history.stand))
 
 -- what follows the acknowledged events of a life, in it and in those after it
 pub later_events : Life → List Life → List Event

@@ -1,4 +1,5 @@
 -- The documents in the rows of a listing, and where they lie.
+use Rattle.spool_types.specs.declared.version.Version.TheVariants.{Two}
 use Rattle.std.proofs.Common.{◌≡◌, ◌≢◌, ℕ, ◌+◌, ◌≤◌, ◌==◌, if◌then◌else◌, Bool, true, false, cond, List, [], ◌∷◌, ◌++◌, length, map, Option, None, Some, refl, sym, subst, ap, ◌∙◌, arith, length-append}
 use Rattle.std.proofs.lemmas.List.{length-take}
 use Rattle.std.specs.Ordering.{nat_cmp, is_eq}
@@ -39,26 +40,26 @@ use Rattle.spool_core.proofs.ReadOn.{some_same}
 
 -- ## Rows that differ in the bytes of their pieces
 
-pub alike_lengths : (rows others : List Row) → AreAlike rows others → map length (map row_spelling others) ≡ map length (map row_spelling rows)
+pub alike_lengths : (rows others : List Row) → AreAlike rows others → map length (map (row_spelling Two) others) ≡ map length (map (row_spelling Two) rows)
 alike_lengths [] [] are = refl
 alike_lengths [] (b ∷ others) are = absurd are
 alike_lengths (a ∷ rows) [] are = absurd are
 alike_lengths (a ∷ rows) (b ∷ others) are = λ i. are.0.long i ∷ alike_lengths rows others are.1 i
 
-pub alike_records : (rows others : List Row) → AreAlike rows others → length (records (map row_spelling others)) ≡ length (records (map row_spelling rows))
+pub alike_records : (rows others : List Row) → AreAlike rows others → length (records (map (row_spelling Two) others)) ≡ length (records (map (row_spelling Two) rows))
 alike_records [] [] are = refl
 alike_records [] (b ∷ others) are = absurd are
 alike_records (a ∷ rows) [] are = absurd are
 alike_records (a ∷ rows) (b ∷ others) are =
-    omega (arith, are.0.long, alike_records rows others are.1, length-append (row_spelling a) (records (map row_spelling rows)), length-append (row_spelling b) (records (map row_spelling others)))
+    omega (arith, are.0.long, alike_records rows others are.1, length-append (row_spelling Two a) (records (map (row_spelling Two) rows)), length-append (row_spelling Two b) (records (map (row_spelling Two) others)))
 
-pub alike_placed : (gate : ℕ) (rows others : List Row) (j : ℕ) → AreAlike rows others → placed_pieces gate others j ≡ placed_pieces gate rows j
+pub alike_placed : (gate : ℕ) (rows others : List Row) (j : ℕ) → AreAlike rows others → placed_pieces Two gate others j ≡ placed_pieces Two gate rows j
 alike_placed gate [] [] j are = refl
 alike_placed gate [] (b ∷ others) j are = absurd are
 alike_placed gate (a ∷ rows) [] j are = absurd are
 alike_placed gate (a ∷ rows) (b ∷ others) j are =
-    (λ i. are.0.placed (gate + 5) j i ++ placed_pieces (gate + 5 + are.0.long i) others j)
-    ∙ ap (λ (l : List Extent). placed_to (gate + 5) j (piece_of a) ++ l) (alike_placed (gate + 5 + length (row_spelling a)) rows others j are.1)
+    (λ i. are.0.placed (gate + 5) j i ++ placed_pieces Two (gate + 5 + are.0.long i) others j)
+    ∙ ap (λ (l : List Extent). placed_to (gate + 5) j (piece_of a) ++ l) (alike_placed (gate + 5 + length (row_spelling Two a)) rows others j are.1)
 
 -- ## A job of the listing
 
@@ -103,31 +104,31 @@ listed_piece s legal documents j r there =
 
 -- ## A number without a job
 
-pieces_placed : (gate k j : ℕ) (ps : List (List ℕ)) → (k == j) ≡ false → placed_pieces gate (map (λ bytes. Piece k bytes) ps) j ≡ []
+pieces_placed : (gate k j : ℕ) (ps : List (List ℕ)) → (k == j) ≡ false → placed_pieces Two gate (map (λ bytes. Piece k bytes) ps) j ≡ []
 pieces_placed gate k j [] other = refl
 pieces_placed gate k j (p ∷ ps) other =
-    ap (λ t. (if t then record { place = gate + 5 + 9; len = length p } ∷ [] else []) ++ placed_pieces (gate + 5 + length (row_spelling (Piece k p))) (map (λ bytes. Piece k bytes) ps) j) other
-    ∙ pieces_placed (gate + 5 + length (row_spelling (Piece k p))) k j ps other
+    ap (λ t. (if t then record { place = gate + 5 + 9; len = length p } ∷ [] else []) ++ placed_pieces Two (gate + 5 + length (row_spelling Two (Piece k p))) (map (λ bytes. Piece k bytes) ps) j) other
+    ∙ pieces_placed (gate + 5 + length (row_spelling Two (Piece k p))) k j ps other
 
-others_placed : (gate : ℕ) (documents : ℕ → List ℕ) (rs : List Job) (j : ℕ) → AllByRecursion (λ (q : Job). q.id ≢ j) rs → placed_pieces gate (rows_of documents rs) j ≡ []
+others_placed : (gate : ℕ) (documents : ℕ → List ℕ) (rs : List Job) (j : ℕ) → AllByRecursion (λ (q : Job). q.id ≢ j) rs → placed_pieces Two gate (rows_of documents rs) j ≡ []
 others_placed gate documents [] j apart = refl
 others_placed gate documents (q ∷ rs) j apart =
     let own = job_rows q (documents q.id) in
     placed-append gate own (rows_of documents rs) j
-    ∙ (λ i. pieces_placed (gate + 5 + length (row_spelling (JobRow q))) q.id j (pieces (documents q.id)) (other_test q.id j apart.0) i
-    ++ others_placed (gate + length (records (map row_spelling own))) documents rs j apart.1 i)
+    ∙ (λ i. pieces_placed (gate + 5 + length (row_spelling Two (JobRow q))) q.id j (pieces (documents q.id)) (other_test q.id j apart.0) i
+    ++ others_placed (gate + length (records (map (row_spelling Two) own))) documents rs j apart.1 i)
 
 none_of_them : (s : State) (j : ℕ) (rs : List Job) → job_at s j ≡ None → AreFound s rs → AllByRecursion (λ (q : Job). q.id ≢ j) rs
 none_of_them s j [] none found = tt
 none_of_them s j (q ∷ rs) none found = (λ same. let is : job_at s j ≡ Some q = ap (job_at s) (sym same) ∙ found.0 in absurd (cc (is, none)), none_of_them s j rs none found.1)
 
 -- it has no places
-pub listing_placed : (s : State) → IsLegal s → (gate : ℕ) (documents : ℕ → List ℕ) (j : ℕ) → job_at s j ≡ None → placed_pieces gate (listing s documents) j ≡ []
+pub listing_placed : (s : State) → IsLegal s → (gate : ℕ) (documents : ℕ → List ℕ) (j : ℕ) → job_at s j ≡ None → placed_pieces Two gate (listing s documents) j ≡ []
 listing_placed s legal gate documents j none =
     let jobs = rows_of documents (finite.values s.jobs) in
     placed-append gate (head_rows s) jobs j
-    ∙ (λ i. none_placed (gate + 5 + length (row_spelling (Head (head_of s)))) (finite.values s.queues) j i
-    ++ others_placed (gate + length (records (map row_spelling (head_rows s)))) documents (finite.values s.jobs) j (none_of_them s j (finite.values s.jobs) none (jobs_found s legal)) i)
+    ∙ (λ i. none_placed (gate + 5 + length (row_spelling Two (Head (head_of s)))) (finite.values s.queues) j i
+    ++ others_placed (gate + length (records (map (row_spelling Two) (head_rows s)))) documents (finite.values s.jobs) j (none_of_them s j (finite.values s.jobs) none (jobs_found s legal)) i)
 
 empty : (xs : List ℕ) → length xs ≡ 0 → xs ≡ []
 empty [] is = refl
@@ -136,7 +137,7 @@ empty (x ∷ xs) is = absurd (omega (arith, is))
 -- and no pieces
 pub listed_none : (s : State) → IsLegal s → (documents : ℕ → List ℕ) (j : ℕ) → job_at s j ≡ None → listed_pieces (listing s documents) j ≡ []
 listed_none s legal documents j none =
-    empty (listed_pieces (listing s documents) j) (omega (arith, sized row_spelling piece_of spells_pieces 0 (listing s documents) j, ap size_of (listing_placed s legal 0 documents j none)))
+    empty (listed_pieces (listing s documents) j) (omega (arith, sized (row_spelling Two) piece_of (spells_pieces Two) 0 (listing s documents) j, ap size_of (listing_placed s legal 0 documents j none)))
 
 -- ## The documents that lie in these bytes
 

@@ -1,4 +1,5 @@
 -- The rows of a table's listing, and their frames.
+use Rattle.spool_types.specs.declared.version.Version.TheVariants.{Two}
 use Rattle.std.proofs.Common.{◌≡◌, ⊎_elim, ℕ, zero, suc, ◌+◌, ◌-◌, ◌*◌, ◌/◌, ◌%◌, ◌^◌, ◌<◌, ◌≤◌, true, List, [], ◌∷◌, ◌++◌, length, get_or, take, drop, map, min, replicate, refl, sym, subst, ap, ◌∙◌, arith, append_assoc, length-drop}
 use Rattle.std.specs.Prelude.{Result, Ok, Err, OnOk}
 use Rattle.std.specs.List.{flat_map, list_all, AllByRecursion}
@@ -119,8 +120,8 @@ added_then front back old mid new first more others are =
     subst (λ (rows : List Row). AreFramesOf rows new) (append_assoc others front back) (more (others ++ front) (first others are))
 
 -- four free bytes, the spelling of a row and one free byte
-pub framed_more : (row : Row) (old new : List (Vec ℕ Global)) (start spelled whole : Vec ℕ Global) → start.items ≡ 0 ∷ 0 ∷ 0 ∷ 0 ∷ [] → spelled.items ≡ start.items ++ row_spelling row → whole.items ≡ spelled.items ++ 0 ∷ []
-    → new ≡ old ++ whole ∷ [] → length (row_spelling row) < 2 ^ 19 → IsRowSpellable row → AreAdded (row ∷ []) old new
+pub framed_more : (row : Row) (old new : List (Vec ℕ Global)) (start spelled whole : Vec ℕ Global) → start.items ≡ 0 ∷ 0 ∷ 0 ∷ 0 ∷ [] → spelled.items ≡ start.items ++ row_spelling Two row → whole.items ≡ spelled.items ++ 0 ∷ []
+    → new ≡ old ++ whole ∷ [] → length (row_spelling Two row) < 2 ^ 19 → IsRowSpellable Two row → AreAdded (row ∷ []) old new
 framed_more row old new start spelled whole begins then ends last short is = λ others are. grind (arith, common_steps)
 
 -- ## Rows in turn

@@ -6,7 +6,7 @@ use Rattle.spool_disk.proofs.Moments.{runs_on, at_return, weaker_run}
 use Rattle.spool_disk.proofs.Ranges.{told}
 use Rattle.job_table.specs.Contents.{Contents}
 use Rattle.extents.specs.declared.extent.Extent.{Extent}
-use Rattle.spool_areas.specs.Header.{header_at, epoch_of}
+use Rattle.spool_areas.specs.Header.{header_at, epoch_of, version_of}
 use Rattle.spool_areas.specs.Payloads.{HasPayloads, gate_after}
 use Rattle.spool_areas.specs.Current.{Current, KeepsPayloads}
 use Rattle.spool_areas.specs.Extents.{payloads_at}
@@ -27,20 +27,23 @@ module _ {D : Type 0} (v : DiskView D)
     synced = λ r tells c left. keeps.synced r (sym read.disk.bytes ∙ tells) c (was_image c left);
     each = λ c left. subst (λ (b : ℕ). HasPayloads b payloads c) (sym read.base) (keeps.each c (was_image c left));
     epoch = λ c left. ap (λ (b : ℕ). epoch_of (header_at b c)) read.base ∙ keeps.epoch c (was_image c left) ∙ sym read.epoch;
+    version = λ c left. ap (λ (b : ℕ). version_of (header_at b c)) read.base ∙ keeps.version c (was_image c left) ∙ sym read.version;
     gate_at = read.gate ∙ keeps.gate_at ∙ ap (λ (b : ℕ). gate_after b payloads) (sym read.base);
   }
 
   pub table_kept : (extents : List Extent) (t : Contents) → v.bytes old.disk ≡ v.bytes disk → ((r : List ℕ) → v.bytes disk ≡ Some r → KeepsPayloads v old (payloads_at r extents))
-      → ((r : List ℕ) → v.bytes disk ≡ Some r → HasHistory old.base (payloads_at r extents) t) → IsSome (v.bytes new.disk) → KeepsTable v new t
+      → ((r : List ℕ) → v.bytes disk ≡ Some r → HasHistory old.base old.version (payloads_at r extents) t) → IsSome (v.bytes new.disk) → KeepsTable v new t
   table_kept extents t same keeps history now =
       let there = told (v.bytes new.disk) now in
       let tells : v.bytes disk ≡ Some there.0 = sym same ∙ sym read.disk.bytes ∙ there.1 in
       let has = history there.0 tells in
       record {
+        version = has.version;
         payloads = payloads_at there.0 extents;
         kept = keeps_on (payloads_at there.0 extents) now (keeps there.0 tells);
+        number_is = read.version ∙ has.number_is;
         history = has.history;
-        places = subst (λ (b : ℕ). ArePlacesOf b has.history.rows has.history.events t) (sym read.base) has.places;
+        places = subst (λ (b : ℕ). ArePlacesOf has.version b has.history.rows has.history.events t) (sym read.base) has.places;
       }
 
   module _ (s : State) (opened : (r : List ℕ) → v.bytes disk ≡ Some r → HasTable s r) (synced : D)

@@ -1,4 +1,5 @@
 -- The frames of a document, piece by piece.
+use Rattle.spool_types.specs.declared.version.Version.TheVariants.{Two}
 use Rattle.std.proofs.Common.{◌≡◌, ℕ, suc, ◌+◌, ◌-◌, ◌*◌, ◌==◌, if◌then◌else◌, true, get_or, ◌<◌, ◌≤◌, List, [], ◌∷◌, ◌++◌, length, take, drop, map, min, Option, Some, IsSome, false, replicate, refl, sym, subst, ap, ◌∙◌, arith, append_assoc, length-append, length-drop}
 use Rattle.std.proofs.lemmas.List.{map-append, append-nil, take-replicate, drop-replicate, drop-drop, drop_all, length-replicate}
 use Rattle.std.proofs.lemmas.Bool.Decides.{nat_tests}
@@ -81,8 +82,8 @@ pub record IsPartFilled (tells : Option (List ℕ)) (document : List Extent) (ro
   pub told : (r : List ℕ) → tells ≡ Some r → pieces (joined r document) ≡ others ++ pieces (drop done (joined r document))
   pub filled : AreReplaced start.frame (part_rows row parts) (part_rows row others) old new
   pub frame : now.frame ≡ start.frame + length (part_rows row parts)
-  pub gate : now.gate ≡ start.gate + length (records (map row_spelling (part_rows row parts)))
-  pub places : (j : ℕ) → places_of noted.places j ≡ places_of before.places j ++ placed_pieces start.gate (part_rows row parts) j
+  pub gate : now.gate ≡ start.gate + length (records (map (row_spelling Two) (part_rows row parts)))
+  pub places : (j : ℕ) → places_of noted.places j ≡ places_of before.places j ++ placed_pieces Two start.gate (part_rows row parts) j
   pub there : (j : ℕ) → IsSome (find nat_cmp j before.places) → IsSome (find nat_cmp j noted.places)
   pub room : (j : ℕ) → (¬ (row.id ≡ j)) → move_room noted j ≡ move_room before j
   pub room_left : document_len row - done ≤ move_room noted row.id * longest_send
@@ -103,11 +104,11 @@ module _ (table : Contents) (job : ℕ) (cursor : Cursor) (frames : List (Vec �
   due_within : cursor.frame < length frames
   due_within = within_frames frames due.front (JobRow due.row) (map (λ bytes. Piece due.row.id bytes) (pieces (replicate (document_len due.row) 0)) ++ due.back) cursor.frame due.framed due.at_is
 
-  due_len : (d : Vec ℕ Global) → length (get_or frames cursor.frame d).items ≡ length (row_spelling (JobRow due.row)) + 5
+  due_len : (d : Vec ℕ Global) → length (get_or frames cursor.frame d).items ≡ length (row_spelling Two (JobRow due.row)) + 5
   due_len d = len_here frames due.front (JobRow due.row) (map (λ bytes. Piece due.row.id bytes) (pieces (replicate (document_len due.row) 0)) ++ due.back) cursor.frame due.framed due.at_is d
 
   pub due_short : HasGateBehind frames cursor
-  due_short d = omega (arith, due.short, due_len d, length-append (row_spelling (JobRow due.row)) (records (map row_spelling (map (λ bytes. Piece due.row.id bytes) (pieces (replicate (document_len due.row) 0))))))
+  due_short d = omega (arith, due.short, due_len d, length-append (row_spelling Two (JobRow due.row)) (records (map (row_spelling Two) (map (λ bytes. Piece due.row.id bytes) (pieces (replicate (document_len due.row) 0))))))
 
   pub part_begun : (tells : Option (List ℕ)) (document : List Extent) (next : Cursor) → IsBehind frames cursor next → IsPartFilled tells document due.row 0 cursor frames table.moves next frames table.moves
   part_begun tells document next behind =
@@ -120,7 +121,7 @@ module _ (table : Contents) (job : ℕ) (cursor : Cursor) (frames : List (Vec �
         told = λ r told. refl;
         filled = λ front back is are. are;
         frame = omega (arith, behind.frame);
-        gate = omega (arith, behind.gate d, due_len d, length-append (row_spelling (JobRow due.row)) []);
+        gate = omega (arith, behind.gate d, due_len d, length-append (row_spelling Two (JobRow due.row)) []);
         places = λ j. sym (append-nil (places_of table.moves.places j));
         there = λ j there. there;
         room = λ j apart. refl;
@@ -190,19 +191,19 @@ module _ (tells : Option (List ℕ)) (document : List Extent) (row : Job) (done 
       }
 
   -- and the gate behind it has a place
-  pub piece_short : (bound : ℕ) → start.gate + length (records (map row_spelling (blank_rows row))) < bound → now.gate + 14 + count < bound
+  pub piece_short : (bound : ℕ) → start.gate + length (records (map (row_spelling Two) (blank_rows row))) < bound → now.gate + 14 + count < bound
   piece_short bound short =
       let rows = part_rows row p.parts in
-      let sum : length (records (map row_spelling (blank_rows row))) ≡ length (records (map row_spelling rows ++ (row_spelling some_piece ∷ map row_spelling rest_rows))) =
-      ap (λ (l : List Row). length (records (map row_spelling l))) all_rows ∙ ap (λ (l : List (List ℕ)). length (records l)) (map-append row_spelling rows (some_piece ∷ rest_rows)) in
+      let sum : length (records (map (row_spelling Two) (blank_rows row))) ≡ length (records (map (row_spelling Two) rows ++ (row_spelling Two some_piece ∷ map (row_spelling Two) rest_rows))) =
+      ap (λ (l : List Row). length (records (map (row_spelling Two) l))) all_rows ∙ ap (λ (l : List (List ℕ)). length (records l)) (map-append (row_spelling Two) rows (some_piece ∷ rest_rows)) in
       omega (
         arith,
         short,
         p.gate,
         sum,
-        ap length (records-append (map row_spelling rows) (row_spelling some_piece ∷ map row_spelling rest_rows)),
-        length-append (records (map row_spelling rows)) (records (row_spelling some_piece ∷ map row_spelling rest_rows)),
-        length-append (row_spelling some_piece) (records (map row_spelling rest_rows)),
+        ap length (records-append (map (row_spelling Two) rows) (row_spelling Two some_piece ∷ map (row_spelling Two) rest_rows)),
+        length-append (records (map (row_spelling Two) rows)) (records (row_spelling Two some_piece ∷ map (row_spelling Two) rest_rows)),
+        length-append (row_spelling Two some_piece) (records (map (row_spelling Two) rest_rows)),
         long_zeros,
       )
 
@@ -224,15 +225,15 @@ module _ (tells : Option (List ℕ)) (document : List Extent) (row : Job) (done 
         ∙ (λ i. sym (f.told r told) i ∷ pieces (drop-drop count done all i)))
         ∙ sym (append_assoc p.others (f.bytes ∷ []) (pieces (drop (done + count) all)))
 
-    places_more : (j : ℕ) → places_of after.places j ≡ places_of before.places j ++ placed_pieces start.gate (part_rows row p.parts ++ some_piece ∷ []) j
+    places_more : (j : ℕ) → places_of after.places j ≡ places_of before.places j ++ placed_pieces Two start.gate (part_rows row p.parts ++ some_piece ∷ []) j
     places_more j =
         let rows = part_rows row p.parts in
         let sends : Option (ℕ × List ℕ) = Some (row.id, zeros) in
         n.noted zeros j (long_zeros)
         ∙ with_placed_is (places_of noted.places j) (now.gate + 5) j sends
         ∙ (λ i. p.places j i ++ placed_to (p.gate i + 5) j sends)
-        ∙ append_assoc (places_of before.places j) (placed_pieces start.gate rows j) (placed_to (start.gate + length (records (map row_spelling rows)) + 5) j sends)
-        ∙ ap (λ (l : List Extent). places_of before.places j ++ l) (sym (one_more row_spelling piece_of spells_pieces start.gate rows some_piece j))
+        ∙ append_assoc (places_of before.places j) (placed_pieces Two start.gate rows j) (placed_to (start.gate + length (records (map (row_spelling Two) rows)) + 5) j sends)
+        ∙ ap (λ (l : List Extent). places_of before.places j ++ l) (sym (one_more (row_spelling Two) piece_of (spells_pieces Two) start.gate rows some_piece j))
 
     pub part_next : IsPartFilled tells document row (done + count) start old before next new after
     part_next =
@@ -254,12 +255,12 @@ module _ (tells : Option (List ℕ)) (document : List Extent) (row : Job) (done 
             arith,
             on.1,
             p.gate,
-            ap (λ (l : List Row). length (records (map row_spelling l))) rows_more,
-            ap (λ (l : List (List ℕ)). length (records l)) (map-append row_spelling rows (some_piece ∷ [])),
-            length-records-push (map row_spelling rows) (row_spelling some_piece),
+            ap (λ (l : List Row). length (records (map (row_spelling Two) l))) rows_more,
+            ap (λ (l : List (List ℕ)). length (records l)) (map-append (row_spelling Two) rows (some_piece ∷ [])),
+            length-records-push (map (row_spelling Two) rows) (row_spelling Two some_piece),
             long_zeros,
           );
-          places = λ j. places_more j ∙ ap (λ (l : List Row). places_of before.places j ++ placed_pieces start.gate l j) (sym rows_more);
+          places = λ j. places_more j ∙ ap (λ (l : List Row). places_of before.places j ++ placed_pieces Two start.gate l j) (sym rows_more);
           there = λ j there. n.there j (p.there j there);
           room = λ j apart. n.room j ∙ ap (λ t. if t then move_room noted j - 1 else move_room noted j) (other_test row.id j apart) ∙ p.room j apart;
           room_left = omega (arith, p.room_left, n.room row.id ∙ ap (λ t. if t then move_room noted row.id - 1 else move_room noted row.id) (same_test row.id), is);
@@ -292,12 +293,12 @@ module _ (tells : Option (List ℕ)) (document : List Extent) (row : Job) (done 
     told = λ r told. ap (part_rows row) (sym (p.told r told ∙ ap (λ (l : List ℕ). p.others ++ pieces l) (drop_all done (joined r document) (omega (arith, whole r told, end))) ∙ append-nil p.others));
     filled = subst (λ (l : List Row). AreReplaced start.frame l (part_rows row p.others) old new) rows_all p.filled;
     frame = p.frame ∙ ap (λ (l : List Row). start.frame + length l) rows_all;
-    gate = p.gate ∙ ap (λ (l : List Row). start.gate + length (records (map row_spelling l))) rows_all;
+    gate = p.gate ∙ ap (λ (l : List Row). start.gate + length (records (map (row_spelling Two) l))) rows_all;
   }
 
   pub part_noted : IsDocumentNoted row start.gate before noted
   part_noted = record {
-    noted = λ j. p.places j ∙ ap (λ (l : List Row). places_of before.places j ++ placed_pieces start.gate l j) rows_all;
+    noted = λ j. p.places j ∙ ap (λ (l : List Row). places_of before.places j ++ placed_pieces Two start.gate l j) rows_all;
     there = p.there;
     room = p.room;
   }

@@ -28,7 +28,7 @@ module _ {D : Type 0} (v : DiskView D) (lawful : IsLawful v) where
   -- no read at all
   pub read_none : (a : Current D) → a.dead ≡ false → IsReadOn {T = Unit {0}} v a a (Ok tt)
   read_none a alive = record {
-    read = record { base = refl; end = refl; epoch = refl; gate = refl; disk = no_change v a.disk lawful };
+    read = record { base = refl; end = refl; epoch = refl; version = refl; gate = refl; disk = no_change v a.disk lawful };
     keeps = λ payloads keeps. keeps;
     alive = alive;
     counted = refl;
@@ -51,6 +51,7 @@ module _ {D : Type 0} (v : DiskView D) (lawful : IsLawful v) where
       base = next.read.base ∙ first.read.base;
       end = next.read.end ∙ first.read.end;
       epoch = next.read.epoch ∙ first.read.epoch;
+      version = next.read.version ∙ first.read.version;
       gate = next.read.gate ∙ first.read.gate;
       disk = twice_still v a.disk b.disk c.disk lawful first.read.disk next.read.disk;
     };
@@ -72,6 +73,7 @@ stands_read v a b r c d alive on same places stands =
     (record {
       base = on.read.base;
       end = on.read.end;
+      version = on.read.version;
       gate = on.read.gate;
       size = on.read.disk.size;
       told = λ told. subst IsSome on.read.disk.bytes told;

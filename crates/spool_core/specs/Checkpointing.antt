@@ -9,9 +9,11 @@ use Rattle.spool_types.specs.State.{State, Job}
 use Rattle.job_table.specs.Legal.{Fits}
 use Rattle.spool_disk.specs.Disk.{DiskView}
 use Rattle.job_table.specs.Listing.{listing, job_rows}
+use Rattle.job_table.specs.Versions.{raised}
+use Rattle.spool_types.specs.declared.version.Version.TheVariants.{Two}
 use Rattle.event_codec.specs.RowSpelling.{row_spelling, IsRowSpellable}
 use Rattle.spool_areas.specs.Checkpoint.{has_room, last_epoch, frames_of, payloads_in, AreFrames}
-use Rattle.spool_areas.specs.Header.{half, header_len, header_at, epoch_of, current_area}
+use Rattle.spool_areas.specs.Header.{half, header_len, header_at, epoch_of, version_of, newest_version, current_area}
 use Rattle.spool_areas.specs.Payloads.{HasPayloads, gate_after}
 use Rattle.spool_areas.specs.declared.fault.AreaFault.{AreaFault}
 use Rattle.spool_areas.specs.declared.fault.AreaFault.TheVariants as areas
@@ -22,9 +24,9 @@ use Rattle.spool_core.specs.declared.spool.checkpoint_fault.CheckpointFault.TheV
 
 -- ## What an area holds after it
 
--- the payloads of the rows that a table is listed as, with these documents
+-- the payloads of the rows that a table is listed as, with these documents, in the newest version
 abbrev pub listed_payloads : State → (ℕ → List ℕ) → List (List ℕ)
-listed_payloads s documents = map row_spelling (listing s documents)
+listed_payloads s documents = map (row_spelling Two) (listing s documents)
 
 -- Documents of zeros. How long the rows of a listing are depends on how long the documents are, and on nothing else of them.
 abbrev pub blank : State → ℕ → List ℕ
@@ -40,13 +42,14 @@ pub record HasEpoch (epoch : ℕ) (image : List ℕ) : Type 0 where
   pub current : current_area image ≡ Ok base
   pub epoch_is : epoch_of (header_at base image) ≡ epoch
 
--- The current area of the image has this epoch, and holds the listing of the table, with documents of the jobs' lengths, and
+-- The current area of the image has the newest version and this epoch, and holds the listing of the table, with documents of the jobs' lengths, and
 -- no event.
 pub record IsCheckpointed (s : State) (epoch : ℕ) (image : List ℕ) : Type 0 where
   pub base : ℕ
   pub documents : ℕ → List ℕ
   pub fit : AreDocuments s documents
   pub listing : HasPayloads base (listed_payloads s documents) image
+  pub version_is : version_of (header_at base image) ≡ newest_version
   pub epoch_is : epoch_of (header_at base image) ≡ epoch
 
 -- ## Its answers
@@ -65,11 +68,11 @@ pub record MayList {D : Type 0} (spool : Standing D) : Type 0 where
   pub alive : spool.dead ≡ false
   pub epoch_left : ¬ (spool.epoch ≡ last_epoch)
 
--- the table is in the other area, with the next epoch, and is as it was
+-- the table is in the other area, with the next epoch and in the newest version, and is as it was
 pub record IsListed {D : Type 0} (v : DiskView D) (old new : Standing D) : Type 0 where
   pub may : MayList old
   pub fits : holds_listing (half (v.size old.disk)) old.state ≡ true
-  pub state : new.state ≡ old.state
+  pub state : new.state ≡ raised old.state
   pub epoch : new.epoch ≡ old.epoch + 1
   pub room : new.room ≡ room_beside (half (v.size old.disk)) old.state
   pub alive : new.dead ≡ false
@@ -106,8 +109,8 @@ fault_for areas.Disk = Disk
 -- the frames hold the spellings of these rows, in order
 pub record AreFramesOf (rows : List Row) (frames : List (Vec ℕ Global)) : Type 0 where
   pub framed : AreFrames (frames_of frames)
-  pub payloads : payloads_in (frames_of frames) ≡ map row_spelling rows
-  pub spellable : AllByRecursion IsRowSpellable rows
+  pub payloads : payloads_in (frames_of frames) ≡ map (row_spelling Two) rows
+  pub spellable : AllByRecursion (IsRowSpellable Two) rows
 
 -- Frames of these rows are added to those of others.
 abbrev pub AreAdded : List Row → List (Vec ℕ Global) → List (Vec ℕ Global) → Type 0

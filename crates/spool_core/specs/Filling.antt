@@ -10,6 +10,7 @@ use Rattle.spool_types.specs.Sent.{piece_of, placed_to, with_placed}
 use Rattle.spool_types.specs.State.{State, Job, job_at}
 use Rattle.spool_types.specs.declared.listing.Row.{Row}
 use Rattle.spool_types.specs.declared.listing.Row.TheVariants.{Piece}
+use Rattle.spool_types.specs.declared.version.Version.TheVariants.{Two}
 use Rattle.spool_disk.specs.Disk.{DiskView}
 use Rattle.gate_journal.specs.Entries.{records}
 use Rattle.spool_areas.specs.Current.{Current, KeepsPayloads}
@@ -41,9 +42,9 @@ HasMoveRoom s noted = (j : ℕ) (r : Job) → job_at s j ≡ Some r → document
 
 -- At most the bytes of a piece differ, and not how many they are.
 pub record IsAlike (a b : Row) : Type 0 where
-  pub long : length (row_spelling b) ≡ length (row_spelling a)
+  pub long : length (row_spelling Two b) ≡ length (row_spelling Two a)
   pub placed : (place j : ℕ) → placed_to place j (piece_of b) ≡ placed_to place j (piece_of a)
-  pub spellable : IsRowSpellable a → IsRowSpellable b
+  pub spellable : IsRowSpellable Two a → IsRowSpellable Two b
 
 abbrev pub AreAlike : List Row → List Row → Type 0
 AreAlike [] [] = Unit {0}
@@ -108,7 +109,7 @@ pub record IsDue (table : Contents) (job : ℕ) (cursor : Cursor) (frames : List
   pub back : List Row
   pub at_is : length front ≡ cursor.frame
   pub framed : AreFramesOf (front ++ (blank_rows row ++ back)) frames
-  pub short : cursor.gate + length (records (map row_spelling (blank_rows row))) < 2 ^ 64
+  pub short : cursor.gate + length (records (map (row_spelling Two) (blank_rows row))) < 2 ^ 64
   pub room : document_len row ≤ move_room table.moves job * longest_send
 
 -- They have the document now, and the cursor stands behind them.
@@ -118,11 +119,11 @@ pub record IsDocumentFilled (tells : Option (List ℕ)) (document : List Extent)
   pub told : (r : List ℕ) → tells ≡ Some r → rows ≡ job_rows row (joined r document)
   pub filled : AreReplaced cursor.frame (blank_rows row) rows old new
   pub frame : end.frame ≡ cursor.frame + length (blank_rows row)
-  pub gate : end.gate ≡ cursor.gate + length (records (map row_spelling (blank_rows row)))
+  pub gate : end.gate ≡ cursor.gate + length (records (map (row_spelling Two) (blank_rows row)))
 
 -- its places are noted behind the others
 pub record IsDocumentNoted (row : Job) (gate : ℕ) (old new : Noted) : Type 0 where
-  pub noted : (j : ℕ) → places_of new.places j ≡ places_of old.places j ++ placed_pieces gate (blank_rows row) j
+  pub noted : (j : ℕ) → places_of new.places j ≡ places_of old.places j ++ placed_pieces Two gate (blank_rows row) j
   pub there : (j : ℕ) → IsSome (find nat_cmp j old.places) → IsSome (find nat_cmp j new.places)
   pub room : (j : ℕ) → (¬ (row.id ≡ j)) → move_room new j ≡ move_room old j
 
@@ -137,5 +138,5 @@ pub record AreDocumentsFilled (tells : Option (List ℕ)) (table : Contents) (fr
 
 -- All places are noted that they have where the first gate of the listing stands there.
 pub record AreDocumentsNoted (s : State) (first : ℕ) (noted : Noted) : Type 0 where
-  pub places : (j : ℕ) (r : Job) → job_at s j ≡ Some r → places_of noted.places j ≡ placed_pieces first (listing s (blank s)) j
+  pub places : (j : ℕ) (r : Job) → job_at s j ≡ Some r → places_of noted.places j ≡ placed_pieces Two first (listing s (blank s)) j
   pub there : (j : ℕ) (r : Job) → job_at s j ≡ Some r → IsSome (find nat_cmp j noted.places)

@@ -3,6 +3,7 @@ use Rattle.spool_disk.specs.Disk.{DiskView, ChangesNothing}
 use Rattle.std.specs.Prelude.{◌≡◌, ◌⊎◌, ℕ, ◌+◌, ◌-◌, List, [], ◌∷◌, ◌++◌, length, take, drop, ⊤, Option, Some, None, false}
 use Rattle.spool_types.specs.declared.event.Event.{Event}
 use Rattle.spool_types.specs.declared.listing.Row.{Row}
+use Rattle.spool_types.specs.declared.version.Version.{Version}
 use Rattle.spool_types.specs.State.{State}
 use Rattle.spool_types.specs.Sent.{sent_by}
 use Rattle.job_table.specs.Contents.{Contents, places_of, no_moves, AddsPlaces}
@@ -34,24 +35,24 @@ pub record IsPayloadAt (bytes : List ℕ) (x : Extent) (payload : List ℕ) : Ty
   pub long : length payload ≡ x.len
 
 -- The payloads are the rows of a whole listing and at least one event, and lead to this table.
-pub record IsBeyondRows (base : ℕ) (payloads : List (List ℕ)) (c : Contents) : Type 0 where
+pub record IsBeyondRows (version : Version) (base : ℕ) (payloads : List (List ℕ)) (c : Contents) : Type 0 where
   pub progress : Progress
   pub events : List Event
-  pub begins : Begins payloads progress events
+  pub begins : Begins version payloads progress events
   pub whole : IsWhole progress
   pub some : ¬ (events ≡ [])
   pub table : c.state ≡ after_all progress.state events
-  pub places : ArePlacesOf base begins.rows events c
+  pub places : ArePlacesOf version base begins.rows events c
 
 -- The payloads are rows that lead to this, and the pieces among them lie where it has them.
-pub record AreRows (base : ℕ) (payloads : List (List ℕ)) (l : Loaded) : Type 0 where
-  pub begins : Begins payloads l.progress []
-  pub places : (j : ℕ) → places_of l.places j ≡ placed_pieces (base + header_len) begins.rows j
+pub record AreRows (version : Version) (base : ℕ) (payloads : List (List ℕ)) (l : Loaded) : Type 0 where
+  pub begins : Begins version payloads l.progress []
+  pub places : (j : ℕ) → places_of l.places j ≡ placed_pieces version (base + header_len) begins.rows j
 
--- what was read so far are these payloads of the area at base
-abbrev pub HasRead : ℕ → Reading → List (List ℕ) → Type 0
-HasRead base (Rows l) payloads = AreRows base payloads l
-HasRead base (Events t) payloads = IsBeyondRows base payloads t
+-- what was read so far are these payloads of the area at base, in this version
+abbrev pub HasRead : Version → ℕ → Reading → List (List ℕ) → Type 0
+HasRead version base (Rows l) payloads = AreRows version base payloads l
+HasRead version base (Events t) payloads = IsBeyondRows version base payloads t
 
 -- the documents that were read so far lie between these places
 abbrev pub ReadLiesIn : ℕ → ℕ → Reading → Type 0
@@ -63,16 +64,16 @@ abbrev pub HasNoneNoted : Reading → Type 0
 HasNoneNoted (Rows l) = ⊤
 HasNoneNoted (Events t) = t.moves ≡ no_moves
 
--- the payload is the spelling of this row and of no other
-pub record IsRowIn (payload : List ℕ) (row : Row) : Type 0 where
-  pub spellable : IsRowSpellable row
-  pub spelt : payload ≡ row_spelling row
-  pub only : (other : Row) → IsRowSpellable other → payload ≡ row_spelling other → other ≡ row
+-- in this version the payload is the spelling of this row and of no other
+pub record IsRowIn (version : Version) (payload : List ℕ) (row : Row) : Type 0 where
+  pub spellable : IsRowSpellable version row
+  pub spelt : payload ≡ row_spelling version row
+  pub only : (other : Row) → IsRowSpellable version other → payload ≡ row_spelling version other → other ≡ row
 
 -- the payload is the spelling of this row, or of none
-abbrev pub IsRowOrNone : List ℕ → Option Row → Type 0
-IsRowOrNone payload (Some row) = IsRowIn payload row
-IsRowOrNone payload None = (row : Row) → IsRowSpellable row → payload ≡ row_spelling row → ⊥
+abbrev pub IsRowOrNone : Version → List ℕ → Option Row → Type 0
+IsRowOrNone version payload (Some row) = IsRowIn version payload row
+IsRowOrNone version payload None = (row : Row) → IsRowSpellable version row → payload ≡ row_spelling version row → ⊥
 
 -- numbers that are over stay so
 abbrev pub StayOver : State → State → Type 0
@@ -120,31 +121,31 @@ decode_fault x codec.Utf8 = Damaged (x.place - 5)
 decode_fault x codec.Memory = Memory
 
 -- behind these payloads this one may not come next
-pub record IsStopped (payloads : List (List ℕ)) (payload : List ℕ) : Type 0 where
+pub record IsStopped (version : Version) (payloads : List (List ℕ)) (payload : List ℕ) : Type 0 where
   pub progress : Progress
   pub events : List Event
-  pub begins : Begins payloads progress events
-  pub strange : IsNoNext progress events payload
+  pub begins : Begins version payloads progress events
+  pub strange : IsNoNext version progress events payload
 
 -- why a payload was not taken behind these
-abbrev pub IsTakeFault : List (List ℕ) → List ℕ → Extent → OpenFault → Type 0
-IsTakeFault payloads payload x NotASpool = ⊥
-IsTakeFault payloads payload x (Damaged gate) = (gate ≡ x.place - 5) × IsStopped payloads payload
-IsTakeFault payloads payload x Memory = ⊤
-IsTakeFault payloads payload x Disk = ⊥
+abbrev pub IsTakeFault : Version → List (List ℕ) → List ℕ → Extent → OpenFault → Type 0
+IsTakeFault version payloads payload x NotASpool = ⊥
+IsTakeFault version payloads payload x (Damaged gate) = (gate ≡ x.place - 5) × IsStopped version payloads payload
+IsTakeFault version payloads payload x Memory = ⊤
+IsTakeFault version payloads payload x Disk = ⊥
 
 -- the rows end before a document is whole
-pub record IsCutShort (payloads : List (List ℕ)) : Type 0 where
+pub record IsCutShort (version : Version) (payloads : List (List ℕ)) : Type 0 where
   pub progress : Progress
-  pub begins : Begins payloads progress []
+  pub begins : Begins version payloads progress []
   pub short : ¬ (IsWhole progress)
 
 -- why the payloads lead to no table where they end at this gate
-abbrev pub IsFinishFault : List (List ℕ) → ℕ → OpenFault → Type 0
-IsFinishFault payloads gate NotASpool = ⊥
-IsFinishFault payloads gate (Damaged place) = (place ≡ gate) × IsCutShort payloads
-IsFinishFault payloads gate Memory = ⊤
-IsFinishFault payloads gate Disk = ⊥
+abbrev pub IsFinishFault : Version → List (List ℕ) → ℕ → OpenFault → Type 0
+IsFinishFault version payloads gate NotASpool = ⊥
+IsFinishFault version payloads gate (Damaged place) = (place ≡ gate) × IsCutShort version payloads
+IsFinishFault version payloads gate Memory = ⊤
+IsFinishFault version payloads gate Disk = ⊥
 
 -- why no payload was read
 abbrev pub IsReadFault : OpenFault → Type 0
@@ -154,29 +155,29 @@ IsReadFault Memory = ⊤
 IsReadFault Disk = ⊤
 
 -- The first of the extents that may not come in its turn has its gate at this place.
-pub record StopsAt (base : ℕ) (extents : List Extent) (bytes : List ℕ) (place : ℕ) : Type 0 where
+pub record StopsAt (version : Version) (base : ℕ) (extents : List Extent) (bytes : List ℕ) (place : ℕ) : Type 0 where
   pub front : List Extent
   pub extent : Extent
   pub rest : List Extent
   pub parts : extents ≡ front ++ extent ∷ rest
-  pub stopped : IsStopped (payloads_at bytes front) (bytes_of bytes extent)
+  pub stopped : IsStopped version (payloads_at bytes front) (bytes_of bytes extent)
   pub gate : place ≡ gate_after base (payloads_at bytes front)
 
 -- The extents end at this place, before a document is whole.
-pub record EndsShort (base : ℕ) (extents : List Extent) (bytes : List ℕ) (place : ℕ) : Type 0 where
-  pub cut : IsCutShort (payloads_at bytes extents)
+pub record EndsShort (version : Version) (base : ℕ) (extents : List Extent) (bytes : List ℕ) (place : ℕ) : Type 0 where
+  pub cut : IsCutShort version (payloads_at bytes extents)
   pub gate : place ≡ gate_after base (payloads_at bytes extents)
 
 -- why the extents lead to no table
-abbrev pub IsFoldFault : ℕ → List Extent → List ℕ → OpenFault → Type 0
-IsFoldFault base extents bytes NotASpool = ⊥
-IsFoldFault base extents bytes (Damaged place) = StopsAt base extents bytes place ⊎ EndsShort base extents bytes place
-IsFoldFault base extents bytes Memory = ⊤
-IsFoldFault base extents bytes Disk = ⊤
+abbrev pub IsFoldFault : Version → ℕ → List Extent → List ℕ → OpenFault → Type 0
+IsFoldFault version base extents bytes NotASpool = ⊥
+IsFoldFault version base extents bytes (Damaged place) = StopsAt version base extents bytes place ⊎ EndsShort version base extents bytes place
+IsFoldFault version base extents bytes Memory = ⊤
+IsFoldFault version base extents bytes Disk = ⊤
 
 -- The first n extents were read, and the others follow behind them.
-pub record IsFolded (base end : ℕ) (extents : List Extent) (n : ℕ) (bytes : List ℕ) (reading : Reading) : Type 0 where
-  pub read : HasRead base reading (payloads_at bytes (take n extents))
+pub record IsFolded (version : Version) (base end : ℕ) (extents : List Extent) (n : ℕ) (bytes : List ℕ) (reading : Reading) : Type 0 where
+  pub read : HasRead version base reading (payloads_at bytes (take n extents))
   pub follow : Follow (gate_after base (payloads_at bytes (take n extents))) (drop n extents) end
 
 -- The areas were read, and are as they were.
@@ -184,5 +185,6 @@ pub record IsRead {D : Type 0} (v : DiskView D) (old new : Current D) : Type 0 w
   pub base : new.base ≡ old.base
   pub end : new.end ≡ old.end
   pub epoch : new.epoch ≡ old.epoch
+  pub version : new.version ≡ old.version
   pub gate : new.gate ≡ old.gate
   pub disk : ChangesNothing v old.disk new.disk

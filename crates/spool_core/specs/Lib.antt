@@ -1,3 +1,4 @@
+pub mod Versions
 pub mod History
 pub mod Image
 pub mod Standing

@@ -1,13 +1,12 @@
 //! A list of events, applied in turn.
-ghost use Rattle.std.specs.Prelude.{◌≡◌, ◌<◌, ◌≤◌, ◌+◌, ◌⊎◌, ◌↔◌, List, ℕ, Some, None, Ok, IsSome, IsTrue, false, length, take, OnOk, IfOk, IfErr, IsErrOf, slice_get};
+ghost use Rattle.std.specs.Prelude.{◌≡◌, ◌<◌, ◌≤◌, ◌+◌, ◌⊎◌, ◌↔◌, List, ℕ, Some, None, Ok, IsSome, IsTrue, false, length, take, OnOk, IfOk, IfErr, IsErrOf, slice_get, Option};
 ghost use Rattle.spool_disk.specs.Disk.{Blames, IsSynced, LeavesOnly};
 ghost use Rattle.spool_types.specs.declared.event.Event.{Event};
 ghost use Rattle.spool_types.specs.declared.event.NewJob.{NewJob};
-ghost use Rattle.spool_types.specs.declared.event.Event.TheVariants.{Create};
 ghost use Rattle.spool_types.specs.State.{State, Job, job_at};
 ghost use Rattle.job_table.specs.Apart.{IsPart, own_events};
 ghost use Rattle.job_table.specs.Legal.{IsLegal};
-ghost use Rattle.job_table.specs.Step.{refusal_of};
+ghost use Rattle.job_table.specs.Step.{creation, refusal_of};
 ghost use Rattle.job_table.specs.Fold.{after_all, accepted};
 ghost use Rattle.job_table.specs.Ended.{HasEndedJob, subject};
 ghost use Rattle.job_table.specs.Over.{HasOver, late_refusal};
@@ -149,7 +148,7 @@ pub fn drive<D: Disk>(alloc: Global, spool: &mut Spool<D>, events: Vec<Event>) -
     ensures ended { (j : ℕ) (job : Job) → HasEndedJob spool.old.state j job → job_at spool.new.state j ≡ Some job }
     ensures over { (j : ℕ) → HasOver spool.old.state j → HasOver spool.new.state j }
     ensures refused { (j : ℕ) (e : Event) → HasOver spool.old.state j → subject e ≡ Some j → refusal_of spool.new.state e ≡ Some (late_refusal (job_at spool.new.state j)) }
-    ensures number { (j : ℕ) (n : NewJob) → HasOver spool.old.state j → n.job ≡ j → IsSome (refusal_of spool.new.state (Create n)) }
+    ensures number { (j : ℕ) (n : NewJob) (by : Option ℕ) → HasOver spool.old.state j → n.job ≡ j → IsSome (refusal_of spool.new.state (creation n by)) }
 
     // What there is of a queue comes of its own events alone: another table that has of it the same, and nothing else, is led
     // by these to one that has of it the same.

@@ -1,7 +1,9 @@
 //! The table that the payloads of an area lead to.
 ghost use Rattle.std.specs.Prelude.{◌≡◌, ◌<◌, ◌≤◌, ◌+◌, ◌^◌, length, List, ℕ, Some, false, ◌∷◌, [], ◌++◌, None, OnOk, IfOk, IfErr, IsErrOf};
 ghost use Rattle.spool_disk.specs.Disk.{Blames};
-ghost use Rattle.spool_areas.specs.Header.{header_len};
+ghost use Rattle.spool_areas.specs.Header.{header_len, IsVersion};
+ghost use Rattle.spool_core.specs.Versions.{number_of};
+ghost use Rattle.spool_types.specs.declared.version.Version.{Version as VersionOf};
 ghost use Rattle.spool_areas.specs.Payloads.{gate_after};
 ghost use Rattle.spool_areas.specs.Extents.{payloads_at, Follow};
 ghost use Rattle.job_table.specs.Step.{refusal_of, after};
@@ -17,7 +19,7 @@ use gate_journal::HEAD_LEN;
 use job_table::{LoadFault, Loading, PrepareFault, Table, ended_jobs_stay};
 use spool_areas::{Areas, Extent, OpenFault};
 use spool_disk::Disk;
-use spool_types::{Event, Row};
+use spool_types::{Event, Row, Version};
 use std::alloc::{AllocError, Global};
 
 // What the payloads so far have led to. Rows come first.
@@ -37,22 +39,24 @@ pub(crate) fn fold<D: Disk>(
     gate: u64,
 ) -> Result<Table, OpenFault>
     requires alive { areas.old.dead ≡ false }
+    requires known { IsVersion areas.old.version }
     requires lie { Follow (areas.old.base + header_len) payloads.now areas.old.gate }
     requires inside { areas.old.gate ≤ areas.old.end }
     requires ends { gate ≡ areas.old.gate }
     requires sized { areas.old.end < 2 ^ 64 }
-    ensures table { IfOk result (λ t. (r : List ℕ) → D.device.bytes areas.old.disk ≡ Some r → HasHistory areas.old.base (payloads_at r payloads.now) t) }
+    ensures table { IfOk result (λ t. (r : List ℕ) → D.device.bytes areas.old.disk ≡ Some r → HasHistory areas.old.base areas.old.version (payloads_at r payloads.now) t) }
 
     // Also on a disk that tells nothing of its bytes the documents lie behind the header and before the gate.
     ensures lie { IfOk result (λ t. DocumentsLieIn (areas.old.base + header_len) areas.old.gate t) }
     ensures unmoved { IfOk result (λ t. t.moves ≡ no_moves) }
     ensures gate { OnOk result ((r : List ℕ) → D.device.bytes areas.old.disk ≡ Some r → areas.old.gate ≡ gate_after areas.old.base (payloads_at r payloads.now)) }
-    ensures fault { IfErr result (λ e. (r : List ℕ) → D.device.bytes areas.old.disk ≡ Some r → IsFoldFault areas.old.base payloads.now r e) }
+    ensures fault { IfErr result (λ e. (r : List ℕ) (v : VersionOf) → D.device.bytes areas.old.disk ≡ Some r → areas.old.version ≡ number_of v → IsFoldFault v areas.old.base payloads.now r e) }
     ensures blames { Blames (D.device.failures areas.old.disk) (D.device.failures areas.new.disk) (IsErrOf result OpenFault.Disk) }
     ensures alive { OnOk result (areas.new.dead ≡ false) }
     ensures same { IsRead D.device areas.old areas.new }
 {
-    let mut reading = Reading::Rows(Loading::new(alloc));
+    let version = version_of(areas.version());
+    let mut reading = Reading::Rows(Loading::new(alloc, version));
     let mut buffer = Vec::new(alloc);
     for extent in payloads {
         match read_payload(areas, &mut buffer, *extent) {
@@ -68,6 +72,18 @@ pub(crate) fn fold<D: Disk>(
         };
     }
     finish(reading, gate)
+}
+
+// The version of this number. There are no others.
+fn version_of(number: u8) -> Version
+    requires { IsVersion number }
+    ensures { number ≡ number_of result }
+{
+    if number == 1 {
+        Version::One
+    } else {
+        Version::Two
+    }
 }
 
 // Reads one payload. The buffer's memory is used again.
@@ -107,10 +123,10 @@ fn take_payload(
     requires head { 5 ≤ extent.place }
     requires long { length payload.now ≡ extent.len }
     requires inside { extent.place + extent.len < 2 ^ 64 }
-    ensures next { IfOk result (λ next. (base : ℕ) (payloads : List (List ℕ)) → HasRead base reading payloads → extent.place ≡ gate_after base payloads + 5 → HasRead base next (payloads ++ payload.now ∷ [])) }
+    ensures next { IfOk result (λ next. (v : VersionOf) (base : ℕ) (payloads : List (List ℕ)) → HasRead v base reading payloads → extent.place ≡ gate_after base payloads + 5 → HasRead v base next (payloads ++ payload.now ∷ [])) }
     ensures lie { IfOk result (λ next. (low : ℕ) → low ≤ extent.place → ReadLiesIn low extent.place reading → ReadLiesIn low (extent.place + extent.len) next) }
     ensures unmoved { IfOk result (λ next. HasNoneNoted reading → HasNoneNoted next) }
-    ensures fault { IfErr result (λ e. (base : ℕ) (payloads : List (List ℕ)) → HasRead base reading payloads → IsTakeFault payloads payload.now extent e) }
+    ensures fault { IfErr result (λ e. (v : VersionOf) (base : ℕ) (payloads : List (List ℕ)) → HasRead v base reading payloads → IsTakeFault v payloads payload.now extent e) }
     ensures never { ¬ (IsErrOf result OpenFault.Disk) }
 {
     match reading {
@@ -129,13 +145,13 @@ fn take_row(
     requires head { 5 ≤ extent.place }
     requires long { length payload.now ≡ extent.len }
     requires inside { extent.place + extent.len < 2 ^ 64 }
-    ensures next { IfOk result (λ next. (base : ℕ) (payloads : List (List ℕ)) → AreRows base payloads loading → extent.place ≡ gate_after base payloads + 5 → HasRead base next (payloads ++ payload.now ∷ [])) }
+    ensures next { IfOk result (λ next. (v : VersionOf) (base : ℕ) (payloads : List (List ℕ)) → AreRows v base payloads loading → extent.place ≡ gate_after base payloads + 5 → HasRead v base next (payloads ++ payload.now ∷ [])) }
     ensures lie { IfOk result (λ next. (low : ℕ) → low ≤ extent.place → ((j : ℕ) → LieIn low extent.place (places_of loading.places j)) → ReadLiesIn low (extent.place + extent.len) next) }
     ensures unmoved { IfOk result HasNoneNoted }
-    ensures fault { IfErr result (λ e. (payloads : List (List ℕ)) → Begins payloads loading.progress [] → IsTakeFault payloads payload.now extent e) }
+    ensures fault { IfErr result (λ e. (v : VersionOf) (payloads : List (List ℕ)) → Begins v payloads loading.progress [] → IsTakeFault v payloads payload.now extent e) }
     ensures never { ¬ (IsErrOf result OpenFault.Disk) }
 {
-    match read_row(alloc, payload) {
+    match read_row(alloc, payload, loading.version()) {
         Ok(Some(row)) => match loading.load(row, extent.place) {
             Ok(()) => Ok(Reading::Rows(loading)),
             Err(LoadFault::Misplaced) => {
@@ -165,11 +181,11 @@ fn take_row(
     }
 }
 
-// The row that is spelled so, if there is one.
-fn read_row(alloc: Global, payload: &[u8]) -> Result<Option<Row>, AllocError>
-    ensures row { IfOk result (IsRowOrNone payload.now) }
+// The row that is spelled so in this version, if there is one.
+fn read_row(alloc: Global, payload: &[u8], version: Version) -> Result<Option<Row>, AllocError>
+    ensures row { IfOk result (IsRowOrNone version payload.now) }
 {
-    match decode_row(alloc, payload) {
+    match decode_row(alloc, payload, version) {
         Ok(row) => Ok(Some(row)),
         Err(CodecFault::Memory) => Err(AllocError),
         Err(CodecFault::Kind) => Ok(None),
@@ -250,10 +266,10 @@ fn commit_event(table: &mut Table, event: Event, extent: Extent) -> Result<(), O
 
 // The table, where no document is short.
 fn finish(reading: Reading, gate: u64) -> Result<Table, OpenFault>
-    ensures table { IfOk result (λ t. (base : ℕ) (payloads : List (List ℕ)) → HasRead base reading payloads → HasHistory base payloads t) }
+    ensures table { IfOk result (λ t. (v : VersionOf) (base : ℕ) (payloads : List (List ℕ)) → HasRead v base reading payloads → HasHistory base (number_of v) payloads t) }
     ensures lie { IfOk result (λ t. (low high : ℕ) → ReadLiesIn low high reading → DocumentsLieIn low high t) }
     ensures unmoved { IfOk result (λ t. HasNoneNoted reading → t.moves ≡ no_moves) }
-    ensures fault { IfErr result (λ e. (base : ℕ) (payloads : List (List ℕ)) → HasRead base reading payloads → IsFinishFault payloads gate e) }
+    ensures fault { IfErr result (λ e. (v : VersionOf) (base : ℕ) (payloads : List (List ℕ)) → HasRead v base reading payloads → IsFinishFault v payloads gate e) }
     ensures never { ¬ (IsErrOf result OpenFault.Disk) }
 {
     match reading {

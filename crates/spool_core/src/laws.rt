@@ -1,16 +1,16 @@
 //! What is so of every image, and of spools that are opened again and again. The functions do nothing: their clauses are
 //! the laws.
-ghost use Rattle.std.specs.Prelude.{◌≡◌, ◌⊎◌, ◌≤◌, ℕ, List, ◌∷◌, Some, IsSome, take};
-ghost use Rattle.spool_types.specs.State.{State, Job, nothing, job_at};
+ghost use Rattle.std.specs.Prelude.{◌≡◌, ◌⊎◌, ◌≤◌, ℕ, List, Option, ◌∷◌, Some, IsSome, take};
+ghost use Rattle.spool_types.specs.State.{State, Job, nothing_in, job_at};
 ghost use Rattle.spool_types.specs.declared.event.Event.{Event};
-ghost use Rattle.spool_types.specs.declared.event.Event.TheVariants.{Create};
+ghost use Rattle.spool_types.specs.declared.version.Version.{Version};
 ghost use Rattle.spool_types.specs.declared.event.NewJob.{NewJob};
 ghost use Rattle.job_table.specs.Attempts.{HasNoProcessing};
 ghost use Rattle.job_table.specs.Ended.{HasEndedJob, subject};
 ghost use Rattle.job_table.specs.Over.{HasOver, late_refusal};
 ghost use Rattle.job_table.specs.Fold.{after_all};
 ghost use Rattle.job_table.specs.Legal.{IsLegal};
-ghost use Rattle.job_table.specs.Step.{refusal_of};
+ghost use Rattle.job_table.specs.Step.{creation, refusal_of};
 ghost use Rattle.spool_core.specs.Driving.{HasPrefixTable, HasWholePrefix, documents_after};
 ghost use Rattle.spool_core.specs.Image.{AreBytes, HasTable, HasDocument, HasDocuments, HasRoom, HasFault, IsMidway, IsReopenedFrom};
 ghost use Rattle.spool_core.specs.Lives.{Life, KeepsAcknowledged, after_lives, documents_after_lives, history_of, next_documents, next_table};
@@ -59,7 +59,7 @@ pub fn lives_go_on()
     // The lives are as one life of the events that were left, with a Reopen at each opening. Their tables are legal.
     ensures history { (s : State) (lives : List Life) → after_lives s lives ≡ after_all s (history_of lives) }
     ensures sent { (s : State) (documents : ℕ → List ℕ) (lives : List Life) → documents_after_lives s documents lives ≡ documents_after s documents (history_of lives) }
-    ensures legal { (lives : List Life) → IsLegal (after_lives nothing lives) }
+    ensures legal { (v : Version) (lives : List Life) → IsLegal (after_lives (nothing_in v) lives) }
     ensures idle { (s : State) (l : Life) → IsLegal s → HasNoProcessing (next_table s l) }
 
     // A job that has ended after the acknowledged events of a life stays so in all later lives, and so does a number that is
@@ -71,9 +71,9 @@ pub fn lives_go_on()
     ensures refused { (s : State) (l : Life) (lives : List Life) (more : List Event) (j : ℕ) (e : Event) → KeepsAcknowledged l →
         HasOver (after_all s (take l.acknowledged l.events)) j → subject e ≡ Some j →
         refusal_of (after_all (after_lives s (l ∷ lives)) more) e ≡ Some (late_refusal (job_at (after_all (after_lives s (l ∷ lives)) more) j)) }
-    ensures number { (s : State) (l : Life) (lives : List Life) (more : List Event) (j : ℕ) (n : NewJob) → KeepsAcknowledged l →
+    ensures number { (s : State) (l : Life) (lives : List Life) (more : List Event) (j : ℕ) (n : NewJob) (by : Option ℕ) → KeepsAcknowledged l →
         HasOver (after_all s (take l.acknowledged l.events)) j → n.job ≡ j →
-        IsSome (refusal_of (after_all (after_lives s (l ∷ lives)) more) (Create n)) }
+        IsSome (refusal_of (after_all (after_lives s (l ∷ lives)) more) (creation n by)) }
 {
     ended_jobs_stay();
     legal_tables_stay_legal();

@@ -51,7 +51,8 @@ fn fail_of(fault: PrepareFault) -> Fail {
     }
 }
 
-fn apply(table: &mut Table, event: Event) -> Result<(), Fail> {
+/// Changes a table by an event.
+pub fn apply(table: &mut Table, event: Event) -> Result<(), Fail> {
     match table.prepare(&event) {
         Ok(()) => {
             table.commit(event, PAYLOAD);

@@ -1,5 +1,5 @@
-//! The tests of the tables and spools of `job_table` and `spool_core`: whole runs, cut by a device that fails, and listings
-//! that are loaded. Their events and rows are spelled in hexadecimal.
+//! The tests of the tables and spools of `job_table` and `spool_core`: whole runs, cut by a device that fails, listings
+//! that are loaded, and spools of an older version. Their events and rows are spelled in hexadecimal.
 #![tactic(auto)]
 
 #[cfg(test)]
@@ -14,3 +14,5 @@ mod runs;
 mod spelled;
 #[cfg(test)]
 mod spools;
+#[cfg(test)]
+mod versions;

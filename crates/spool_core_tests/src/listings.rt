@@ -5,7 +5,7 @@ use event_codec::{decode_row, encode_job_onto, encode_queue_onto};
 use extents::Extent;
 use job_table::{LoadFault, Loading, Table, document_len};
 use spool_core::replay;
-use spool_types::{Head, Job, JobId, Moment, Phase, Piece, QueueName, QueueRow, Row};
+use spool_types::{Head, Job, JobId, Moment, Phase, Piece, QueueName, QueueRow, Row, Version};
 use std::alloc::{AllocError, Global};
 use std::process::Abort;
 use std::test::*;
@@ -14,8 +14,8 @@ use std::test::*;
 const PAYLOAD: u64 = 1_000;
 
 // The clock at 7, two queues, and their jobs: one whose document is still coming, one in the first of two stages, one that was
-// canceled, and two that wait.
-const EVENTS: [&str; 16] = [
+// canceled, and three that wait, the last to be started by a moment.
+const EVENTS: [&str; 18] = [
     "0b 0000000000000007",
     "01 000171 0003733a2f 0003612f62 00 0000001e 0005",
     "01 000170 0003733a2f 0003612f62 01 0000001e 0005",
@@ -32,6 +32,8 @@ const EVENTS: [&str; 16] = [
     "07 00000006 0003612f62 01 00",
     "05 000171 00000007 000175 0000 0001 50 0000",
     "07 00000007 0003612f62 01 00",
+    "11 000171 00000008 000175 0000 0001 32 0000 00000000000007d0",
+    "07 00000008 0003612f62 01 00",
 ];
 
 // Loads a row that comes next.
@@ -52,9 +54,9 @@ fn take_queue(alloc: Global, loading: &mut Loading, queue: &QueueRow) -> Result<
     take_bytes(alloc, loading, &bytes)
 }
 
-// Loads the row that bytes spell.
-fn take_bytes(alloc: Global, loading: &mut Loading, bytes: &[u8]) -> Result<(), Fail> {
-    let row = decode_row(alloc, bytes)?;
+/// Loads the row that bytes spell in the version of the others.
+pub fn take_bytes(alloc: Global, loading: &mut Loading, bytes: &[u8]) -> Result<(), Fail> {
+    let row = decode_row(alloc, bytes, loading.version())?;
     Ok(take(loading, row)?)
 }
 
@@ -106,7 +108,8 @@ fn take_all(alloc: Global, loading: &mut Loading, table: &Table) -> Result<(), F
     Ok(())
 }
 
-fn finished(loading: Loading) -> Result<Table, Fail> {
+/// The table of rows that are a whole listing.
+pub fn finished(loading: Loading) -> Result<Table, Fail> {
     if loading.is_whole() {
         return Ok(loading.into_table()?);
     }
@@ -117,7 +120,7 @@ fn finished(loading: Loading) -> Result<Table, Fail> {
 
 // The table that is loaded from the listing of another.
 fn loaded_again(alloc: Global, table: &Table) -> Result<Table, Fail> {
-    let mut loading = Loading::new(alloc);
+    let mut loading = Loading::new(alloc, Version::Two);
     match take_all(alloc, &mut loading, table) {
         Ok(()) => finished(loading),
         Err(fail) => {
@@ -154,11 +157,12 @@ fn list_the_same(alloc: Global, table: &Table, again: &Table) -> Result<bool, Fa
     lists(alloc, again, &rows)
 }
 
-// Whether jobs 7 and 6 are next in turn.
+// Whether jobs 7, 6 and 8 are next in turn.
 fn has_its_turns(alloc: Global, table: &Table) -> Result<bool, Fail> {
     let turns = [
         JobId::new(7).ok_or("no number")?,
         JobId::new(6).ok_or("no number")?,
+        JobId::new(8).ok_or("no number")?,
     ];
     has_turns(alloc, table, &turns)
 }
@@ -181,7 +185,7 @@ fn are_same<R: Abort>(rt: &R, alloc: Global, table: &Table, again: &Table) -> Re
     assert!(rt; has_its_document(again));
     assert_eq!(rt;
         (again.highest(), again.now().get(), again.is_idle()),
-        (7, 7, false)
+        (8, 7, false)
     );
     Ok(())
 }
@@ -203,7 +207,7 @@ fn lists_text(alloc: Global, table: &Table, text: &str) -> Result<bool, Fail> {
 
 #[test]
 fn no_rows_are_the_empty_table(rt: HostRuntime) -> Result<(), Fail> {
-    let table = finished(Loading::new(rt.alloc()))?;
+    let table = finished(Loading::new(rt.alloc(), Version::Two))?;
     let same = lists_text(rt.alloc(), &table, "40 00000000 0000000000000000");
     drop(table);
     assert!(rt; same?);
@@ -216,14 +220,14 @@ const HEAD: &str = "40 00000009 0000000000000064";
 const QUEUE: &str = "41 000171 0003733a2f 0003612f62 00 0000001e 0005 0000 0000 01 00 0000 00 00";
 
 const JOB: &str =
-    "42 00000002 000171 000175 0000 0001 32 0000 01 0003612f62 00 00000001 00000000 00000000 02 01";
+    "42 00000002 000171 000175 0000 0001 32 0000 01 0003612f62 00 00000001 00000000 00000000 02 01 00";
 
 const LISTED: &str = "40 00000009 0000000000000064 \
     41 000171 0003733a2f 0003612f62 00 0000001e 0005 0000 0000 01 00 0000 00 00 \
-    42 00000002 000171 000175 0000 0001 32 0000 01 0003612f62 00 00000001 00000000 00000000 02 01";
+    42 00000002 000171 000175 0000 0001 32 0000 01 0003612f62 00 00000001 00000000 00000000 02 01 00";
 
 fn row(alloc: Global, text: &str) -> Result<Row, Fail> {
-    Ok(decode_row(alloc, &bytes_of(alloc, text)?)?)
+    Ok(decode_row(alloc, &bytes_of(alloc, text)?, Version::Two)?)
 }
 
 // Gives the job of a row other attempts and another phase. Whether it is the row of a job.
@@ -285,7 +289,7 @@ fn take_around<R: Abort>(rt: &R, alloc: Global, loading: &mut Loading) -> Result
 
 // The table that is loaded around them.
 fn loaded_around<R: Abort>(rt: &R, alloc: Global) -> Result<Table, Fail> {
-    let mut loading = Loading::new(alloc);
+    let mut loading = Loading::new(alloc, Version::Two);
     match take_around(rt, alloc, &mut loading) {
         Ok(()) => finished(loading),
         Err(fail) => {

@@ -15,7 +15,7 @@ const PLAN: [&str; 5] = [QUEUE, QUEUE, CREATE, CLOSE, "0b 0000000000000000"];
 // The rows after them: the head, the queue, and the waiting job.
 const LISTED: &str = "40 00000001 0000000000000000 \
     41 000171 0003733a2f 0003612f62 00 0000001e 0005 0000 0000 01 00 0000 00 00 \
-    42 00000001 000171 000175 0000 0001 32 0000 01 0003612f62 00 00000000 00000000 00000000 01 00 0000000000000000 00";
+    42 00000001 000171 000175 0000 0001 32 0000 01 0003612f62 00 00000000 00000000 00000000 01 00 0000000000000000 00 00";
 
 // The rows after the first events of the plan.
 fn rows_after(alloc: Global, count: usize) -> Result<Vec<u8>, Fail> {
@@ -34,9 +34,9 @@ fn refused_events_are_skipped(rt: HostRuntime) -> Result<(), Fail> {
     Ok(())
 }
 
-// What the plan is answered on a spool, and why it ends, in words.
-fn told(alloc: Global, spool: &mut Spool<Device>) -> Result<String, Fail> {
-    let driven = driven(alloc, spool, &PLAN)?;
+/// What events are answered on a spool, and why it ends, in words.
+pub fn told(alloc: Global, spool: &mut Spool<Device>, texts: &[&str]) -> Result<String, Fail> {
+    let driven = driven(alloc, spool, texts)?;
     told_of(alloc, &driven)
 }
 
@@ -49,13 +49,13 @@ fn told_of(alloc: Global, driven: &Driven) -> Result<String, Fail> {
 // Drives the plan on a new spool of 198 bytes, whose area has no room for the clock. What it is answered, and the disk.
 fn full(alloc: Global) -> Result<(String, MemDisk), Fail> {
     let mut spool = open(alloc, made(alloc, 198)?, u64::MAX)?;
-    let told = told(alloc, &mut spool);
+    let told = told(alloc, &mut spool, &PLAN);
     let disk = closed(spool);
     Ok((told?, disk))
 }
 
-// Whether an opening of the disk finds these rows, and the disk.
-fn finds(alloc: Global, disk: MemDisk, rows: &[u8]) -> Result<(bool, MemDisk), Fail> {
+/// Whether an opening of the disk finds these rows, and the disk.
+pub fn finds(alloc: Global, disk: MemDisk, rows: &[u8]) -> Result<(bool, MemDisk), Fail> {
     let spool = open(alloc, disk, u64::MAX)?;
     let same = lists(alloc, spool.table(), rows);
     let disk = closed(spool);
@@ -154,9 +154,11 @@ fn cut_at_each_call(rt: HostRuntime) -> Result<(), Fail> {
     Ok(())
 }
 
-// Events in turn, each beside its answer. Job 2 is more urgent than job 1, and has three stages.
+// Events in turn, each beside its answer. Job 2 is more urgent than job 1, and has three stages. Job 3 is to start by the
+// moment 2000.
 const ANSWERED: &str = "\
 05 000171 00000001 000175 0000 0001 32 0000 = Err(NoQueue)\n\
+11 000171 00000001 000175 0000 0001 32 0000 00000000000007d0 = Err(NoQueue)\n\
 01 000171 0003733a2f 0003612f62 00 0000001e 0005 = Ok(Done)\n\
 05 000171 00000001 000175 0000 0001 32 0000 = Ok(Number(JobId { number: 1 }))\n\
 05 000171 00000001 000175 0000 0001 32 0000 = Err(OldNumber)\n\
@@ -187,8 +189,16 @@ const ANSWERED: &str = "\
 0f = Ok(Done)\n\
 0c 00000001 = Err(JobEnded)\n\
 0c 00000003 = Err(NoJob)\n\
+11 000171 00000002 000175 0000 0001 32 0000 00000000000007d0 = Err(OldNumber)\n\
+11 000171 00000003 000175 0000 0001 32 0000 00000000000007d0 = Ok(Number(JobId { number: 3 }))\n\
+0b 00000000000007d1 = Ok(Done)\n\
+07 00000003 0003612f62 01 00 = Ok(Done)\n\
+08 00000003 01 = Ok(Done)\n\
+0b 0000000000000000 = Ok(Done)\n\
+09 00000003 = Err(JobEnded)\n\
 05 000171 7fffffff 000175 0000 0001 32 0000 = Ok(Number(JobId { number: 2147483647 }))\n\
 05 000171 7fffffff 000175 0000 0001 32 0000 = Err(NoNumberLeft)\n\
+11 000171 7fffffff 000175 0000 0001 32 0000 00000000000007d0 = Err(NoNumberLeft)\n\
 05 000171 00000003 000175 0000 0001 32 0000 = Err(NoNumberLeft)";
 
 // What an event is answered, in words.

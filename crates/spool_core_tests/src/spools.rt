@@ -2,7 +2,7 @@
 
 use crate::spelled::events;
 use spool_core::{Driven, Ending, Spool, drive, make};
-use spool_disk::{FuseDisk, MemDisk};
+use spool_disk::{Disk, FuseDisk, MemDisk};
 use std::alloc::Global;
 use std::test::Fail;
 
@@ -19,6 +19,15 @@ pub fn made(alloc: Global, len: usize) -> Result<MemDisk, Fail> {
         Ok(()) => Ok(disk),
         Err(fault) => Err(Fail::from(fault)),
     }
+}
+
+/// The same in the version 1: as it is made, but for that byte.
+pub fn made_old(alloc: Global, len: usize) -> Result<MemDisk, Fail> {
+    let mut disk = made(alloc, len)?;
+    if 1 < disk.len() {
+        disk.write(1, &[1])?;
+    }
+    Ok(disk)
 }
 
 /// Opens a disk, with a device that fails after so many calls.

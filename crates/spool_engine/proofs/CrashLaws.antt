@@ -14,8 +14,8 @@ use Rattle.spool_core.specs.declared.spool.checkpoint_fault.CheckpointFault.{Che
 use Rattle.spool_core.specs.declared.spool.checkpoint_fault.CheckpointFault.TheVariants as listing
 use Rattle.print_rounds.specs.Courses.{Course}
 use Rattle.spool_engine.specs.Script.{Documents, Meaning, says, asks, lists, runs, meaning}
-use Rattle.print_rounds.specs.Rounds.{HasSomeOf, LeavesDocuments}
-use Rattle.spool_engine.specs.EventTurns.{Setting, Outcome, EventTurn, served, no_memory, full, disk, dead, unread, unreadable, unlisted, IsTaken, IsServedBy, IsOutcome, IsKept}
+use Rattle.print_rounds.specs.Rounds.{LeavesDocuments}
+use Rattle.spool_engine.specs.EventTurns.{Setting, Outcome, EventTurn, served, no_memory, full, disk, dead, unread, unreadable, unlisted, IsTaken, IsServedBy, IsOutcome, IsKept, HasTableIn}
 use Rattle.spool_engine.specs.Rounds.{Ran, AreRunBy}
 use Rattle.spool_engine.specs.Runs.{Turn, How, answered, ran, event_turn, tried_in, documents_left, HasSomeIn, IsHow, IsTurn, IsAlong, IsWholeAlong, AreTurns, last_course, last_documents}
 use Rattle.spool_engine.proofs.EventLaws.{OnlyNow, unmoved, unmoved_whole}
@@ -69,7 +69,7 @@ dead_last v s (t ∷ ts) is h =
 
 -- what a crash leaves of a turn is one of the tables along
 one_turn : {D : Type 0} (v : Setting D) (m : Course D) (t : Turn D) (ts : List (Turn D)) → IsTurn v m t → m.spool.dead ≡ false → IsSome (v.device.bytes m.spool.disk) → LeavesOnly v.device m.spool.disk t.next.spool.disk (IsAlong v.mime m (t ∷ ts))
-one_turn v m t ts one alive tells = weaker_run v.device m.spool.disk t.next.spool.disk (IsAlong v.mime m (t ∷ ts)) (HasSomeOf m.spool.state (tried_in v.mime m t)) (one.crash alive tells) (λ c some. inl some)
+one_turn v m t ts one alive tells = weaker_run v.device m.spool.disk t.next.spool.disk (IsAlong v.mime m (t ∷ ts)) (HasTableIn t.command m.spool.state (tried_in v.mime m t)) (one.crash alive tells) (λ c some. inl some)
 
 -- a turn, and then more turns, of which a crash leaves what is known where the spool lives on
 after_turn : {D : Type 0} (v : Setting D) (m : Course D) (t : Turn D) (ts : List (Turn D)) (b : Bool) → t.next.spool.dead ≡ b → IsTurn v m t → AreTurns v t.next ts → m.spool.dead ≡ false → IsSome (v.device.bytes m.spool.disk)

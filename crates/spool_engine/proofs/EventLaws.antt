@@ -1,13 +1,13 @@
 -- A turn of a command that is no round.
-use Rattle.std.proofs.Common.{◌≡◌, ℕ, List, [], ◌∷◌, refl, ap, sym, ◌∙◌, subst, inl, ⊎_elim, arith, true, false, cond, Option, None, Some, Result, Ok, Err}
+use Rattle.std.proofs.Common.{◌≡◌, ℕ, List, [], ◌∷◌, refl, ap, sym, ◌∙◌, subst, inl, inr, ⊎_elim, arith, true, false, cond, Option, None, Some, Result, Ok, Err}
 use Rattle.std.specs.Prelude.{◌≤◌, ◌↔◌, IfOk, OnOk, IsSome, codes}
 use Rattle.spool_types.specs.declared.event.Event.{Event}
-use Rattle.spool_types.specs.declared.event.Event.TheVariants.{AddQueue, Create as NewJob}
+use Rattle.spool_types.specs.declared.event.Event.TheVariants.{AddQueue}
 use Rattle.spool_types.specs.declared.event.NewQueue.{NewQueue}
 use Rattle.spool_types.specs.declared.event.Reply.{Reply}
 use Rattle.spool_types.specs.declared.refusal.Refusal.{Refusal}
 use Rattle.spool_types.specs.State.{State}
-use Rattle.job_table.specs.Step.{answered, refusal_of}
+use Rattle.job_table.specs.Step.{answered, creation, refusal_of}
 use Rattle.job_table.specs.Fold.{unless_refused}
 use Rattle.device_uri.specs.Devices.{is_device_uri}
 use Rattle.spool_disk.specs.Disk.{DiskView, IsLawful, LeavesOnly}
@@ -17,7 +17,7 @@ use Rattle.command_lines.specs.declared.command.Command.{Command}
 use Rattle.command_lines.specs.declared.command.Creation.{Creation}
 use Rattle.command_lines.specs.declared.command.Command.TheVariants.{Queue, Create}
 use Rattle.spool_core.specs.Driving.{documents_after}
-use Rattle.spool_core.specs.Image.{HasTable, HasDocuments, HasWhole, HasBeforeOrAfterEvent, HasWholeBeforeOrAfterEvent, unless_refused_sent, documents_after_one}
+use Rattle.spool_core.specs.Image.{HasTable, HasInEitherVersion, HasDocuments, HasWhole, HasBeforeOrAfterEvent, HasWholeBeforeOrAfterEvent, unless_refused_sent, documents_after_one}
 use Rattle.spool_core.specs.Standing.{Standing, IsAnswer}
 use Rattle.spool_core.specs.Checkpointing.{IsCheckpoint}
 use Rattle.spool_core.specs.declared.spool.checkpoint_fault.CheckpointFault.{CheckpointFault}
@@ -28,8 +28,8 @@ use Rattle.print_rounds.proofs.PrefixLaws.{none_of, one_of}
 use Rattle.spool_engine.specs.Mime.{Mime}
 use Rattle.spool_engine.specs.Script.{says, asks, lists, meaning, creating, job_options, job_of_creation, event_in, event_of, step_line, step_state, reply_line}
 use Rattle.print_rounds.specs.Rounds.{HasSomeOf, LeavesDocuments}
-use Rattle.spool_engine.specs.EventTurns.{Setting, Outcome, EventTurn, served, no_memory, full, disk, dead, unread, unlisted, IsServedBy, IsTaken, IsOutcome, IsReadFor, MayBeRead, IsKept, HasSomeSent, tried_as, checkpoint_fault_line}
-use Rattle.spool_engine.specs.Answers.{answer_line, checkpoint_line, IsApplied, IsRelisted, Takes}
+use Rattle.spool_engine.specs.EventTurns.{Setting, Outcome, EventTurn, served, no_memory, full, disk, dead, unread, unlisted, IsServedBy, IsTaken, IsOutcome, IsReadFor, MayBeRead, IsKept, HasSomeSent, HasTableIn, HasWholeIn, is_checkpoint, tried_as, checkpoint_fault_line}
+use Rattle.spool_engine.specs.Answers.{answer_line, checkpoint_line, HasWholeInEitherVersion, IsApplied, IsRelisted, Takes}
 
 -- since this moment there is no other
 abbrev pub OnlyNow : {D : Type 0} → DiskView D → Type 0
@@ -75,6 +75,13 @@ unmoved_whole v s documents P now kept weaker alive tells has = started v s.disk
 abbrev pub LeavesSent : {D : Type 0} → DiskView D → Standing D → Standing D → List Event → Type 0
 LeavesSent v s s' es = s.dead ≡ false → IsSome (v.bytes s.disk) → (documents : ℕ → List ℕ) → LeavesDocuments v documents s → LeavesOnly v s.disk s'.disk (HasSomeSent s.state documents es)
 
+-- what a crash leaves of the events of a command it leaves in that command
+pub crash_in : {D : Type 0} (v : DiskView D) (d d' : D) (c : Command) (s : State) (es : List Event) → LeavesOnly v d d' (HasSomeOf s es) → LeavesOnly v d d' (HasTableIn c s es)
+crash_in v d d' c s es run = weaker_run v d d' (HasTableIn c s es) (HasSomeOf s es) run (λ image some. inl some)
+
+pub sent_in : {D : Type 0} (v : DiskView D) (d d' : D) (c : Command) (s : State) (documents : ℕ → List ℕ) (es : List Event) → LeavesOnly v d d' (HasSomeSent s documents es) → LeavesOnly v d d' (HasWholeIn c s documents es)
+sent_in v d d' c s documents es run = weaker_run v d d' (HasWholeIn c s documents es) (HasSomeSent s documents es) run (λ image some. inl some)
+
 -- ## A command that is no event
 
 pub still_whole : {D : Type 0} (v : DiskView D) (s : Standing D) (es : List Event) → OnlyNow v → IsKept v s → LeavesSent v s s es
@@ -94,8 +101,12 @@ said_turn v s c text now kept none is = (
       read = none served;
       counted = omega arith;
       told = (λ h. h, λ h. h);
-      crash = unmoved v.device s (HasSomeOf s.state (tried_as (event_of v.mime s.state [] c) served)) now kept (none_of s.state (tried_as (event_of v.mime s.state [] c) served));
-      whole = still_whole v.device s (tried_as (event_of v.mime s.state [] c) served) now kept;
+      crash = λ alive tells.
+          let es = tried_as (event_of v.mime s.state [] c) served in
+          crash_in v.device s.disk s.disk c s.state es (unmoved v.device s (HasSomeOf s.state es) now kept (none_of s.state es) alive tells);
+      whole = λ alive tells documents has.
+          let es = tried_as (event_of v.mime s.state [] c) served in
+          sent_in v.device s.disk s.disk c s.state documents es (still_whole v.device s es now kept alive tells documents has);
       kept = kept;
       lasting = λ lives tells documents has. subst (λ w. LeavesDocuments v.device (documents_after s.state documents (tried_as (event_in w) served)) s) (sym is) has;
     };
@@ -133,8 +144,12 @@ applied_turn v s s' c document e line a o text is h out read crash whole lasting
       read = read;
       counted = h.counted;
       told = h.told;
-      crash = λ alive tells. subst (λ w. LeavesOnly v.device s.disk s'.disk (HasSomeOf s.state (tried_as (event_in w) o))) (sym is) (crash alive tells);
-      whole = subst (λ w. LeavesSent v.device s s' (tried_as (event_in w) o)) (sym is) whole;
+      crash = λ alive tells.
+          subst (λ w. LeavesOnly v.device s.disk s'.disk (HasTableIn c s.state (tried_as (event_in w) o))) (sym is)
+          (crash_in v.device s.disk s'.disk c s.state (tried_as (Some e) o) (crash alive tells));
+      whole = λ alive tells documents has.
+          subst (λ w. LeavesOnly v.device s.disk s'.disk (HasWholeIn c s.state documents (tried_as (event_in w) o))) (sym is)
+          (sent_in v.device s.disk s'.disk c s.state documents (tried_as (Some e) o) (whole alive tells documents has));
       kept = h.kept;
       lasting = λ lives tells documents has. subst (λ w. LeavesDocuments v.device (documents_after s.state documents (tried_as (event_in w) o)) s') (sym is) (lasting lives tells documents has);
     };
@@ -213,8 +228,12 @@ unread_told bytes r v s c now kept none may h = (
       read = none unread;
       counted = omega arith;
       told = (λ h. h, λ h. h);
-      crash = unmoved v.device s (HasSomeOf s.state (tried_as (event_of v.mime s.state [] c) unread)) now kept (none_of s.state (tried_as (event_of v.mime s.state [] c) unread));
-      whole = still_whole v.device s (tried_as (event_of v.mime s.state [] c) unread) now kept;
+      crash = λ alive tells.
+          let es = tried_as (event_of v.mime s.state [] c) unread in
+          crash_in v.device s.disk s.disk c s.state es (unmoved v.device s (HasSomeOf s.state es) now kept (none_of s.state es) alive tells);
+      whole = λ alive tells documents has.
+          let es = tried_as (event_of v.mime s.state [] c) unread in
+          sent_in v.device s.disk s.disk c s.state documents es (still_whole v.device s es now kept alive tells documents has);
       kept = kept;
       lasting = λ lives tells documents has. has;
     };
@@ -232,7 +251,7 @@ pub no_queue_event : (m : Mime) (s : State) (q : NewQueue) → is_device_uri q.u
 no_queue_event m s q is = ap (λ b. cond b (asks (AddQueue q) reply_line) (says (codes "error uri\n"))) is
 
 -- a job whose options can be kept is an event, and another none
-pub create_event : (m : Mime) (s : State) (n : Creation) (options : List ℕ) → job_options n.options ≡ Some options → meaning m s [] (Create n) ≡ asks (NewJob (job_of_creation s n options)) reply_line
+pub create_event : (m : Mime) (s : State) (n : Creation) (options : List ℕ) → job_options n.options ≡ Some options → meaning m s [] (Create n) ≡ asks (creation (job_of_creation s n options) n.by) reply_line
 create_event m s n options is = ap (creating s n) is
 
 pub no_create_event : (m : Mime) (s : State) (n : Creation) → job_options n.options ≡ None → meaning m s [] (Create n) ≡ says (codes "error options\n")
@@ -301,11 +320,11 @@ spool_applied v s s' e a lawful h counted told crash whole ok sent kept = record
 
 -- ## A checkpoint
 
-listed_turn : {D : Type 0} (v : Setting D) (s s' : Standing D) (c : Command) (a : Result (Unit {0}) CheckpointFault) (o : Outcome) (text : List ℕ) → ReadsNothing v s c → meaning v.mime s.state [] c ≡ lists → IsRelisted v.device s a s'
+listed_turn : {D : Type 0} (v : Setting D) (s s' : Standing D) (c : Command) (a : Result (Unit {0}) CheckpointFault) (o : Outcome) (text : List ℕ) → ReadsNothing v s c → is_checkpoint c ≡ true → meaning v.mime s.state [] c ≡ lists → IsRelisted v.device s a s'
     → IsOutcome v s (record { command = c; document = []; outcome = o; text = text; next = s' }) o → tried_as None o ≡ []
     → (s'.dead ≡ false → IsSome (v.device.bytes s.disk) → (documents : ℕ → List ℕ) → LeavesDocuments v.device documents s → LeavesDocuments v.device documents s')
     → (t : EventTurn D) × Takes v s c t s' × (t.text ≡ text)
-listed_turn v s s' c a o text quiet is h out none lasting = (
+listed_turn v s s' c a o text quiet lists_it is h out none lasting = (
   record { command = c; document = []; outcome = o; text = text; next = s' },
   record {
     legal = record {
@@ -314,13 +333,15 @@ listed_turn v s s' c a o text quiet is h out none lasting = (
       counted = h.counted;
       told = h.told;
       crash = λ alive tells.
-          subst (λ w. LeavesOnly v.device s.disk s'.disk (HasSomeOf s.state (tried_as (event_in w) o))) (sym is)
-          (subst (λ es. LeavesOnly v.device s.disk s'.disk (HasSomeOf s.state es)) (sym none)
-          (weaker_run v.device s.disk s'.disk (HasSomeOf s.state []) (HasTable s.state) (h.crash alive tells) (none_of s.state [])));
+          subst (λ w. LeavesOnly v.device s.disk s'.disk (HasTableIn c s.state (tried_as (event_in w) o))) (sym is)
+          (subst (λ es. LeavesOnly v.device s.disk s'.disk (HasTableIn c s.state es)) (sym none)
+          (weaker_run v.device s.disk s'.disk (HasTableIn c s.state []) (HasInEitherVersion s.state) (h.crash alive tells)
+          (λ image either. ⊎_elim (λ same. inl (none_of s.state [] image same)) (λ risen. inr (lists_it, risen)) either)));
       whole = λ alive tells documents has.
-          subst (λ w. LeavesOnly v.device s.disk s'.disk (HasSomeSent s.state documents (tried_as (event_in w) o))) (sym is)
-          (subst (λ es. LeavesOnly v.device s.disk s'.disk (HasSomeSent s.state documents es)) (sym none)
-          (weaker_run v.device s.disk s'.disk (HasSomeSent s.state documents []) (HasWhole s.state documents) (h.whole alive tells documents has) (none_whole s.state documents [])));
+          subst (λ w. LeavesOnly v.device s.disk s'.disk (HasWholeIn c s.state documents (tried_as (event_in w) o))) (sym is)
+          (subst (λ es. LeavesOnly v.device s.disk s'.disk (HasWholeIn c s.state documents es)) (sym none)
+          (weaker_run v.device s.disk s'.disk (HasWholeIn c s.state documents []) (HasWholeInEitherVersion s.state documents) (h.whole alive tells documents has)
+          (λ image either. ⊎_elim (λ same. inl (none_whole s.state documents [] image same)) (λ risen. inr (lists_it, risen)) either)));
       kept = h.kept;
       lasting = λ lives tells documents has.
           subst (λ w. LeavesDocuments v.device (documents_after s.state documents (tried_as (event_in w) o)) s') (sym is)
@@ -340,17 +361,17 @@ unlisted_documents v s s' listing.Memory documents h lives has = same_documents 
 unlisted_documents v s s' listing.Full documents h lives has = same_documents v s s' documents h.2 has
 unlisted_documents v s s' listing.Disk documents h lives has = absurd (let died = h.dead in cc)
 
-relisted_turn : {D : Type 0} (v : Setting D) (s s' : Standing D) (c : Command) (a : Result (Unit {0}) CheckpointFault) → ReadsNothing v s c → meaning v.mime s.state [] c ≡ lists → IsRelisted v.device s a s' → (t : EventTurn D) × Takes v s c t s' × (t.text ≡ checkpoint_line a)
-relisted_turn v s s' c (Ok done) quiet is h = listed_turn v s s' c (Ok done) served (codes "ok\n") quiet is h (subst (λ w. IsServedBy v.device s w (codes "ok\n") s') (sym is) (refl, h.cause)) refl (λ lives. h.lasting)
-relisted_turn v s s' c (Err fault) quiet is h = listed_turn v s s' c (Err fault) (unlisted fault) (checkpoint_fault_line fault) quiet is h (record { is = is; cause = h.cause; text = refl }) refl
+relisted_turn : {D : Type 0} (v : Setting D) (s s' : Standing D) (c : Command) (a : Result (Unit {0}) CheckpointFault) → ReadsNothing v s c → is_checkpoint c ≡ true → meaning v.mime s.state [] c ≡ lists → IsRelisted v.device s a s' → (t : EventTurn D) × Takes v s c t s' × (t.text ≡ checkpoint_line a)
+relisted_turn v s s' c (Ok done) quiet lists_it is h = listed_turn v s s' c (Ok done) served (codes "ok\n") quiet lists_it is h (subst (λ w. IsServedBy v.device s w (codes "ok\n") s') (sym is) (refl, h.cause)) refl (λ lives. h.lasting)
+relisted_turn v s s' c (Err fault) quiet lists_it is h = listed_turn v s s' c (Err fault) (unlisted fault) (checkpoint_fault_line fault) quiet lists_it is h (record { is = is; cause = h.cause; text = refl }) refl
     (λ lives tells documents has. unlisted_documents v.device s s' fault documents h.cause lives has)
 
 -- a checkpoint, and the text that tells how it went
-pub listing_told : {X E D : Type 0} (bytes : X → List ℕ) (r : Result X E) (v : Setting D) (s s' : Standing D) (c : Command) → ReadsNothing v s c → meaning v.mime s.state [] c ≡ lists
+pub listing_told : {X E D : Type 0} (bytes : X → List ℕ) (r : Result X E) (v : Setting D) (s s' : Standing D) (c : Command) → ReadsNothing v s c → is_checkpoint c ≡ true → meaning v.mime s.state [] c ≡ lists
     → (a : Result (Unit {0}) CheckpointFault) × IsRelisted v.device s a s' × IfOk r (λ text. bytes text ≡ checkpoint_line a)
     → (t : EventTurn D) × Takes v s c t s' × IfOk r (λ text. bytes text ≡ t.text)
-listing_told bytes r v s s' c quiet is (a, went, text) =
-    let (t, takes, told) = relisted_turn v s s' c a quiet is went in
+listing_told bytes r v s s' c quiet lists_it is (a, went, text) =
+    let (t, takes, told) = relisted_turn v s s' c a quiet lists_it is went in
     (t, takes, same_bytes bytes r (checkpoint_line a) t.text told text)
 
 -- after every answer to a checkpoint a crash leaves the table that is shown
@@ -375,7 +396,7 @@ listing_lasts v s s' (Err fault) lawful h left = tt
 
 -- what the spool says of a checkpoint
 pub spool_relisted : {D : Type 0} (v : DiskView D) (s s' : Standing D) (a : Result (Unit {0}) CheckpointFault) → IsLawful v → IsCheckpoint v s a s' → v.failures s.disk ≤ v.failures s'.disk → (IsSome (v.bytes s'.disk) ↔ IsSome (v.bytes s.disk))
-    → (s.dead ≡ false → IsSome (v.bytes s.disk) → LeavesOnly v s.disk s'.disk (HasTable s.state))
+    → (s.dead ≡ false → IsSome (v.bytes s.disk) → LeavesOnly v s.disk s'.disk (HasInEitherVersion s.state))
     → (s.dead ≡ false → (bytes : List ℕ) (documents : ℕ → List ℕ) → v.bytes s.disk ≡ Some bytes → HasDocuments s.state documents bytes → LeavesOnly v s.disk s'.disk (HasDocuments s.state documents))
     → OnOk a (IsSome (v.bytes s.disk) → (c : List ℕ) → v.image s'.disk c → HasTable s'.state c) → IsKept v s → IsRelisted v s a s'
 spool_relisted v s s' a lawful h counted told crash left ok kept = record {
@@ -385,7 +406,9 @@ spool_relisted v s s' a lawful h counted told crash left ok kept = record {
   crash = crash;
   whole = λ alive tells documents has.
       let (bytes, is) = has_bytes (v.bytes s.disk) tells in
-      both_runs v s.disk s'.disk (HasTable s.state) (HasDocuments s.state documents) (crash alive tells) (left alive bytes documents is (told_documents v s documents bytes lawful has is));
+      weaker_run v s.disk s'.disk (HasWholeInEitherVersion s.state documents) (λ image. HasInEitherVersion s.state image × HasDocuments s.state documents image)
+      (both_runs v s.disk s'.disk (HasInEitherVersion s.state) (HasDocuments s.state documents) (crash alive tells) (left alive bytes documents is (told_documents v s documents bytes lawful has is)))
+      (λ image both. ⊎_elim (λ same. inl (same, both.1)) (λ risen. inr (risen, both.1)) both.0);
   kept = listing_kept v s s' a h told ok kept;
   lasting = listing_lasts v s s' a lawful h left;
 }

@@ -8,8 +8,10 @@ use Rattle.spool_types.specs.declared.event.Event.TheVariants as events
 use Rattle.spool_types.specs.declared.event.Reply.{Reply}
 use Rattle.spool_types.specs.declared.refusal.Refusal.{Refusal}
 use Rattle.spool_types.specs.State.{State}
-use Rattle.job_table.specs.Step.{step, refusal_of}
+use Rattle.spool_types.specs.declared.version.Version.TheVariants.{Two}
+use Rattle.job_table.specs.Step.{creation, step, refusal_of}
 use Rattle.job_table.specs.Fold.{after_all}
+use Rattle.job_table.specs.Versions.{raised}
 use Rattle.command_lines.specs.Text.{commands_of}
 use Rattle.command_lines.specs.declared.command.Command.{Command}
 use Rattle.command_lines.specs.declared.command.Command.TheVariants as commands
@@ -28,9 +30,9 @@ use Rattle.print_rounds.specs.declared.outcome.Round.{Round}
 use Rattle.print_rounds.specs.declared.outcome.RoundFault.{RoundFault}
 use Rattle.spool_engine.specs.Mime.{Mime}
 use Rattle.spool_engine.specs.Script.{Meaning, says, asks, lists, runs, meaning, meaning_with, document_for, creating, job_options, reply_line, Documents, Asked, Scene, scene_after, counts_of, is_idle, unless, rounds_of, last_scene, step_line, step_state, reply_by, after_by, events_by, reply_of, after_command, events_of_command, script_text, script_events, script_scene}
-use Rattle.spool_engine.specs.EventTurns.{Setting, Outcome, served, IsTaken, IsServedBy, IsOutcome}
+use Rattle.spool_engine.specs.EventTurns.{Setting, Outcome, served, IsTaken, IsServedBy, IsOutcome, is_checkpoint}
 use Rattle.spool_engine.specs.Rounds.{Ran, IsRoundWith, IsRan, AreRan, AreAll, IsRest, is_last, results_of, counts_in, with_counts, line_told, AreRunBy}
-use Rattle.spool_engine.specs.Runs.{Turn, How, answered, ran, event_turn, read_in, read_by, asked_of, IsHow, IsHeld, IsWell, AllServed, AreTurns, last_course, texts_of, commands_in, Lead, IsScript, IsScene, IsExact, HasNoRounds, is_round, scene_with}
+use Rattle.spool_engine.specs.Runs.{Turn, How, answered, ran, event_turn, read_in, read_by, asked_of, IsHow, IsHeld, IsWell, AllServed, AreTurns, last_course, texts_of, commands_in, Lead, IsScript, IsScene, IsExact, HasNoRounds, KeepVersion, is_round, scene_with}
 use Rattle.spool_engine.proofs.EventLaws.{step_folds}
 use Rattle.print_rounds.proofs.PrefixLaws.{after_both}
 
@@ -47,22 +49,38 @@ taken_state : {D : Type 0} (s : Standing D) (e : Event) (r : Result (State × Re
 taken_state s e (Ok r) s' is h = ap (step_state s.state) (sym h.step ∙ is)
 taken_state s e (Err refusal) s' is h = ap (λ x. x.state) h.1
 
+-- in the newest version a checkpoint raises none
+pub raised_same : (s : State) → s.version ≡ Two → raised s ≡ s
+raised_same s is = sym (ap (λ w. record s { version = w }) is)
+
+abbrev pub is_listing : Meaning → Bool
+is_listing (says text) = false
+is_listing (asks e line) = false
+is_listing lists = true
+is_listing (runs most line) = false
+
 -- what a scene is to a command for which these documents were read, where the table found is its own
 pub record IsSaid (place : Place) (documents : ℕ → Documents) (x : Scene) (w : Meaning) (reply : List ℕ) (new : State) : Type 0 where
   pub text : reply ≡ reply_by place documents x w
   pub state : new ≡ (after_by place documents x w).state
-  pub table : new ≡ after_all x.state (events_by place documents x w)
+  pub table : (x.state.version ≡ Two) ⊎ (is_listing w ≡ false) → new ≡ after_all x.state (events_by place documents x w)
 
 served_exact : {D : Type 0} (v : DiskView D) (place : Place) (documents : ℕ → Documents) (s s' : Standing D) (x : Scene) (w : Meaning) (text : List ℕ) → s.state ≡ x.state → IsServedBy v s w text s' → IsSaid place documents x w text s'.state
-served_exact v place documents s s' x (says text) reply e h = record { text = h.0; state = ap (λ y. y.state) h.1 ∙ e; table = ap (λ y. y.state) h.1 ∙ e }
+served_exact v place documents s s' x (says text) reply e h = record { text = h.0; state = ap (λ y. y.state) h.1 ∙ e; table = λ keeps. ap (λ y. y.state) h.1 ∙ e }
 served_exact v place documents s s' x (asks event line) reply e h =
     let state : s'.state ≡ step_state x.state (step x.state event) = taken_state s event (step s.state event) s' refl h.1 ∙ ap (λ y. step_state y (step y event)) e in
     record {
       text = h.0 ∙ ap (λ y. step_line line (step y event)) e;
       state = state;
-      table = state ∙ step_folds x.state event (refusal_of x.state event);
+      table = λ keeps. state ∙ step_folds x.state event (refusal_of x.state event);
     }
-served_exact v place documents s s' x lists reply e h = record { text = h.0; state = h.1.state ∙ e; table = h.1.state ∙ e }
+served_exact v place documents s s' x lists reply e h =
+    let state : s'.state ≡ raised x.state = h.1.state ∙ ap raised e in
+    record {
+      text = h.0;
+      state = state;
+      table = λ keeps. ⊎_elim (λ newest. state ∙ raised_same x.state newest) (λ plain. absurd cc) keeps;
+    }
 served_exact v place documents s s' x (runs most line) reply e h = absurd h
 
 -- ## A round
@@ -197,7 +215,7 @@ ran_exact v documents lists s new x rs text e tell goes h ok = absurd h
 ran_exact v documents (runs most line) s new x rs text e tell goes h ok =
     let all = rounds_played v documents most x s new rs e tell h.each goes h.all ok in
     let played = flat_map (λ (p : Play). p.events) (rounds_of v.place documents most x) in
-    (record { text = h.text ∙ ap (line_told line) all.counts; state = all.state; table = all.table ∙ ap (λ y. after_all y played) e }, all.telling)
+    (record { text = h.text ∙ ap (line_told line) all.counts; state = all.state; table = λ keeps. all.table ∙ ap (λ y. after_all y played) e }, all.telling)
 
 held_telling : {D : Type 0} (v : DiskView D) (place : Place) (documents : ℕ → Documents) (w : Meaning) (s new : Course D) (x : Scene) (reply : List ℕ) → IsHeld s new → IsServedBy v s.spool w reply new.spool → IsTelling s x → IsTelling new (after_by place documents x w)
 held_telling v place documents (says text) s new x reply held h tell = record { slots = held.slots ∙ tell.slots; told = held.told ∙ tell.told; rest = tell.rest }
@@ -226,6 +244,28 @@ runs_none v s rs new text state document commands.Round is h = cc
 runs_none v s rs new text state document (commands.Drain most) is h = cc
 runs_none v s rs new text state document commands.Checkpoint is h = h
 runs_none v s rs new text state document commands.Malformed is h = h
+
+-- only `checkpoint` lists the table
+lists_none_if : (e : Event) (line : Reply → List ℕ) (said : List ℕ) (b : Bool) → is_listing (cond b (asks e line) (says said)) ≡ false
+lists_none_if e line said true = refl
+lists_none_if e line said false = refl
+
+lists_none_of : (state : State) (c : Creation) (o : Option (List ℕ)) → is_listing (creating state c o) ≡ false
+lists_none_of state c None = refl
+lists_none_of state c (Some options) = refl
+
+pub lists_none : (m : Mime) (state : State) (document : List ℕ) (c : Command) → is_checkpoint c ≡ false → is_listing (meaning m state document c) ≡ false
+lists_none m state document (commands.Apply e) is = refl
+lists_none m state document (commands.Queue q) is = lists_none_if (events.AddQueue q) reply_line (codes "error uri\n") (is_device_uri q.uri)
+lists_none m state document (commands.Create c) is = lists_none_of state c (job_options c.options)
+lists_none m state document (commands.Close job name) is = refl
+lists_none m state document commands.OversizedSend is = refl
+lists_none m state document commands.Jobs is = refl
+lists_none m state document commands.Queues is = refl
+lists_none m state document commands.Round is = refl
+lists_none m state document (commands.Drain most) is = refl
+lists_none m state document commands.Checkpoint is = is
+lists_none m state document commands.Malformed is = refl
 
 -- A command closes a job, or it is the same whatever document is read.
 pub closes_or_same : (c : Command) → ((job : ℕ) × (name : List ℕ) × (c ≡ commands.Close job name)) ⊎ ((m : Mime) (s : State) (document other : List ℕ) → meaning m s document c ≡ meaning m s other c)
@@ -288,26 +328,41 @@ turn_exact v s x t documents (ran rs) well e may goes how = ⊎_elim
     (λ plain. absurd (runs_none v s rs t.next t.text s.spool.state t.document t.command plain how))
     may
 
+-- no event raises the version
+abbrev pub VersionLaw : Type 0
+VersionLaw = (s : State) (events : List Event) → (after_all s events).version ≡ s.version
+
+abbrev pub commands_asked : List Asked → List Command
+commands_asked asked = map (λ a. a.command) asked
+
 -- what turns are to a scene
 pub record AreSaid {D : Type 0} (v : Setting D) (s : Course D) (x : Scene) (ts : List (Turn D)) (asked : List Asked) : Type 0 where
   pub text : texts_of ts ≡ script_text v.mime v.place x asked
   pub state : (last_course s ts).spool.state ≡ (script_scene v.mime v.place x asked).state
-  pub table : (last_course s ts).spool.state ≡ after_all x.state (script_events v.mime v.place x asked)
+  pub table : VersionLaw → KeepVersion x.state (commands_asked asked) → (last_course s ts).spool.state ≡ after_all x.state (script_events v.mime v.place x asked)
   pub telling : IsTelling s x → IsTelling (last_course s ts) (script_scene v.mime v.place x asked)
 
 pub none_said : {D : Type 0} (v : Setting D) (s : Course D) (x : Scene) → s.spool.state ≡ x.state → AreSaid v s x [] []
-none_said v s x e = record { text = refl; state = e; table = e; telling = λ tell. tell }
+none_said v s x e = record { text = refl; state = e; table = λ law keeps. e; telling = λ tell. tell }
 
 -- a turn, and those behind it
 pub then_said : {D : Type 0} (v : Setting D) (s : Course D) (x : Scene) (t : Turn D) (ts : List (Turn D)) (documents : ℕ → Documents) (asked : List Asked) → IsTurnSaid v s x t documents → AreSaid v t.next (after_command v.mime v.place x (asked_as t.command documents)) ts asked → AreSaid v s x (t ∷ ts) (asked_as t.command documents ∷ asked)
 then_said v s x t ts documents asked one more =
     let a = asked_as t.command documents in
+    let next = after_command v.mime v.place x a in
     let events = events_of_command v.mime v.place x a in
-    let later = script_events v.mime v.place (after_command v.mime v.place x a) asked in
+    let later = script_events v.mime v.place next asked in
     record {
       text = ap (λ l. l ++ texts_of ts) one.said.text ∙ ap (λ l. reply_of v.mime v.place x a ++ l) more.text;
       state = more.state;
-      table = more.table ∙ ap (λ z. after_all z later) (sym one.said.state ∙ one.said.table) ∙ sym (after_both x.state events later);
+      table = λ law keeps.
+          let here : (x.state.version ≡ Two) ⊎ (is_listing (meaning_with v.mime x.state (documents 0) t.command) ≡ false) = ⊎_elim
+          (λ newest. inl newest)
+          (λ none. inr (lists_none v.mime x.state (document_for (documents 0) t.command) t.command none.0))
+          keeps in
+          let same : next.state ≡ after_all x.state events = sym one.said.state ∙ one.said.table here in
+          let then : KeepVersion next.state (commands_asked asked) = ⊎_elim (λ newest. inl (ap (λ (z : State). z.version) same ∙ law x.state events ∙ newest)) (λ none. inr none.1) keeps in
+          more.table law then ∙ ap (λ z. after_all z later) same ∙ sym (after_both x.state events later);
       telling = λ tell. more.telling (one.telling tell);
     }
 
@@ -334,28 +389,29 @@ turns_exact v s x (t ∷ ts) h k e may =
 
 -- ## A run
 
-pub script_of : {D : Type 0} (v : Setting D) (s s' : Course D) (x : Scene) (ts : List (Turn D)) (asked : List Asked) (a d : Option (List ℕ)) → last_course s ts ≡ s' → Appends a d (texts_of ts) → AreSaid v s x ts asked → IsScript v x asked s' a d
-script_of v s s' x ts asked a d last wrote said = record {
+pub script_of : {D : Type 0} (law : VersionLaw) (v : Setting D) (s s' : Course D) (x : Scene) (ts : List (Turn D)) (asked : List Asked) (a d : Option (List ℕ)) → last_course s ts ≡ s' → Appends a d (texts_of ts) → AreSaid v s x ts asked → IsScript v x asked s' a d
+script_of law v s s' x ts asked a d last wrote said = record {
   wrote = subst (Appends a d) said.text wrote;
-  table = ap (λ y. y.spool.state) (sym last) ∙ said.table;
+  table = ap (λ y. y.spool.state) (sym last) ∙ said.state;
+  fold = λ keeps. ap (λ y. y.spool.state) (sym last) ∙ said.table law keeps;
 }
 
 scene_told : {D : Type 0} (s : Course D) (x : Scene) → s.spool.state ≡ x.state → IsTelling s x → IsScene s x
 scene_told s x e tell = record { state = e; slots = tell.slots; told = tell.told }
 
 -- by what its turns are to the scenes that it may begin with
-pub exact_of : {D : Type 0} (v : Setting D) (s s' : Course D) (text : List ℕ) (ts : List (Turn D)) (asked : Scene → List Asked) (a d : Option (List ℕ)) → last_course s ts ≡ s' → commands_in ts ≡ commands_of text → Appends a d (texts_of ts)
+pub exact_of : {D : Type 0} (law : VersionLaw) (v : Setting D) (s s' : Course D) (text : List ℕ) (ts : List (Turn D)) (asked : Scene → List Asked) (a d : Option (List ℕ)) → last_course s ts ≡ s' → commands_in ts ≡ commands_of text → Appends a d (texts_of ts)
     → ((x : Scene) → s.spool.state ≡ x.state → IsTelling s x ⊎ HasNoRounds (commands_in ts) → AreSaid v s x ts (asked x)) → IsExact v s text asked s' a d
-exact_of v s s' text ts asked a d last all wrote said = record {
-  plain = λ none t. script_of v s s' (scene_with s t) ts (asked (scene_with s t)) a d last wrote (said (scene_with s t) refl (inr (subst HasNoRounds (sym all) none)));
+exact_of law v s s' text ts asked a d last all wrote said = record {
+  plain = λ none t. script_of law v s s' (scene_with s t) ts (asked (scene_with s t)) a d last wrote (said (scene_with s t) refl (inr (subst HasNoRounds (sym all) none)));
   telling = λ t told rest.
       let x = scene_with s t in
       let tell : IsTelling s x = record { slots = refl; told = told; rest = rest } in
       let are = said x refl (inl tell) in (
-        script_of v s s' x ts (asked x) a d last wrote are,
+        script_of law v s s' x ts (asked x) a d last wrote are,
         subst (λ y. IsScene y (script_scene v.mime v.place x (asked x))) last (scene_told (last_course s ts) (script_scene v.mime v.place x (asked x)) are.state (are.telling tell)),
       );
 }
 
-pub run_exact : {D : Type 0} (v : Setting D) (s s' : Course D) (text : List ℕ) (ts : List (Turn D)) (a d : Option (List ℕ)) → Lead v s ts s' → commands_in ts ≡ commands_of text → Appends a d (texts_of ts) → AllServed ts → IsExact v s text (λ x. asked_of ts) s' a d
-run_exact v s s' text ts a d lead all wrote every = exact_of v s s' text ts (λ x. asked_of ts) a d lead.last all wrote (λ x e may. turns_exact v s x ts lead.legal every e may)
+pub run_exact : {D : Type 0} (law : VersionLaw) (v : Setting D) (s s' : Course D) (text : List ℕ) (ts : List (Turn D)) (a d : Option (List ℕ)) → Lead v s ts s' → commands_in ts ≡ commands_of text → Appends a d (texts_of ts) → AllServed ts → IsExact v s text (λ x. asked_of ts) s' a d
+run_exact law v s s' text ts a d lead all wrote every = exact_of law v s s' text ts (λ x. asked_of ts) a d lead.last all wrote (λ x e may. turns_exact v s x ts lead.legal every e may)

@@ -5,7 +5,6 @@ use Rattle.std.specs.FinMap as finite
 use Rattle.std.proofs.lemmas.Bool.{both_ways}
 use Rattle.std.proofs.lemmas.List.{append_cancel_left, map-append}
 use Rattle.spool_disk.specs.Disk.{DiskView, IsLawful}
-use Rattle.spool_types.specs.declared.event.Event.{Event}
 use Rattle.job_table.specs.Legal.{IsLegal}
 use Rattle.job_table.specs.Turns.{AreOnce}
 use Rattle.filter_args.specs.declared.place.Place.{Place}
@@ -23,13 +22,13 @@ use Rattle.print_rounds.specs.World.{keys_in}
 use Rattle.print_rounds.proofs.InputLaws.{documents_both, right_both}
 use Rattle.print_rounds.specs.declared.outcome.Round.{Round}
 use Rattle.print_rounds.specs.declared.outcome.RoundFault.{RoundFault}
-use Rattle.spool_engine.specs.Calls.{Call, IsQuietTurn, tried_in_turns, round_call, run_call, left_by, IsCall, AreCalls, last_by, HaveRightInput, HandsDocuments, TurnsHandDocuments, CallHandsDocuments, documents_by, CallsHandDocuments}
+use Rattle.spool_engine.specs.Calls.{Call, round_call, run_call, left_by, IsCall, AreCalls, last_by, HaveRightInput, HandsDocuments, TurnsHandDocuments, CallHandsDocuments, documents_by, CallsHandDocuments}
 use Rattle.spool_engine.specs.EventTurns.{Setting}
 use Rattle.spool_engine.specs.Rounds.{Ran, IsRoundWith, IsRan, AreRan, AreRunBy}
 use Rattle.spool_engine.specs.Runs.{Turn, How, answered as replied, ran, IsHow, AreTurns, documents_left, last_course, last_documents}
 use Rattle.spool_engine.specs.Script.{Documents, Meaning, says, asks, lists, runs, meaning}
 use Rattle.spool_engine.proofs.EventLaws.{has_bytes, told_documents}
-use Rattle.spool_engine.proofs.WorldLaws.{Laws, how_turn, legal_then, quiet_after, round_turn, same_turn, some_same, then_turn, turns_turn}
+use Rattle.spool_engine.proofs.WorldLaws.{Laws, IsQuietCall, how_turn, legal_then, quiet_after, round_turn, same_call, some_same, then_call, turns_turn}
 
 -- without orders there is nothing that was answered
 answered_none : (starts : List (Result (Unit {0}) ChildFault)) (finishes : List (Result Finish ChildFault)) → answered starts finishes [] ≡ []
@@ -182,7 +181,8 @@ module _ {D : Type 0} (laws : Laws D) (v : Setting D) (lawful : IsLawful v.devic
       same_on earlier t (IsKnown v documents old) documents old new quiet tells kept rests (ap (λ (c : Course D). c.told) same) (ap (λ (c : Course D). c.slots) same)
   rounds_on documents (r ∷ rs) earlier t old new legal tells quiet rests kept (is, others) =
       let one = round_on documents earlier t old r legal tells quiet rests kept is in
-      let legal_next = legal_then laws t old r.next r.tried (round_turn laws t quiet v old r legal tells is) in
+      let turn = round_turn laws t quiet v old r legal tells is in
+      let legal_next = legal_then laws t old r.next turn.0 turn.1 in
       then_on earlier t (IsKnown v documents old) (IsKnown v documents r.next) documents r.next new one (known_next documents t old r legal tells quiet is)
       (rounds_on documents rs (earlier ++ one.each) one.now r.next new legal_next one.tells one.quiet one.rests one.kept others)
 
@@ -205,19 +205,20 @@ module _ {D : Type 0} (laws : Laws D) (v : Setting D) (lawful : IsLawful v.devic
   turns_on [] earlier t old legal tells quiet rests kept are = none_on earlier t ⊥ nothing_sent old quiet tells kept rests
   turns_on (turn ∷ turns) earlier t old legal tells quiet rests kept (is, others) =
       let one = forget earlier t (IsKnown v nothing_sent old) nothing_sent nothing_sent turn.next (turn_on nothing_sent earlier t old turn turn.how legal tells quiet rests kept is.how) in
-      let legal_next = legal_then laws t old turn.next _ (how_turn laws v t quiet old turn turn.how legal tells is.how) in
+      let call = how_turn laws v t quiet old turn legal tells is.how in
+      let legal_next = legal_then laws t old turn.next call.0 call.1 in
       then_on earlier t ⊥ ⊥ nothing_sent turn.next (last_course turn.next turns) one (λ none. none) (turns_on turns (earlier ++ one.each) one.now turn.next legal_next one.tells one.quiet one.rests one.kept others)
 
   turns_legal : (turns : List (Turn D)) (t : Told) (old : Course D) → IsLegal old.spool.state → old.told ≡ Some t → t.running ≡ [] → AreTurns v old turns → IsLegal (last_course old turns).spool.state
   turns_legal [] t old legal tells quiet are = legal
   turns_legal (turn ∷ turns) t old legal tells quiet (is, others) =
-      let one = how_turn laws v t quiet old turn turn.how legal tells is.how in
-      turns_legal turns one.1.now turn.next (legal_then laws t old turn.next _ one) one.1.tells one.2 others
+      let one = how_turn laws v t quiet old turn legal tells is.how in
+      turns_legal turns one.1.now turn.next (legal_then laws t old turn.next one.0 one.1) one.1.tells one.2 others
 
   call_on : (c : Call D) (earlier : List AnsweredOrder) (t : Told) (old : Course D) → IsLegal old.spool.state → old.told ≡ Some t → t.running ≡ [] → HasNoneRunning old.slots → AreKeptFrom earlier old.slots → IsCall v old c → AreOn earlier t ⊥ nothing_sent (left_by old c) × IsLegal (left_by old c).spool.state
   call_on (round_call r) earlier t old legal tells quiet rests kept is = (
     forget earlier t (IsKnown v nothing_sent old) nothing_sent nothing_sent r.next (round_on nothing_sent earlier t old r legal tells quiet rests kept is),
-    legal_then laws t old r.next r.tried (round_turn laws t quiet v old r legal tells is),
+    let turn = round_turn laws t quiet v old r legal tells is in legal_then laws t old r.next turn.0 turn.1,
   )
   call_on (run_call turns) earlier t old legal tells quiet rests kept are = (turns_on turns earlier t old legal tells quiet rests kept are, turns_legal turns t old legal tells quiet are)
 
@@ -228,18 +229,15 @@ module _ {D : Type 0} (laws : Laws D) (v : Setting D) (lawful : IsLawful v.devic
       then_on earlier t ⊥ ⊥ nothing_sent (left_by old c) (last_by (left_by old c) cs) one (λ none. none) (calls_on cs (earlier ++ one.each) one.now (left_by old c) legal_next one.tells one.quiet one.rests one.kept others)
 
   -- the calls are one turn of World
-  calls_turn : (calls : List (Call D)) (t : Told) (old : Course D) → IsLegal old.spool.state → old.told ≡ Some t → t.running ≡ [] → AreCalls v old calls → (tried : List Event) × IsQuietTurn t old tried (last_by old calls)
-  calls_turn [] t old legal tells quiet are = ([], same_turn laws t quiet old old legal tells refl)
+  calls_turn : (calls : List (Call D)) (t : Told) (old : Course D) → IsLegal old.spool.state → old.told ≡ Some t → t.running ≡ [] → AreCalls v old calls → IsQuietCall t old (last_by old calls)
+  calls_turn [] t old legal tells quiet are = same_call laws t quiet old legal tells
   calls_turn (round_call r ∷ cs) t old legal tells quiet (is, others) =
       let one = round_turn laws t quiet v old r legal tells is in
-      let rest = calls_turn cs one.1.now r.next (legal_then laws t old r.next r.tried one) one.1.tells one.2 others in
-      (r.tried ++ rest.0, then_turn laws t old r.next (last_by r.next cs) r.tried rest.0 one rest.1)
+      then_call laws t old r.next (last_by r.next cs) (one.0, one.1, one.2) (calls_turn cs one.1.now r.next (legal_then laws t old r.next one.0 one.1) one.1.tells one.2 others)
   calls_turn (run_call turns ∷ cs) t old legal tells quiet (are, others) =
-      let tried = tried_in_turns v.mime old turns in
       let next = last_course old turns in
       let one = turns_turn laws v turns t quiet old legal tells are in
-      let rest = calls_turn cs one.1.now next (legal_then laws t old next tried one) one.1.tells one.2 others in
-      (tried ++ rest.0, then_turn laws t old next (last_by next cs) tried rest.0 one rest.1)
+      then_call laws t old next (last_by next cs) (one.0, one.1, one.2) (calls_turn cs one.1.now next (legal_then laws t old next one.0 one.1) one.1.tells one.2 others)
 
   -- an engine begins without slots
   begins_kept : (slots : Slots) → slots ≡ finite.empty → AreKeptFrom [] slots × HasNoneRunning slots
@@ -258,7 +256,7 @@ module _ {D : Type 0} (laws : Laws D) (v : Setting D) (lawful : IsLawful v.devic
   later_right s calls t legal none tells quiet are =
       let begins = begins_kept s.slots none in
       let on = calls_on calls [] t s legal tells quiet begins.1 begins.0 are in
-      let turn = (calls_turn calls t s legal tells quiet are).1.1 in
+      let turn = (calls_turn calls t s legal tells quiet are).1 in
       let same_now : turn.now ≡ on.now = some_same turn.now on.now (sym turn.tells ∙ on.tells) in
       let same_orders : turn.orders ≡ on.orders = append_cancel_left t.orders turn.orders on.orders (sym turn.added ∙ ap (λ (u : Told). u.orders) same_now ∙ on.added) in
       let same : answered t.starts t.finishes on.orders ≡ on.each =
@@ -283,7 +281,7 @@ module _ {D : Type 0} (laws : Laws D) (v : Setting D) (lawful : IsLawful v.devic
       by_death : (b : Bool) → turn.next.spool.dead ≡ b → IsKnown v (documents_left v.mime old documents turn) turn.next
       by_death true died = inl died
       by_death false lives = elim has [
-        | inl died ↦ let one = how_turn laws v t quiet old turn turn.how legal tells is.how in absurd (both_ways _ lives (one.1.after_over died).1)
+        | inl died ↦ let one = how_turn laws v t quiet old turn legal tells is.how in absurd (both_ways _ lives (one.1.after_over died).1)
         | inr both ↦ inr (is.told.1 both.0, is.lasting lives both.0 documents both.1)
       ]
 
@@ -291,7 +289,8 @@ module _ {D : Type 0} (laws : Laws D) (v : Setting D) (lawful : IsLawful v.devic
   turns_hand documents [] earlier t old legal tells quiet rests kept has are = (tt, has)
   turns_hand documents (turn ∷ turns) earlier t old legal tells quiet rests kept has (is, others) =
       let one = turn_on documents earlier t old turn turn.how legal tells quiet rests kept is.how in
-      let legal_next = legal_then laws t old turn.next _ (how_turn laws v t quiet old turn turn.how legal tells is.how) in
+      let call = how_turn laws v t quiet old turn legal tells is.how in
+      let legal_next = legal_then laws t old turn.next call.0 call.1 in
       let rest = turns_hand (documents_left v.mime old documents turn) turns (earlier ++ one.each) one.now turn.next legal_next one.tells one.quiet one.rests one.kept (turn_known documents t old turn legal tells quiet (is, tt) has) others in
       ((hands_from earlier t (IsKnown v documents old) documents old turn.next tells one has, rest.0), rest.1)
 

@@ -8,15 +8,16 @@ use Rattle.job_table.specs.Attempts.{HasNoProcessing}
 use Rattle.job_table.specs.Fold.{after_all}
 use Rattle.job_table.specs.Legal.{IsLegal}
 use Rattle.job_table.specs.Turns.{AreOnce}
+use Rattle.job_table.specs.Versions.{raised}
 use Rattle.child_pipeline.specs.Told.{Told}
 use Rattle.child_pipeline.specs.declared.order.Placed.{Placed}
 use Rattle.print_rounds.specs.Courses.{Course}
 use Rattle.print_rounds.specs.Lives.{Life, IsLife, IsWorld, AreLives, end_of, keys_of, keys_of_life, AreCallTurns, life_of, last_left}
 use Rattle.print_rounds.specs.World.{keys_in}
-use Rattle.spool_engine.specs.Calls.{Call, IsQuietTurn, tried_in_turns, round_call, run_call, left_by, IsCall, AreCalls, last_by}
+use Rattle.spool_engine.specs.Calls.{Call, round_call, run_call, left_by, IsCall, AreCalls, last_by}
 use Rattle.spool_engine.specs.EventTurns.{Setting, setting}
 use Rattle.spool_engine.specs.Lives.{EngineLife, last_of, IsEngineLife, AreEngineLives, IsEngineWorld, keys_told}
-use Rattle.spool_engine.proofs.WorldLaws.{Laws, round_turn, turns_turn, legal_then}
+use Rattle.spool_engine.proofs.WorldLaws.{Laws, IsQuietCall, round_turn, turns_turn, legal_then}
 
 -- calls that are turns, and leave this course
 abbrev IsTurnedTo : {D : Type 0} → Told → Course D → Course D → Type 0
@@ -38,25 +39,21 @@ pub record LifeLaws (D : Type 0) : Type 0 where
   pub once : (lives : List Life) → IsWorld lives → AreOnce (keys_of lives)
 
 module _ {D : Type 0} (laws : LifeLaws D) where
-  abbrev tried_of : Setting D → Course D → Call D → List Event
-  tried_of v s (round_call r) = r.tried
-  tried_of v s (run_call turns) = tried_in_turns v.mime s turns
-
-  call_turn : (v : Setting D) (t : Told) → t.running ≡ [] → (s : Course D) (c : Call D) → IsLegal s.spool.state → s.told ≡ Some t → IsCall v s c → IsQuietTurn t s (tried_of v s c) (left_by s c)
-  call_turn v t quiet s (round_call r) legal tells is = round_turn laws.turns t quiet v s r legal tells is
-  call_turn v t quiet s (run_call turns) legal tells is = turns_turn laws.turns v turns t quiet s legal tells is
+  call_turn : (v : Setting D) (t : Told) → t.running ≡ [] → (s : Course D) (c : Call D) → IsLegal s.spool.state → s.told ≡ Some t → IsCall v s c → IsQuietCall t s (left_by s c)
+  call_turn v t quiet s (round_call r) legal tells is = let one = round_turn laws.turns t quiet v s r legal tells is in (one.0, one.1, one.2)
+  call_turn v t quiet s (run_call turns) legal tells is = let one = turns_turn laws.turns v turns t quiet s legal tells is in (one.0, one.1, one.2)
 
   engine_turns : (v : Setting D) (cs : List (Call D)) (t : Told) → t.running ≡ [] → (s : Course D) → IsLegal s.spool.state → s.told ≡ Some t → AreCalls v s cs → IsTurnedTo t s (last_by s cs)
   engine_turns v [] t quiet s legal tells are = ([], tt, refl)
   engine_turns v (c ∷ cs) t quiet s legal tells (first, others) =
       let one = call_turn v t quiet s c legal tells first in
-      let rest = engine_turns v cs one.1.now one.2 (left_by s c) (legal_then laws.turns t s (left_by s c) (tried_of v s c) one) one.1.tells others in
+      let rest = engine_turns v cs one.1.now one.2 (left_by s c) (legal_then laws.turns t s (left_by s c) one.0 one.1) one.1.tells others in
       ((one.0, left_by s c) ∷ rest.0, (one.1, rest.1), rest.2)
 
   first_turns : (v : Setting D) (c : Call D) (cs : List (Call D)) (t : Told) → t.running ≡ [] → (s : Course D) → IsLegal s.spool.state → s.told ≡ Some t → AreCalls v s (c ∷ cs) → IsOneTurnedTo t s (last_by s (c ∷ cs))
   first_turns v c cs t quiet s legal tells (first, others) =
       let one = call_turn v t quiet s c legal tells first in
-      let rest = engine_turns v cs one.1.now one.2 (left_by s c) (legal_then laws.turns t s (left_by s c) (tried_of v s c) one) one.1.tells others in
+      let rest = engine_turns v cs one.1.now one.2 (left_by s c) (legal_then laws.turns t s (left_by s c) one.0 one.1) one.1.tells others in
       ((one.0, left_by s c), rest.0, (one.1, rest.1), rest.2)
 
   -- an engine's life as one
@@ -76,7 +73,7 @@ module _ {D : Type 0} (laws : LifeLaws D) where
       let (m, life, table, end, keys) = as_life device l is in
       let (ms, lives, rest) = as_lives device ls (last_of l).spool.state (end_of m) end others in (
         m ∷ ms,
-        (life, (further.0, table ∙ further.1 ∙ ap (λ w. after_all w further.0) (sym same)), lives),
+        (life, (further.0, ap raised table ∙ further.1 ∙ ap (λ w. after_all (raised w) further.0) (sym same)), lives),
         ap (λ k. k ++ keys_of ms) keys ∙ ap (λ k. keys_in l.orders ++ k) rest,
       )
 

@@ -25,7 +25,7 @@ use Rattle.spool_engine.specs.Runs.{Turn, How, answered, ran, documents_by_how, 
 use Rattle.spool_engine.proofs.CloseLaws.{not_over}
 use Rattle.spool_engine.proofs.CrashLaws.{dead_last}
 use Rattle.spool_engine.proofs.EventLaws.{has_bytes, told_documents}
-use Rattle.spool_engine.proofs.ExactLaws.{IsTelling, AreFor, IsFor, AreSaid, closes_or_same, none_said, then_said, turn_exact, exact_of}
+use Rattle.spool_engine.proofs.ExactLaws.{IsTelling, AreFor, IsFor, AreSaid, VersionLaw, closes_or_same, none_said, then_said, turn_exact, exact_of}
 use Rattle.spool_engine.proofs.RoundLaws.{dead_rans}
 
 -- ## Rounds
@@ -146,13 +146,13 @@ turns_on v s x documents (t ∷ ts) lawful h k e may lives tells has =
     let (more, last) = turns_on v t.next y after ts lawful h.1 k.1 one.said.state (⊎_elim (λ tell. inl (one.telling tell)) (λ plain. inr plain.1) may) lives (h.0.told.1 tells) left in
     (then_said v s x t ts (λ k. documents) (asked_on v.mime v.place y after (commands_in ts)) one more, last)
 
-pub run_on : {D : Type 0} (v : Setting D) (s s' : Course D) (text : List ℕ) (documents : Documents) (ts : List (Turn D)) (a d : Option (List ℕ)) → IsLawful v.device → Lead v s ts s' → commands_in ts ≡ commands_of text → Appends a d (texts_of ts) → AllServed ts
+pub run_on : {D : Type 0} (law : VersionLaw) (v : Setting D) (s s' : Course D) (text : List ℕ) (documents : Documents) (ts : List (Turn D)) (a d : Option (List ℕ)) → IsLawful v.device → Lead v s ts s' → commands_in ts ≡ commands_of text → Appends a d (texts_of ts) → AllServed ts
     → s'.spool.dead ≡ false → IsSome (v.device.bytes s.spool.disk) → LeavesDocuments v.device documents s.spool → IsExactWith v s text documents s' a d
-run_on v s s' text documents ts a d lawful lead all wrote every lives tells has =
+run_on law v s s' text documents ts a d lawful lead all wrote every lives tells has =
     let alive : (last_course s ts).spool.dead ≡ false = subst (λ y. y.spool.dead ≡ false) (sym lead.last) lives in
     let both = λ (x : Scene) (e : s.spool.state ≡ x.state) (may : IsTelling s x ⊎ HasNoRounds (commands_in ts)). turns_on v s x documents ts lawful lead.legal every e may alive tells has in
     record {
-      script = exact_of v s s' text ts (λ x. asked_on v.mime v.place x documents (commands_of text)) a d lead.last all wrote
+      script = exact_of law v s s' text ts (λ x. asked_on v.mime v.place x documents (commands_of text)) a d lead.last all wrote
           (λ x e may. subst (λ cs. AreSaid v s x ts (asked_on v.mime v.place x documents cs)) all (both x e may).0);
       lasting = λ t which.
           let x = scene_with s t in

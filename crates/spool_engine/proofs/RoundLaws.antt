@@ -24,8 +24,8 @@ use Rattle.spool_engine.specs.Script.{meaning, runs}
 use Rattle.spool_engine.specs.EventTurns.{Setting, EventTurn, IsEventTurn, IsKept}
 use Rattle.spool_engine.specs.Answers.{Takes}
 use Rattle.spool_engine.specs.Rounds.{Ran, IsRoundWith, IsRan, AreRan, AreRun, AreRunBy}
-use Rattle.spool_engine.specs.Runs.{Turn, TakesTurn, IsHeld, answered, ran}
-use Rattle.spool_engine.proofs.EventLaws.{OnlyNow, unmoved, unmoved_whole}
+use Rattle.spool_engine.specs.Runs.{Turn, TakesTurn, IsHeld, HasSomeIn, answered, ran}
+use Rattle.spool_engine.proofs.EventLaws.{OnlyNow, crash_in, unmoved, unmoved_whole}
 
 -- ## Some events that send nothing
 
@@ -194,8 +194,11 @@ module _ {D : Type 0} (v : Setting D) (now : OnlyNow v.device) where
         read = tt;
         counted = rounds_counted v s rs new run.each;
         told = rounds_told v s rs new run.each;
-        crash = rounds_crash s rs new kept run.each;
-        whole = λ alive tells documents has. rounds_whole s rs new documents kept run.each alive tells has;
+        crash = λ alive tells. crash_in v.device s.spool.disk new.spool.disk c s.spool.state (all_tried rs) (rounds_crash s rs new kept run.each alive tells);
+        whole = λ alive tells documents has.
+            let turn : Turn D = record { command = c; document = []; how = ran rs; text = reply; next = new } in
+            weaker_run v.device s.spool.disk new.spool.disk (HasSomeIn v.mime s documents turn) (HasSomeWhole s.spool.state documents (all_tried rs))
+            (rounds_whole s rs new documents kept run.each alive tells has) (λ image some. inl some);
         kept = rounds_kept v s rs new kept run.each;
         lasting = λ lives tells documents has. rounds_lasting v s rs new documents run.each lives tells has;
       };

@@ -10,6 +10,8 @@ use Rattle.job_table.specs.Fold.{after_all, after_one, accepted, if_accepted, un
 use Rattle.job_table.specs.Legal.{IsLegal}
 use Rattle.job_table.specs.Stages.{Key, IsIn, IsSpent}
 use Rattle.job_table.specs.Step.{step, refusal_of, answered, after, reply_to}
+use Rattle.job_table.specs.Versions.{raised}
+use Rattle.spool_types.specs.declared.version.Version.TheVariants.{Two}
 use Rattle.spool_core.specs.Standing.{Standing}
 use Rattle.spool_core.specs.Checkpointing.{IsCheckpoint}
 use Rattle.spool_core.specs.declared.spool.checkpoint_fault.CheckpointFault.{CheckpointFault}
@@ -21,11 +23,13 @@ use Rattle.print_rounds.specs.Counts.{AreAcknowledged}
 use Rattle.print_rounds.specs.Courses.{Course}
 use Rattle.print_rounds.specs.Rounds.{events_in}
 use Rattle.print_rounds.specs.World.{IsEndedSlot, IsCallTurn}
-use Rattle.spool_engine.specs.EventTurns.{listed, tried_as, Setting, Outcome, served, no_memory, full, disk, dead, unread, unreadable, unlisted, IsTaken, IsLeft, IsServedBy, IsOutcome}
+use Rattle.print_rounds.proofs.PrefixLaws.{after_both}
+use Rattle.spool_engine.specs.EventTurns.{listed, tried_as, is_checkpoint, Setting, Outcome, served, no_memory, full, disk, dead, unread, unreadable, unlisted, IsTaken, IsLeft, IsServedBy, IsOutcome}
 use Rattle.spool_engine.specs.Rounds.{Ran, IsRoundWith, IsRan, AreRan, AreRunBy}
-use Rattle.spool_engine.specs.Runs.{tried_by, tried_in, Turn, How, answered as replied, ran, event_turn, IsHow, IsHeld as HasSlotsOf, AreTurns, last_course}
-use Rattle.spool_engine.specs.Calls.{IsQuietTurn, tried_in_turns}
+use Rattle.spool_engine.specs.Runs.{tried_by, tried_in, Turn, How, answered as replied, ran, event_turn, IsHow, IsHeld as HasSlotsOf, KeepVersion, AreTurns, commands_in, last_course}
+use Rattle.spool_engine.specs.Calls.{IsQuietTurn, IsQuietRun, AreTaken, tried_in_turns}
 use Rattle.spool_engine.specs.Script.{event_in, event_of, Meaning, says, asks, lists, runs, meaning}
+use Rattle.spool_engine.proofs.ExactLaws.{VersionLaw, is_listing, lists_none, raised_same}
 
 -- ## The events that were tried
 
@@ -71,22 +75,77 @@ none_acknowledged over tried acknowledged hand none = elim hand [
   | inr failed ↦ absurd (never_more acknowledged failed.1 (sym none ∙ failed.2))
 ]
 
+-- what was acknowledged first, and then more: after a fault of the device nothing is tried
+acknowledged_both : (over then : Bool) (tried others a b : List Event) → AreAcknowledged over tried a → AreAcknowledged then others b → (over ≡ true → others ≡ []) → (over ≡ true → then ≡ true) → AreAcknowledged then (tried ++ others) (a ++ b)
+acknowledged_both over then tried others a b (inl all) (inl rest) none stays = inl (ap (λ l. l ++ others) all ∙ ap (λ l. a ++ l) rest)
+acknowledged_both over then tried others a b (inl all) (inr failed) none stays =
+    inr (failed.0, failed.1, ap (λ l. l ++ others) all ∙ ap (λ l. a ++ l) failed.2 ∙ sym (append_assoc a b (failed.1 ∷ [])))
+acknowledged_both over then tried others a b (inr failed) later none stays =
+    let nothing : others ≡ [] = none failed.0 in
+    let empty : b ≡ [] = none_acknowledged then others b later nothing in
+    inr (stays failed.0, failed.1, ap (λ l. tried ++ l) nothing ∙ append-nil tried ∙ failed.2 ∙ ap (λ l. l ++ failed.1 ∷ []) (sym (append-nil a) ∙ ap (λ l. a ++ l) (sym empty)))
+
+-- the accepted ones of both
+accepted_both : (s t : State) (a b more further : List Event) → more ≡ accepted s a → t ≡ after_all s more → further ≡ accepted t b → more ++ further ≡ accepted s (a ++ b)
+accepted_both s t a b more further taken table then =
+    ap (λ l. l ++ further) taken
+    ∙ ap (λ l. accepted s a ++ l) (then ∙ ap (λ u. accepted u b) (table ∙ ap (after_all s) taken ∙ skipped s a))
+    ∙ sym (accepted_append s a b)
+
+-- ## The table behind a turn
+
+-- it is that of the events, or a checkpoint has raised its version
+abbrev pub IsBehind : Bool → State → List Event → State → Type 0
+IsBehind raises s events s' = (s' ≡ after_all s events) ⊎ ((raises ≡ true) × (events ≡ []) × (s' ≡ raised s))
+
+-- where none raises it it is that of the events
+exact_behind : (raises : Bool) (s : State) (events : List Event) (s' : State) → IsBehind raises s events s' → (s.version ≡ Two) ⊎ (raises ≡ false) → s' ≡ after_all s events
+exact_behind raises s events s' (inl is) keeps = is
+exact_behind raises s events s' (inr (raised_it, none, is)) (inl newest) = is ∙ raised_same s newest ∙ ap (after_all s) (sym none)
+exact_behind raises s events s' (inr (raised_it, none, is)) (inr plain) = absurd (both_ways _ plain raised_it)
+
+-- the same row is there in the newest version
+in_raised : (s : State) (k : Key) → IsIn s k → IsIn (raised s) k
+in_raised s k now = record { row = now.row; stages = now.stages; there = now.there; phase = now.phase }
+
+-- what is so of each table is so of its rows
+legal_rows : (s : State) → IsLegal (raised s) → IsLegal s
+legal_rows s legal = record { few_queues = legal.few_queues; names = legal.names; in_order = legal.in_order; numbers = legal.numbers; jobs = legal.jobs; one_processing = legal.one_processing }
+
 -- what is so of each legal table, and of calls
 pub record Laws (D : Type 0) : Type 0 where
   pub legal : (s : State) (events : List Event) → IsLegal s → IsLegal (after_all s events)
   pub left : (s : State) (k : Key) (events : List Event) → IsLegal s → IsIn s k → IsIn (after_all s events) k ⊎ IsSpent (after_all s events) k
+  pub rises : (s : State) (events : List Event) → AreAccepted s events → AreAccepted (raised s) events × (after_all (raised s) events ≡ raised (after_all s events))
+  pub raised_legal : (s : State) → IsLegal s → IsLegal (raised s)
+  pub version : VersionLaw
   pub joined : (old mid new : Course D) (t : Told) (more further : List Event) (one : IsCallTurn t old more mid) → IsCallTurn one.now mid further new → IsCallTurn t old (more ++ further) new
 
 pub some_same : (x y : Told) → Some x ≡ Some y → x ≡ y
 some_same x y e = cc
 
+-- A turn, and the table behind it.
+pub record IsTurned {D : Type 0} (t : Told) (old : Course D) (raises : Bool) (tried : List Event) (new : Course D) : Type 0 where
+  pub turn : IsQuietTurn t old tried new
+  pub behind : IsBehind raises old.spool.state turn.0 new.spool.state
+
+-- A turn of World after which no child runs.
+abbrev pub IsQuietCall : {D : Type 0} → Told → Course D → Course D → Type 0
+IsQuietCall t old new = (more : List Event) × (c : IsCallTurn t old more new) × (c.now.running ≡ [])
+
 module _ {D : Type 0} (laws : Laws D) (t : Told) (quiet : t.running ≡ []) where
+  behind_raised : (raises : Bool) (s : State) (events : List Event) (s' : State) → AreAccepted s events → IsBehind raises s events s' → raised s' ≡ after_all (raised s) events
+  behind_raised raises s events s' taken (inl is) = ap raised is ∙ sym (laws.rises s events taken).1
+  behind_raised raises s events s' taken (inr (raised_it, none, is)) = ap raised is ∙ ap (after_all (raised s)) (sym none)
+
+  behind_left : (raises : Bool) (s : State) (events : List Event) (s' : State) (k : Key) → IsLegal s → IsBehind raises s events s' → IsIn s k → IsIn s' k ⊎ IsSpent s' k
+  behind_left raises s events s' k legal (inl is) now = subst (λ u. IsIn u k ⊎ IsSpent u k) (sym is) (laws.left s k events legal now)
+  behind_left raises s events s' k legal (inr (raised_it, none, is)) now = inl (subst (λ u. IsIn u k) (sym is) (in_raised s k now))
+
   -- events without a round: the slots are as they were
-  plain_with : (old new : Course D) (events tried : List Event) → IsLegal old.spool.state → old.told ≡ Some t → AreAccepted old.spool.state events → new.spool.state ≡ after_all old.spool.state events
-      → HasSlotsOf old new → (old.spool.dead ≡ true → new.spool.dead ≡ true)
-      → ((acknowledged : List Event) × AreAcknowledged new.spool.dead tried acknowledged × (events ≡ accepted old.spool.state acknowledged)) → (old.spool.dead ≡ true → tried ≡ []) → IsQuietTurn t old tried new
-  plain_with old new events tried legal tells accepted_in table held over acknowledged none = (
-    events,
+  pub plain_call : (old new : Course D) (raises : Bool) (events : List Event) → IsLegal old.spool.state → old.told ≡ Some t → AreAccepted old.spool.state events → IsBehind raises old.spool.state events new.spool.state
+      → HasSlotsOf old new → (old.spool.dead ≡ true → new.spool.dead ≡ true) → (c : IsCallTurn t old events new) × (c.now.running ≡ [])
+  plain_call old new raises events legal tells taken behind held over = (
     record {
       now = t;
       tells = held.told ∙ tells;
@@ -94,15 +153,15 @@ module _ {D : Type 0} (laws : Laws D) (t : Told) (quiet : t.running ≡ []) wher
       added = sym (append-nil t.orders);
       turn = record {
         legal = legal;
-        accepted = accepted_in;
-        table = table;
+        accepted = (laws.rises old.spool.state events taken).0;
+        table = behind_raised raises old.spool.state events new.spool.state taken behind;
         distinct = tt;
         outside = λ k among. absurd among;
         reached = λ k among. absurd among;
         settled = λ alive k some. elim some [
-          | inl before ↦ elim (laws.left old.spool.state k events legal before.0) [
-            | inl still ↦ inl (subst (λ s. IsIn s k) (sym table) still, subst (λ m. IsEndedSlot m k) (sym held.slots) before.1)
-            | inr gone ↦ inr (subst (λ s. IsSpent s k) (sym table) gone)
+          | inl before ↦ elim (behind_left raises old.spool.state events new.spool.state k legal behind before.0) [
+            | inl still ↦ inl (still, subst (λ m. IsEndedSlot m k) (sym held.slots) before.1)
+            | inr gone ↦ inr gone
           ]
           | inr none ↦ absurd none
         ];
@@ -110,18 +169,23 @@ module _ {D : Type 0} (laws : Laws D) (t : Told) (quiet : t.running ≡ []) wher
       after_over = λ died. (refl, over died);
     },
     quiet,
-    acknowledged,
-    none,
   )
 
-  -- all of them were acknowledged
-  plain_turn : (old new : Course D) (events : List Event) → IsLegal old.spool.state → old.told ≡ Some t → AreAccepted old.spool.state events → new.spool.state ≡ after_all old.spool.state events
-      → HasSlotsOf old new → (old.spool.dead ≡ true → new.spool.dead ≡ true) → (old.spool.dead ≡ true → events ≡ []) → IsQuietTurn t old events new
-  plain_turn old new events legal tells accepted_in table held over none =
-      plain_with old new events events legal tells accepted_in table held over (events, inl refl, sym (accepted_all old.spool.state events accepted_in)) none
+  plain_with : (old new : Course D) (raises : Bool) (events tried : List Event) → IsLegal old.spool.state → old.told ≡ Some t → AreAccepted old.spool.state events → IsBehind raises old.spool.state events new.spool.state
+      → HasSlotsOf old new → (old.spool.dead ≡ true → new.spool.dead ≡ true)
+      → ((acknowledged : List Event) × AreAcknowledged new.spool.dead tried acknowledged × (events ≡ accepted old.spool.state acknowledged)) → (old.spool.dead ≡ true → tried ≡ []) → IsTurned t old raises tried new
+  plain_with old new raises events tried legal tells taken behind held over acknowledged none =
+      let one = plain_call old new raises events legal tells taken behind held over in
+      record { turn = (events, one.0, one.1, acknowledged, none); behind = behind }
 
-  still_turn : (old new : Course D) → IsLegal old.spool.state → old.told ≡ Some t → new.spool ≡ old.spool → HasSlotsOf old new → IsQuietTurn t old [] new
-  still_turn old new legal tells same held = plain_turn old new [] legal tells tt (ap (λ (x : Standing D). x.state) same) held (λ died. ap (λ (x : Standing D). x.dead) same ∙ died) (λ died. refl)
+  -- all of them were acknowledged
+  plain_turn : (old new : Course D) (raises : Bool) (events : List Event) → IsLegal old.spool.state → old.told ≡ Some t → AreAccepted old.spool.state events → IsBehind raises old.spool.state events new.spool.state
+      → HasSlotsOf old new → (old.spool.dead ≡ true → new.spool.dead ≡ true) → (old.spool.dead ≡ true → events ≡ []) → IsTurned t old raises events new
+  plain_turn old new raises events legal tells taken behind held over none =
+      plain_with old new raises events events legal tells taken behind held over (events, inl refl, sym (accepted_all old.spool.state events taken)) none
+
+  still_turn : (old new : Course D) (raises : Bool) → IsLegal old.spool.state → old.told ≡ Some t → new.spool ≡ old.spool → HasSlotsOf old new → IsTurned t old raises [] new
+  still_turn old new raises legal tells same held = plain_turn old new raises [] legal tells tt (inl (ap (λ (x : Standing D). x.state) same)) held (λ died. ap (λ (x : Standing D). x.dead) same ∙ died) (λ died. refl)
 
   -- ## A command of one event, or of none
 
@@ -134,53 +198,59 @@ module _ {D : Type 0} (laws : Laws D) (t : Told) (quiet : t.running ≡ []) wher
       state_in (Ok p) = p.0
       state_in (Err r) = s
 
-  taken_turn : (old new : Course D) (e : Event) (answer : Result (State × Reply) Refusal) → step old.spool.state e ≡ answer → IsLegal old.spool.state → old.told ≡ Some t → HasSlotsOf old new → IsTaken old.spool e answer new.spool → IsQuietTurn t old (e ∷ []) new
-  taken_turn old new e (Ok r) stepped legal tells held done =
-      plain_turn old new (e ∷ []) legal tells (done.fits.accepted, tt) (done_state old.spool.state e new.spool.state r.1 done.fits.accepted done.step) held
+  taken_turn : (old new : Course D) (raises : Bool) (e : Event) (answer : Result (State × Reply) Refusal) → step old.spool.state e ≡ answer → IsLegal old.spool.state → old.told ≡ Some t → HasSlotsOf old new → IsTaken old.spool e answer new.spool → IsTurned t old raises (e ∷ []) new
+  taken_turn old new raises e (Ok r) stepped legal tells held done =
+      plain_turn old new raises (e ∷ []) legal tells (done.fits.accepted, tt) (inl (done_state old.spool.state e new.spool.state r.1 done.fits.accepted done.step)) held
       (λ died. absurd (both_ways _ done.fits.alive died)) (λ died. absurd (both_ways _ done.fits.alive died))
-  taken_turn old new e (Err refusal) stepped legal tells held refused =
-      plain_with old new [] (e ∷ []) legal tells tt (ap (λ (x : Standing D). x.state) refused.1) held (λ died. ap (λ (x : Standing D). x.dead) refused.1 ∙ died)
+  taken_turn old new raises e (Err refusal) stepped legal tells held refused =
+      plain_with old new raises [] (e ∷ []) legal tells tt (inl (ap (λ (x : Standing D). x.state) refused.1)) held (λ died. ap (λ (x : Standing D). x.dead) refused.1 ∙ died)
       (e ∷ [], inl refl, refused_alone old.spool.state e refusal (refusal_of old.spool.state e) stepped) (λ died. absurd (both_ways _ refused.0 died))
 
   -- ## A checkpoint
 
-  unlisted_turn : (device : DiskView D) (old new : Course D) (fault : CheckpointFault) → IsLegal old.spool.state → old.told ≡ Some t → HasSlotsOf old new → IsCheckpoint device old.spool (Err fault) new.spool → IsQuietTurn t old [] new
-  unlisted_turn device old new listing.Dead legal tells held is = still_turn old new legal tells is.1 held
-  unlisted_turn device old new listing.EpochEnd legal tells held is = still_turn old new legal tells is.2 held
-  unlisted_turn device old new listing.Memory legal tells held is = still_turn old new legal tells is.1 held
-  unlisted_turn device old new listing.Full legal tells held is = still_turn old new legal tells is.2 held
-  unlisted_turn device old new listing.Disk legal tells held is = plain_turn old new [] legal tells tt is.state held (λ died. is.dead) (λ died. refl)
+  unlisted_turn : (device : DiskView D) (old new : Course D) (raises : Bool) (fault : CheckpointFault) → IsLegal old.spool.state → old.told ≡ Some t → HasSlotsOf old new → IsCheckpoint device old.spool (Err fault) new.spool → IsTurned t old raises [] new
+  unlisted_turn device old new raises listing.Dead legal tells held is = still_turn old new raises legal tells is.1 held
+  unlisted_turn device old new raises listing.EpochEnd legal tells held is = still_turn old new raises legal tells is.2 held
+  unlisted_turn device old new raises listing.Memory legal tells held is = still_turn old new raises legal tells is.1 held
+  unlisted_turn device old new raises listing.Full legal tells held is = still_turn old new raises legal tells is.2 held
+  unlisted_turn device old new raises listing.Disk legal tells held is = plain_turn old new raises [] legal tells tt (inl is.state) held (λ died. is.dead) (λ died. refl)
 
   -- ## By its outcome
 
-  left_turn : (device : DiskView D) (old new : Course D) (c : Command) → IsLegal old.spool.state → old.told ≡ Some t → HasSlotsOf old new → IsLeft device old.spool c new.spool → IsQuietTurn t old [] new
-  left_turn device old new c legal tells held left = elim left [
-    | inl same ↦ still_turn old new legal tells same held
-    | inr read ↦ plain_turn old new [] legal tells tt read.1.state held (λ died. read.1.dead ∙ died) (λ died. refl)
+  left_turn : (device : DiskView D) (old new : Course D) (raises : Bool) (c : Command) → IsLegal old.spool.state → old.told ≡ Some t → HasSlotsOf old new → IsLeft device old.spool c new.spool → IsTurned t old raises [] new
+  left_turn device old new raises c legal tells held left = elim left [
+    | inl same ↦ still_turn old new raises legal tells same held
+    | inr read ↦ plain_turn old new raises [] legal tells tt (inl read.1.state) held (λ died. read.1.dead ∙ died) (λ died. refl)
   ]
 
-  served_turn : (device : DiskView D) (old new : Course D) (w : Meaning) (reply : List ℕ) → IsLegal old.spool.state → old.told ≡ Some t → HasSlotsOf old new → IsServedBy device old.spool w reply new.spool → IsQuietTurn t old (listed (event_in w)) new
-  served_turn device old new (says text) reply legal tells held is = still_turn old new legal tells is.1 held
-  served_turn device old new (asks e line) reply legal tells held is = taken_turn old new e (step old.spool.state e) refl legal tells held is.1
-  served_turn device old new lists reply legal tells held is = plain_turn old new [] legal tells tt is.1.state held (λ died. absurd (both_ways _ is.1.may.alive died)) (λ died. refl)
+  served_turn : (device : DiskView D) (old new : Course D) (w : Meaning) (reply : List ℕ) → IsLegal old.spool.state → old.told ≡ Some t → HasSlotsOf old new → IsServedBy device old.spool w reply new.spool → IsTurned t old (is_listing w) (listed (event_in w)) new
+  served_turn device old new (says text) reply legal tells held is = still_turn old new false legal tells is.1 held
+  served_turn device old new (asks e line) reply legal tells held is = taken_turn old new false e (step old.spool.state e) refl legal tells held is.1
+  served_turn device old new lists reply legal tells held is = plain_turn old new true [] legal tells tt (inr (refl, refl, is.1.state)) held (λ died. absurd (both_ways _ is.1.may.alive died)) (λ died. refl)
   served_turn device old new (runs most line) reply legal tells held is = absurd is
 
-  outcome_turn : (v : Setting D) (old : Course D) (turn : Turn D) (o : Outcome) → IsLegal old.spool.state → old.told ≡ Some t → HasSlotsOf old turn.next → IsOutcome v old.spool (event_turn turn o) o → IsQuietTurn t old (tried_as (event_of v.mime old.spool.state turn.document turn.command) o) turn.next
+  outcome_turn : (v : Setting D) (old : Course D) (turn : Turn D) (o : Outcome) → IsLegal old.spool.state → old.told ≡ Some t → HasSlotsOf old turn.next → IsOutcome v old.spool (event_turn turn o) o
+      → IsTurned t old (is_listing (meaning v.mime old.spool.state turn.document turn.command)) (tried_as (event_of v.mime old.spool.state turn.document turn.command) o) turn.next
   outcome_turn v old turn served legal tells held is = served_turn v.device old turn.next (meaning v.mime old.spool.state turn.document turn.command) turn.text legal tells held is
-  outcome_turn v old turn no_memory legal tells held is = left_turn v.device old turn.next turn.command legal tells held is.cause.2
-  outcome_turn v old turn full legal tells held is = left_turn v.device old turn.next turn.command legal tells held is.cause.1
+  outcome_turn v old turn no_memory legal tells held is = left_turn v.device old turn.next _ turn.command legal tells held is.cause.2
+  outcome_turn v old turn full legal tells held is = left_turn v.device old turn.next _ turn.command legal tells held is.cause.1
   outcome_turn v old turn disk legal tells held is =
-      plain_with old turn.next [] (listed (event_of v.mime old.spool.state turn.document turn.command)) legal tells tt is.cause.state held (λ died. is.cause.dead)
+      plain_with old turn.next _ [] (listed (event_of v.mime old.spool.state turn.document turn.command)) legal tells tt (inl is.cause.state) held (λ died. is.cause.dead)
       ([], inr (is.cause.dead, is.event, ap listed is.is), refl) (λ died. absurd (both_ways _ is.cause.fits.alive died))
-  outcome_turn v old turn dead legal tells held is = still_turn old turn.next legal tells is.cause.1 held
-  outcome_turn v old turn unread legal tells held is = still_turn old turn.next legal tells is.same held
-  outcome_turn v old turn unreadable legal tells held is = plain_turn old turn.next [] legal tells tt is.fails.cause.1.state held (λ died. is.fails.cause.1.dead) (λ died. refl)
-  outcome_turn v old turn (unlisted fault) legal tells held is = unlisted_turn v.device old turn.next fault legal tells held is.cause
+  outcome_turn v old turn dead legal tells held is = still_turn old turn.next _ legal tells is.cause.1 held
+  outcome_turn v old turn unread legal tells held is = still_turn old turn.next _ legal tells is.same held
+  outcome_turn v old turn unreadable legal tells held is = plain_turn old turn.next _ [] legal tells tt (inl is.fails.cause.1.state) held (λ died. is.fails.cause.1.dead) (λ died. refl)
+  outcome_turn v old turn (unlisted fault) legal tells held is = unlisted_turn v.device old turn.next _ fault legal tells held is.cause
 
   -- ## A round
 
-  pub same_turn : (old new : Course D) → IsLegal old.spool.state → old.told ≡ Some t → new ≡ old → IsQuietTurn t old [] new
-  same_turn old new legal tells same = still_turn old new legal tells (ap (λ (c : Course D). c.spool) same) (record { slots = ap (λ (c : Course D). c.slots) same; told = ap (λ (c : Course D). c.told) same })
+  same_turn : (old new : Course D) (raises : Bool) → IsLegal old.spool.state → old.told ≡ Some t → new ≡ old → IsTurned t old raises [] new
+  same_turn old new raises legal tells same = still_turn old new raises legal tells (ap (λ (c : Course D). c.spool) same) (record { slots = ap (λ (c : Course D). c.slots) same; told = ap (λ (c : Course D). c.told) same })
+
+  pub same_call : (old : Course D) → IsLegal old.spool.state → old.told ≡ Some t → IsQuietCall t old old
+  same_call old legal tells =
+      let one = plain_call old old false [] legal tells tt (inl refl) (record { slots = refl; told = refl }) (λ died. died) in
+      ([], one.0, one.1)
 
   -- what is told after a round, whose children have all been finished
   pub quiet_after : (v : Setting D) (old : Course D) (r : Ran D) → IsRan v old r → old.told ≡ Some t → (now : Told) → r.next.told ≡ Some now → now.running ≡ []
@@ -188,86 +258,129 @@ module _ {D : Type 0} (laws : Laws D) (t : Told) (quiet : t.running ≡ []) wher
       let (js, once) = is.finished t tells quiet in
       ap (λ (u : Told). u.running) (some_same now once.now (sym tells' ∙ once.tells)) ∙ once.finished.running
 
-  pub round_turn : (v : Setting D) (old : Course D) (r : Ran D) → IsLegal old.spool.state → old.told ≡ Some t → IsRan v old r → IsQuietTurn t old r.tried r.next
-  round_turn v old r legal tells is = by_death old.spool.dead refl is.round
+  round_behind : (v : Setting D) (old : Course D) (r : Ran D) (raises : Bool) → IsLegal old.spool.state → old.told ≡ Some t → IsRan v old r → IsTurned t old raises r.tried r.next
+  round_behind v old r raises legal tells is = by_death old.spool.dead refl is.round
     where
-      by_death : (b : Bool) → old.spool.dead ≡ b → IsRoundWith v.device v.place old b r → IsQuietTurn t old r.tried r.next
-      by_death true died round = subst (λ l. IsQuietTurn t old l r.next) (sym round.1) (same_turn old r.next legal tells round.0.1)
+      by_death : (b : Bool) → old.spool.dead ≡ b → IsRoundWith v.device v.place old b r → IsTurned t old raises r.tried r.next
+      by_death true died round = subst (λ l. IsTurned t old raises l r.next) (sym round.1) (same_turn old r.next raises legal tells round.0.1)
       by_death false lives round = elim round [
-        | inl unbegun ↦ subst (λ l. IsQuietTurn t old l r.next) (sym unbegun.1) (same_turn old r.next legal tells unbegun.0.1)
+        | inl unbegun ↦ subst (λ l. IsTurned t old raises l r.next) (sym unbegun.1) (same_turn old r.next raises legal tells unbegun.0.1)
         | inr made ↦
             let c = made.0.turn t tells quiet in
-            let events : List Event = events_in old made.0.steps in (
-              events,
-              c,
-              quiet_after v old r is tells c.now c.tells,
-              (events, subst (λ l. AreAcknowledged r.next.spool.dead l events) (sym made.1) made.0.in_hand, sym (accepted_all old.spool.state events c.turn.accepted)),
-              λ died. absurd (both_ways _ lives died),
-            )
+            let events : List Event = events_in old made.0.steps in
+            record {
+              turn = (
+                events,
+                c,
+                quiet_after v old r is tells c.now c.tells,
+                (events, subst (λ l. AreAcknowledged r.next.spool.dead l events) (sym made.1) made.0.in_hand, sym (accepted_all old.spool.state events made.0.accepted)),
+                λ died. absurd (both_ways _ lives died),
+              );
+              behind = inl made.0.table;
+            }
       ]
+
+  pub round_turn : (v : Setting D) (old : Course D) (r : Ran D) → IsLegal old.spool.state → old.told ≡ Some t → IsRan v old r → IsQuietTurn t old r.tried r.next
+  round_turn v old r legal tells is = (round_behind v old r false legal tells is).turn
 
 -- ## Rounds, and turns, one after the other
 
 module _ {D : Type 0} (laws : Laws D) where
-  pub then_turn : (t : Told) (old mid new : Course D) (tried others : List Event) → (one : IsQuietTurn t old tried mid) → IsQuietTurn one.1.now mid others new → IsQuietTurn t old (tried ++ others) new
-  then_turn t old mid new tried others (more, one, quiet, first, none) (further, two, quiet_then, second, none_then) =
-      (more ++ further, laws.joined old mid new t more further one two, quiet_of, all_of, none_of)
-    where
-      behind : AreAcknowledged new.spool.dead others second.0 → AreAcknowledged new.spool.dead (tried ++ others) (tried ++ second.0)
-      behind hand = elim hand [
-        | inl all ↦ inl (ap (λ l. tried ++ l) all)
-        | inr failed ↦ inr (failed.0, failed.1, ap (λ l. tried ++ l) failed.2 ∙ sym (append_assoc tried second.0 (failed.1 ∷ [])))
-      ]
+  quiet_both : (t : Told) (old mid new : Course D) (more further : List Event) (one : IsCallTurn t old more mid) (two : IsCallTurn one.now mid further new) → two.now.running ≡ [] → (laws.joined old mid new t more further one two).now.running ≡ []
+  quiet_both t old mid new more further one two quiet =
+      let both = laws.joined old mid new t more further one two in
+      ap (λ (u : Told). u.running) (some_same both.now two.now (sym both.tells ∙ two.tells)) ∙ quiet
 
-      all_of : (acknowledged : List Event) × AreAcknowledged new.spool.dead (tried ++ others) acknowledged × (more ++ further ≡ accepted old.spool.state acknowledged)
-      all_of = elim first.1 [
-        | inl all ↦
-            let taken : more ≡ accepted old.spool.state tried = first.2 ∙ ap (accepted old.spool.state) (sym all) in
-            let table : mid.spool.state ≡ after_all old.spool.state tried = one.turn.table ∙ ap (after_all old.spool.state) taken ∙ skipped old.spool.state tried in (
-              tried ++ second.0,
-              behind second.1,
-              ap (λ l. l ++ further) taken
-                  ∙ ap (λ l. accepted old.spool.state tried ++ l) second.2
-                  ∙ ap (λ s. accepted old.spool.state tried ++ accepted s second.0) table
-                  ∙ sym (accepted_append old.spool.state tried second.0),
-            )
-        | inr failed ↦
-            let nothing : others ≡ [] = none_then failed.0 in
-            let empty : second.0 ≡ [] = none_acknowledged new.spool.dead others second.0 second.1 nothing in (
-              first.0,
-              inr ((two.after_over failed.0).1, failed.1, ap (λ l. tried ++ l) nothing ∙ append-nil tried ∙ failed.2),
-              ap (λ l. more ++ l) (second.2 ∙ ap (accepted mid.spool.state) empty) ∙ append-nil more ∙ first.2,
-            )
-      ]
+  pub then_call : (t : Told) (old mid new : Course D) (one : IsQuietCall t old mid) → IsQuietCall one.1.now mid new → IsQuietCall t old new
+  then_call t old mid new (more, one, quiet) (further, two, quiet_then) =
+      (more ++ further, laws.joined old mid new t more further one two, quiet_both t old mid new more further one two quiet_then)
 
-      none_of : old.spool.dead ≡ true → tried ++ others ≡ []
-      none_of died = ap (λ l. l ++ others) (none died) ∙ none_then (one.after_over died).1
+  pub legal_then : (t : Told) (old mid : Course D) (more : List Event) → IsCallTurn t old more mid → IsLegal mid.spool.state
+  legal_then t old mid more one = legal_rows mid.spool.state (subst IsLegal (sym one.turn.table) (laws.legal (raised old.spool.state) more (laws.raised_legal old.spool.state one.turn.legal)))
 
-      quiet_of : (laws.joined old mid new t more further one two).now.running ≡ []
-      quiet_of = ap (λ (u : Told). u.running) (some_same (laws.joined old mid new t more further one two).now two.now (sym (laws.joined old mid new t more further one two).tells ∙ two.tells)) ∙ quiet_then
+  -- rounds raise no version
+  then_round : (t : Told) (old mid new : Course D) (tried others : List Event) → (one : IsTurned t old false tried mid) → IsTurned one.turn.1.now mid false others new → IsTurned t old false (tried ++ others) new
+  then_round t old mid new tried others first second =
+      let (more, one, quiet, (a, hand, taken), none) = first.turn in
+      let (further, two, quiet_then, (b, hand_then, taken_then), none_then) = second.turn in
+      let table = exact_behind false old.spool.state more mid.spool.state first.behind (inr refl) in
+      record {
+        turn = (
+          more ++ further,
+          laws.joined old mid new t more further one two,
+          quiet_both t old mid new more further one two quiet_then,
+          (
+            a ++ b,
+            acknowledged_both mid.spool.dead new.spool.dead tried others a b hand hand_then none_then (λ died. (two.after_over died).1),
+            accepted_both old.spool.state mid.spool.state a b more further taken table taken_then,
+          ),
+          λ died. ap (λ l. l ++ others) (none died) ∙ none_then (one.after_over died).1,
+        );
+        behind = inl (exact_behind false mid.spool.state further new.spool.state second.behind (inr refl) ∙ ap (λ s. after_all s further) table ∙ sym (after_both old.spool.state more further));
+      }
 
-  pub legal_then : (t : Told) (old mid : Course D) (tried : List Event) → IsQuietTurn t old tried mid → IsLegal mid.spool.state
-  legal_then t old mid tried (more, one, quiet, acknowledged, none) = subst IsLegal (sym one.turn.table) (laws.legal old.spool.state more one.turn.legal)
-
-  rounds_turn : (v : Setting D) (rs : List (Ran D)) (t : Told) → t.running ≡ [] → (old new : Course D) → IsLegal old.spool.state → old.told ≡ Some t → AreRan v old rs new → IsQuietTurn t old (flat_map (λ r. r.tried) rs) new
-  rounds_turn v [] t quiet old new legal tells same = same_turn laws t quiet old new legal tells same
+  rounds_turn : (v : Setting D) (rs : List (Ran D)) (t : Told) → t.running ≡ [] → (old new : Course D) → IsLegal old.spool.state → old.told ≡ Some t → AreRan v old rs new → IsTurned t old false (flat_map (λ r. r.tried) rs) new
+  rounds_turn v [] t quiet old new legal tells same = same_turn laws t quiet old new false legal tells same
   rounds_turn v (r ∷ rs) t quiet old new legal tells (is, others) =
-      let one = round_turn laws t quiet v old r legal tells is in
-      then_turn t old r.next new r.tried (flat_map (λ r. r.tried) rs) one (rounds_turn v rs one.1.now one.2 r.next new (legal_then t old r.next r.tried one) one.1.tells others)
+      let one = round_behind laws t quiet v old r false legal tells is in
+      let c = one.turn.1 in
+      then_round t old r.next new r.tried (flat_map (λ r. r.tried) rs) one (rounds_turn v rs c.now one.turn.2 r.next new (legal_then t old r.next one.turn.0 c) c.tells others)
 
-  run_turn : (v : Setting D) (w : Meaning) (t : Told) → t.running ≡ [] → (old new : Course D) (rs : List (Ran D)) (reply : List ℕ) → IsLegal old.spool.state → old.told ≡ Some t → AreRunBy v w old rs new reply → IsQuietTurn t old (flat_map (λ r. r.tried) rs) new
+  run_turn : (v : Setting D) (w : Meaning) (t : Told) → t.running ≡ [] → (old new : Course D) (rs : List (Ran D)) (reply : List ℕ) → IsLegal old.spool.state → old.told ≡ Some t → AreRunBy v w old rs new reply → IsTurned t old (is_listing w) (flat_map (λ r. r.tried) rs) new
   run_turn v (says text) t quiet old new rs reply legal tells is = absurd is
   run_turn v (asks e line) t quiet old new rs reply legal tells is = absurd is
   run_turn v lists t quiet old new rs reply legal tells is = absurd is
   run_turn v (runs most line) t quiet old new rs reply legal tells is = rounds_turn v rs t quiet old new legal tells is.each
 
-  pub how_turn : (v : Setting D) (t : Told) → t.running ≡ [] → (old : Course D) (turn : Turn D) (how : How D) → IsLegal old.spool.state → old.told ≡ Some t → IsHow v old turn how → IsQuietTurn t old (tried_by (event_of v.mime old.spool.state turn.document turn.command) how) turn.next
-  how_turn v t quiet old turn (replied outcome) legal tells is = outcome_turn laws t quiet v old turn outcome legal tells is.1 is.0
-  how_turn v t quiet old turn (ran rs) legal tells is = run_turn v (meaning v.mime old.spool.state turn.document turn.command) t quiet old turn.next rs turn.text legal tells is
+  how_behind : (v : Setting D) (t : Told) → t.running ≡ [] → (old : Course D) (turn : Turn D) (how : How D) → IsLegal old.spool.state → old.told ≡ Some t → IsHow v old turn how
+      → IsTurned t old (is_listing (meaning v.mime old.spool.state turn.document turn.command)) (tried_by (event_of v.mime old.spool.state turn.document turn.command) how) turn.next
+  how_behind v t quiet old turn (replied outcome) legal tells is = outcome_turn laws t quiet v old turn outcome legal tells is.1 is.0
+  how_behind v t quiet old turn (ran rs) legal tells is = run_turn v (meaning v.mime old.spool.state turn.document turn.command) t quiet old turn.next rs turn.text legal tells is
 
-  pub turns_turn : (v : Setting D) (turns : List (Turn D)) (t : Told) → t.running ≡ [] → (old : Course D) → IsLegal old.spool.state → old.told ≡ Some t → AreTurns v old turns → IsQuietTurn t old (tried_in_turns v.mime old turns) (last_course old turns)
-  turns_turn v [] t quiet old legal tells are = same_turn laws t quiet old old legal tells refl
-  turns_turn v (turn ∷ turns) t quiet old legal tells (first, others) =
-      let one = how_turn v t quiet old turn turn.how legal tells first.how in
+  pub how_turn : (v : Setting D) (t : Told) → t.running ≡ [] → (old : Course D) (turn : Turn D) → IsLegal old.spool.state → old.told ≡ Some t → IsHow v old turn turn.how → IsQuietCall t old turn.next
+  how_turn v t quiet old turn legal tells is = let one = (how_behind v t quiet old turn turn.how legal tells is).turn in (one.0, one.1, one.2)
+
+  -- a turn, and then more
+  then_turns : (v : Setting D) (t : Told) (old : Course D) (turn : Turn D) (turns : List (Turn D)) → (one : IsTurned t old (is_listing (meaning v.mime old.spool.state turn.document turn.command)) (tried_in v.mime old turn) turn.next)
+      → IsQuietRun one.turn.1.now v.mime turn.next turns → IsQuietRun t v.mime old (turn ∷ turns)
+  then_turns v t old turn turns first (further, two, quiet_then, (b, hand_then, taken_then, kept_then), none_then) =
+      let (more, one, quiet, (a, hand, taken), none) = first.turn in
       let tried = tried_in v.mime old turn in
-      then_turn t old turn.next (last_course turn.next turns) tried (tried_in_turns v.mime turn.next turns) one (turns_turn v turns one.1.now one.2 turn.next (legal_then t old turn.next tried one) one.1.tells others)
+      let others = tried_in_turns v.mime turn.next turns in (
+        more ++ further,
+        laws.joined old turn.next (last_course turn.next turns) t more further one two,
+        quiet_both t old turn.next (last_course turn.next turns) more further one two quiet_then,
+        (
+          a ++ b,
+          acknowledged_both turn.next.spool.dead (last_course turn.next turns).spool.dead tried others a b hand hand_then none_then (λ died. (two.after_over died).1),
+          (a, b, further, hand, refl, ap (λ l. l ++ further) taken, taken_then),
+          kept,
+        ),
+        λ died. ap (λ l. l ++ others) (none died) ∙ none_then (one.after_over died).1,
+      )
+    where
+      state : State
+      state = old.spool.state
+
+      -- where no checkpoint raises the version
+      kept : KeepVersion state (commands_in (turn ∷ turns)) → first.turn.0 ++ further ≡ accepted state (first.turn.3.0 ++ b)
+      kept keeps =
+          let here : (state.version ≡ Two) ⊎ (is_listing (meaning v.mime state turn.document turn.command) ≡ false) = elim keeps [
+            | inl newest ↦ inl newest
+            | inr none ↦ inr (lists_none v.mime state turn.document turn.command none.0)
+          ] in
+          let table : turn.next.spool.state ≡ after_all state first.turn.0 = exact_behind (is_listing (meaning v.mime state turn.document turn.command)) state first.turn.0 turn.next.spool.state first.behind here in
+          let then : KeepVersion turn.next.spool.state (commands_in turns) = elim keeps [
+            | inl newest ↦ inl (ap (λ (s : State). s.version) table ∙ laws.version state first.turn.0 ∙ newest)
+            | inr none ↦ inr none.1
+          ] in
+          accepted_both state turn.next.spool.state first.turn.3.0 b first.turn.0 further first.turn.3.2 table (kept_then then)
+
+  pub turns_turn : (v : Setting D) (turns : List (Turn D)) (t : Told) → t.running ≡ [] → (old : Course D) → IsLegal old.spool.state → old.told ≡ Some t → AreTurns v old turns → IsQuietRun t v.mime old turns
+  turns_turn v [] t quiet old legal tells are =
+      let one = plain_call laws t quiet old old false [] legal tells tt (inl refl) (record { slots = refl; told = refl }) (λ died. died) in
+      ([], one.0, one.1, ([], inl refl, (refl, refl), λ keeps. refl), λ died. refl)
+  turns_turn v (turn ∷ turns) t quiet old legal tells (first, others) =
+      let one = how_behind v t quiet old turn turn.how legal tells first.how in
+      let c = one.turn.1 in
+      then_turns v t old turn turns one (turns_turn v turns c.now one.turn.2 turn.next (legal_then t old turn.next one.turn.0 c) c.tells others)

@@ -1,11 +1,13 @@
 -- How an event, or a checkpoint, went.
-use Rattle.std.specs.Prelude.{◌≡◌, ◌≤◌, ◌↔◌, ℕ, List, codes, false, IsSome, Result, Ok, Err, OnOk}
+use Rattle.std.specs.Prelude.{◌≡◌, ◌≤◌, ◌↔◌, ◌⊎◌, ℕ, List, codes, false, IsSome, Result, Ok, Err, OnOk}
 use Rattle.spool_types.specs.declared.event.Event.{Event}
 use Rattle.spool_types.specs.declared.event.Reply.{Reply}
+use Rattle.spool_types.specs.State.{State}
+use Rattle.job_table.specs.Versions.{raised}
 use Rattle.spool_disk.specs.Disk.{DiskView, LeavesOnly}
 use Rattle.command_lines.specs.declared.command.Command.{Command}
 use Rattle.command_lines.specs.Replies.{refusal_line}
-use Rattle.spool_core.specs.Image.{HasTable, HasWhole, HasBeforeOrAfterEvent, HasWholeBeforeOrAfterEvent, documents_after_one}
+use Rattle.spool_core.specs.Image.{HasInEitherVersion, HasWhole, HasBeforeOrAfterEvent, HasWholeBeforeOrAfterEvent, documents_after_one}
 use Rattle.spool_core.specs.Checkpointing.{IsCheckpoint}
 use Rattle.spool_core.specs.declared.spool.checkpoint_fault.CheckpointFault.{CheckpointFault}
 use Rattle.spool_core.specs.Standing.{Standing, IsAnswer}
@@ -53,15 +55,19 @@ abbrev pub checkpoint_line : Result (Unit {0}) CheckpointFault → List ℕ
 checkpoint_line (Ok done) = codes "ok\n"
 checkpoint_line (Err fault) = checkpoint_fault_line fault
 
+-- the table with these documents, in its version or in the newest
+abbrev pub HasWholeInEitherVersion : State → (ℕ → List ℕ) → List ℕ → Type 0
+HasWholeInEitherVersion s documents image = HasWhole s documents image ⊎ HasWhole (raised s) documents image
+
 -- a checkpoint that was answered so, and what a crash meanwhile and behind it leaves
 pub record IsRelisted {D : Type 0} (device : DiskView D) (old : Standing D) (answer : Result (Unit {0}) CheckpointFault) (new : Standing D) : Type 0 where
   pub cause : IsCheckpoint device old answer new
   pub counted : device.failures old.disk ≤ device.failures new.disk
   pub told : IsSome (device.bytes new.disk) ↔ IsSome (device.bytes old.disk)
   pub crash : old.dead ≡ false → IsSome (device.bytes old.disk) →
-      LeavesOnly device old.disk new.disk (HasTable old.state)
+      LeavesOnly device old.disk new.disk (HasInEitherVersion old.state)
   pub whole : old.dead ≡ false → IsSome (device.bytes old.disk) → (documents : ℕ → List ℕ) → LeavesDocuments device documents old →
-      LeavesOnly device old.disk new.disk (HasWhole old.state documents)
+      LeavesOnly device old.disk new.disk (HasWholeInEitherVersion old.state documents)
   pub kept : IsKept device new
   pub lasting : OnOk answer (IsSome (device.bytes old.disk) → (documents : ℕ → List ℕ) → LeavesDocuments device documents old → LeavesDocuments device documents new)
 

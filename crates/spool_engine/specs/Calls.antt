@@ -12,7 +12,7 @@ use Rattle.print_rounds.specs.World.{keys_in, IsCallTurn}
 use Rattle.spool_engine.specs.EventTurns.{Setting}
 use Rattle.spool_engine.specs.Mime.{Mime}
 use Rattle.spool_engine.specs.Rounds.{Ran, IsRan}
-use Rattle.spool_engine.specs.Runs.{Turn, AreTurns, documents_left, last_course, last_documents, tried_in}
+use Rattle.spool_engine.specs.Runs.{Turn, AreTurns, KeepVersion, commands_in, documents_left, last_course, last_documents, tried_in}
 use Rattle.spool_engine.specs.Script.{Documents}
 
 -- the events that were tried in turns
@@ -28,6 +28,22 @@ IsQuietTurn t old tried new =
     (more : List Event) × (c : IsCallTurn t old more new) × (c.now.running ≡ [])
     × ((acknowledged : List Event) × AreAcknowledged new.spool.dead tried acknowledged × (more ≡ accepted old.spool.state acknowledged))
     × (old.spool.dead ≡ true → tried ≡ [])
+
+-- Of the events that were acknowledged in turns these were accepted, each on the table that its turn found.
+abbrev pub AreTaken : {D : Type 0} → Mime → Course D → List (Turn D) → List Event → List Event → Type 0
+AreTaken m s [] acknowledged more = (acknowledged ≡ []) × (more ≡ [])
+AreTaken m s (t ∷ ts) acknowledged more =
+    (here : List Event) × (later : List Event) × (further : List Event) × AreAcknowledged t.next.spool.dead (tried_in m s t) here
+    × (acknowledged ≡ here ++ later) × (more ≡ accepted s.spool.state here ++ further) × AreTaken m t.next ts later further
+
+-- So it is with a run, by its turns. Where no checkpoint raises the version, its events are those accepted of the acknowledged
+-- ones on the first table.
+abbrev pub IsQuietRun : {D : Type 0} → Told → Mime → Course D → List (Turn D) → Type 0
+IsQuietRun t m old turns =
+    (more : List Event) × (c : IsCallTurn t old more (last_course old turns)) × (c.now.running ≡ [])
+    × ((acknowledged : List Event) × AreAcknowledged (last_course old turns).spool.dead (tried_in_turns m old turns) acknowledged × AreTaken m old turns acknowledged more
+    × (KeepVersion old.spool.state (commands_in turns) → more ≡ accepted old.spool.state acknowledged))
+    × (old.spool.dead ≡ true → tried_in_turns m old turns ≡ [])
 
 -- ## The calls of one engine
 

@@ -10,11 +10,12 @@ use Rattle.spool_types.specs.Values.{is_uri}
 use Rattle.filter_args.specs.Reading.{reading}
 use Rattle.filter_args.specs.declared.place.Place.{Place}
 use Rattle.job_table.specs.Step.{refusal_of, step}
+use Rattle.job_table.specs.Versions.{raised}
 use Rattle.spool_disk.specs.Disk.{DiskView, ChangesNothing, LeavesOnly}
 use Rattle.command_lines.specs.declared.command.Command.{Command}
-use Rattle.command_lines.specs.declared.command.Command.TheVariants.{Queue, Create, Close}
+use Rattle.command_lines.specs.declared.command.Command.TheVariants.{Queue, Create, Close, Checkpoint}
 use Rattle.spool_core.specs.Driving.{HasWholePrefix, documents_after}
-use Rattle.spool_core.specs.Image.{HasTable, HasDocument}
+use Rattle.spool_core.specs.Image.{HasTable, HasDocument, HasWhole}
 use Rattle.spool_core.specs.Standing.{Standing, IsDone, IsFull, IsFailed, len_at}
 use Rattle.spool_core.specs.Checkpointing.{IsCheckpoint, IsListed}
 use Rattle.spool_core.specs.declared.spool.checkpoint_fault.CheckpointFault.{CheckpointFault}
@@ -196,18 +197,33 @@ tried_as asked (unlisted fault) = []
 abbrev pub HasSomeSent : State → (ℕ → List ℕ) → List Event → List ℕ → Type 0
 HasSomeSent s documents events image = HasWholePrefix s documents events 0 (length events) image
 
+-- the command lists the table
+abbrev pub is_checkpoint : Command → Bool
+is_checkpoint Checkpoint = true
+is_checkpoint c = false
+
+-- What a crash in a command leaves: the table after some of the events that were tried in it, the first of them. In a
+-- checkpoint it is the table, also in the newest version.
+abbrev pub HasTableIn : Command → State → List Event → List ℕ → Type 0
+HasTableIn c s tried image = HasSomeOf s tried image ⊎ ((is_checkpoint c ≡ true) × HasTable (raised s) image)
+
+-- and these documents, with what the events sent
+abbrev pub HasWholeIn : Command → State → (ℕ → List ℕ) → List Event → List ℕ → Type 0
+HasWholeIn c s documents tried image = HasSomeSent s documents tried image ⊎ ((is_checkpoint c ≡ true) × HasWhole (raised s) documents image)
+
 -- A turn on the spool that it found. Unless the device had failed before, a crash at any moment of it leaves the table
--- before the command or, where its event was tried, the one after it. Unless it has failed by then, a crash after it leaves
--- the table that is shown. So it is with the documents: with those before, or with what the event sends.
+-- before the command or, where its event was tried, the one after it; a checkpoint leaves the table, in its version or in the
+-- newest. Unless it has failed by then, a crash after it leaves the table that is shown. So it is with the documents: with
+-- those before, or with what the event sends.
 pub record IsEventTurn {D : Type 0} (v : Setting D) (s : Standing D) (t : EventTurn D) : Type 0 where
   pub outcome : IsOutcome v s t t.outcome
   pub read : IsReadFor v s t.document t.outcome t.command
   pub counted : v.device.failures s.disk ≤ v.device.failures t.next.disk
   pub told : IsSome (v.device.bytes t.next.disk) ↔ IsSome (v.device.bytes s.disk)
   pub crash : s.dead ≡ false → IsSome (v.device.bytes s.disk) →
-      LeavesOnly v.device s.disk t.next.disk (HasSomeOf s.state (tried_as (event_of v.mime s.state t.document t.command) t.outcome))
+      LeavesOnly v.device s.disk t.next.disk (HasTableIn t.command s.state (tried_as (event_of v.mime s.state t.document t.command) t.outcome))
   pub whole : s.dead ≡ false → IsSome (v.device.bytes s.disk) → (documents : ℕ → List ℕ) → LeavesDocuments v.device documents s →
-      LeavesOnly v.device s.disk t.next.disk (HasSomeSent s.state documents (tried_as (event_of v.mime s.state t.document t.command) t.outcome))
+      LeavesOnly v.device s.disk t.next.disk (HasWholeIn t.command s.state documents (tried_as (event_of v.mime s.state t.document t.command) t.outcome))
   pub kept : IsKept v.device t.next
   pub lasting : t.next.dead ≡ false → IsSome (v.device.bytes s.disk) → (documents : ℕ → List ℕ) → LeavesDocuments v.device documents s →
       LeavesDocuments v.device (documents_after s.state documents (tried_as (event_of v.mime s.state t.document t.command) t.outcome)) t.next

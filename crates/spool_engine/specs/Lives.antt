@@ -8,6 +8,7 @@ use Rattle.job_table.specs.Attempts.{HasNoProcessing}
 use Rattle.job_table.specs.Fold.{after_all}
 use Rattle.job_table.specs.Legal.{IsLegal}
 use Rattle.job_table.specs.Stages.{Key}
+use Rattle.job_table.specs.Versions.{raised}
 use Rattle.filter_args.specs.declared.place.Place.{Place}
 use Rattle.child_pipeline.specs.Told.{Told}
 use Rattle.child_pipeline.specs.declared.order.Placed.{Placed}
@@ -45,11 +46,11 @@ pub record IsEngineLife {D : Type 0} (device : DiskView D) (l : EngineLife D) : 
   pub added : now.orders ≡ (l.told).orders ++ l.orders
 
 -- Each is made on the table after the one that the engine before left and some further events: the one in hand, and the
--- opening's Reopen.
+-- opening's Reopen. A checkpoint in hand may have raised the version, so the tables are seen as the newest has them.
 abbrev pub AreEngineLives : {D : Type 0} → DiskView D → State → List (EngineLife D) → Type 0
 AreEngineLives device s [] = Unit {0}
 AreEngineLives device s (l ∷ ls) =
-    IsEngineLife device l × ((further : List Event) × ((l.start).spool.state ≡ after_all s further)) × AreEngineLives device (last_of l).spool.state ls
+    IsEngineLife device l × ((further : List Event) × (raised (l.start).spool.state ≡ after_all (raised s) further)) × AreEngineLives device (last_of l).spool.state ls
 
 abbrev pub IsEngineWorld : {D : Type 0} → DiskView D → List (EngineLife D) → Type 0
 IsEngineWorld device [] = Unit {0}

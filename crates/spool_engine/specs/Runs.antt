@@ -4,7 +4,10 @@ use Rattle.std.specs.List.{flat_map}
 use Rattle.std.specs.Result.{IsOk}
 use Rattle.std.specs.Io.KnownBytes.{Appends}
 use Rattle.spool_types.specs.declared.event.Event.{Event}
+use Rattle.spool_types.specs.declared.version.Version.TheVariants.{Two}
+use Rattle.spool_types.specs.State.{State}
 use Rattle.job_table.specs.Fold.{after_all}
+use Rattle.job_table.specs.Versions.{raised}
 use Rattle.filter_args.specs.declared.place.Place.{Place}
 use Rattle.spool_disk.specs.Disk.{LeavesOnly}
 use Rattle.command_lines.specs.Text.{commands_of}
@@ -16,8 +19,8 @@ use Rattle.spool_core.specs.Image.{HasTable, HasWhole}
 use Rattle.child_pipeline.specs.Told.{Told}
 use Rattle.print_rounds.specs.Courses.{Course}
 use Rattle.spool_engine.specs.Mime.{Mime}
-use Rattle.print_rounds.specs.Rounds.{HasSomeOf, HasSomeWhole, LeavesDocuments}
-use Rattle.spool_engine.specs.EventTurns.{Setting, Outcome, served, EventTurn, IsOutcome, IsReadFor, IsKept, HasSomeSent, tried_as}
+use Rattle.print_rounds.specs.Rounds.{HasSomeWhole, LeavesDocuments}
+use Rattle.spool_engine.specs.EventTurns.{Setting, Outcome, served, EventTurn, IsOutcome, IsReadFor, IsKept, HasSomeSent, HasTableIn, tried_as, is_checkpoint}
 use Rattle.spool_engine.specs.Rounds.{Ran, AreRunBy, counts_in, results_of}
 use Rattle.spool_engine.specs.Script.{Documents, Asked, Scene, meaning, event_of, script_text, script_events, script_scene, asked_on, documents_on}
 use Rattle.spool_engine.specs.declared.fault.RunFault.{RunFault}
@@ -82,20 +85,22 @@ abbrev pub HasSomeBy : {D : Type 0} → Course D → Documents → Option Event 
 HasSomeBy s documents asked (answered outcome) image = HasSomeSent s.spool.state documents (tried_as asked outcome) image
 HasSomeBy s documents asked (ran rs) image = HasSomeWhole s.spool.state documents (tried_by asked (ran rs)) image
 
+-- in a checkpoint it is the table, also in the newest version
 abbrev pub HasSomeIn : {D : Type 0} → Mime → Course D → Documents → Turn D → List ℕ → Type 0
-HasSomeIn m s documents t = HasSomeBy s documents (event_of m s.spool.state t.document t.command) t.how
+HasSomeIn m s documents t image =
+    HasSomeBy s documents (event_of m s.spool.state t.document t.command) t.how image ⊎ ((is_checkpoint t.command ≡ true) × HasWhole (raised s.spool.state) documents image)
 
 -- A turn on the spool that it found. Unless the device had failed before, a crash at any moment of it leaves the table
 -- after some of the events that were tried in it, the first of them: for a command of one event the table before it or
--- the one after it. Unless the device has failed by then, a crash after the turn leaves the table that is shown. So it is
--- with the documents.
+-- the one after it, and for a checkpoint the table in its version or in the newest. Unless the device has failed by then, a
+-- crash after the turn leaves the table that is shown. So it is with the documents.
 pub record IsTurn {D : Type 0} (v : Setting D) (s : Course D) (t : Turn D) : Type 0 where
   pub how : IsHow v s t t.how
   pub read : IsReadIn v s t t.how
   pub counted : v.device.failures s.spool.disk ≤ v.device.failures t.next.spool.disk
   pub told : IsSome (v.device.bytes t.next.spool.disk) ↔ IsSome (v.device.bytes s.spool.disk)
   pub crash : s.spool.dead ≡ false → IsSome (v.device.bytes s.spool.disk) →
-      LeavesOnly v.device s.spool.disk t.next.spool.disk (HasSomeOf s.spool.state (tried_in v.mime s t))
+      LeavesOnly v.device s.spool.disk t.next.spool.disk (HasTableIn t.command s.spool.state (tried_in v.mime s t))
   pub whole : s.spool.dead ≡ false → IsSome (v.device.bytes s.spool.disk) → (documents : Documents) → LeavesDocuments v.device documents s.spool →
       LeavesOnly v.device s.spool.disk t.next.spool.disk (HasSomeIn v.mime s documents t)
   pub kept : IsKept v.device t.next.spool
@@ -127,10 +132,10 @@ abbrev pub AllServed : {D : Type 0} → List (Turn D) → Type 0
 AllServed [] = Unit {0}
 AllServed (t ∷ ts) = IsWell t.how × AllServed ts
 
--- the table that some of these turns' events lead to, the first of them, in order
+-- the table that some of these turns' events and checkpoints lead to, the first of them, in order
 abbrev pub IsAlong : {D : Type 0} → Mime → Course D → List (Turn D) → List ℕ → Type 0
 IsAlong m s [] image = HasTable s.spool.state image
-IsAlong m s (t ∷ ts) image = HasSomeOf s.spool.state (tried_in m s t) image ⊎ IsAlong m t.next ts image
+IsAlong m s (t ∷ ts) image = HasTableIn t.command s.spool.state (tried_in m s t) image ⊎ IsAlong m t.next ts image
 
 -- and these documents, with what the events sent
 abbrev pub IsWholeAlong : {D : Type 0} → Mime → Course D → Documents → List (Turn D) → List ℕ → Type 0
@@ -231,10 +236,20 @@ asked_by t = record { command = t.command; documents = read_by t.document t.how 
 abbrev pub asked_of : {D : Type 0} → List (Turn D) → List Asked
 asked_of ts = map asked_by ts
 
--- exactly the replies of Script were written, and the table is the fold of Script's events
+abbrev pub HasNoCheckpoints : List Command → Type 0
+HasNoCheckpoints [] = Unit {0}
+HasNoCheckpoints (c ∷ cs) = (is_checkpoint c ≡ false) × HasNoCheckpoints cs
+
+-- no checkpoint of these raises the version: it is the newest already, or there is none
+abbrev pub KeepVersion : State → List Command → Type 0
+KeepVersion s cs = (s.version ≡ Two) ⊎ HasNoCheckpoints cs
+
+-- exactly the replies of Script were written, and the table is Script's: the fold of Script's events, where no checkpoint
+-- raises its version between them
 pub record IsScript {D : Type 0} (v : Setting D) (x : Scene) (asked : List Asked) (s' : Course D) (old new : Option (List ℕ)) : Type 0 where
   pub wrote : Appends old new (script_text v.mime v.place x asked)
-  pub table : s'.spool.state ≡ after_all x.state (script_events v.mime v.place x asked)
+  pub table : s'.spool.state ≡ (script_scene v.mime v.place x asked).state
+  pub fold : KeepVersion x.state (map (λ a. a.command) asked) → s'.spool.state ≡ after_all x.state (script_events v.mime v.place x asked)
 
 abbrev pub is_round : Command → Bool
 is_round commands.Round = true

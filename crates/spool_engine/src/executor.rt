@@ -6,7 +6,7 @@ ghost use Rattle.spool_types.specs.State.{job_at};
 ghost use Rattle.spool_types.specs.declared.event.Closing.{Closing as ClosingOf};
 ghost use Rattle.spool_types.specs.declared.event.Reply.{Reply};
 ghost use Rattle.job_table.specs.Over.{is_over};
-ghost use Rattle.job_table.specs.Step.{refusal_of};
+ghost use Rattle.job_table.specs.Step.{creation, refusal_of};
 ghost use Rattle.command_lines.specs.Replies.{jobs_text, queues_text, shown_text};
 ghost use Rattle.command_lines.specs.declared.command.Command.{Command};
 ghost use Rattle.filter_args.specs.declared.place.Place.{Place as PlaceOf};
@@ -35,8 +35,8 @@ use print_rounds::{Round, RoundFault};
 use spool_core::{ApplyFault, CheckpointFault, Spool, Unread, read_whole};
 use spool_disk::Disk;
 use spool_types::{
-    Closing, Event, Filters, JobId, MediaType, NewJob, NewQueue, OptionText, QueueRow, Refusal,
-    Reply,
+    Closing, Event, Filters, JobId, MediaType, Moment, NewJob, NewQueue, OptionText, QueueRow,
+    Refusal, Reply,
 };
 use std::alloc::{AllocError, Global};
 use std::marker::Model;
@@ -135,8 +135,9 @@ impl<D: Disk> Executor<D> {
     {
         match job_options(self.alloc, creation.options.as_str()) {
             Ok(Some(options)) => {
+                let by = creation.by;
                 let job = new_job(self.next_number(), creation, options);
-                self.execute_event(Event::Create(job))
+                self.execute_event(event_of_creation(job, by))
             }
             Ok(None) => print_reply(self.alloc, &Answer::BadOptions),
             Err(AllocError) => print_reply(self.alloc, &Answer::NoMemory),
@@ -343,6 +344,16 @@ fn stages(closing: &Closing) -> Option<u8>
     match &closing.filters {
         Some(filters) => Some(filters.as_slice().len() as u8 + 1),
         None => None,
+    }
+}
+
+// The event that makes a job, which is to start by a moment if one is told.
+fn event_of_creation(job: NewJob, by: Option<Moment>) -> Event
+    ensures { result ≡ creation job by }
+{
+    match by {
+        Some(by) => Event::CreateBy { job, by },
+        None => Event::Create(job),
     }
 }
 

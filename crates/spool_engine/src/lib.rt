@@ -13,25 +13,27 @@
 //! no event is tried.
 //!
 //! A job keeps the printed form of its options. They are read before the spool is asked, as a queue's URI is: those with
-//! a fault, or too long when printed, are `error options`, also on a dead spool.
+//! a fault, or too long when printed, are `error options`, also on a dead spool. A job that is to start by a moment is another
+//! event (`creation`), which an area of the first version refuses.
 //!
 //! A round starts the next job of each queue, then a stage of each job that is processing, and once all are started
 //! finishes each child and applies the event of its end (`print_rounds`). `drain` runs rounds until one starts and finishes
 //! nothing, which it counts, or as many as it may; a fault ends it.
 //!
-//! `checkpoint` lists the table in the other area of the disk, so that the journal has room again (`Spool::checkpoint`).
+//! `checkpoint` lists the table in the other area of the disk, so that the journal has room again (`Spool::checkpoint`). The
+//! table is in the newest version of the format then, and nothing else of it changes (`raised`).
 //!
 //! # Promises
 //!
 //! [`Engine::run`] carries them in one clause, `IsRun`, and [`Engine::round`] its part of them in `IsRan`:
 //!
-//! - *ExactScript* (`exact`): where it answers Ok and every command was served, the bytes that it wrote are the
-//!   replies of Script over these rules and conversions, and the table is the fold of Script's events. Of children that
-//!   tell their answers, and of which none is running, the new orders are Script's too, and so is what is held for each
-//!   job. A text without rounds is served so whatever the children tell. This speaks of readers and writers that tell
-//!   their bytes. Each close is typed, and each first stage handed, what was read of its job's document. Where the disk tells
-//!   its bytes these are Script's own documents (`exact_with`): those that every image had at the start, with what the sends
-//!   of the text add to them.
+//! - *ExactScript* (`exact`): where it answers Ok and every command was served, the bytes that it wrote are the replies of
+//!   Script over these rules and conversions, and the table is Script's (`table`): the fold of Script's events, where no
+//!   checkpoint raises the version between them (`fold`). Of children that tell their answers, and of which none is
+//!   running, the new orders are Script's too, and so is what is held for each job. A text without rounds is served so
+//!   whatever the children tell. This speaks of readers and writers that tell their bytes. Each close is typed, and each
+//!   first stage handed, what was read of its job's document. Where the disk tells its bytes these are Script's own
+//!   documents (`exact_with`): those that every image had at the start, with what the sends of the text add to them.
 //! - *HonestReplies* (`lead`, by `IsHow`): each command in turn has Script's reply on the table that it found, or
 //!   an error's line, and has changed no row. `error full` comes only where the event's record, or the listing of a
 //!   checkpoint, doesn't fit, `error disk` only where the device failed, and `error dead` only to events and checkpoints
@@ -42,18 +44,20 @@
 //!   text (`first`).
 //! - *EachFinishedOnce* (`finished` of each round): whatever failed, each child that was started is finished once when the
 //!   round returns, and every start came before the first finish.
-//! - *NoStageTwice* ([`calls_are_turns`]): each call is a turn of World, whose events are those that were acknowledged in it.
-//!   In every world no stage of an attempt comes twice ([`lives_law`]), so over any number of engines none is ordered twice
+//! - *NoStageTwice* ([`calls_are_turns`]): each call is a turn of World, whose events are those that were acknowledged in
+//!   it, each accepted on the table that its command found. World sees each table as the newest version has it. In every
+//!   world no stage of an attempt comes twice ([`lives_law`]), so over any number of engines none is ordered twice
 //!   ([`no_stage_is_ordered_twice`]).
 //! - *RightInput* ([`stages_have_right_input`]): over any number of calls each later stage of an attempt is handed the whole output
 //!   of the stage before it, and each first stage its job's document.
 //! - *Crashes* (`crash` and `kept` of each turn): unless the device had failed before, a crash at any moment of a turn
-//!   leaves the table before its command or the one after it, and of rounds the table after some of the events that were
-//!   tried in them, the first of them. With the table it leaves the documents after the same events (`whole`). A crash after
-//!   the turn leaves the table that is shown or, after a fault of the device, that table or the one with the event in hand.
-//!   While the device hasn't failed it leaves all that the turn sent (`lasting`). [`crashes_between_replies`] says of whole
-//!   runs that no turn is lost, as long as the device hasn't failed: not its events (`tables`), nor what they sent
-//!   (`documents`). This speaks of disks that tell their bytes.
+//!   leaves the table before its command or the one after it, of a checkpoint that table in its version or in the newest,
+//!   and of rounds the table after some of the events that were tried in them, the first of them. With the table it leaves
+//!   the documents after the same events (`whole`). A crash after the turn leaves the table that is shown or, after a fault
+//!   of the device, that table or the one with the event in hand. While the device hasn't failed it leaves all that the
+//!   turn sent (`lasting`). [`crashes_between_replies`] says of whole runs that no turn is lost, as long as the device
+//!   hasn't failed: not its events (`tables`), nor what they sent (`documents`). This speaks of disks that tell their
+//!   bytes.
 //! - What was written (`wrote`): all replies; after a fault of the writer a prefix of them and not all; where the text
 //!   of a reply found no memory, all but that reply.
 //!

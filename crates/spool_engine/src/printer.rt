@@ -17,6 +17,7 @@ use crate::mime::Mime;
 use child_pipeline::{Children, Runner};
 use command_lines::{Answer, Command, Commands, Rounds, print_reply};
 use filter_args::Place;
+use job_table::versions_rise;
 use print_rounds::{Round, RoundFault};
 use spool_core::Spool;
 use spool_disk::Disk;
@@ -267,6 +268,8 @@ impl<D: Disk, C: Children> Printer<D, C> {
     {
         // Until the device has failed a crash leaves the table that is shown.
         let _kept = self.met_fault();
+        // No event raises the version.
+        versions_rise();
         let mut commands = Commands::new(self.alloc);
         let mut piece = [0u8; PIECE];
         'reads: for _ in 0..u32::MAX {

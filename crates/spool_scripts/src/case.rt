@@ -29,6 +29,8 @@ pub struct Case {
     pub lang: String,
     /// The length of the disk in bytes.
     pub size: usize,
+    /// The version of the new spool's first area, if it isn't left as it is made.
+    pub version: Option<u8>,
     /// How the children go.
     pub children: String,
     /// After how many calls the disk fails.
@@ -87,6 +89,7 @@ pub fn read_case<R: Files<File = File> + AllocGlobal>(
         convs: text_of(rt, path, "convs")?,
         lang: lang_of(rt.alloc(), text_of(rt, path, "lang")?.as_str())?,
         size: size_of(text_of(rt, path, "size")?.as_str())?,
+        version: version_of(text_of(rt, path, "version")?.as_str())?,
         children: text_of(rt, path, "children")?,
         fuse: read_fuse(text_of(rt, path, "fuse")?.as_str())?,
         limits: read_limits(text_of(rt, path, "limits")?.as_str())?,
@@ -111,6 +114,17 @@ fn size_of(text: &str) -> Result<usize, CaseFault> {
     match text.trim_end().parse::<usize>() {
         Ok(size) => Ok(size),
         Err(_) => Err(CaseFault::NoSize),
+    }
+}
+
+// The version that a file of a case says.
+fn version_of(text: &str) -> Result<Option<u8>, CaseFault> {
+    if text.is_empty() {
+        return Ok(None);
+    }
+    match text.trim_end().parse::<u8>() {
+        Ok(version) => Ok(Some(version)),
+        Err(_) => Err(CaseFault::NoVersion),
     }
 }
 

@@ -1,6 +1,7 @@
 //! Why a case can't be served.
 
 use spool_core::{MakeFault, OpenFault};
+use spool_disk::DeviceFault;
 use std::alloc::AllocError;
 use std::{fmt, io};
 use thiserror::Error;
@@ -18,6 +19,9 @@ pub enum CaseFault {
     /// The file of the disk's length holds no number.
     #[error("has a size that is no number")]
     NoSize,
+    /// The file of the version holds no number of a byte.
+    #[error("has a version that is no number")]
+    NoVersion,
     /// The file of the disk's calls doesn't hold two numbers, the first no greater than the last.
     #[error("has a fuse that is no two rising numbers")]
     NoFuse,
@@ -33,6 +37,9 @@ pub enum CaseFault {
     /// The disk is too short for a spool.
     #[error("is on a disk that is too short")]
     ShortDisk,
+    /// The disk failed while the spool was made.
+    #[error("is on a disk that fails")]
+    FailedDisk,
     /// What was written is no spool.
     #[error("can't be opened: {0:?}")]
     Unopened(OpenFault),
@@ -55,6 +62,12 @@ impl From<io::Error> for CaseFault {
 impl From<MakeFault> for CaseFault {
     fn from(_fault: MakeFault) -> CaseFault {
         CaseFault::ShortDisk
+    }
+}
+
+impl From<DeviceFault> for CaseFault {
+    fn from(_fault: DeviceFault) -> CaseFault {
+        CaseFault::FailedDisk
     }
 }
 

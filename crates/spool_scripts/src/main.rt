@@ -11,6 +11,8 @@
 //! - `NAME.types` has rules of types, and `NAME.convs` conversions.
 //! - `NAME.lang` has the locale of the types, which is else `C`.
 //! - `NAME.size` has the length of the disk in bytes, which is else 4,194,304.
+//! - `NAME.version` has the version of the new spool's first area, which is else the newest: that byte alone is written, once
+//!   the spool is made.
 //! - `NAME.children` tells how the children of rounds go ([`outcomes`]). Without it none can be started.
 //! - `NAME.fuse` has two numbers ([`fuse`]): the case is served with a disk that fails after the first number of calls, and
 //!   so on up to the last. With the word `once` before them that disk fails at one call alone. Without the file it doesn't

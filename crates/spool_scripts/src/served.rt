@@ -12,9 +12,12 @@ use filter_args::Place;
 use mime_costs::Convs;
 use mime_rules::Types;
 use spool_core::{Spool, make};
-use spool_disk::{FuseDisk, MemDisk, OnceDisk};
+use spool_disk::{Disk, FuseDisk, MemDisk, OnceDisk};
 use spool_engine::{Engine, RunFault};
 use std::alloc::Global;
+
+// Where the version of the first area lies.
+const VERSION_PLACE: u64 = 1;
 
 /// What came of a script.
 #[derive(Drop)]
@@ -80,13 +83,22 @@ pub fn serve(alloc: Global, case: &Case, way: Way, calls: u64) -> Result<Served,
 }
 
 fn new_bench(alloc: Global, case: &Case) -> Result<Bench, CaseFault> {
-    let mut disk = MemDisk::new(alloc, case.size)?;
-    make(&mut disk)?;
     Ok(Bench {
-        disk,
+        disk: new_disk(alloc, case)?,
         children: read_children(alloc, case.children.as_str())?,
         account: String::new(alloc),
     })
+}
+
+// A new spool, in the version that the case says.
+fn new_disk(alloc: Global, case: &Case) -> Result<MemDisk, CaseFault> {
+    let mut disk = MemDisk::new(alloc, case.size)?;
+    make(&mut disk)?;
+    match case.version {
+        Some(version) if VERSION_PLACE < disk.len() => disk.write(VERSION_PLACE, &[version])?,
+        _ => {}
+    }
+    Ok(disk)
 }
 
 // An engine on the spool of a disk.

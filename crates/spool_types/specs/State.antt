@@ -7,6 +7,8 @@ use Rattle.std.specs.FinMap as map
 use Rattle.spool_types.specs.declared.rows.QueueRow.{QueueRow}
 use Rattle.spool_types.specs.declared.rows.JobRow.{JobRow}
 use Rattle.spool_types.specs.declared.rows.Job.{Job as JobRecord}
+use Rattle.spool_types.specs.declared.version.Version.{Version}
+use Rattle.spool_types.specs.declared.version.Version.TheVariants.{Two}
 
 -- a job, without where its document lies
 abbrev pub Job : Type 0
@@ -21,15 +23,20 @@ Queues = map.FinMap (slice_cmp nat_cmp) QueueRow
 abbrev pub Jobs : Type 0
 Jobs = map.FinMap nat_cmp Job
 
--- a table: queues by their names and jobs by their numbers
+-- a table: queues by their names and jobs by their numbers, and the version of the area that it is written in
 pub record State : Type 0 where
   pub queues : Queues
   pub jobs : Jobs
   pub highest : ℕ
   pub moment : ℕ
+  pub version : Version
+
+-- the empty table, as an area of this version begins
+abbrev pub nothing_in : Version → State
+nothing_in version = record { queues = map.empty; jobs = map.empty; highest = 0; moment = 0; version = version }
 
 abbrev pub nothing : State
-nothing = record { queues = map.empty; jobs = map.empty; highest = 0; moment = 0 }
+nothing = nothing_in Two
 
 abbrev pub queue_at : State → List ℕ → Option QueueRow
 queue_at s name = map.get s.queues name

@@ -72,6 +72,8 @@ pub enum Event {
     /// Stops a queue, or lets it go on (cupsenable(8)).
     SetStop { queue: QueueName, stopped: bool },
     Create(NewJob),
+    /// Makes a job that is to start by a moment: a clock behind it cancels the job where it still waits then.
+    CreateBy { job: NewJob, by: Moment },
     Send { job: JobId, bytes: Piece },
     Close(Closing),
     /// Holds a job until a moment has come, or with none until it is released.

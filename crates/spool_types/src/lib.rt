@@ -1,4 +1,4 @@
-//! The words of the spooler: texts, numbers, rows, phases, effects, events, replies, refusals and warnings.
+//! The words of the spooler: texts, numbers, rows, phases, effects, events, replies, refusals, warnings and versions.
 //!
 //! Every other crate speaks in these types, so what a value may be is said here once, by its type. A text of a kind
 //! ([`Text`]) passes its kind's test, a number ([`Ranged`], [`JobId`], [`Moment`]) lies in its range, and a list
@@ -10,7 +10,8 @@
 //! - `Values`, `Limits`: what texts may hold, and how much of each thing there may be.
 //! - `Effects`: which effects one stage may have, and how long their codes are.
 //! - `Phases`: which phases have ended, which hold is in force, and how a job is shown.
-//! - `State`: a table of queues and jobs. `Busy`: whether a job of a queue is processing.
+//! - `State`: a table of queues and jobs, and the version of the area that it is written in. `Busy`: whether a job of a queue
+//!   is processing.
 //! - `Sent`: the bytes of documents, which are no part of a table: they are what events sent, and what rows have as pieces.
 //! - `Refusals`, `Warnings`: how a refusal and the kind of a warning are told.
 //!
@@ -38,6 +39,7 @@ mod ranged;
 mod refusal;
 mod rows;
 mod text;
+mod version;
 mod warning;
 
 pub use effect::{Attribute, Effect, Exit, Level};
@@ -59,4 +61,5 @@ pub use ranged::{AttemptNumber, Copies, Interval, Priority, Ranged, StageNumber}
 pub use refusal::Refusal;
 pub use rows::{Job, JobRow, QueueRow, is_busy};
 pub use text::{Text, TextFault, TextKind};
+pub use version::Version;
 pub use warning::{Warning, WarningKind};

@@ -1,6 +1,6 @@
 -- Examples of texts of commands.
 use Prim.Native.String.{String}
-use Rattle.std.specs.Prelude.{◌≡◌, ℕ, true, false, List, [], ◌∷◌, ◌++◌, codes, replicate, None, Some}
+use Rattle.std.specs.Prelude.{◌≡◌, ℕ, true, false, List, [], ◌∷◌, ◌++◌, codes, replicate, Option, None, Some}
 use Rattle.spool_types.specs.declared.phase.Policy.{Policy}
 use Rattle.spool_types.specs.declared.phase.Policy.TheVariants.{AbortJob, StopPrinter}
 use Rattle.spool_types.specs.declared.event.Event.{Event}
@@ -14,20 +14,22 @@ abbrev pub new_queue : String → String → String → Policy → ℕ → ℕ �
 new_queue name uri target policy interval limit =
     Queue (record { name = text name; uri = text uri; target = text target; policy = policy; interval = interval; limit = limit })
 
-abbrev pub creation : String → String → String → ℕ → ℕ → String → Command
-creation queue user title copies priority options =
-    Create (record { queue = text queue; user = text user; title = text title; copies = copies; priority = priority; options = text options })
+-- a job, and the moment by which it is to start, if there is one
+abbrev pub creation : String → String → String → ℕ → ℕ → String → Option ℕ → Command
+creation queue user title copies priority options by =
+    Create (record { queue = text queue; user = text user; title = text title; copies = copies; priority = priority; options = text options; by = by })
 
 abbrev pub info : String → String → String → Event
 info queue told place = Info (record { queue = text queue; info = text told; location = text place })
 
 -- each command once
 abbrev pub ScriptRows : Type 0
-ScriptRows = commands_of (text "queue lab spoolfile:/out Text/PLAIN abort-job|info lab \"Front desk\" \"Room 4\"|reject lab|disable lab|accept lab|enable lab|create lab ann \"First page\" 1 50 \"\"|send 1 3|a|b|# a remark||close 1 page.txt|hold 1 100|release 1|abandon 1|cancel 1|clock 7|round|drain 5|checkpoint|queues|jobs")
+ScriptRows = commands_of (text "queue lab spoolfile:/out Text/PLAIN abort-job|info lab \"Front desk\" \"Room 4\"|reject lab|disable lab|accept lab|enable lab|create lab ann \"First page\" 1 50 \"\"|createby lab ann \"x\" 1 50 \"\" 2000|send 1 3|a|b|# a remark||close 1 page.txt|hold 1 100|release 1|abandon 1|cancel 1|clock 7|round|drain 5|checkpoint|queues|jobs")
     ≡ new_queue "lab" "spoolfile:/out" "text/plain" AbortJob 30 5 ∷ Apply (info "lab" "Front desk" "Room 4")
     ∷ Apply (SetAccept (codes "lab") false) ∷ Apply (SetStop (codes "lab") true) ∷ Apply (SetAccept (codes "lab") true)
-    ∷ Apply (SetStop (codes "lab") false) ∷ creation "lab" "ann" "First page" 1 50 "" ∷ Apply (Send 1 (97 ∷ 10 ∷ 98 ∷ []))
-    ∷ Close 1 (codes "page.txt") ∷ Apply (Hold 1 (Some 100)) ∷ Apply (Release 1) ∷ Apply (Abandon 1) ∷ Apply (Cancel 1)
+    ∷ Apply (SetStop (codes "lab") false) ∷ creation "lab" "ann" "First page" 1 50 "" None
+    ∷ creation "lab" "ann" "x" 1 50 "" (Some 2000) ∷ Apply (Send 1 (97 ∷ 10 ∷ 98 ∷ [])) ∷ Close 1 (codes "page.txt")
+    ∷ Apply (Hold 1 (Some 100)) ∷ Apply (Release 1) ∷ Apply (Abandon 1) ∷ Apply (Cancel 1)
     ∷ Apply (Clock 7) ∷ Round ∷ Drain 5 ∷ Checkpoint ∷ Queues ∷ Jobs ∷ []
 
 -- queues with interval and limit
@@ -105,7 +107,13 @@ CheckpointRows = commands_of (text "checkpoint|checkpoint 1|\"checkpoint\"|check
 -- limits of a creation
 abbrev pub CreationRows : Type 0
 CreationRows = commands_of (text "create q u t 9999 100 o|create q u t 10000 1 o|create q u t 1 101 o|create q u t 0 1 o|create q \"\" t 1 1 o|")
-    ≡ creation "q" "u" "t" 9999 100 "o" ∷ Malformed ∷ Malformed ∷ Malformed ∷ Malformed ∷ []
+    ≡ creation "q" "u" "t" 9999 100 "o" None ∷ Malformed ∷ Malformed ∷ Malformed ∷ Malformed ∷ []
+
+-- moments by which a job is to start
+abbrev pub CreationByRows : Type 0
+CreationByRows = commands_of (text "createby q u t 9999 100 o 0|createby q u t 1 1 o 4000000000000|createby q u t 1 1 o 4000000000001|createby q u t 1 1 o|createby q u t 1 1 o 1 2|createby q u t 1 1 o indefinite|createby q u t 1 1 o \"\"|createby q u t 10000 1 o 1|createby q u t 1 1 1|create q u t 1 1 o 1|createby|")
+    ≡ creation "q" "u" "t" 9999 100 "o" (Some 0) ∷ creation "q" "u" "t" 1 1 "o" (Some 4000000000000)
+    ∷ Malformed ∷ Malformed ∷ Malformed ∷ Malformed ∷ Malformed ∷ Malformed ∷ Malformed ∷ Malformed ∷ Malformed ∷ []
 
 -- sends without their end
 abbrev pub CutSendRows : Type 0

@@ -1,9 +1,9 @@
 -- Examples of replies.
-use Rattle.std.specs.Prelude.{◌≡◌, true, false, [], ◌∷◌, map, codes, Some}
+use Rattle.std.specs.Prelude.{◌≡◌, true, false, [], ◌∷◌, map, codes, None, Some}
 use Rattle.spool_types.specs.State.{Job}
 use Rattle.spool_types.specs.declared.phase.Policy.TheVariants.{AbortJob}
 use Rattle.spool_types.specs.declared.phase.Phase.TheVariants.{Processing}
-use Rattle.spool_types.specs.declared.refusal.Refusal.TheVariants.{NoNumberLeft}
+use Rattle.spool_types.specs.declared.refusal.Refusal.TheVariants.{NoNumberLeft, NeedsCheckpoint}
 use Rattle.spool_types.specs.declared.rows.QueueRow.{QueueRow}
 use Rattle.command_lines.specs.Replies.{answer_text, queues_text}
 use Rattle.command_lines.specs.declared.reply.Answer.TheVariants.{Done, Created, Sent, Closed, Rounded, Drained, Refused, Malformed, Dead, NoMemory, Full, Disk, EpochEnd}
@@ -14,9 +14,9 @@ DoneRows = map answer_text (Done ∷ Created 7 ∷ Sent 65536 ∷ Rounded 0 1 �
     ≡ text "ok|" ∷ text "ok job 7|" ∷ text "ok bytes 65536|" ∷ text "ok started 0 finished 1|" ∷ text "ok rounds 2|" ∷ []
 
 abbrev pub ErrorRows : Type 0
-ErrorRows = map answer_text (Refused NoNumberLeft ∷ Malformed ∷ NoMemory ∷ Dead ∷ Full ∷ Disk ∷ EpochEnd ∷ [])
-    ≡ text "error 9 NoNumberLeft|" ∷ text "error syntax|" ∷ text "error memory|" ∷ text "error dead|" ∷ text "error full|" ∷ text "error disk|"
-    ∷ text "error epoch|" ∷ []
+ErrorRows = map answer_text (Refused NoNumberLeft ∷ Refused NeedsCheckpoint ∷ Malformed ∷ NoMemory ∷ Dead ∷ Full ∷ Disk ∷ EpochEnd ∷ [])
+    ≡ text "error 9 NoNumberLeft|" ∷ text "error 17 NeedsCheckpoint|" ∷ text "error syntax|" ∷ text "error memory|" ∷ text "error dead|"
+    ∷ text "error full|" ∷ text "error disk|" ∷ text "error epoch|" ∷ []
 
 -- a closed job is told by its type and its stages
 abbrev pub ClosedRows : Type 0
@@ -55,6 +55,7 @@ busy = record {
   pages = 0;
   size = 3;
   phase = Processing 1 1 1;
+  by = None;
 }
 
 -- no queue, one that is idle, and one that is processing

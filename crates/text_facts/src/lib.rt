@@ -131,6 +131,7 @@ pub fn command_examples()
     ensures drain { commands.DrainRows }
     ensures checkpoint { commands.CheckpointRows }
     ensures creation { commands.CreationRows }
+    ensures creation_by { commands.CreationByRows }
     ensures cut_send { commands.CutSendRows }
     ensures empty_send { commands.EmptySendRows }
     ensures longest_note { commands.LongestNoteRows }

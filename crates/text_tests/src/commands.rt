@@ -83,7 +83,7 @@ fn letters(alloc: Global, size: usize) -> Result<String, AllocError>
 fn has_its_letters(alloc: Global, size: usize) -> Result<bool, AllocError>
     requires { 0 < size }
 {
-    Ok(letters(alloc, size)?.as_str() == "qeeeeecedeeeeeruks?j")
+    Ok(letters(alloc, size)?.as_str() == "qeeeeeccedeeeeeruks?j")
 }
 
 const SCRIPT: &[u8] = b"queue lab spoolfile:/out Text/PLAIN abort-job\n\
@@ -93,6 +93,7 @@ disable lab\n\
 accept lab\n\
 enable lab\n\
 create lab ann \"First page\" 1 50 \"\"\n\
+createby lab ann \"x\" 1 50 \"\" 2000\n\
 send 1 3\na\nb\n\
 # a remark\n\
 \n\

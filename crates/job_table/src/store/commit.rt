@@ -1,8 +1,8 @@
 //! What an accepted event changes.
 ghost use Rattle.std.specs.Prelude.{◌≡◌, ◌+◌, ◌<◌, ◌^◌, None, Some, Ok};
 ghost use Rattle.job_table.specs.Changes.{change_job};
-ghost use Rattle.job_table.specs.Step.{refusal_of, step, after, reply_to};
-ghost use Rattle.job_table.specs.RowChanges.{meant, EndsInEnd, IsAsked};
+ghost use Rattle.job_table.specs.Step.{creation, refusal_of, step, after, reply_to};
+ghost use Rattle.job_table.specs.RowChanges.{meant, EndsInEnd, IsAsked, IsOfRows};
 ghost use Rattle.job_table.specs.Contents.{IsPrepared, HasNoMore, HasPlace, KeepsPlaces, AddsPlaces, document_room};
 ghost use Rattle.spool_types.specs.Sent.{bytes_behind, sent_by};
 
@@ -22,7 +22,7 @@ impl Store {
     #[tactic(auto, using(crate::proofs::RowChanges::asked))]
     pub(crate) fn commit(&mut self, event: Event, at: u64) -> Reply
         requires prepared { IsPrepared self.old event }
-        requires one { ¬ (event ≡ Event.Reopen) }
+        requires one { IsOfRows event }
         requires at { HasPlace at (sent_by event) }
         ensures step { step self.old.state event ≡ Ok (self.new.state, result) }
         ensures places { AddsPlaces at (sent_by event) self.old self.new }
@@ -35,7 +35,8 @@ impl Store {
             Event::Info(notes) => self.info(notes),
             Event::SetAccept { queue, accepting } => self.set_accept(queue, accepting),
             Event::SetStop { queue, stopped } => self.set_stop(queue, stopped),
-            Event::Create(job) => self.create(job),
+            Event::Create(job) => self.create(job, None),
+            Event::CreateBy { job, by } => self.create(job, Some(by)),
             Event::Send { job, bytes } => Reply::Size(self.send(job, bytes, at)),
             Event::Close(closing) => self.change_row(closing.job, RowChange::Close(closing)),
             Event::Hold { job, until } => {
@@ -43,12 +44,11 @@ impl Store {
             }
             Event::Release(job) => self.change_row(job, RowChange::Hold(Hold::Free)),
             Event::Cancel(job) => self.change_row(job, RowChange::End(Phase::Canceled)),
-            Event::Clock(moment) => self.clock(moment),
             Event::Start(job) => Reply::Phase(self.start(job)),
             Event::Stage(end) => Reply::Phase(self.end_stage(end)),
             Event::Abandon(job) => Reply::Phase(self.abandon(job)),
-            // It is many events in turn.
-            Event::Reopen => unreachable!(),
+            // They are many events in turn.
+            Event::Clock(_) | Event::Reopen => unreachable!(),
         }
     }
 
@@ -113,11 +113,12 @@ impl Store {
         Reply::Done
     }
 
-    fn create(&mut self, job: NewJob) -> Reply
-        requires accepted { refusal_of self.old.state (Event.Create job) ≡ None }
+    /// A new job, which is to start by a moment if one is told.
+    pub(crate) fn create(&mut self, job: NewJob, by: Option<Moment>) -> Reply
+        requires accepted { refusal_of self.old.state (creation job by) ≡ None }
         requires room { 0 < self.old.room.jobs }
-        ensures state { self.new.state ≡ after self.old.state (Event.Create job) }
-        ensures reply { result ≡ reply_to self.old.state (Event.Create job) }
+        ensures state { self.new.state ≡ after self.old.state (creation job by) }
+        ensures reply { result ≡ reply_to self.old.state (creation job by) }
         ensures room { HasNoMore self.old.room self.new.room }
         ensures places { KeepsPlaces self.old self.new }
     {
@@ -126,7 +127,7 @@ impl Store {
         match job_place(&self.jobs, number) {
             Ok(_) => unreachable!(),
             Err(at) => {
-                let row = new_job_row(alloc, job);
+                let row = new_job_row(alloc, job, by);
                 self.jobs.insert(at, row).unwrap();
                 self.highest = number.get();
             }
@@ -166,13 +167,12 @@ impl Store {
         Reply::Done
     }
 
-    fn clock(&mut self, moment: Moment) -> Reply
-        ensures state { self.new.state ≡ after self.old.state (Event.Clock moment) }
-        ensures reply { result ≡ reply_to self.old.state (Event.Clock moment) }
-        ensures room { HasNoMore self.old.room self.new.room }
-        ensures places { KeepsPlaces self.old self.new }
+    /// Brings a moment.
+    pub(crate) fn advance(&mut self, moment: Moment)
+        ensures state { self.new.state ≡ record self.old.state { moment = moment } }
+        ensures places { self.new.places ≡ self.old.places }
+        ensures room { self.new.room ≡ self.old.room }
     {
-        self.moment = self.moment.max(moment);
-        Reply::Done
+        self.moment = moment;
     }
 }

@@ -4,7 +4,7 @@ ghost use Rattle.std.specs.Ordering.{nat_cmp};
 ghost use Rattle.std.specs.Cmp.Lexicographic.{slice_cmp};
 ghost use Rattle.std.specs.FinMap as finite;
 ghost use Rattle.spool_types.specs.Limits.{greatest_number};
-ghost use Rattle.spool_types.specs.State.{nothing};
+ghost use Rattle.spool_types.specs.State.{nothing_in};
 ghost use Rattle.job_table.specs.Contents.{places_at, places_of};
 ghost use Rattle.job_table.specs.Legal.{IsLegal};
 ghost use Rattle.job_table.specs.Loading.{IsAbove, headed, with_queue, with_job};
@@ -17,9 +17,9 @@ use std::alloc::AllocError;
 impl Store {
     // What the head tells of a table without rows.
     pub(crate) fn set_head(&mut self, head: Head)
-        requires empty { self.old.state ≡ nothing }
+        requires empty { self.old.state ≡ nothing_in self.old.state.version }
         requires highest { head.highest ≤ greatest_number }
-        ensures state { self.new.state ≡ headed head }
+        ensures state { self.new.state ≡ headed self.old.state.version head }
         ensures places { self.new.places ≡ self.old.places }
     {
         self.highest = head.highest;

@@ -21,7 +21,7 @@ impl Store {
     {
         match event {
             Event::AddQueue(_) => self.reserve_queue(),
-            Event::Create(_) => self.reserve_job(),
+            Event::Create(_) | Event::CreateBy { .. } => self.reserve_job(),
             Event::Send { job, .. } => self.reserve_extent(*job),
             Event::Stage(end) => self.spare.reserve(end.effects.as_slice()),
             // The others take none.

@@ -58,9 +58,9 @@ pub(super) fn set_stopped(row: &mut QueueRow, stopped: bool)
     row.stopped = stopped;
 }
 
-// A new job is incoming and free, and has no bytes.
-pub(super) fn new_job_row(alloc: Global, job: NewJob) -> JobRow
-    ensures row { result.job ≡ new_job job }
+// A new job is incoming and free, and has no bytes. It is to start by a moment, if one is told.
+pub(super) fn new_job_row(alloc: Global, job: NewJob, by: Option<Moment>) -> JobRow
+    ensures row { result.job ≡ new_job job by }
     ensures room { vec_capacity result.document ≡ 0 }
     ensures places { result.document.items ≡ [] }
 {
@@ -79,6 +79,7 @@ pub(super) fn new_job_row(alloc: Global, job: NewJob) -> JobRow
             pages: 0,
             size: 0,
             phase: Phase::Incoming(Hold::Free),
+            by,
         },
         document: Vec::new(alloc),
     }

@@ -1,18 +1,23 @@
 //! A table from its rows. Its lanes are built at once: one pass over the jobs hands each to the draft of its queue's lane,
-//! and then the waiting jobs of each draft are sorted. So it takes n log n for n jobs, in whatever order their turns are.
-ghost use Rattle.std.specs.Prelude.{◌≡◌, length, IfOk};
-ghost use Rattle.std.specs.List.{All};
+//! and then the waiting jobs of each draft are sorted. The timetable's deadlines are gathered and sorted once, too. So it takes
+//! n log n for n jobs, in whatever order their turns and their deadlines are.
+ghost use Rattle.std.specs.Prelude.{◌≡◌, count_by, is_some, length, IfOk};
+ghost use Rattle.std.specs.List.{All, filter_map};
 ghost use Rattle.queue_sched.specs.Index.{HasEachOnce};
 ghost use Rattle.job_table.specs.Contents.{no_moves};
 ghost use Rattle.job_table.specs.Drafts.{drafted, AreDrafts, IsBlank};
 ghost use Rattle.job_table.specs.Lanes.{AreBeside, IsAdvanced};
 ghost use Rattle.job_table.specs.Legal.{IsLegal};
+ghost use Rattle.job_table.specs.Timely.{deadline_of, IsTimely};
+ghost use Rattle.spool_types.specs.State.{job_at};
 
 use super::Table;
 use crate::lane::{Draft, Lane, standing_of};
 use crate::new_places::NewPlaces;
 use crate::store::Store;
-use spool_types::Moment;
+use crate::timetable::{Timetable, deadline_of};
+use queue_sched::Deadline;
+use spool_types::{JobRow, Moment};
 use std::alloc::{AllocError, Global};
 
 impl Table {
@@ -24,9 +29,11 @@ impl Table {
     {
         let drafts = drafts_of(alloc, &store)?;
         let lanes = lanes_of(alloc, drafts, store.now())?;
+        let timetable = timetable_of(alloc, &store)?;
         Ok(Table {
             store,
             lanes,
+            timetable,
             vacant: 0,
             new_places: NewPlaces::none(alloc),
         })
@@ -71,4 +78,29 @@ fn lanes_of(alloc: Global, drafts: Vec<Draft>, moment: Moment) -> Result<Vec<Lan
         lanes.push(draft.into_lane(moment)?)?;
     }
     Ok(lanes)
+}
+
+// The timetable of the jobs, with room for all that are to start by a moment.
+fn timetable_of(alloc: Global, store: &Store) -> Result<Timetable, AllocError>
+    ensures { IfOk result (IsTimely (job_at store.now.state)) }
+{
+    let rows = store.jobs();
+    let deadlines = deadlines_of(alloc, rows)?;
+    Timetable::of_deadlines(deadlines, timed_count(rows))
+}
+
+// The deadlines of those that wait.
+fn deadlines_of(alloc: Global, rows: &[JobRow]) -> Result<Vec<Deadline>, AllocError>
+    ensures { IfOk result (λ deadlines. deadlines.items ≡ filter_map (λ row. deadline_of row.job) rows.now) }
+{
+    rows.iter()
+        .filter_map(|row| deadline_of(&row.job))
+        .collect(alloc)
+}
+
+// How many jobs are to start by a moment.
+fn timed_count(rows: &[JobRow]) -> usize
+    ensures { result ≡ count_by (λ row. is_some row.job.by) rows.now }
+{
+    rows.iter().filter(|row| row.job.by.is_some()).count()
 }

@@ -6,13 +6,13 @@ ghost use Rattle.spool_types.specs.declared.refusal.Refusal.{Refusal};
 ghost use Rattle.spool_types.specs.Phases.{has_ended, is_incoming, is_processing, is_waiting};
 ghost use Rattle.spool_types.specs.State.{job_at};
 ghost use Rattle.job_table.specs.Shapes.{about_job, about_queue, where_it};
-ghost use Rattle.job_table.specs.Step.{first_cause, refusal_of};
+ghost use Rattle.job_table.specs.Step.{creation, first_cause, refusal_of};
 
 use super::Table;
 use crate::store::is_in_stage;
 use spool_types::{
-    Event, Job, JobId, LONGEST_DOCUMENT, MOST_QUEUES, NewJob, NewQueue, Piece, QueueName,
-    QueueNotes, Refusal, StageEnd,
+    Event, Job, JobId, LONGEST_DOCUMENT, MOST_QUEUES, Moment, NewJob, NewQueue, Piece, QueueName,
+    QueueNotes, Refusal, StageEnd, Version,
 };
 
 impl Table {
@@ -25,7 +25,8 @@ impl Table {
             Event::Info(notes) => self.info_refusal(notes),
             Event::SetAccept { queue, accepting } => self.set_accept_refusal(queue, *accepting),
             Event::SetStop { queue, stopped } => self.set_stop_refusal(queue, *stopped),
-            Event::Create(job) => self.create_refusal(job),
+            Event::Create(job) => self.create_refusal(job, None),
+            Event::CreateBy { job, by } => self.create_refusal(job, Some(*by)),
             Event::Send { job, bytes } => self.send_refusal(*job, bytes),
             Event::Close(closing) => self.close_refusal(closing.job),
             Event::Hold { job, .. } => self.idle_job(*job).err(),
@@ -78,9 +79,12 @@ impl Table {
         }
     }
 
-    fn create_refusal(&self, job: &NewJob) -> Option<Refusal>
-        ensures { result ≡ refusal_of self.now.state (Event.Create job.now) }
+    fn create_refusal(&self, job: &NewJob, by: Option<Moment>) -> Option<Refusal>
+        ensures { result ≡ refusal_of self.now.state (creation job.now by) }
     {
+        if by.is_some() && self.version() == Version::One {
+            return Some(Refusal::NeedsCheckpoint);
+        }
         let Some(queue) = self.queue(&job.queue) else {
             return Some(Refusal::NoQueue);
         };

@@ -1,5 +1,5 @@
 //! Listing the table in the other area.
-ghost use Rattle.std.specs.Prelude.{◌≡◌, ◌≤◌, ◌<◌, ◌+◌, ◌∷◌, ◌↔◌, [], List, ℕ, length, map, replicate, false, Some, OnOk, IfOk, IsErrOf, IsSome};
+ghost use Rattle.std.specs.Prelude.{◌≡◌, ◌≤◌, ◌<◌, ◌+◌, ◌∷◌, ◌↔◌, [], List, ℕ, length, map, replicate, false, Some, OnOk, OnErr, IfOk, IsErrOf, IsSome};
 ghost use Rattle.spool_types.specs.Limits.{longest_send, greatest_number};
 ghost use Rattle.spool_types.specs.State.{job_of};
 ghost use Rattle.spool_types.specs.declared.listing.Row.{Row as RowOf};
@@ -9,7 +9,7 @@ ghost use Rattle.std.specs.List.{flat_map, AllByRecursion};
 ghost use Rattle.job_table.specs.Contents.{AreSized, HasNoMoves, HasOwnPlaces};
 ghost use Rattle.job_table.specs.Listing.{listing, pieces};
 ghost use Rattle.job_table.specs.Legal.{IsLegal};
-ghost use Rattle.spool_core.specs.Image.{HasTable, HasDocuments};
+ghost use Rattle.spool_core.specs.Image.{HasInEitherVersion, HasTable, HasDocuments};
 ghost use Rattle.spool_core.specs.Seen.{standing_at, IsStandingAt};
 ghost use Rattle.spool_core.specs.Filling.{HasMoveRoom};
 ghost use Rattle.spool_core.specs.Checkpointing.{AreAdded, AreFramesOf, HasEpoch, IsCheckpoint, IsCheckpointed, MayBeListed, blank, blank_rows, fault_for};
@@ -25,7 +25,8 @@ use std::alloc::{AllocError, Global};
 
 impl<D: Disk> Spool<D> {
     /// Makes room for further events: lists the table in the other area, which becomes the current one, with the next
-    /// epoch. The table is as before, and the events that led to it are no longer on the disk.
+    /// epoch. The table is as before, in the newest version of the format, and the events that led to it are no longer on
+    /// the disk.
     pub fn checkpoint(&mut self) -> Result<(), CheckpointFault>
         // Each answer, with its cause and what it leaves.
         ensures answer { IsCheckpoint D.device self.old result self.new }
@@ -35,7 +36,7 @@ impl<D: Disk> Spool<D> {
 
         // Whatever it answers, a crash at any moment of it leaves the table, and its documents.
         ensures any_moment { self.old.dead ≡ false → IsSome (D.device.bytes self.old.disk) →
-            LeavesOnly D.device self.old.disk self.new.disk (HasTable self.old.state) }
+            LeavesOnly D.device self.old.disk self.new.disk (HasInEitherVersion self.old.state) }
         ensures documents { self.old.dead ≡ false → (r : List ℕ) (documents : ℕ → List ℕ) → D.device.bytes self.old.disk ≡ Some r → HasDocuments self.old.state documents r →
             LeavesOnly D.device self.old.disk self.new.disk (HasDocuments self.old.state documents) }
 
@@ -67,11 +68,11 @@ fn change_areas<D: Disk>(
     ensures fixed { D.device.size areas.new.disk ≡ D.device.size areas.old.disk }
     ensures told { IsSome (D.device.bytes areas.new.disk) ↔ IsSome (D.device.bytes areas.old.disk) }
     ensures any_moment { areas.old.dead ≡ false → IsSome (D.device.bytes areas.old.disk) →
-        LeavesOnly D.device areas.old.disk areas.new.disk (HasTable table.old.state) }
+        LeavesOnly D.device areas.old.disk areas.new.disk (HasInEitherVersion table.old.state) }
     ensures documents { areas.old.dead ≡ false → (r : List ℕ) (documents : ℕ → List ℕ) → D.device.bytes areas.old.disk ≡ Some r → HasDocuments table.old.state documents r →
         LeavesOnly D.device areas.old.disk areas.new.disk (HasDocuments table.old.state documents) }
     ensures listed { OnOk result (IsSome (D.device.bytes areas.old.disk) → (c : List ℕ) → D.device.image areas.new.disk c → IsCheckpointed table.old.state areas.new.epoch c) }
-    ensures same { table.new.state ≡ table.old.state }
+    ensures same { OnErr result (table.new.state ≡ table.old.state) }
     ensures standing { IsStandingAt D.device areas.new table.new }
     ensures durable { OnOk result (IsSynced D.device areas.new.disk) }
 {
@@ -96,6 +97,7 @@ fn change_areas<D: Disk>(
     match areas.checkpoint(&mut frames) {
         Ok(()) => {
             table.commit_moves();
+            table.raise();
             // A number without a job has no places.
             let _jobs = table.jobs();
             Ok(())

@@ -70,6 +70,10 @@ pub returns-clause-creation : goal.returns-clause-creation
 unfolding encode_utf8 is_utf8 chars words_of words_within kind_of commands_of commands_within
 returns-clause-creation c = refl
 
+pub returns-clause-creation_by : goal.returns-clause-creation_by
+unfolding encode_utf8 is_utf8 chars words_of words_within kind_of commands_of commands_within
+returns-clause-creation_by c = refl
+
 pub returns-clause-cut_send : goal.returns-clause-cut_send
 unfolding encode_utf8 is_utf8 chars words_of words_within kind_of commands_of commands_within
 returns-clause-cut_send c = refl

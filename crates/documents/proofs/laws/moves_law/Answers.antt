@@ -7,22 +7,22 @@ use Rattle.documents.proofs.Moved as moved
 use Rattle.documents.proofs.laws.moves_law.Goals as goal
 
 pub returns-clause-moved : goal.returns-clause-moved
-returns-clause-moved c base j rows bytes has = held_first row_spelling piece_of moved.spells_pieces base bytes rows j has
+returns-clause-moved c v base j rows bytes has = held_first (row_spelling v) piece_of (moved.spells_pieces v) base bytes rows j has
 
 pub returns-clause-within : goal.returns-clause-within
-returns-clause-within c base j rows = lie_between row_spelling piece_of moved.spells_pieces (base + header_len) rows j
+returns-clause-within c v base j rows = lie_between (row_spelling v) piece_of (moved.spells_pieces v) (base + header_len) rows j
 
 pub returns-clause-added : goal.returns-clause-added
-returns-clause-added c gate j rows row = one_more row_spelling piece_of moved.spells_pieces gate rows row j
+returns-clause-added c v gate j rows row = one_more (row_spelling v) piece_of (moved.spells_pieces v) gate rows row j
 
 pub returns-clause-history : goal.returns-clause-history
-returns-clause-history c base j rows events bytes has = moved.history base j rows events bytes has
+returns-clause-history c v base j rows events bytes has = moved.history v base j rows events bytes has
 
 pub returns-clause-history_within : goal.returns-clause-history_within
-returns-clause-history_within c base j rows events = moved.history_within base j rows events
+returns-clause-history_within c v base j rows events = moved.history_within v base j rows events
 
 pub returns-clause-history_added : goal.returns-clause-history_added
-returns-clause-history_added c base j rows events e = moved.history_added base j rows events e
+returns-clause-history_added c v base j rows events e = moved.history_added v base j rows events e
 
 pub returns-clause-pieces : goal.returns-clause-pieces
 returns-clause-pieces c r document = moved.whole r document

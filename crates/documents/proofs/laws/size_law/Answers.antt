@@ -10,10 +10,10 @@ pub returns-clause-sent : goal.returns-clause-sent
 returns-clause-sent c gate j events = placed.sized spelling sent_by placed.spells_sent gate events j
 
 pub returns-clause-listed : goal.returns-clause-listed
-returns-clause-listed c gate j rows = placed.sized row_spelling piece_of moved.spells_pieces gate rows j
+returns-clause-listed c v gate j rows = placed.sized (row_spelling v) piece_of (moved.spells_pieces v) gate rows j
 
 pub returns-clause-history : goal.returns-clause-history
-returns-clause-history c base j rows events = moved.history_size base j rows events
+returns-clause-history c v base j rows events = moved.history_size v base j rows events
 
 pub returns-clause-pushed : goal.returns-clause-pushed
 returns-clause-pushed c xs x = joined.size_pushed xs x

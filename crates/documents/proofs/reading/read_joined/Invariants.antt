@@ -17,6 +17,7 @@ invariant-loop-extent g l = record {
   end : l.areas.end ≡ l.fn.areas.end;
   epoch : l.areas.epoch ≡ l.fn.areas.epoch;
   gate : l.areas.gate ≡ l.fn.areas.gate;
+  version : l.areas.version ≡ l.fn.areas.version;
   alive : l.areas.dead ≡ false;
   counted : g.D.Disk.device.failures l.areas.disk ≡ g.D.Disk.device.failures l.fn.areas.disk;
   still : ChangesNothing g.D.Disk.device l.fn.areas.disk l.areas.disk;

@@ -5,4 +5,4 @@ use Rattle.event_codec.proofs.RowLaws.{one_row}
 use Rattle.event_codec.proofs.laws.one_row.Goals as goal
 
 pub returns : goal.returns
-returns c = λ a b h i same. (one_row a b [] h i (append-nil (row_spelling a) ∙ same)).0
+returns c = λ v a b h i same. (one_row v a b [] h i (append-nil (row_spelling v a) ∙ same)).0

@@ -9,4 +9,6 @@ returns g c = λ old mid new t more further one two. joined
       left = c.spent_stages_stay_spent.ensures.left;
       either = c.spent_stages_stay_spent.ensures.either;
       ended = c.spent_stages_stay_spent.ensures.ended;
+      rises = c.versions_rise.ensures.all;
+      raised_legal = c.versions_rise.ensures.legal;
     }) old mid new t more further one two

@@ -33,6 +33,8 @@ returns-then-is_dead-2-clause-round g c =
       left = c.spent_stages_stay_spent.ensures.left;
       either = c.spent_stages_stay_spent.ensures.either;
       ended = c.spent_stages_stay_spent.ensures.ended;
+      rises = c.versions_rise.ensures.all;
+      raised_legal = c.versions_rise.ensures.legal;
     }) (subst IsLegal c.table.ensures.table c.jobs-legal.ensures.legal) c.requires (sym c.is_dead.ensures ∙ c.if-is_dead.false) (sym c.is_dead-2.ensures ∙ c.if-is_dead-2.true)
     c.free_old.new.runner (c.free_old.ensures ∙ ap (λ s. current_slots s c.args.runner.now) c.table-3.ensures.table)
     c.unless.result (c.unless.ensures ∙ ap (result_of (record { started = 0; finished = 0 })) fault)
@@ -66,6 +68,8 @@ returns-in-None-clause-round g c =
       left = c.spent_stages_stay_spent.ensures.left;
       either = c.spent_stages_stay_spent.ensures.either;
       ended = c.spent_stages_stay_spent.ensures.ended;
+      rises = c.versions_rise.ensures.all;
+      raised_legal = c.versions_rise.ensures.legal;
     }) c.requires exact
     c.free_old.new.runner (c.free_old.ensures ∙ ap (λ s. current_slots s c.args.runner.now) c.table-3.ensures.table)
     c.deref.result.now (c.deref.ensures.value ∙ c.list_busy.ensures.value ∙ ap (λ (s : State). busy_jobs s (finite.keys s.queues)) c.table-4.ensures.table) (subst AreDistinct (sym c.deref.ensures.value) c.list_busy.ensures.distinct)
@@ -89,6 +93,8 @@ returns-clause-round g c =
       left = c.spent_stages_stay_spent.ensures.left;
       either = c.spent_stages_stay_spent.ensures.either;
       ended = c.spent_stages_stay_spent.ensures.ended;
+      rises = c.versions_rise.ensures.all;
+      raised_legal = c.versions_rise.ensures.legal;
     }) c.requires exact
     c.free_old.new.runner (c.free_old.ensures ∙ ap (λ s. current_slots s c.args.runner.now) c.table-3.ensures.table)
     c.deref.result.now (c.deref.ensures.value ∙ c.list_busy.ensures.value ∙ ap (λ (s : State). busy_jobs s (finite.keys s.queues)) c.table-4.ensures.table) (subst AreDistinct (sym c.deref.ensures.value) c.list_busy.ensures.distinct)

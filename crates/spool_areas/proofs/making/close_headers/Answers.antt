@@ -1,4 +1,4 @@
-use Rattle.spool_areas.proofs.Made.{close_one, close_both, closed_still}
+use Rattle.spool_areas.proofs.Made.{close_both, closed_still}
 use Rattle.spool_areas.proofs.making.close_headers.Goals as goal
 
 pub returns-clause-any_moment : goal.returns-clause-any_moment

@@ -10,22 +10,22 @@ never : false ≡ true → ⊥
 never is = absurd (cc)
 
 pub returns-in-Ok-clause-table : goal.returns-in-Ok-clause-table
-returns-in-Ok-clause-table c = λ base payloads has.
-    rows_finished base payloads c.in-Rows.loading c.in-Ok.table (subst (λ r. HasRead base r payloads) c.in-Rows.is has) (c.if-is_whole.ensures.0 refl) c.in-Ok.ensures.state c.in-Ok.ensures.places
+returns-in-Ok-clause-table c = λ v base payloads has.
+    rows_finished v base payloads c.in-Rows.loading c.in-Ok.table (subst (λ r. HasRead v base r payloads) c.in-Rows.is has) (c.if-is_whole.ensures.0 refl) c.in-Ok.ensures.state c.in-Ok.ensures.places
 
 pub returns-in-Ok-clause-lie : goal.returns-in-Ok-clause-lie
 returns-in-Ok-clause-lie c = λ low high lie j lives.
     subst (λ ps. LieIn low high (places_of ps j)) (sym c.in-Ok.ensures.places) ((subst (ReadLiesIn low high) c.in-Rows.is lie) j)
 
 pub returns-else-is_whole-clause-fault : goal.returns-else-is_whole-clause-fault
-returns-else-is_whole-clause-fault c = λ base payloads has. (
+returns-else-is_whole-clause-fault c = λ v base payloads has. (
   refl,
-  record { progress = c.in-Rows.loading.progress; begins = (subst (λ r. HasRead base r payloads) c.in-Rows.is has).begins; short = λ whole. never (c.if-is_whole.ensures.1 whole) },
+  record { progress = c.in-Rows.loading.progress; begins = (subst (λ r. HasRead v base r payloads) c.in-Rows.is has).begins; short = λ whole. never (c.if-is_whole.ensures.1 whole) },
 )
 
 pub returns-in-Events-clause-table : goal.returns-in-Events-clause-table
-returns-in-Events-clause-table c = λ base payloads has.
-    events_finished base payloads c.in-Events.table (subst (λ r. HasRead base r payloads) c.in-Events.is has)
+returns-in-Events-clause-table c = λ v base payloads has.
+    events_finished v base payloads c.in-Events.table (subst (λ r. HasRead v base r payloads) c.in-Events.is has)
 
 pub returns-in-Events-clause-lie : goal.returns-in-Events-clause-lie
 returns-in-Events-clause-lie c = λ low high lie. subst (ReadLiesIn low high) c.in-Events.is lie

@@ -2,13 +2,13 @@
 use Rattle.std.proofs.Common.{◌≡◌, [], ◌++◌, refl, sym, ap, ◌∙◌, subst, take}
 use Rattle.std.specs.Prelude.{IsSome, Some}
 use Rattle.std.proofs.Math.Logic.{⊎_elim}
-use Rattle.spool_types.specs.declared.event.Event.TheVariants.{Create, Reopen}
-use Rattle.spool_types.specs.State.{State, job_at, nothing}
+use Rattle.spool_types.specs.declared.event.Event.TheVariants.{Reopen}
+use Rattle.spool_types.specs.State.{State, job_at, nothing_in}
 use Rattle.job_table.specs.Attempts.{reopened}
 use Rattle.job_table.specs.Fold.{after_all}
 use Rattle.job_table.specs.Legal.{IsLegal}
 use Rattle.job_table.specs.Over.{HasOver, late_refusal}
-use Rattle.job_table.specs.Step.{refusal_of}
+use Rattle.job_table.specs.Step.{creation, refusal_of}
 use Rattle.spool_core.specs.Driving.{documents_after}
 use Rattle.spool_core.specs.Image.{HasTable, HasDocuments}
 use Rattle.spool_core.specs.Lives.{Life, next_table, history_of}
@@ -67,8 +67,8 @@ pub returns-clause-sent : goal.returns-clause-sent
 returns-clause-sent c s documents lives = one_history_sends s documents lives
 
 pub returns-clause-legal : goal.returns-clause-legal
-returns-clause-legal c lives =
-    subst IsLegal (sym (one_history nothing lives)) (c.legal_tables_stay_legal.ensures.stays nothing (history_of lives) c.legal_tables_stay_legal.ensures.begins)
+returns-clause-legal c v lives =
+    subst IsLegal (sym (one_history (nothing_in v) lives)) (c.legal_tables_stay_legal.ensures.stays (nothing_in v) (history_of lives) (c.legal_tables_stay_legal.ensures.begins v))
 
 pub returns-clause-idle : goal.returns-clause-idle
 returns-clause-idle c s l legal =
@@ -90,6 +90,6 @@ returns-clause-over c s l lives j keeps has =
     (c.ended_jobs_stay.ensures.over (after_all s (take l.acknowledged l.events)) j (later_events l lives) has)
 
 pub returns-clause-number : goal.returns-clause-number
-returns-clause-number c s l lives more j n keeps has same =
-    subst (λ (t : State). IsSome (refusal_of t (Create n))) (sym (further s l lives more keeps))
-    (c.ended_jobs_stay.ensures.number (after_all s (take l.acknowledged l.events)) j (later_events l lives ++ more) n has same)
+returns-clause-number c s l lives more j n by keeps has same =
+    subst (λ (t : State). IsSome (refusal_of t (creation n by))) (sym (further s l lives more keeps))
+    (c.ended_jobs_stay.ensures.number (after_all s (take l.acknowledged l.events)) j (later_events l lives ++ more) n by has same)

@@ -1,10 +1,12 @@
 -- a table without jobs needs no room
 use Rattle.std.proofs.Common.{[], List, ℕ, OnOk, Result, Ok, Err, inl, inr, ⊎_elim}
-use Rattle.spool_types.specs.State.{nothing}
+use Rattle.spool_types.specs.declared.version.Version.TheVariants.{Two}
+use Rattle.spool_areas.specs.Header.{newest_version}
+use Rattle.spool_types.specs.State.{nothing_in}
 use Rattle.spool_disk.specs.Disk.{DiskView}
 use Rattle.spool_disk.proofs.Moments.{weaker_run}
 use Rattle.spool_areas.specs.Making.{IsNoSpoolOrEmpty, ClosesFirst}
-use Rattle.spool_areas.specs.Payloads.{HasPayloads}
+use Rattle.spool_areas.specs.Payloads.{HasVersionAndPayloads}
 use Rattle.spool_core.specs.Image.{HasTable, IsNoSpoolOrNothing}
 use Rattle.spool_core.proofs.HistoryLaws.{history_none}
 use Rattle.spool_core.proofs.IdleLaws.{idle_nothing}
@@ -15,8 +17,8 @@ on_ok : {T E A B : Type 0} (r : Result T E) → OnOk r A → (A → B) → OnOk 
 on_ok (Ok x) a f = f a
 on_ok (Err e) a f = tt
 
-empty_table : (c : List ℕ) → HasPayloads 0 [] c → HasTable nothing c
-empty_table c has = has_table 0 [] nothing c history_none has (λ busy. absurd (busy idle_nothing))
+empty_table : (c : List ℕ) → HasVersionAndPayloads 0 newest_version [] c → HasTable (nothing_in Two) c
+empty_table c has = has_table Two 0 [] (nothing_in Two) c (history_none Two) has (λ busy. absurd (busy (idle_nothing Two)))
 
 no_spool_or_nothing : (c : List ℕ) → IsNoSpoolOrEmpty c → IsNoSpoolOrNothing c
 no_spool_or_nothing c is = ⊎_elim (λ none. inl none) (λ has. inr (empty_table c has)) is

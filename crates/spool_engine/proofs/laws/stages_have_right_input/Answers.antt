@@ -7,6 +7,9 @@ returns-clause-later g c = λ mime place s calls t legal none tells quiet are. l
     (record {
       legal = c.legal_tables_stay_legal.ensures.stays;
       left = c.spent_stages_stay_spent.ensures.left;
+      rises = c.versions_rise.ensures.all;
+      raised_legal = c.versions_rise.ensures.legal;
+      version = c.versions_rise.ensures.version;
       joined = c.calls_join.ensures;
     }) (setting g.D.Disk.device mime place) g.met.D.Disk.lawful c.rounds_hand_on.ensures s calls t legal none tells quiet are
 
@@ -15,5 +18,8 @@ returns-clause-first g c = λ mime place s documents calls t legal none tells qu
     (record {
       legal = c.legal_tables_stay_legal.ensures.stays;
       left = c.spent_stages_stay_spent.ensures.left;
+      rises = c.versions_rise.ensures.all;
+      raised_legal = c.versions_rise.ensures.legal;
+      version = c.versions_rise.ensures.version;
       joined = c.calls_join.ensures;
     }) (setting g.D.Disk.device mime place) g.met.D.Disk.lawful c.rounds_hand_on.ensures s documents calls t legal none tells quiet some leaves are

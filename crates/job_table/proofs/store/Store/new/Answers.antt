@@ -9,7 +9,7 @@ use Rattle.job_table.proofs.Legal.{legal_nothing}
 use Rattle.job_table.proofs.store.Store.new.Goals as goal
 
 pub returns-clause-state : goal.returns-clause-state
-returns-clause-state c = rw (c.new.ensures.items, c.new-2.ensures.items) (λ i. record { queues = map_none (slice_cmp nat_cmp) i; jobs = map_none nat_cmp i; highest = 0; moment = 0 })
+returns-clause-state c = rw (c.new.ensures.items, c.new-2.ensures.items) (λ i. record { queues = map_none (slice_cmp nat_cmp) i; jobs = map_none nat_cmp i; highest = 0; moment = 0; version = c.args.version })
 
 pub invariant_of-result-2 : goal.invariant_of-result-2
 invariant_of-result-2 c = record {
@@ -17,7 +17,7 @@ invariant_of-result-2 c = record {
   jobs = rw c.new-2.ensures.items refl;
   highest = omega arith;
   documents = rw c.new-2.ensures.items tt;
-  legal = subst IsLegal (sym (returns-clause-state c)) legal_nothing;
+  legal = subst IsLegal (sym (returns-clause-state c)) (legal_nothing c.args.version);
 }
 
 pub returns-clause-places : goal.returns-clause-places

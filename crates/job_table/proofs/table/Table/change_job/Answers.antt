@@ -1,11 +1,14 @@
--- the job goes to where it stands then in the lane of its queue, and no other job stands elsewhere
-use Rattle.std.proofs.Common.{◌≡◌, None, sym, ap, subst, ◌∙◌}
+-- the job goes to where it stands then in the lane of its queue, and its deadline with it; no other job stands elsewhere
+use Rattle.std.proofs.Common.{◌≡◌, None, sym, ap, subst, ◌∙◌, arith}
 use Rattle.std.specs.Prelude.{is_some}
 use Rattle.spool_types.specs.Sent.{sent_by, with_placed}
+use Rattle.spool_types.specs.State.{job_at}
 use Rattle.job_table.specs.Contents.{Contents, places_at}
 use Rattle.job_table.specs.Lanes.{standing_of, is_live}
 use Rattle.job_table.specs.Step.{refusal_of}
+use Rattle.job_table.specs.Timely.{deadline_found, IsRetimed, MayRetime}
 use Rattle.job_table.proofs.Held.{stepped}
+use Rattle.job_table.proofs.Retimed.{moved_may, moved_retimed}
 use Rattle.job_table.proofs.Seats.{Goes, goes, gone, gone_there, goes_from, goes_alone, goes_lanes, goes_number, IsReseatedLane}
 use Rattle.job_table.proofs.table.Table.change_job.Goals as goal
 use Rattle.job_table.proofs.table.Table.change_job.Goals.{After-commit-reply}
@@ -17,6 +20,11 @@ rows c =
     let accepted : refusal_of s c.args.event ≡ None = ap (λ v. refusal_of v.state c.args.event) c.self.view_is ∙ c.requires.prepared.accepted in
     goes c.queues_stay_in_order.ensures.stays s c.commit-reply.new.self.state c.self.invariant.legal c.args.job c.args.event c.requires.about accepted
     (stepped s c.args.event c.commit-reply.new.self.state c.commit-reply.result accepted c.commit-reply.ensures.step).0
+
+pub deadline-after-requires : goal.deadline-after-requires
+deadline-after-requires c =
+    let g = rows (goal.at.deadline-after-requires c).After-commit-reply in
+    ap is_some (gone_there _ _ _ g)
 
 pub seat-to-requires : goal.seat-to-requires
 seat-to-requires c =
@@ -46,9 +54,20 @@ reseat-requires-clause-alone c = λ busy.
     goes_alone _ _ _ g c.self.inside.vacant c.self.inside.lanes.items c.self.invariant.lanes c.seat-place.result.0 (c.seat-place.ensures.place g.row g.there)
     c.index_mut.result.now c.index_mut.ensures.value (sym (c.seat-to.ensures.standing (gone _ _ _ g) (gone_there _ _ _ g)) ∙ busy)
 
+-- its deadline goes, comes or stays
+pub change-requires : goal.change-requires
+change-requires c =
+    let g = rows (goal.at.change-requires c).After-commit-reply in
+    let s = c.self.inside.store.state in
+    let t = c.commit-reply.new.self.state in
+    subst (λ from. MayRetime c.self.inside.timetable c.args.job from c.deadline-after.result) (sym c.deadline-before.ensures)
+    (subst (MayRetime c.self.inside.timetable c.args.job (deadline_found (job_at s c.args.job))) (sym c.deadline-after.ensures)
+    (moved_may s t g.legal c.args.job g.moves g.row g.there c.self.invariant.legal c.self.inside.timetable c.self.invariant.timely))
+
 pub invariant_of-self : goal.invariant_of-self
 invariant_of-self c =
     let g = rows (goal.at.invariant_of-self c).After-commit-reply in
+    let s = c.self.inside.store.state in
     let new = c.reseat.new.self in
     let from = c.seat-place.ensures.standing g.row g.there in
     let to = c.seat-to.ensures.standing (gone _ _ _ g) (gone_there _ _ _ g) in
@@ -58,8 +77,13 @@ invariant_of-self c =
       moment = c.reseat.ensures.moment;
       reserved = c.reseat.ensures.reserved;
     } in
+    let t = c.commit-reply.new.self.state in
+    let retimed : IsRetimed (job_at s) (job_at t) c.args.job c.deadline-after.result =
+    subst (IsRetimed (job_at s) (job_at t) c.args.job) (sym c.deadline-after.ensures) (moved_retimed s t g.legal c.args.job g.moves g.row g.there) in
     record {
       legal = g.legal;
+      timely = c.change.ensures.timely (job_at s) (job_at t) c.self.invariant.timely (sym c.deadline-before.ensures) retimed;
+      spare = omega (arith, c.self.invariant.spare, c.change.ensures.timed, c.change.ensures.room);
       lanes =
           goes_lanes _ _ _ g c.self.inside.vacant c.self.inside.lanes.items c.self.invariant.lanes c.seat-place.result.0 (c.seat-place.ensures.place g.row g.there)
           c.index_mut.result.now c.index_mut.ensures.value new

@@ -1,8 +1,7 @@
 -- the lanes stay, as no row says anything else
 use Rattle.std.proofs.Common.{sym, ap, subst, ◌∙◌}
 use Rattle.job_table.specs.Contents.{Contents, Noted, HasMoves, move_room, places_of}
-use Rattle.job_table.specs.Lanes.{AreLanes}
-use Rattle.job_table.specs.Legal.{IsLegal}
+use Rattle.job_table.proofs.Held.{held_same}
 use Rattle.job_table.proofs.table.Table.commit_moves.Goals as goal
 
 pub move_documents-requires : goal.move_documents-requires
@@ -11,10 +10,9 @@ move_documents-requires c =
     (subst (λ (v : Contents). HasMoves v.state v.moves) (sym c.self.view_is) c.requires)
 
 pub invariant_of-self : goal.invariant_of-self
-invariant_of-self c = record {
-  legal = subst IsLegal (sym c.move_documents.ensures.state) c.self.invariant.legal;
-  lanes = subst (λ s. AreLanes s c.self.inside.vacant c.self.inside.lanes.items) (sym c.move_documents.ensures.state) c.self.invariant.lanes;
-}
+invariant_of-self c =
+    let held = held_same c.self.inside c.move_documents.new.self c.move_documents.ensures.state c.self.invariant in
+    record { legal = held.legal; lanes = held.lanes; timely = held.timely; spare = held.spare }
 
 pub returns-clause-places : goal.returns-clause-places
 returns-clause-places c = λ j r there lives.

@@ -1,5 +1,5 @@
--- each queue has its lane
-use Rattle.std.proofs.Common.{subst}
+-- each queue has its lane, and each deadline is in the timetable
+use Rattle.std.proofs.Common.{subst, arith}
 use Rattle.job_table.specs.Lanes.{AreBeside, IsAdvanced}
 use Rattle.job_table.specs.Drafts.{drafted}
 use Rattle.job_table.proofs.Drafts.{lanes_become, waiting_once}
@@ -13,4 +13,6 @@ invariant_of-result c = record {
   legal = c.in_ok-drafts.ensures.legal;
   lanes = lanes_become c.args.store.state c.in_ok-drafts.drafts.items c.in_ok-lanes.lanes.items c.in_ok-drafts.ensures.drafts
       (subst (λ m. AreBeside (λ d lane. IsAdvanced m (drafted d) lane) c.in_ok-drafts.drafts.items c.in_ok-lanes.lanes.items) c.now.ensures c.in_ok-lanes.ensures);
+  timely = c.in_ok-timetable.ensures;
+  spare = omega (arith, c.in_ok-timetable.ensures.room);
 }

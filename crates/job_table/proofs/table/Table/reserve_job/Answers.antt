@@ -2,10 +2,12 @@
 use Rattle.std.proofs.Common.{◌≡◌, ℕ, ◌+◌, ◌<◌, ◌≤◌, List, [], length, get_or, sym, ap, subst, ◌∙◌, arith}
 use Rattle.std.specs.Vec.{with_items}
 use Rattle.std.proofs.lemmas.List.{with_items_is}
-use Rattle.spool_types.specs.State.{State}
+use Rattle.spool_types.specs.State.{State, job_at}
+use Rattle.job_table.specs.Held.{IsInLanes}
 use Rattle.job_table.specs.Lanes.{AreLanes, IsSameLane}
-use Rattle.job_table.specs.Legal.{IsLegal}
 use Rattle.job_table.specs.declared.lane.Lane.{Lane}
+use Rattle.job_table.specs.declared.table.Table.TheInside.{Inside}
+use Rattle.job_table.proofs.Held.{held_same}
 use Rattle.job_table.proofs.Seats.{lanes_kept}
 use Rattle.job_table.proofs.table.Table.reserve_job.Goals as goal
 
@@ -20,32 +22,47 @@ still_spare s v old new are count each i d lt =
     let now = each i d lt in
     omega (arith, was.spare, now.live, now.reserved)
 
+-- the lanes once some of them have more room
+module _ (a : Inside) (is : IsInLanes a) (seen new : List Lane) (value : seen ≡ a.lanes.items) (same : length new ≡ length seen) (each : (i : ℕ) (d : Lane) → i < length new → IsSameLane (get_or seen i d) (get_or new i d)) where
+  count : length new ≡ length a.lanes.items
+  count = same ∙ ap length value
+
+  each_too : (i : ℕ) (d : Lane) → i < length new → IsSameLane (get_or a.lanes.items i d) (get_or new i d)
+  each_too = same_before a.lanes.items seen new value each
+
+  roomier : (w : ℕ) → ((i : ℕ) (d : Lane) → i < length new → (get_or new i d).live + w ≤ (get_or new i d).reserved) → AreLanes a.store.state w (with_items a.lanes new).items
+  roomier w spare = subst (AreLanes a.store.state w) (sym (with_items_is a.lanes new (count ∙ sym a.lanes.ok.0))) (lanes_kept a.store.state a.vacant a.lanes.items new is.lanes count w each_too spare)
+
+  as_roomy : AreLanes a.store.state a.vacant (with_items a.lanes new).items
+  as_roomy = roomier a.vacant (still_spare a.store.state a.vacant a.lanes.items new is.lanes count each_too)
+
 pub invariant_of-self-in_err-reserve_each : goal.invariant_of-self-in_err-reserve_each
 invariant_of-self-in_err-reserve_each c =
-    let s = c.self.inside.store.state in
-    let old = c.self.inside.lanes.items in
-    let new = c.reserve_each.new.lanes in
-    let count : length new ≡ length old = c.reserve_each.ensures.count ∙ ap length c.deref_mut.ensures.value in
-    let each = same_before old c.deref_mut.result.now new c.deref_mut.ensures.value c.reserve_each.ensures.each in
+    let held = held_same c.self.inside c.reserve_job.new.self c.reserve_job.ensures.same c.self.invariant in
     record {
-      legal = subst IsLegal (sym c.reserve_job.ensures.same) c.self.invariant.legal;
-      lanes = subst (λ (t : State). AreLanes t c.self.inside.vacant (with_items c.self.inside.lanes new).items) (sym c.reserve_job.ensures.same)
-          (subst (AreLanes s c.self.inside.vacant) (sym (with_items_is c.self.inside.lanes new (count ∙ sym c.self.inside.lanes.ok.0)))
-          (lanes_kept s c.self.inside.vacant old new c.self.invariant.lanes count c.self.inside.vacant each
-          (still_spare s c.self.inside.vacant old new c.self.invariant.lanes count each)));
+      legal = held.legal;
+      lanes = as_roomy (record c.self.inside { store = c.reserve_job.new.self }) held c.deref_mut.result.now c.reserve_each.new.lanes c.deref_mut.ensures.value c.reserve_each.ensures.count c.reserve_each.ensures.each;
+      timely = held.timely;
+      spare = held.spare;
+    }
+
+pub invariant_of-self-in_err-reserve : goal.invariant_of-self-in_err-reserve
+invariant_of-self-in_err-reserve c =
+    let held = held_same c.self.inside c.reserve_job.new.self c.reserve_job.ensures.same c.self.invariant in
+    let timely = c.reserve.ensures.timely (job_at c.reserve_job.new.self.state) held.timely in
+    record {
+      legal = held.legal;
+      lanes = as_roomy (record c.self.inside { store = c.reserve_job.new.self }) held c.deref_mut.result.now c.reserve_each.new.lanes c.deref_mut.ensures.value c.reserve_each.ensures.count c.reserve_each.ensures.each;
+      timely = timely;
+      spare = omega (arith, timely.room, c.if-self-eq0.true);
     }
 
 pub invariant_of-self-then-self-eq0 : goal.invariant_of-self-then-self-eq0
 invariant_of-self-then-self-eq0 c =
-    let s = c.self.inside.store.state in
-    let old = c.self.inside.lanes.items in
-    let new = c.reserve_each.new.lanes in
-    let count : length new ≡ length old = c.reserve_each.ensures.count ∙ ap length c.deref_mut.ensures.value in
+    let held = held_same c.self.inside c.reserve_job.new.self c.reserve_job.ensures.same c.self.invariant in
     record {
-      legal = subst IsLegal (sym c.reserve_job.ensures.same) c.self.invariant.legal;
-      lanes = subst (λ (t : State). AreLanes t 1 (with_items c.self.inside.lanes new).items) (sym c.reserve_job.ensures.same)
-          (subst (AreLanes s 1) (sym (with_items_is c.self.inside.lanes new (count ∙ sym c.self.inside.lanes.ok.0)))
-          (lanes_kept s c.self.inside.vacant old new c.self.invariant.lanes count 1
-          (same_before old c.deref_mut.result.now new c.deref_mut.ensures.value c.reserve_each.ensures.each)
-          c.in_ok-reserve_each.ensures.room));
+      legal = held.legal;
+      lanes = roomier (record c.self.inside { store = c.reserve_job.new.self }) held c.deref_mut.result.now c.reserve_each.new.lanes c.deref_mut.ensures.value c.reserve_each.ensures.count c.reserve_each.ensures.each 1 c.in_ok-reserve_each.ensures.room;
+      timely = c.reserve.ensures.timely (job_at c.reserve_job.new.self.state) held.timely;
+      spare = omega (arith, c.in_ok-reserve.ensures.room, c.reserve.ensures.timed);
     }

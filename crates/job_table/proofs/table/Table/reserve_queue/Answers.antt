@@ -1,18 +1,18 @@
 -- no row changes, and no lane
 use Rattle.std.proofs.Common.{sym, subst}
 use Rattle.job_table.specs.Lanes.{AreLanes}
-use Rattle.job_table.specs.Legal.{IsLegal}
+use Rattle.job_table.proofs.Held.{held_same}
 use Rattle.job_table.proofs.table.Table.reserve_queue.Goals as goal
 
 pub invariant_of-self : goal.invariant_of-self
-invariant_of-self c = record {
-  legal = subst IsLegal (sym c.reserve_queue.ensures.same) c.self.invariant.legal;
-  lanes = subst (λ s. AreLanes s c.self.inside.vacant c.self.inside.lanes.items) (sym c.reserve_queue.ensures.same) c.self.invariant.lanes;
-}
+invariant_of-self c = held_same c.self.inside c.reserve_queue.new.self c.reserve_queue.ensures.same c.self.invariant
 
 pub invariant_of-self-2 : goal.invariant_of-self-2
-invariant_of-self-2 c = record {
-  legal = subst IsLegal (sym c.reserve_queue.ensures.same) c.self.invariant.legal;
-  lanes = subst (λ s. AreLanes s c.self.inside.vacant c.reserve.new.self.items) (sym c.reserve_queue.ensures.same)
-      (subst (AreLanes c.self.inside.store.state c.self.inside.vacant) (sym c.reserve.ensures.items) c.self.invariant.lanes);
-}
+invariant_of-self-2 c =
+    let held = held_same c.self.inside c.reserve_queue.new.self c.reserve_queue.ensures.same c.self.invariant in
+    record {
+      legal = held.legal;
+      lanes = subst (AreLanes c.reserve_queue.new.self.state c.self.inside.vacant) (sym c.reserve.ensures.items) held.lanes;
+      timely = held.timely;
+      spare = held.spare;
+    }

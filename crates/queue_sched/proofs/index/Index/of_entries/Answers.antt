@@ -3,7 +3,7 @@ use Rattle.std.proofs.Common.{List, sym, subst}
 use Rattle.std.proofs.lemmas.List.Sorted.{length_permutation}
 use Rattle.std.specs.List.Sorted.{IsPermutation}
 use Rattle.queue_sched.specs.declared.entry.Entry.{Entry}
-use Rattle.queue_sched.proofs.Sorted.{same_entries}
+use Rattle.queue_sched.proofs.Numbered.{same_items}
 use Rattle.queue_sched.proofs.index.Index.of_entries.Goals as goal
 
 pub returns-clause-count : goal.returns-clause-count
@@ -12,4 +12,4 @@ returns-clause-count c =
 
 pub returns-clause-items : goal.returns-clause-items
 returns-clause-items c =
-    same_entries _ _ (subst (λ (xs : List Entry). IsPermutation c.args.entries.items xs) (sym c.from_vec-entries.ensures.items) c.sort.ensures.items)
+    same_items _ _ (subst (λ (xs : List Entry). IsPermutation c.args.entries.items xs) (sym c.from_vec-entries.ensures.items) c.sort.ensures.items)

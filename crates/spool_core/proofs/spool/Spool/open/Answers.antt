@@ -45,6 +45,9 @@ returns-then-is_idle-clause-left g c = λ r t room tells has roomy.
       busy = λ some. absurd (some (subst HasNoProcessing (sym same) idle));
     }
 
+pub returns-then-is_idle-clause-room : goal.returns-then-is_idle-clause-room
+returns-then-is_idle-clause-room g c = λ r tells. c.in-Ok.ensures.room r (sym c.in-Ok.ensures.same.bytes ∙ tells)
+
 pub reopen-requires-clause-busy : goal.reopen-requires-clause-busy
 reopen-requires-clause-busy g c =
     subst (λ (v : Standing g.row.D.Denot). ¬ (HasNoProcessing v.state)) c.spool.view_is (c.if-is_idle.ensures.busy refl)

@@ -1,14 +1,15 @@
 use Rattle.std.proofs.Common.{◌≡◌, ◌∙◌, inr, length, sym, subst, ap, refl, arith, Ok, Err}
 use Rattle.std.specs.Prelude.{IsSome}
-use Rattle.spool_types.specs.State.{State}
+use Rattle.spool_types.specs.State.{State, job_at}
 use Rattle.spool_disk.specs.Disk.{LeavesOnly}
 use Rattle.spool_disk.proofs.Moments.{no_change}
 use Rattle.spool_areas.specs.declared.fault.AreaFault.TheVariants as areas
 use Rattle.spool_areas.specs.Checkpoint.{frames_of, lengths_in, plan_of}
-use Rattle.job_table.specs.Contents.{HasMoves}
+use Rattle.job_table.specs.Contents.{HasMoves, places_of}
 use Rattle.spool_core.specs.Checkpointing.{IsCheckpoint, IsCheckpointed, IsListed, IsUnlisted, fault_for}
 use Rattle.spool_core.specs.Filling.{AreDocumentsFilled}
-use Rattle.spool_core.specs.Image.{HasTable, HasDocuments}
+use Rattle.spool_core.specs.Image.{HasInEitherVersion, HasDocuments}
+use Rattle.job_table.specs.Versions.{raised}
 use Rattle.spool_core.specs.Seen.{standing_at}
 use Rattle.spool_core.specs.declared.spool.checkpoint_fault.CheckpointFault.{CheckpointFault}
 use Rattle.spool_core.proofs.ImageLaws.{go_on, stands_on, told_before}
@@ -144,8 +145,8 @@ returns-in-Ok-checkpoint-clause-answer g c =
     let frames = c.deref_mut-2.result.now in
     let lent : frames ≡ c.fill_documents.new.frames = c.deref_mut-2.ensures.value ∙ lent_back blanks c.fill_documents.new.frames c.in-Ok-prepare.frames.len c.in-Ok-prepare.frames.ok.0 (c.fill_documents.auto.frames ∙ ap length c.deref_mut.ensures.value) in
     let filled = subst (AreDocumentsFilled (v.bytes a.disk) t) (sym lent) c.in-Ok-fill_documents.ensures.filled in
-    subst (λ (s : State). IsListed v (standing_at a s) (standing_at c.checkpoint.new.self c.commit_moves.new.self.state)) c.prepare.ensures.same
-    (listed_answer v g.met.D.Disk.lawful a t stands ok.legal.0 ok.legal.1 ok.sized blanks ok.frames first plan frames filled mid read c.checkpoint.new.self c.commit_moves.new.self.state (c.commit_moves.ensures.same ∙ c.fill_documents.ensures.same) c.in-Ok-checkpoint.ensures.changed
+    subst (λ (s : State). IsListed v (standing_at a s) (standing_at c.checkpoint.new.self c.raise.new.self.state)) c.prepare.ensures.same
+    (listed_answer v g.met.D.Disk.lawful a t stands ok.legal.0 ok.legal.1 ok.sized blanks ok.frames first plan frames filled mid read c.checkpoint.new.self c.raise.new.self.state (c.raise.ensures.state ∙ ap raised (c.commit_moves.ensures.same ∙ c.fill_documents.ensures.same)) c.in-Ok-checkpoint.ensures.changed
     (lives c.checkpoint.new.self.dead mid.dead c.checkpoint.result read.alive c.checkpoint.ensures.dies.0 (λ failed. cc (failed, c.in-Ok-checkpoint.is))))
 
 pub returns-in-Ok-checkpoint-clause-any_moment : goal.returns-in-Ok-checkpoint-clause-any_moment
@@ -164,7 +165,7 @@ returns-in-Ok-checkpoint-clause-any_moment g c alive tells =
     let lent : frames ≡ c.fill_documents.new.frames = c.deref_mut-2.ensures.value ∙ lent_back blanks c.fill_documents.new.frames c.in-Ok-prepare.frames.len c.in-Ok-prepare.frames.ok.0 (c.fill_documents.auto.frames ∙ ap length c.deref_mut.ensures.value) in
     let filled = subst (AreDocumentsFilled (v.bytes a.disk) t) (sym lent) c.in-Ok-fill_documents.ensures.filled in
     let told = told_bytes (v.bytes a.disk) tells in
-    subst (λ (s : State). LeavesOnly v a.disk c.checkpoint.new.self.disk (HasTable s)) c.prepare.ensures.same
+    subst (λ (s : State). LeavesOnly v a.disk c.checkpoint.new.self.disk (HasInEitherVersion s)) c.prepare.ensures.same
     (leaves_table v g.met.D.Disk.lawful a t stands ok.legal.0 ok.legal.1 ok.sized blanks ok.frames first plan frames filled mid read told.0 told.1 c.checkpoint.new.self c.checkpoint.ensures.changes c.checkpoint.ensures.any_moment)
 
 pub returns-in-Ok-checkpoint-clause-documents : goal.returns-in-Ok-checkpoint-clause-documents
@@ -203,7 +204,7 @@ returns-in-Ok-checkpoint-clause-listed g c tells image left =
     let told = told_bytes (v.bytes a.disk) tells in
     let keeps = stands.table (alive_planned v a stands.area.end_is t.state blanks ok.frames first plan) tells in
     subst (λ (s : State). IsCheckpointed s c.checkpoint.new.self.epoch image) c.prepare.ensures.same
-    (checkpointed v g.met.D.Disk.lawful a t stands ok.legal.0 ok.legal.1 ok.sized blanks ok.frames first plan frames filled mid read told.0 told.1 c.checkpoint.new.self (c.in-Ok-checkpoint.ensures.added keeps.payloads (read.keeps keeps.payloads keeps.kept)) image left)
+    (checkpointed v g.met.D.Disk.lawful a t stands ok.legal.0 ok.legal.1 ok.sized blanks ok.frames first plan frames filled mid read told.0 told.1 c.checkpoint.new.self c.in-Ok-checkpoint.ensures.changed.version (c.in-Ok-checkpoint.ensures.added keeps.payloads (read.keeps keeps.payloads keeps.kept)) image left)
 
 pub returns-in-Ok-checkpoint-clause-standing : goal.returns-in-Ok-checkpoint-clause-standing
 returns-in-Ok-checkpoint-clause-standing g c =
@@ -222,8 +223,10 @@ returns-in-Ok-checkpoint-clause-standing g c =
     let filled = subst (AreDocumentsFilled (v.bytes a.disk) t) (sym lent) c.in-Ok-fill_documents.ensures.filled in
     let new = c.checkpoint.new.self in
     let alive = alive_planned v a stands.area.end_is t.state blanks ok.frames first plan in
-    stands_listed v g.met.D.Disk.lawful a t stands ok.legal.0 ok.legal.1 ok.sized blanks ok.frames first plan frames filled mid read new c.in-Ok-checkpoint.ensures.changed c.checkpoint.ensures.changes.size c.commit_moves.new.self (c.commit_moves.ensures.same ∙ c.fill_documents.ensures.same)
-    c.fill_documents.new.table.moves c.in-Ok-fill_documents.ensures.noted c.commit_moves.ensures.places c.jobs-jobs.ensures.own
+    stands_listed v g.met.D.Disk.lawful a t stands ok.legal.0 ok.legal.1 ok.sized blanks ok.frames first plan frames filled mid read new c.in-Ok-checkpoint.ensures.changed c.checkpoint.ensures.changes.size c.raise.new.self (c.raise.ensures.state ∙ ap raised (c.commit_moves.ensures.same ∙ c.fill_documents.ensures.same))
+    c.fill_documents.new.table.moves c.in-Ok-fill_documents.ensures.noted
+    (λ j q there lives. ap (λ ps. places_of ps j) c.raise.ensures.places ∙ c.commit_moves.ensures.places j q (sym (ap (λ (s : State). job_at s j) c.raise.ensures.state) ∙ there) lives)
+    c.jobs-jobs.ensures.own
     (λ now r tells. let keeps = stands.table alive (subst IsSome (sym tells) refl) in c.in-Ok-checkpoint.ensures.added keeps.payloads (read.keeps keeps.payloads keeps.kept))
     (λ tells. told_bytes (v.bytes a.disk) (subst IsSome read.read.disk.bytes (told_before _ _ _ c.checkpoint.ensures.changes.bytes tells)))
 
@@ -264,7 +267,7 @@ returns-clause-any_moment g c alive tells =
     let lent : frames ≡ c.fill_documents.new.frames = c.deref_mut-2.ensures.value ∙ lent_back blanks c.fill_documents.new.frames c.in-Ok-prepare.frames.len c.in-Ok-prepare.frames.ok.0 (c.fill_documents.auto.frames ∙ ap length c.deref_mut.ensures.value) in
     let filled = subst (AreDocumentsFilled (v.bytes a.disk) t) (sym lent) c.in-Ok-fill_documents.ensures.filled in
     let told = told_bytes (v.bytes a.disk) tells in
-    subst (λ (s : State). LeavesOnly v a.disk c.checkpoint.new.self.disk (HasTable s)) c.prepare.ensures.same
+    subst (λ (s : State). LeavesOnly v a.disk c.checkpoint.new.self.disk (HasInEitherVersion s)) c.prepare.ensures.same
     (leaves_table v g.met.D.Disk.lawful a t stands ok.legal.0 ok.legal.1 ok.sized blanks ok.frames first plan frames filled mid read told.0 told.1 c.checkpoint.new.self c.checkpoint.ensures.changes c.checkpoint.ensures.any_moment)
 
 pub returns-clause-documents : goal.returns-clause-documents

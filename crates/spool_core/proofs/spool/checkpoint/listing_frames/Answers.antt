@@ -21,7 +21,7 @@ add_queues-requires c =
     let numbers : s.highest ≤ greatest_number = omega (arith, c.highest-highest.ensures.value, c.highest-highest.ensures.at_most) in
     let placed = (c.listings_are_loaded.ensures.listed s (blank s) c.queues-queues.ensures.legal numbers (blank_fits s)).0 in
     subst (AllByRecursion IsOrderedQueue) (sym c.queues-queues.ensures.rows)
-    (told (blank s) (finite.values s.queues) (finite.values s.jobs) (loaded begin_loading (Head (head_of s))) placed.1).queues
+    (told (blank s) (finite.values s.queues) (finite.values s.jobs) (loaded (begin_loading s.version) (Head (head_of s))) placed.1).queues
 
 pub add_jobs-requires-clause-may : goal.add_jobs-requires-clause-may
 add_jobs-requires-clause-may c =
@@ -29,7 +29,7 @@ add_jobs-requires-clause-may c =
     let numbers : s.highest ≤ greatest_number = omega (arith, c.highest-highest.ensures.value, c.highest-highest.ensures.at_most) in
     let placed = (c.listings_are_loaded.ensures.listed s (blank s) c.queues-queues.ensures.legal numbers (blank_fits s)).0 in
     subst (AllByRecursion MayBeListed) (sym c.jobs-jobs.ensures.rows)
-    (told (blank s) (finite.values s.queues) (finite.values s.jobs) (loaded begin_loading (Head (head_of s))) placed.1).jobs
+    (told (blank s) (finite.values s.queues) (finite.values s.jobs) (loaded (begin_loading s.version) (Head (head_of s))) placed.1).jobs
 
 pub add_jobs-requires-clause-zeros : goal.add_jobs-requires-clause-zeros
 add_jobs-requires-clause-zeros c = c.deref.ensures.value ∙ c.in_ok-zeros.ensures.items_if_clones_equal (λ x same. same)

@@ -62,6 +62,7 @@ module _ {D : Type 0} (v : DiskView D) (lawful : IsLawful v) (old new : Current 
     goes_on gate = record {
       base = added.same.0;
       end = added.same.1;
+      version = added.same.3;
       gate = gate;
       size = added.appends.changes.size;
       told = told_before _ _ _ added.appends.changes.bytes;
@@ -120,7 +121,7 @@ returns-in-Ok-append_kept-clause-added g c = λ d next keeps.
     stands_next v a c.append_kept.new.self t d Reopen _ _ payload next c.in-Ok-append_kept.ensures.appends.answer
     (λ j lives. keeps j lives ∙ ap (λ ps. places_of ps j) c.prepare-prepared.ensures.places)
     (subst (StayOver t.state) (sym next) (over_after t.state Reopen c.requires.legal payload.accepted c.ended_jobs_stay.ensures.accepted))
-    stands c.requires.alive (told_before _ _ _ c.append_kept.ensures.appends.changes.bytes) c.append_kept.ensures.same.0 c.append_kept.ensures.same.1 c.append_kept.ensures.appends.changes.size
+    stands c.requires.alive (told_before _ _ _ c.append_kept.ensures.appends.changes.bytes) c.append_kept.ensures.same.0 c.append_kept.ensures.same.1 c.append_kept.ensures.same.3 c.append_kept.ensures.appends.changes.size
     (omega (arith, c.in-Ok-append_kept.ensures.appends.place, len, ap length payload.payload_is))
     (omega (arith, stands.roomy c.requires.busy, len, c.in-Ok-append_kept.ensures.appends.place, c.append_kept.ensures.same.1))
     (λ busy. absurd (busy (subst HasNoProcessing (sym next) idle)))

@@ -1,7 +1,7 @@
 -- a job is made where its options can be kept
 use Rattle.std.proofs.Common.{sym, ap, subst, ◌∙◌, codes}
 use Rattle.std.specs.Result.{IsOk}
-use Rattle.spool_types.specs.declared.event.Event.TheVariants.{Create as NewJob}
+use Rattle.job_table.specs.Step.{creation}
 use Rattle.filter_args.specs.Reading.{reading}
 use Rattle.command_lines.specs.declared.command.Command.TheVariants.{Create}
 use Rattle.spool_engine.specs.EventTurns.{setting}
@@ -15,9 +15,10 @@ returns-in-Ok-Some g c = λ m p.
     let n = c.args.creation in
     let kept = ap job_options (sym c.as_str.ensures.value) ∙ sym c.in-Ok-Some.ensures.value ∙ c.in-Ok-Some.field-0-is in
     let is = create_event m s.state n c.in-Ok-Some.options kept
-    ∙ ap (λ j. asks (NewJob (record { queue = n.queue; job = j; user = n.user; title = n.title; copies = n.copies; priority = n.priority; options = c.in-Ok-Some.options })) reply_line) (sym c.next_number.ensures)
-    ∙ ap (λ j. asks (NewJob j) reply_line) (sym c.new_job-job.ensures) in
-    event_told (λ v. v.items) c.execute_event.result (setting g.D.Disk.device m p) s _ (Create n) (NewJob c.new_job-job.result) reply_line g.met.D.Disk.lawful.only_now (λ o. tt) is c.execute_event.ensures
+    ∙ ap (λ j. asks (creation (record { queue = n.queue; job = j; user = n.user; title = n.title; copies = n.copies; priority = n.priority; options = c.in-Ok-Some.options }) n.by) reply_line) (sym c.next_number.ensures)
+    ∙ ap (λ j. asks (creation j n.by) reply_line) (sym c.new_job-job.ensures)
+    ∙ ap (λ e. asks e reply_line) (sym c.event_of_creation.ensures) in
+    event_told (λ v. v.items) c.execute_event.result (setting g.D.Disk.device m p) s _ (Create n) c.event_of_creation.result reply_line g.met.D.Disk.lawful.only_now (λ o. tt) is c.execute_event.ensures
 
 pub returns-in-Ok-None : goal.returns-in-Ok-None
 returns-in-Ok-None g c = λ m p.

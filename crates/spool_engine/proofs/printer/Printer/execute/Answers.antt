@@ -73,7 +73,7 @@ returns-in-Checkpoint g c =
     let e = c.self.inside.executor in
     event_lifted (λ v. v.items) c.checkpoint.result _ e _ _ _ _ c.args.command c.self.view_is
     (same_command (λ v. v.items) c.checkpoint.result _ e _ c.args.command _ c.in-Checkpoint.is
-    (listing_told (λ v. v.items) c.checkpoint.result (setting g.D.Disk.device c.args.mime.now c.args.place.now) e _ Checkpoint (λ o. tt) refl c.checkpoint.ensures))
+    (listing_told (λ v. v.items) c.checkpoint.result (setting g.D.Disk.device c.args.mime.now c.args.place.now) e _ Checkpoint (λ o. tt) refl refl c.checkpoint.ensures))
 
 pub returns-in-Malformed : goal.returns-in-Malformed
 returns-in-Malformed g c =

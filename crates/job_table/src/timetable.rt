@@ -1,0 +1,121 @@
+//! The waiting jobs that are to start by a moment, of all queues: the clock cancels those whose moment is over, and looks at
+//! no other job.
+ghost use Rattle.std.specs.Prelude.{◌≡◌, ℕ, ◌+◌, ◌<◌, ◌≤◌, ◌↔◌, ◌⊎◌, Option, Some, IfSome, IfOk, OnOk, None, length};
+ghost use Rattle.std.specs.Option.{IsNone};
+ghost use Rattle.std.specs.List.{Contains};
+ghost use Rattle.queue_sched.specs.Deadlines.{HasEachDeadlineOnce};
+ghost use Rattle.queue_sched.specs.declared.deadlines.Deadline.{Deadline as AnyDeadline};
+ghost use Rattle.spool_types.specs.State.{Job as AnyJob};
+ghost use Rattle.job_table.specs.Timely.{deadline_of, deadline_found, unsorted, IsAdmitted, IsTimely, IsRetimed, MayRetime};
+
+use queue_sched::{Deadline, Deadlines};
+use spool_types::{Job, JobId, Moment, Phase};
+use std::alloc::{AllocError, Global};
+
+/// The deadlines of the waiting jobs.
+#[derive(Drop)]
+pub(crate) struct Timetable {
+    deadlines: Deadlines,
+    // How many jobs are to start by a moment, whatever their phase. Each of them may come to wait.
+    timed: usize,
+}
+
+impl Timetable {
+    /// That of no jobs. It takes no memory.
+    pub(crate) fn new(alloc: Global) -> Timetable
+        ensures timely { (jobs : ℕ → Option AnyJob) → ((j : ℕ) → jobs j ≡ None) → IsTimely jobs result }
+        ensures timed { result.timed ≡ 0 }
+    {
+        Timetable {
+            deadlines: Deadlines::new(alloc),
+            timed: 0,
+        }
+    }
+
+    /// That of jobs with these deadlines, of which so many are to start by a moment. The deadlines are sorted once.
+    pub(crate) fn of_deadlines(
+        mut deadlines: Vec<Deadline>,
+        timed: usize,
+    ) -> Result<Timetable, AllocError>
+        requires once { HasEachDeadlineOnce deadlines.items }
+        requires few { length deadlines.items ≤ timed }
+        ensures { IfOk result (λ t. (jobs : ℕ → Option AnyJob) → IsTimely jobs (unsorted deadlines.items timed) → IsTimely jobs t) }
+    {
+        deadlines.reserve(timed - deadlines.len())?;
+        Ok(Timetable {
+            deadlines: Deadlines::of_items(deadlines),
+            timed,
+        })
+    }
+
+    /// Makes room for a job more.
+    pub(crate) fn reserve(&mut self) -> Result<(), AllocError>
+        ensures room { OnOk result (self.old.timed + 1 ≤ self.new.deadlines.room) }
+        ensures timely { (jobs : ℕ → Option AnyJob) → IsTimely jobs self.old → IsTimely jobs self.new }
+        ensures timed { self.new.timed ≡ self.old.timed }
+    {
+        let count = self.timed.checked_add(1).ok_or(AllocError)?;
+        self.deadlines.reserve(count)
+    }
+
+    /// The waiting job whose moment was over first, if that of one was over before this one. No other job is looked at.
+    pub(crate) fn first_before(&self, moment: Moment) -> Option<JobId>
+        ensures found { IfSome result (λ j. (d : AnyDeadline) × Contains self.now.deadlines.items d × (d.id ≡ j) × (d.by < moment)) }
+        ensures none { IsNone result → (d : AnyDeadline) → Contains self.now.deadlines.items d → moment ≤ d.by }
+    {
+        self.deadlines.first_before(moment)
+    }
+
+    /// A new job comes in that doesn't wait yet. It is told whether it is to start by a moment. It takes no memory.
+    pub(crate) fn admit(&mut self, timed: bool)
+        requires room { self.old.timed < self.old.deadlines.room }
+        ensures timely { (old new : ℕ → Option AnyJob) (j : ℕ) → IsTimely old self.old → IsAdmitted old new j timed → IsTimely new self.new }
+        ensures timed { self.new.timed ≤ self.old.timed + 1 }
+        ensures room { self.new.deadlines.room ≡ self.old.deadlines.room }
+    {
+        if timed {
+            let has_room = self.timed < self.deadlines.room();
+            prove!(has_room);
+            self.timed += 1;
+        }
+    }
+
+    /// Gives a job the deadline that it has now. It takes no memory.
+    pub(crate) fn change(&mut self, job: JobId, from: Option<Deadline>, to: Option<Deadline>)
+        requires { MayRetime self.old job from to }
+        ensures timely { (old new : ℕ → Option AnyJob) → IsTimely old self.old → deadline_found (old job) ≡ from → IsRetimed old new job to → IsTimely new self.new }
+        ensures timed { self.new.timed ≡ self.old.timed }
+        ensures room { self.new.deadlines.room ≡ self.old.deadlines.room }
+    {
+        match (from, to) {
+            (Some(deadline), None) => self.deadlines.remove(deadline),
+            (None, Some(deadline)) => self.list(deadline),
+            // It is the same one.
+            (Some(_), Some(_)) => {}
+            (None, None) => {}
+        }
+    }
+
+    // Adds a deadline. A job that is to start by a moment is one of those that there is room for.
+    fn list(&mut self, deadline: Deadline)
+        requires { MayRetime self.old deadline.id None (Some deadline) }
+        ensures items { (d : AnyDeadline) → Contains self.new.deadlines.items d ↔ (Contains self.old.deadlines.items d ⊎ (d ≡ deadline)) }
+        ensures timed { self.new.timed ≡ self.old.timed }
+        ensures room { self.new.deadlines.room ≡ self.old.deadlines.room }
+    {
+        let has_room = self.deadlines.len() < self.timed;
+        prove!(has_room);
+        self.deadlines.insert(deadline);
+    }
+}
+
+/// The deadline of a job that waits and is to start by a moment.
+pub(crate) fn deadline_of(job: &Job) -> Option<Deadline>
+    ensures { result ≡ deadline_of job.now }
+{
+    let by = job.by?;
+    match job.phase {
+        Phase::Waiting { .. } => Some(Deadline { by, id: job.id }),
+        _ => None,
+    }
+}

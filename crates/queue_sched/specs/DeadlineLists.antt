@@ -1,0 +1,14 @@
+-- What the fields of the deadlines mean.
+use Rattle.std.specs.Prelude.{◌≤◌, length}
+use Rattle.std.specs.VecDeque.{deque_capacity}
+use Rattle.queue_sched.specs.Deadlines.{Limits, InTurn}
+use Rattle.queue_sched.specs.declared.deadlines.Deadlines.TheInside.{Inside}
+
+abbrev pub limits_of : Inside → Limits
+limits_of a = record { items = a.items.items; room = a.room }
+
+-- they stand in their order, and the list has the room
+pub record IsKept (a : Inside) : Type 0 where
+  pub order : InTurn a.items.items
+  pub fits : length a.items.items ≤ a.room
+  pub room_of_items : a.room ≤ deque_capacity a.items
