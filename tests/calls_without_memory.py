@@ -8,7 +8,8 @@ clock cancel jobs that were to start by a moment, and opens the spool again with
 
 PROGRAM is the shell as Rattle's own compiler builds it: crates/spool_shell/out/spool_shell.by-rattle, which `rt ci` makes, where
 none is given. Beside it spool_tools has to be there. That compiler puts fewer functions into their callers than LLVM does. Of
-those that it does (`push_move`, `Engine::new`, `answer`, `read_extent`) nothing can be told so.
+those that it does (`push_move`, `Engine::new`, `answer`, `read_extent`) nothing can be told so; what is done with deadlines it
+puts into `Table::commit`, which is looked at.
 
 Two controls have to be seen to allocate: `Table::prepare` and `Executor::create`. A call that isn't in the program, or isn't made
 in the run, is a fault. The last line is `none`, with status 0, or `N of M calls`, with status 1. It takes a quarter of a minute.
@@ -35,9 +36,6 @@ CALLS = [
     "job_table::store::Store::stage_verdict",
     "queue_sched::index::Index::insert",
     "queue_sched::index::Index::remove",
-    "queue_sched::deadlines::Deadlines::insert",
-    "queue_sched::deadlines::Deadlines::remove",
-    "queue_sched::deadlines::Deadlines::first_before",
     "gate_journal::add::add",
     "child_pipeline::runner::Runner::exchange",
     "child_pipeline::runner::Runner::exchange_progress",
