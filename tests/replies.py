@@ -116,8 +116,8 @@ def serve_part(words, part, stored):
 
 
 def serve(name, room):
-    """Serves a script, and says what differs."""
-    words = [shell, *stored_scripts.words_of(name, os.path.join(room, name))]
+    """Serves a script in a folder that isn't there yet, and says what differs."""
+    words = [shell, *stored_scripts.words_of(name, room)]
     stored = stored_scripts.lines_of(stored_scripts.stored_file(name, "replies"))
     try:
         for part in stored_scripts.parts(stored_scripts.stored_file(name, "script")):
@@ -132,7 +132,9 @@ def serve(name, room):
 def main():
     names = stored_scripts.names()
     with tempfile.TemporaryDirectory() as room, concurrent.futures.ThreadPoolExecutor(AT_ONCE) as pool:
-        differing = [line for line in pool.map(lambda name: serve(name, room), names) if line]
+        # Short names: the folder of a spool has 64 bytes at most.
+        rooms = [os.path.join(room, str(number)) for number in range(len(names))]
+        differing = [line for line in pool.map(serve, names, rooms) if line]
     for line in differing:
         print(line)
     print(f"{len(differing)} differ" if differing else f"all {len(names)} scripts")
