@@ -20,7 +20,7 @@ use Rattle.job_table.specs.Ended.{subject}
 use Rattle.job_table.specs.Legal.{IsLegal}
 use Rattle.job_table.specs.Shapes.{Change, NewQueueRow, OfQueue, NewJobRow, OfJob, OfBoth, OfClock, OfAll, subject_of, causes_of}
 use Rattle.job_table.specs.Step.{row, change_by, first_cause, refusal_of, after}
-use Rattle.job_table.specs.Lanes.{standing_in, standing_of, seat_of, seat, is_live, live_count, IsLane, IsReseated, IsSameLane, IsAdvanced, HasSeat, AreBeside, IsLaneOf, AreLanes}
+use Rattle.job_table.specs.Lanes.{standing_in, standing_of, seat_of, seat, is_live, live_count, IsLane, IsReseated, IsSameLane, IsAdvanced, IsThinned, IsThinnedLane, HasSeat, AreBeside, IsLaneOf, AreLanes}
 use Rattle.job_table.specs.Places.{IsNameAt}
 use Rattle.job_table.specs.declared.lane.Lane.{Lane}
 use Rattle.job_table.specs.declared.lane.Standing.{Standing}
@@ -78,10 +78,10 @@ dead_phase r (phases.Aborted reason) is = refl
 
 -- ## Where a job stands
 
-of_own : (name : List ℕ) (r : Job) → r.queue ≡ name → is_of name r ≡ true
+pub of_own : (name : List ℕ) (r : Job) → r.queue ≡ name → is_of name r ≡ true
 of_own name r own = (bytes_decides r.queue name).1 own
 
-own_of : (name : List ℕ) (r : Job) → is_of name r ≡ true → r.queue ≡ name
+pub own_of : (name : List ℕ) (r : Job) → is_of name r ≡ true → r.queue ≡ name
 own_of name r is = (bytes_decides r.queue name).0 is
 
 module _ (s : State) (name : List ℕ) (j : ℕ) where
@@ -400,6 +400,20 @@ module _ (s : State) (v : ℕ) (lanes news : List Lane) (are : AreLanes s v lane
       record {
         lane = lane_as (seat s (get_or (finite.keys s.queues) i k)) (seat t (get_or (finite.keys s.queues) i k)) (get_or news i d) (λ n. ap (seat_of (get_or (finite.keys s.queues) i k)) (same n)) (new.lane _ is.lane);
         moment = new.moment;
+        spare = omega (arith, is.spare, new.live, new.reserved);
+      }))
+
+  -- jobs that waited have ended
+  pub lanes_thinned : (t : State) (passes : ℕ → Bool) → finite.keys t.queues ≡ finite.keys s.queues → t.moment ≡ s.moment → ((name : List ℕ) → IsThinned passes (seat s name) (seat t name))
+      → ((i : ℕ) (d : Lane) → i < length news → IsThinnedLane passes (get_or lanes i d) (get_or news i d)) → AreLanes t v news
+  lanes_thinned t passes names moment thinned each =
+      subst (λ ns. AreBeside (IsLaneOf t v) ns news) (sym names)
+      (beside_each (IsLaneOf s v) (IsLaneOf t v) (finite.keys s.queues) lanes news are count (λ i k d lt is.
+      let new = each i d lt in
+      let name = get_or (finite.keys s.queues) i k in
+      record {
+        lane = new.lane (seat s name) (seat t name) (thinned name) is.lane;
+        moment = new.moment ∙ is.moment ∙ sym moment;
         spare = omega (arith, is.spare, new.live, new.reserved);
       }))
 

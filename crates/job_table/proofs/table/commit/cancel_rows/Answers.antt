@@ -1,0 +1,54 @@
+-- one late job more is canceled; where none is listed, none is late
+use Rattle.std.proofs.Common.{◌≡◌, ℕ, ◌<◌, true, None, Some, refl, sym, ap, ◌∙◌}
+use Rattle.std.specs.List.{Contains}
+use Rattle.spool_types.specs.declared.event.Event.TheVariants.{Cancel}
+use Rattle.spool_types.specs.State.{State, Job, job_at}
+use Rattle.queue_sched.specs.declared.deadlines.Deadline.{Deadline}
+use Rattle.job_table.specs.Changes.{is_late}
+use Rattle.job_table.specs.Step.{refusal_of}
+use Rattle.job_table.proofs.Held.{stepped}
+use Rattle.job_table.proofs.Late.{late_listed, none_listed, cancel_accepted, cancel_alive, cancel_less, cancel_others, cancel_rest}
+use Rattle.job_table.proofs.Rooms.{no_more_then}
+use Rattle.job_table.proofs.table.commit.cancel_rows.Goals as goal
+
+pub change_rows-requires-clause-prepared : goal.change_rows-requires-clause-prepared
+change_rows-requires-clause-prepared c =
+    let s = c.loop-job.store.state in
+    let late = late_listed c.args.now s c.loop-job.timetable c.loop-job.invariant.timely c.in-Some.job c.in-Some.ensures.found in
+    record { accepted = cancel_accepted c.args.now s c.loop-job.invariant.legal c.in-Some.job late.0 late.1 late.2; room = tt }
+
+pub loop-job-smaller : goal.loop-job-smaller
+loop-job-smaller c =
+    let s = c.loop-job.store.state in
+    let late = late_listed c.args.now s c.loop-job.timetable c.loop-job.invariant.timely c.in-Some.job c.in-Some.ensures.found in
+    let accepted = cancel_accepted c.args.now s c.loop-job.invariant.legal c.in-Some.job late.0 late.1 late.2 in
+    cancel_less c.args.now s c.loop-job.invariant.legal c.in-Some.job late.0 late.1 late.2 c.change_rows.new.store.state (stepped s (Cancel c.in-Some.job) _ _ accepted c.change_rows.ensures.step).0
+
+pub loop-job-preserved : goal.loop-job-preserved
+loop-job-preserved c =
+    let s = c.loop-job.store.state in
+    let t = c.change_rows.new.store.state in
+    let before = c.loop-job.invariant.legal in
+    let late = late_listed c.args.now s c.loop-job.timetable c.loop-job.invariant.timely c.in-Some.job c.in-Some.ensures.found in
+    let accepted = cancel_accepted c.args.now s before c.in-Some.job late.0 late.1 late.2 in
+    let after_it = (stepped s (Cancel c.in-Some.job) t _ accepted c.change_rows.ensures.step).0 in
+    record {
+      rest = cancel_rest c.args.now s before c.in-Some.job late.0 late.1 late.2 t after_it ∙ c.loop-job.invariant.rest;
+      others =
+          cancel_others c.args.now s before c.in-Some.job late.0 late.1 late.2 t after_it
+          ∙ ap (λ (u : State). record u { jobs = t.jobs }) c.loop-job.invariant.others;
+      room = no_more_then c.args.store.now.room c.loop-job.store.room c.change_rows.new.store.room c.loop-job.invariant.room c.change_rows.ensures.room;
+      places = λ j lives.
+          c.change_rows.ensures.places j lives
+          ∙ c.loop-job.invariant.places j (cancel_alive c.args.now s before c.in-Some.job late.0 late.1 late.2 t after_it j lives);
+      legal = c.change_rows.ensures.legal;
+      timely = c.change_rows.ensures.timely;
+      timed = c.change_rows.ensures.timed ∙ c.loop-job.invariant.timed;
+      reserved = c.change_rows.ensures.reserved ∙ c.loop-job.invariant.reserved;
+    }
+
+pub returns-clause-state : goal.returns-clause-state
+returns-clause-state c =
+    let none = none_listed c.args.now c.loop-job.store.state c.loop-job.timetable c.loop-job.invariant.timely (c.in_default.ensures.none refl) in
+    c.loop-job.invariant.others
+    ∙ ap (λ jobs. record c.args.store.now.state { jobs = jobs }) (sym none ∙ c.loop-job.invariant.rest)
