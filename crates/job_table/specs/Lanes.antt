@@ -113,6 +113,11 @@ pub record IsThinnedLane (passes : ℕ → Bool) (old new : Lane) : Type 0 where
   pub moment : new.index.moment ≡ old.index.moment
   pub reserved : new.reserved ≡ old.reserved
 
+-- a lane that may have such jobs is without them, and another one is as it was
+pub record IsSweptLane (late : Bool) (passes : ℕ → Bool) (old new : Lane) : Type 0 where
+  pub thinned : late ≡ true → IsThinnedLane passes old new
+  pub same : late ≡ false → new ≡ old
+
 -- ## The lanes of all queues
 
 -- each of the one list beside the one of the other that has its place
@@ -128,3 +133,7 @@ pub record IsLaneOf (s : State) (vacant : ℕ) (name : List ℕ) (owner : Lane) 
 
 abbrev pub AreLanes : State → ℕ → List Lane → Type 0
 AreLanes s vacant lanes = AreBeside (IsLaneOf s vacant) (finite.keys s.queues) lanes
+
+-- in each lane that isn't told to have late jobs all jobs stand as before
+abbrev pub AreUntouched : State → State → List Bool → Type 0
+AreUntouched old new late = (i : ℕ) → i < length (finite.keys old.queues) → slice_index_or late i false ≡ false → (j : ℕ) → seat new (slice_index_or (finite.keys old.queues) i []) j ≡ seat old (slice_index_or (finite.keys old.queues) i []) j
