@@ -379,13 +379,19 @@ put_back old new j to seated = record { own = seated.own; others = λ k other. s
 
 -- ## A list whose elements change one after another
 
+module _ {Y : Type 0} (first now : List Y) (at : ℕ) (new : Y) (within : at < length now) where
+  -- the places so far, each by what is asked of it
+  pub set_done_each : (R : ℕ → Y → Y → Type 0) → ((i : ℕ) (d : Y) → i < at → R i (get_or first i d) (get_or now i d)) → ((d : Y) → R at (get_or first at d) new)
+      → (i : ℕ) (d : Y) → i < at + 1 → R i (get_or first i d) (get_or (set now at new) i d)
+  set_done_each R done step i d lt = elim (cases_eq i at) [
+    | inl same ↦ subst (λ n. R n (get_or first n d) (get_or (set now at new) n d)) (sym same) (subst (λ y. R at (get_or first at d) y) (sym (get_or-set_same now at new d within)) (step d))
+    | inr other ↦ subst (λ y. R i (get_or first i d) y) (sym (get_or-set_other now at i new d other)) (done i d (omega (arith, lt, other)))
+  ]
+
 module _ {Y : Type 0} (R : Y → Y → Type 0) (first now : List Y) (at : ℕ) (new : Y) (within : at < length now) where
   pub set_done : ((i : ℕ) (d : Y) → i < at → R (get_or first i d) (get_or now i d)) → ((d : Y) → R (get_or first at d) new)
       → (i : ℕ) (d : Y) → i < at + 1 → R (get_or first i d) (get_or (set now at new) i d)
-  set_done done step i d lt = elim (cases_eq i at) [
-    | inl same ↦ subst (λ n. R (get_or first n d) (get_or (set now at new) n d)) (sym same) (subst (λ y. R (get_or first at d) y) (sym (get_or-set_same now at new d within)) (step d))
-    | inr other ↦ subst (λ y. R (get_or first i d) y) (sym (get_or-set_other now at i new d other)) (done i d (omega (arith, lt, other)))
-  ]
+  set_done = set_done_each first now at new within (λ i. R)
 
   pub set_all : ((i : ℕ) (d : Y) → i < length now → R (get_or first i d) (get_or now i d)) → ((d : Y) → R (get_or first at d) (get_or now at d) → R (get_or first at d) new)
       → (i : ℕ) (d : Y) → i < length (set now at new) → R (get_or first i d) (get_or (set now at new) i d)

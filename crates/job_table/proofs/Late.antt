@@ -111,10 +111,10 @@ module _ (now : ℕ) (s : State) (legal : IsLegal s) (j : ℕ) (r : Job) (there 
     pub cancel_others : t ≡ record s { jobs = t.jobs }
     cancel_others = canceled ∙ ap (λ (u : State). record s { jobs = u.jobs }) (sym canceled)
 
-    other_job : (k : ℕ) → ¬ (k ≡ j) → job_at t k ≡ job_at s k
+    pub other_job : (k : ℕ) → ¬ (k ≡ j) → job_at t k ≡ job_at s k
     other_job k other = ap (λ (u : State). job_at u k) canceled ∙ put_other s j (ended Canceled r) k other
 
-    own_job : job_at t j ≡ Some (ended Canceled r)
+    pub own_job : job_at t j ≡ Some (ended Canceled r)
     own_job = ap (λ (u : State). job_at u j) canceled ∙ put_own s j (ended Canceled r)
 
     same_highest : t.highest ≡ s.highest

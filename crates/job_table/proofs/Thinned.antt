@@ -1,20 +1,24 @@
 -- What a lane has once jobs that waited in it have ended, and where a moment leaves the jobs of a table.
-use Rattle.std.proofs.Common.{◌≡◌, ℕ, suc, ◌+◌, ◌≤◌, ◌⊎◌, inl, inr, Bool, true, false, not, cond, List, [], ◌∷◌, ◌++◌, length, map, Option, Some, None, refl, sym, ap, subst, ◌∙◌, arith, length-append}
+use Rattle.std.proofs.Common.{◌≡◌, ℕ, suc, ◌+◌, ◌<◌, ◌≤◌, ◌⊎◌, inl, inr, Bool, true, false, not, cond, List, [], ◌∷◌, ◌++◌, length, get_or, map, set, Option, Some, None, refl, sym, ap, subst, ◌∙◌, arith, length-append}
 use Rattle.std.specs.Option.{option_map}
 use Rattle.std.specs.List.{All, AllByRecursion, AllPairs, Contains, filter}
-use Rattle.std.proofs.lemmas.Bool.{both_ways}
-use Rattle.std.proofs.lemmas.List.{length-map}
+use Rattle.std.specs.FinMap as finite
+use Rattle.std.proofs.lemmas.Bool.{both_ways, cases_eq}
+use Rattle.std.proofs.lemmas.List.{length-map, get_or-set_same, get_or-set_other}
 use Rattle.std.proofs.lemmas.List.Elements.{All-cons, All-contains, All-contains_itself, All-filter, filter_passes}
 use Rattle.std.proofs.lemmas.List.Filters.{length-filter_both}
 use Rattle.std.proofs.lemmas.List.Kept.{AllPairs-filter}
 use Rattle.spool_types.specs.Busy.{is_of}
+use Rattle.spool_types.specs.Limits.{most_queues}
 use Rattle.spool_types.specs.Phases.{is_waiting}
 use Rattle.spool_types.specs.State.{State, Job, job_at}
 use Rattle.spool_types.specs.declared.phase.Phase.TheVariants.{Canceled}
 use Rattle.queue_sched.specs.Index.{Waits, InOrder, entry_of}
 use Rattle.queue_sched.specs.declared.entry.Entry.{Entry}
 use Rattle.job_table.specs.Changes.{at_moment, ended, is_late}
-use Rattle.job_table.specs.Lanes.{seat, seat_of, standing_of, is_live, is_waiting_at, AllDiffer, AtMostLive, IsLane, IsThinned}
+use Rattle.job_table.specs.Lanes.{seat, seat_of, standing_of, is_live, is_waiting_at, AllDiffer, AtMostLive, IsLane, IsThinned, AreUntouched}
+use Rattle.job_table.specs.Legal.{IsLegal}
+use Rattle.job_table.specs.Places.{IsNameAt}
 use Rattle.job_table.specs.declared.lane.Lane.{Lane}
 use Rattle.job_table.specs.declared.lane.Standing.{Standing}
 use Rattle.job_table.specs.declared.lane.Standing.TheVariants.{Ended, Incoming, Waiting, Processing}
@@ -194,3 +198,26 @@ module _ (s t : State) (now : ℕ) (jobs : (j : ℕ) → job_at t j ≡ option_m
       other_by : (j : ℕ) → ((e : Entry) → ¬ (seat s name j ≡ Waiting e)) → (o : Option Job) → job_at s j ≡ o → seat t name j ≡ seat s name j
       other_by j never None absent = seat_absent t name j (jobs j ∙ ap (option_map (at_moment now)) absent) ∙ sym (seat_absent s name j absent)
       other_by j never (Some r) there = late_by j r never there (is_late now r) refl
+
+-- ## Lanes without late jobs
+
+-- a job is canceled in one lane, and then in all others each stands as before
+module _ (first s t : State) (j : ℕ) (r : Job) (there : job_at s j ≡ Some r) (over : job_at t j ≡ Some (ended Canceled r)) (others : (k : ℕ) → ¬ (k ≡ j) → job_at t k ≡ job_at s k) where
+  elsewhere : (name : List ℕ) → ¬ (r.queue ≡ name) → (k : ℕ) → seat t name k ≡ seat s name k
+  elsewhere name other k = elim (cases_eq k j) [
+    | inl same ↦ subst (λ n. seat t name n ≡ seat s name n) (sym same) (seat_else t name j (ended Canceled r) over other ∙ sym (seat_else s name j r there other))
+    | inr apart ↦ ap (seat_of name) (others k apart)
+  ]
+
+  module _ (late : List Bool) (at : ℕ) (within : at < length late) (place : IsNameAt (finite.keys first.queues) r.queue at) where
+    pub touched : AreUntouched first s late → AreUntouched first t (set late at true)
+    touched untouched i lt told k = elim (cases_eq i at) [
+      | inl same ↦ (let no : true ≡ false = sym (get_or-set_same late at true false within) ∙ ap (λ n. get_or (set late at true) n false) (sym same) ∙ told in absurd (cc))
+      | inr other ↦
+          elsewhere (get_or (finite.keys first.queues) i []) (λ same. other (place.only i lt (sym same))) k
+          ∙ untouched i lt (sym (get_or-set_other late at i true false other) ∙ told) k
+    ]
+
+-- there are places for the lanes of all queues
+pub few_places : (s : State) → IsLegal s → length (finite.keys s.queues) ≤ most_queues
+few_places s legal = omega (arith, legal.few_queues, length-map (finite.entries s.queues) (λ e. e.0), finite.len-entries s.queues)

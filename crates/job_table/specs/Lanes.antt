@@ -106,12 +106,18 @@ pub record IsAdvanced (now : ℕ) (old new : Lane) : Type 0 where
   pub moment : new.index.moment ≡ now
   pub reserved : new.reserved ≡ old.reserved
 
--- the same jobs and as much room, but for those that waited and don't pass
+-- the same jobs and as much room, but for those that waited and don't pass; these aren't counted any more
 pub record IsThinnedLane (passes : ℕ → Bool) (old new : Lane) : Type 0 where
   pub lane : (before after : ℕ → Standing) → IsThinned passes before after → IsLane before old → IsLane after new
-  pub live : new.live ≤ old.live
+  pub live : new.live + length old.index.items ≡ old.live + length new.index.items
+  pub fewer : new.live ≤ old.live
   pub moment : new.index.moment ≡ old.index.moment
   pub reserved : new.reserved ≡ old.reserved
+
+-- a lane that may have such jobs is without them, and another one is as it was
+pub record IsSweptLane (late : Bool) (passes : ℕ → Bool) (old new : Lane) : Type 0 where
+  pub thinned : late ≡ true → IsThinnedLane passes old new
+  pub same : late ≡ false → new ≡ old
 
 -- ## The lanes of all queues
 
@@ -128,3 +134,7 @@ pub record IsLaneOf (s : State) (vacant : ℕ) (name : List ℕ) (owner : Lane) 
 
 abbrev pub AreLanes : State → ℕ → List Lane → Type 0
 AreLanes s vacant lanes = AreBeside (IsLaneOf s vacant) (finite.keys s.queues) lanes
+
+-- in each lane that isn't told to have late jobs all jobs stand as before
+abbrev pub AreUntouched : State → State → List Bool → Type 0
+AreUntouched old new late = (i : ℕ) → i < length (finite.keys old.queues) → slice_index_or late i false ≡ false → (j : ℕ) → seat new (slice_index_or (finite.keys old.queues) i []) j ≡ seat old (slice_index_or (finite.keys old.queues) i []) j

@@ -1,8 +1,10 @@
 -- the jobs that are still to be canceled, and that nothing else has changed
-use Rattle.std.proofs.Common.{◌≡◌}
+use Rattle.std.proofs.Common.{◌≡◌, length}
+use Rattle.spool_types.specs.Limits.{most_queues}
 use Rattle.spool_types.specs.State.{job_at}
 use Rattle.job_table.specs.Changes.{at_moment, change_jobs}
 use Rattle.job_table.specs.Contents.{HasNoMore, KeepsPlaces}
+use Rattle.job_table.specs.Lanes.{AreUntouched}
 use Rattle.job_table.specs.Legal.{IsLegal}
 use Rattle.job_table.specs.Timely.{IsTimely}
 use Rattle.job_table.proofs.Late.{waiting_count}
@@ -15,6 +17,8 @@ invariant-loop-job l = record {
   room : HasNoMore l.fn.store.room l.store.room;
   places : KeepsPlaces l.fn.store l.store;
   legal : IsLegal l.store.state;
+  whole : length l.late ≡ most_queues;
+  untouched : AreUntouched l.fn.store.state l.store.state l.late;
   timely : IsTimely (job_at l.store.state) l.timetable;
   timed : l.timetable.timed ≡ l.fn.timetable.timed;
   reserved : l.timetable.deadlines.room ≡ l.fn.timetable.deadlines.room;
