@@ -418,7 +418,7 @@ module _ (s : State) (v : ℕ) (lanes news : List Lane) (are : AreLanes s v lane
           record {
             lane = new.lane (seat s name) (seat t name) (thinned name) is.lane;
             moment = new.moment ∙ is.moment ∙ sym moment;
-            spare = omega (arith, is.spare, new.live, new.reserved);
+            spare = omega (arith, is.spare, new.fewer, new.reserved);
           }
       either i k d lt is false told =
           let within : i < length (finite.keys s.queues) = omega (arith, lt, count, are.count) in

@@ -106,10 +106,11 @@ pub record IsAdvanced (now : ℕ) (old new : Lane) : Type 0 where
   pub moment : new.index.moment ≡ now
   pub reserved : new.reserved ≡ old.reserved
 
--- the same jobs and as much room, but for those that waited and don't pass
+-- the same jobs and as much room, but for those that waited and don't pass; these aren't counted any more
 pub record IsThinnedLane (passes : ℕ → Bool) (old new : Lane) : Type 0 where
   pub lane : (before after : ℕ → Standing) → IsThinned passes before after → IsLane before old → IsLane after new
-  pub live : new.live ≤ old.live
+  pub live : new.live + length old.index.items ≡ old.live + length new.index.items
+  pub fewer : new.live ≤ old.live
   pub moment : new.index.moment ≡ old.index.moment
   pub reserved : new.reserved ≡ old.reserved
 

@@ -49,7 +49,8 @@ returns c =
     let count : n + length c.args.self.now.index.items ≡ c.args.self.now.live + length c.retain.new.self.items = omega (arith, before at, after at, few at, live at) in
     record {
       lane = λ old new thinned is. thinned_lane (λ j. is_waiting_at (job_at c.args.store.now.state j)) old new thinned c.args.self.now is c.jobs-before.ensures.order c.retain.new.self (left at) c.retain.ensures.room n fewer count;
-      live = fewer;
+      live = count;
+      fewer = fewer;
       moment = c.retain.ensures.moment;
       reserved = refl;
     }
