@@ -11,8 +11,8 @@ that are left, each with the time of a job that it cancels, without that of a cl
 The time of a clock that cancels none should be that of any event, however many jobs wait. Up to 64 jobs that are canceled are
 taken out of the list of those that wait one by one, as by `cancel`, which moves what is behind each. More are taken out in one
 pass over the list: a clock that cancels 65 takes about as long as one of 64, and one of 100,000 not much longer. In a folder in
-memory the syncs take no time, and what the program itself does is seen. Times depend on the machine and its disk; only the ratios are of interest, and no test
-reads them.
+memory the syncs take no time, and what the program itself does is seen. Times depend on the machine and its disk; only the
+ratios are of interest, and no test reads them.
 """
 import os
 import subprocess
@@ -57,7 +57,7 @@ def state_counts(running):
 
 
 def measured(folder, program, count, is_timed):
-    """The seconds of a clock that cancels none, and of each that cancels some: how many, and its seconds."""
+    """The median seconds of a clock that cancels none, and of each that cancels some: how many, and its seconds."""
     # A number that has no divisor in common with the count, so that each moment is there once.
     step = 7_919
     by = (lambda number: FIRST + number * step % count) if is_timed else (lambda number: None)
@@ -67,7 +67,7 @@ def measured(folder, program, count, is_timed):
         words = [program, "--root", "."]
         with subprocess.Popen(words, cwd=root, stdin=subprocess.PIPE, stdout=subprocess.PIPE) as running:
             ask(running, b"clock 0\n")
-            none = sum(ask(running, b"clock %d\n" % moment) for moment in range(1, TURNS + 1)) / TURNS
+            none = sorted(ask(running, b"clock %d\n" % moment) for moment in range(1, TURNS + 1))[TURNS // 2]
             some, done = [], 0
             for canceled in CANCELED:
                 canceled = min(canceled, count - done)

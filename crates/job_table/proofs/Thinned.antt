@@ -1,7 +1,7 @@
 -- What a lane has once jobs that waited in it have ended, and where a moment leaves the jobs of a table.
 use Rattle.std.proofs.Common.{◌≡◌, ℕ, suc, ◌+◌, ◌<◌, ◌≤◌, ◌⊎◌, inl, inr, Bool, true, false, not, cond, List, [], ◌∷◌, ◌++◌, length, get_or, map, set, Option, Some, None, refl, sym, ap, subst, ◌∙◌, arith, length-append}
 use Rattle.std.specs.Option.{option_map}
-use Rattle.std.specs.List.{All, AllByRecursion, AllPairs, Contains, filter}
+use Rattle.std.specs.List.{All, AllByRecursion, Contains, filter}
 use Rattle.std.specs.FinMap as finite
 use Rattle.std.proofs.lemmas.Bool.{both_ways, cases_eq}
 use Rattle.std.proofs.lemmas.List.{length-map, get_or-set_same, get_or-set_other}
@@ -16,14 +16,14 @@ use Rattle.spool_types.specs.declared.phase.Phase.TheVariants.{Canceled}
 use Rattle.queue_sched.specs.Index.{Waits, InOrder, entry_of}
 use Rattle.queue_sched.specs.declared.entry.Entry.{Entry}
 use Rattle.job_table.specs.Changes.{at_moment, ended, is_late}
-use Rattle.job_table.specs.Lanes.{seat, seat_of, standing_of, is_live, is_waiting_at, AllDiffer, AtMostLive, IsLane, IsThinned, AreUntouched}
+use Rattle.job_table.specs.Lanes.{seat, seat_of, is_live, is_waiting_at, AllDiffer, AtMostLive, IsLane, IsThinned, AreUntouched}
 use Rattle.job_table.specs.Legal.{IsLegal}
 use Rattle.job_table.specs.Places.{IsNameAt}
 use Rattle.job_table.specs.declared.lane.Lane.{Lane}
 use Rattle.job_table.specs.declared.lane.Standing.{Standing}
 use Rattle.job_table.specs.declared.lane.Standing.TheVariants.{Ended, Incoming, Waiting, Processing}
 use Rattle.job_table.proofs.Clocked.{at_kept, at_late, late_moment}
-use Rattle.job_table.proofs.Lanes.{all_from, all_numbers, differ_numbers, ended_and_live, entries_apart, same_entry}
+use Rattle.job_table.proofs.Lanes.{all_from, all_numbers, differ_numbers, ended_and_live, entries_apart}
 use Rattle.job_table.proofs.Seats.{of_own, own_of, seat_absent, seat_else, seat_found, seat_here, waiting_phase, waiting_standing}
 
 -- ## What passes a test

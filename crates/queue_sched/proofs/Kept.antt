@@ -1,5 +1,5 @@
 -- What is left of a list when some of its items are taken away.
-use Rattle.std.proofs.Common.{ℕ, suc, ◌≤◌, Bool, true, false, List, [], ◌∷◌, length, arith}
+use Rattle.std.proofs.Common.{suc, ◌≤◌, Bool, true, false, List, [], ◌∷◌, length, arith}
 use Rattle.std.proofs.lemmas.List.Elements.{All-cons, All-contains, All-contains_itself}
 use Rattle.std.proofs.lemmas.List.Kept.{AllPairs-cons}
 use Rattle.std.specs.List.{All, AllPairs, Contains, items_where_true}

@@ -3,9 +3,7 @@ use Rattle.std.proofs.Common.{◌≡◌, ℕ, ◌<◌, Bool, false, [], length, 
 use Rattle.std.specs.FinMap as finite
 use Rattle.std.proofs.lemmas.List.{with_items_is}
 use Rattle.spool_types.specs.State.{State, job_at}
-use Rattle.job_table.specs.Contents.{Contents, places_at}
-use Rattle.job_table.specs.Changes.{at_moment, change_jobs}
-use Rattle.job_table.specs.Lanes.{AreLanes, HasJobs, IsSweptLane, is_waiting_at, seat}
+use Rattle.job_table.specs.Lanes.{AreLanes, IsSweptLane, is_waiting_at, seat}
 use Rattle.job_table.specs.Legal.{IsLegal}
 use Rattle.job_table.proofs.Clocked.{clock_job, legal_moment}
 use Rattle.job_table.proofs.Seats.{lanes_thinned}

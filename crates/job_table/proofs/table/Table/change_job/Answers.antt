@@ -2,13 +2,10 @@
 use Rattle.std.proofs.Common.{◌≡◌, None, sym, ap, subst, ◌∙◌, arith}
 use Rattle.std.specs.Prelude.{is_some}
 use Rattle.spool_types.specs.Sent.{sent_by, with_placed}
-use Rattle.spool_types.specs.State.{job_at}
 use Rattle.job_table.specs.Contents.{Contents, places_at}
 use Rattle.job_table.specs.Lanes.{standing_of, is_live}
 use Rattle.job_table.specs.Step.{refusal_of}
-use Rattle.job_table.specs.Timely.{deadline_found, IsRetimed, MayRetime}
 use Rattle.job_table.proofs.Held.{stepped}
-use Rattle.job_table.proofs.Retimed.{moved_may, moved_retimed}
 use Rattle.job_table.proofs.Seats.{Goes, goes, gone, gone_there, goes_from, goes_alone, goes_lanes, goes_number, IsReseatedLane}
 use Rattle.job_table.proofs.table.Table.change_job.Goals as goal
 use Rattle.job_table.proofs.table.Table.change_job.Goals.{After-change_rows-reply}

@@ -1,14 +1,10 @@
 -- one late job more is canceled; where none is listed, none is late
-use Rattle.std.proofs.Common.{◌≡◌, ℕ, ◌<◌, true, None, Some, refl, sym, ap, subst, ◌∙◌, arith, length}
+use Rattle.std.proofs.Common.{true, refl, sym, ap, subst, ◌∙◌, arith}
 use Rattle.std.specs.FinMap as finite
-use Rattle.std.specs.List.{Contains}
 use Rattle.std.proofs.lemmas.List.{length-set}
 use Rattle.spool_types.specs.declared.event.Event.TheVariants.{Cancel}
-use Rattle.spool_types.specs.State.{State, Job, job_at}
-use Rattle.queue_sched.specs.declared.deadlines.Deadline.{Deadline}
-use Rattle.job_table.specs.Changes.{is_late}
+use Rattle.spool_types.specs.State.{State}
 use Rattle.job_table.specs.Places.{IsNameAt}
-use Rattle.job_table.specs.Step.{refusal_of}
 use Rattle.job_table.proofs.Held.{stepped}
 use Rattle.job_table.proofs.Late.{late_listed, none_listed, cancel_accepted, cancel_alive, cancel_less, cancel_others, cancel_rest, other_job, own_job}
 use Rattle.job_table.proofs.Rooms.{no_more_then}
