@@ -54,6 +54,7 @@
 mod areas;
 mod checkpoint;
 mod fault;
+mod filling;
 mod header;
 mod law;
 mod making;
@@ -64,6 +65,6 @@ pub use areas::Areas;
 pub use extents::Extent;
 pub use fault::{AreaFault, MakeFault, OpenError, OpenFault, ReadFault};
 pub use gate_journal::JournalFault;
-pub use law::areas_law;
+pub use law::{areas_law, filling_law};
 pub use making::make;
 pub use opening::Opened;
