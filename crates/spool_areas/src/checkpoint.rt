@@ -51,7 +51,7 @@ pub(crate) fn rows_have_room(end: u64, first: u64, rows: &[Vec<u8>]) -> bool
 pub(crate) fn have_room_by_sum(end: u64, first: u64, sum: u64) -> bool
     requires { first + kept_room ≤ end }
     ensures exact { (payloads : List (List ℕ)) → sum ≡ sum_of payloads → result ≡ has_room end first (map length payloads) }
-    ensures fits { IsTrue result → first + sum + kept_room ≤ end }
+    ensures fits { IsTrue result → (payloads : List (List ℕ)) → sum ≡ sum_of payloads → first + length (records payloads) + kept_room ≤ end }
 {
     end - first - KEPT_ROOM >= sum
 }

@@ -52,6 +52,7 @@
 #![tactic(auto)]
 
 mod areas;
+mod by_steps;
 mod checkpoint;
 mod fault;
 mod filling;
@@ -62,6 +63,7 @@ mod opening;
 mod records;
 
 pub use areas::Areas;
+pub use by_steps::checkpoint_by_steps;
 pub use extents::Extent;
 pub use fault::{AreaFault, MakeFault, OpenError, OpenFault, ReadFault};
 pub use gate_journal::JournalFault;

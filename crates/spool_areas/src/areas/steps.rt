@@ -1,7 +1,8 @@
 //! Changing over to the other area in steps: `begin`, `add_row` for each row, `write_rows`, `open_other`.
-ghost use Rattle.std.specs.Prelude.{◌≡◌, ◌≢◌, ◌<◌, ◌≤◌, ◌+◌, ◌^◌, ◌++◌, ◌∷◌, ◌↔◌, ◌⊎◌, [], List, ℕ, length, map, take, drop, Err, IfOk, OnOk, OnErr, IsErrOf, IsTrue, vec_len, vec_capacity};
+ghost use Rattle.std.specs.Prelude.{◌≡◌, ◌≢◌, ◌<◌, ◌≤◌, ◌+◌, ◌^◌, ◌++◌, ◌∷◌, ◌↔◌, ◌⊎◌, [], List, ℕ, length, map, take, drop, Ok, Err, IfOk, OnOk, OnErr, IsErrOf, IsTrue, vec_len, vec_capacity};
 ghost use Rattle.spool_disk.specs.Disk.{Blames, IsSynced, LeavesOnly, ChangesOnly};
 ghost use Rattle.gate_journal.specs.Appends.{kept_room};
+ghost use Rattle.gate_journal.specs.Entries.{records};
 ghost use Rattle.spool_areas.specs.Header.{header_len, least_area, newest_version};
 ghost use Rattle.spool_areas.specs.Payloads.{HasVersionAndPayloads};
 ghost use Rattle.spool_areas.specs.Current.{KeepsPayloads};
@@ -24,7 +25,11 @@ impl<D: Disk> Areas<D> {
     /// together, 5 and the payload each. The greatest number stands for all above it too. It calls no device.
     pub fn plan_by_sum(&self, sum: u64) -> Result<u64, AreaFault>
         ensures exact { (payloads : List (List ℕ)) → sum ≡ sum_of payloads → result ≡ plan_of self.now (map length payloads) }
-        ensures fits { IfOk result (λ first. (first ≡ other_base self.now + header_len) × (first + sum + kept_room ≤ other_base self.now + area_len self.now)) }
+        ensures first { IfOk result (λ first. first ≡ other_base self.now + header_len) }
+
+        // Where they can, `begin` answers that place too, and the last gate and the 7 bytes kept from it on lie in the area.
+        ensures begins { IfOk result (λ first. plan_of self.now [] ≡ Ok first) }
+        ensures fits { IfOk result (λ first. (payloads : List (List ℕ)) → sum ≡ sum_of payloads → first + length (records payloads) + kept_room ≤ other_base self.now + area_len self.now) }
     {
         let first = self.other_gate()?;
         if have_room_by_sum(first - HEADER_LEN + self.len, first, sum) {
