@@ -63,18 +63,28 @@ def sends(count):
             yield b"\x0a" + number
 
 
-def rows(count):
+def moment(seconds):
+    """A moment in a row, or none."""
+    return b"\0" if seconds is None else b"\1" + struct.pack(">Q", seconds)
+
+
+def rows(count, by=lambda number: None):
     """The listing of a table: a head, a queue, and waiting jobs without a document."""
     yield b"\x40" + struct.pack(">IQ", count, 0)
     yield b"\x41" + QUEUE[1:] + bytes(4) + b"\x01" + bytes(5)
     for number in range(1, count - 1):
         job = struct.pack(">I", number) + text(b"lab") + text(b"ann") + text(b"A title") + struct.pack(">HB", 1, 50) + text(b"")
-        yield b"\x42" + job + b"\x01" + text(b"a/b") + bytes(13) + b"\x01" + bytes(10)
+        yield b"\x42" + job + b"\x01" + text(b"a/b") + bytes(13) + b"\x01" + bytes(10) + moment(by(number))
+
+
+def timed_rows(count):
+    """The same with jobs that are to start by a moment, each by another one, in no order."""
+    return rows(count, lambda number: number * 7_919 % 1_000_003)
 
 
 def spool(payloads):
     """The bytes of a spool whose current area has these payloads, and room for more."""
-    area = [GATE + b"\x01" + struct.pack(">Q", 1) + bytes(6)]
+    area = [GATE + b"\x02" + struct.pack(">Q", 1) + bytes(6)]
     area += [GATE + struct.pack(">I", len(payload)) + payload for payload in payloads]
     half = b"".join(area) + bytes(4096)
     return half + bytes(len(half))
@@ -107,7 +117,7 @@ def main():
         sys.exit("no program: run `rt run` in crates/spool_shell first")
     with tempfile.TemporaryDirectory(dir=sys.argv[1] if len(sys.argv) > 1 else ".") as folder:
         nothing = opening(folder, program, [])
-        for kind in (clocks, jobs, sends, rows):
+        for kind in (clocks, jobs, sends, rows, timed_rows):
             print(kind.__doc__)
             first = None
             for count in (1_000, 10_000, 100_000, 1_000_000):

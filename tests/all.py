@@ -49,6 +49,7 @@ SCRIPTS = {
     "children.py": [],
     "images.py": [],
     "events.py": [],
+    "version_one.py": [],
     "tools.py": [],
     "office.py": [],
     "stock.py": [],
@@ -83,6 +84,7 @@ PARTS = [
     "stored_scripts.py",
     "stories.py",
     "traces.py",
+    "version_one.txt",
 ]
 
 PROGRAMS = ["spool_scripts", "spool_shell", "spool_tools"]

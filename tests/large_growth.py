@@ -63,8 +63,8 @@ def listed_rows(size):
 
 
 def openings_grow(place):
-    """An opening of 100,000 rows, or of 100,000 events of three kinds."""
-    for kind in (opening.rows, opening.clocks, opening.jobs, opening.sends):
+    """An opening of 100,000 rows, with moments or without, or of 100,000 events of three kinds."""
+    for kind in (opening.rows, opening.timed_rows, opening.clocks, opening.jobs, opening.sends):
         keeps_pace(f"an opening of {kind.__name__}", over_spool(place, kind), HALF_OPENED)
 
 

@@ -1,11 +1,11 @@
 #!/usr/bin/env python3
 """Compares the lists of places in CONTRIBUTING.md with the tree: tests/places.py [--write].
 
-A section of CONTRIBUTING.md that says what a new event, or a new field of a job, takes shows one that is there, with each
-place that names it: `- `CRATE/PATH`: `NAME`, `NAME`. A remark.` A place is a function or a type of src/, a definition of
+A section of CONTRIBUTING.md that says what a new event, a new field of a job or a new version takes shows one that is there, with
+each place that names it: `- `CRATE/PATH`: `NAME`, `NAME`. A remark.` A place is a function or a type of src/, a definition of
 specs/ or proofs/, a table in the head of a file (`the table`), or the answers of a function that is named after the event
-(`the goals`). Imports, other comments, tests, examples and edits aside. A list lacks no place and has no other, and its
-section says how many there are.
+(`the goals`). Imports, other comments, tests, examples and edits aside; of a version also proofs, and the crates that have
+another thing of that name. A list lacks no place and has no other, and its section says how many there are.
 
 It also sees that each path which CONTRIBUTING.md names is there, and that the edit which it shows applies.
 
@@ -22,15 +22,20 @@ HERE = Path(__file__).resolve().parent.parent
 CRATES = HERE / "crates"
 PAGE = HERE / "CONTRIBUTING.md"
 
-# The sections with a list: what it is of, how a line of code names that, and what a function of its own is called.
-LISTS = {
-    "An event about a job, given by its number alone": ("`Release`", r"\bRelease\b", r"release(_\w+)?"),
-    # As a field, not as a variable or a parameter of that name.
-    "A field of a job": ("`pages`", r"(?<!\.fn)\.pages\b|^\s*(pub )?pages( ?[:=] |,$)|[{;]\s*pages = ", r"-"),
-}
-# Crates of tests and of examples.
-ASIDE = re.compile(r".*_(tests|facts|scripts|rows)")
 PARTS = ("specs", "src", "proofs")
+
+# The sections with a list: what it is of, how a line of code names that, what a function of its own is called, and in which
+# folders of a crate it is looked for.
+LISTS = {
+    "An event about a job, given by its number alone": ("`Release`", r"\bRelease\b", r"release(_\w+)?", PARTS),
+    # As a field, not as a variable or a parameter of that name.
+    "A field of a job": ("`pages`", r"(?<!\.fn)\.pages\b|^\s*(pub )?pages( ?[:=] |,$)|[{;]\s*pages = ", r"-", PARTS),
+    "A version of the format": ("`One`", r"\bOne\b|(?i:\boldest_version\b)", r"-", PARTS[:2]),
+    "What is of the newest version": ("`Two`", r"\bTwo\b|(?i:\bnewest_version\b)", r"-", PARTS[:2]),
+}
+# Crates of tests and of examples, and those in which `One` and `Two` are other things.
+ASIDE = re.compile(r".*_(tests|facts|scripts|rows)")
+OTHERS = {"`One`": ("side_channel", "spool_host"), "`Two`": ("side_channel",)}
 
 IMPORT = {
     ".rt": re.compile(r"^ *(pub(\([a-z]+\))? )?(ghost )?use .*?;$", re.MULTILINE | re.DOTALL),
@@ -74,12 +79,14 @@ def name_in_logic(lines, number):
     return DEFINITION.match(head)[1]
 
 
-def places(word, own):
+def places(what, word, own, parts):
     """The names in each file that names the word, by the file's path below crates/."""
     found = {}
     for crate in crates():
         functions = set()
-        for file in files_of(crate):
+        if crate.name in OTHERS.get(what, ()):
+            continue
+        for file in files_of(crate, parts):
             lines = code_of(file)
             naming = name_in_code if file.suffix == ".rt" else name_in_logic
             names = [naming(lines, n) for n, line in enumerate(lines) if re.search(word, line)]
@@ -97,8 +104,8 @@ def crates():
     return [CRATES / it.split()[0] for it in named if it.strip() and not ASIDE.fullmatch(it.split()[0])]
 
 
-def files_of(crate):
-    found = [it for part in PARTS for it in sorted((crate / part).rglob("*"))]
+def files_of(crate, parts):
+    found = [it for part in parts for it in sorted((crate / part).rglob("*"))]
     return [it for it in found if it.suffix in (".rt", ".antt")]
 
 
@@ -124,8 +131,8 @@ def quoted(name):
 
 def list_faults(title, section):
     """Where the list of a section differs from the tree."""
-    what, word, own = LISTS[title]
-    there, told = places(word, own), listed(section)
+    what, word, own, parts = LISTS[title]
+    there, told = places(what, word, own, parts), listed(section)
     for path in [*there, *(it for it in told if it not in there)]:
         names, wanted = told.get(path, ([], ""))[0], there.get(path, [])
         yield from (f"{title}: `{path}` has no {quoted(it)} that names {what}" for it in names if it not in wanted)
@@ -167,8 +174,8 @@ def faults():
 def write():
     """Prints the lists as they have to be."""
     page = sections()
-    for title, (what, word, own) in LISTS.items():
-        told, there = listed(page.get(title, "")), places(word, own)
+    for title, (what, word, own, parts) in LISTS.items():
+        told, there = listed(page.get(title, "")), places(what, word, own, parts)
         print(f"## {title}\n\n{sum(len(it) for it in there.values())} places name {what}:\n")
         for path, names in there.items():
             remark = told.get(path, ([], ""))[1]

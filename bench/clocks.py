@@ -1,0 +1,108 @@
+#!/usr/bin/env python3
+"""What the clock costs where jobs wait: clocks.py [FOLDER [PROGRAM]]
+
+It makes spools of 10 to 1,000,000 waiting jobs of one queue in a new folder under FOLDER (here, where none is given), by
+writing their files byte by byte, and runs crates/spool_shell/out/spool_shell (made by `rt run` in that folder) or PROGRAM
+with `--root` over each: once where no job has a moment by which it is to start, and once where each has another one, in an
+order that isn't theirs. It prints the time of a clock that cancels none, from the command to its reply, and its ratio to the
+floor: two writes and two syncs by a plain program (floor.c). Then clocks that cancel 1, 100 and 1,000 jobs, or those that are
+left, each with the time of a job that it cancels, without that of a clock that cancels none.
+
+The time of a clock that cancels none should be that of any event, however many jobs wait. A job that is canceled is taken out
+of the list of those that wait, as by `cancel`, which moves what is behind it. In a folder in memory the syncs take no time, and
+what the program itself does is seen. Times depend on the machine and its disk; only the ratios are of interest, and no test
+reads them.
+"""
+import os
+import subprocess
+import sys
+import tempfile
+import time
+
+from opening import SHELL, rows, spool
+
+here = os.path.dirname(os.path.abspath(__file__))
+COUNTS = (10, 1_000, 100_000, 1_000_000)
+CANCELED = (1, 100, 1_000)
+TURNS = 200
+# The first moment by which a job is to start. The others follow, one a second.
+FIRST = 1_000
+RECORD = 14  # bytes of a clock's record
+
+
+def ask(running, command):
+    """The seconds from a command to its reply."""
+    start = time.perf_counter()
+    running.stdin.write(command)
+    running.stdin.flush()
+    reply = running.stdout.readline()
+    took = time.perf_counter() - start
+    if reply != b"ok\n":
+        sys.exit(f"a reply was {reply!r}")
+    return took
+
+
+def state_counts(running):
+    """How many jobs are in each state."""
+    running.stdin.write(b"jobs\n")
+    running.stdin.flush()
+    counts = {}
+    for line in running.stdout:
+        if line.startswith(b"ok "):
+            return counts
+        state = line.split()[3]
+        counts[state] = counts.get(state, 0) + 1
+    sys.exit("the listing has no end")
+
+
+def measured(folder, program, count, is_timed):
+    """The median seconds of a clock that cancels none, and of each that cancels some: how many, and its seconds."""
+    # A number that has no divisor in common with the count, so that each moment is there once.
+    step = 7_919
+    by = (lambda number: FIRST + number * step % count) if is_timed else (lambda number: None)
+    with tempfile.TemporaryDirectory(dir=folder) as root:
+        with open(os.path.join(root, "spool.disk"), "wb") as file:
+            file.write(spool(rows(count + 2, by)))
+        words = [program, "--root", "."]
+        with subprocess.Popen(words, cwd=root, stdin=subprocess.PIPE, stdout=subprocess.PIPE) as running:
+            ask(running, b"clock 0\n")
+            none = sorted(ask(running, b"clock %d\n" % moment) for moment in range(1, TURNS + 1))[TURNS // 2]
+            some, done = [], 0
+            for canceled in CANCELED:
+                canceled = min(canceled, count - done)
+                if is_timed and canceled:
+                    done += canceled
+                    some.append((canceled, ask(running, b"clock %d\n" % (FIRST + done))))
+            found = state_counts(running)
+            if (found.get(b"7", 0), found.get(b"3", 0)) != (done, count - done):
+                sys.exit(f"the jobs are in the states {found}, and {done} were canceled")
+            running.stdin.close()
+    return none, some
+
+
+def floor(folder):
+    """The seconds of two writes and two syncs by the plain program."""
+    program = os.path.join(folder, "floor")
+    subprocess.run(["cc", "-O2", "-o", program, os.path.join(here, "floor.c")], check=True)
+    words = [program, os.path.join(folder, "floor.disk"), str(TURNS), str(RECORD)]
+    return float(subprocess.run(words, stdout=subprocess.PIPE, check=True).stdout) / TURNS
+
+
+def main():
+    program = os.path.abspath(sys.argv[2]) if len(sys.argv) > 2 else SHELL
+    if not os.path.exists(program):
+        sys.exit("no program: run `rt run` in crates/spool_shell first")
+    with tempfile.TemporaryDirectory(dir=sys.argv[1] if len(sys.argv) > 1 else ".") as folder:
+        for is_timed in (False, True):
+            print("each job is to start by a moment" if is_timed else "no job has a moment")
+            for count in COUNTS:
+                least = floor(folder)
+                none, some = measured(folder, program, count, is_timed)
+                print(f"  {count:9,} jobs: {1e6 * none:8.1f} us, the floor {1e6 * least:8.1f} us, ratio {none / least:5.2f}")
+                for canceled, took in some:
+                    each = (took - none) / canceled
+                    print(f"    {canceled:9,} canceled: {1e3 * took:10.2f} ms, {1e6 * each:8.2f} us a job")
+
+
+if __name__ == "__main__":
+    main()
