@@ -11,3 +11,4 @@ pub mod Startable
 pub mod Due
 pub mod Indexed
 pub mod Exchanged
+pub mod Kept

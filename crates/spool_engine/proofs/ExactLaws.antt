@@ -9,7 +9,7 @@ use Rattle.spool_types.specs.declared.event.Reply.{Reply}
 use Rattle.spool_types.specs.declared.refusal.Refusal.{Refusal}
 use Rattle.spool_types.specs.State.{State}
 use Rattle.spool_types.specs.declared.version.Version.TheVariants.{Two}
-use Rattle.job_table.specs.Step.{creation, step, refusal_of}
+use Rattle.job_table.specs.Step.{step, refusal_of}
 use Rattle.job_table.specs.Fold.{after_all}
 use Rattle.job_table.specs.Versions.{raised}
 use Rattle.command_lines.specs.Text.{commands_of}

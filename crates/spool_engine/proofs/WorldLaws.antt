@@ -24,10 +24,10 @@ use Rattle.print_rounds.specs.Courses.{Course}
 use Rattle.print_rounds.specs.Rounds.{events_in}
 use Rattle.print_rounds.specs.World.{IsEndedSlot, IsCallTurn}
 use Rattle.print_rounds.proofs.PrefixLaws.{after_both}
-use Rattle.spool_engine.specs.EventTurns.{listed, tried_as, is_checkpoint, Setting, Outcome, served, no_memory, full, disk, dead, unread, unreadable, unlisted, IsTaken, IsLeft, IsServedBy, IsOutcome}
+use Rattle.spool_engine.specs.EventTurns.{listed, tried_as, Setting, Outcome, served, no_memory, full, disk, dead, unread, unreadable, unlisted, IsTaken, IsLeft, IsServedBy, IsOutcome}
 use Rattle.spool_engine.specs.Rounds.{Ran, IsRoundWith, IsRan, AreRan, AreRunBy}
 use Rattle.spool_engine.specs.Runs.{tried_by, tried_in, Turn, How, answered as replied, ran, event_turn, IsHow, IsHeld as HasSlotsOf, KeepVersion, AreTurns, commands_in, last_course}
-use Rattle.spool_engine.specs.Calls.{IsQuietTurn, IsQuietRun, AreTaken, tried_in_turns}
+use Rattle.spool_engine.specs.Calls.{IsQuietTurn, IsQuietRun, tried_in_turns}
 use Rattle.spool_engine.specs.Script.{event_in, event_of, Meaning, says, asks, lists, runs, meaning}
 use Rattle.spool_engine.proofs.ExactLaws.{VersionLaw, is_listing, lists_none, raised_same}
 
