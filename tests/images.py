@@ -16,7 +16,7 @@ from dataclasses import replace
 
 import journal
 from journal import (CANCELED, COMPLETED, REOPEN, Head, Job, Piece, Queue, aborted, cancel, clock, close, held, hold, image,
-                     incoming, processing, send, stage, start, until, waiting)
+                     incoming, processing, purge, send, stage, start, until, waiting)
 from stories import (CREATE, FIRST, FIRST_ROWS, GREATEST, GREATEST_NUMBER, LAB, Q, QUEUE, QUEUES, SIZE, Spool, Story, of_lab,
                      of_q, run, same, spelled)
 
@@ -153,7 +153,7 @@ def jobs_in_their_order(folder):
     story.refuses(replace(waits, attempts=GREATEST), replace(runs, attempts=0), replace(runs, media=None))
     story.refuses(replace(runs, phase=processing(0)), replace(runs, phase=processing(2)))
     story.refuses(replace(runs, filters=("f",), phase=processing(3)))
-    story.refuses(replace(waits, number=10), replace(waits, number=0), replace(waits, size=1_048_577))
+    story.refuses(replace(waits, number=10), replace(waits, number=0), replace(waits, size=16_777_217))
     story.takes(runs)
     story.refuses(Queue("roof"), Head(9, 100), waits, runs, replace(waits, number=1), replace(runs, number=3))
     third, fourth = replace(runs, number=3, queue="pit"), Job(4, "pit", media="a/b", attempts=1, size=7, phase=COMPLETED)
@@ -296,8 +296,11 @@ def events_of_each_version(folder):
     same("its bytes", timed.event()[-8:].hex(), "00000000000007d0")
     for version in journal.VERSIONS:
         story = Story(folder, *FIRST, version=version)
-        story.refuses(timed.event()[:-1], timed.event() + b"\0", of_q(2, by=4_000_000_000_001).event(), of_q(1, by=9).event(), b"\x10\0\0\0\1")
+        story.refuses(timed.event()[:-1], timed.event() + b"\0", of_q(2, by=4_000_000_000_001).event(), of_q(1, by=9).event(),
+                      purge(1), purge(1)[:-1], purge(1) + b"\0", purge(0), b"\x12\0\0\0\1")
     Story(folder, *FIRST, version=1).refuses(timed.event())
+    Story(folder, *FIRST, cancel(1), version=1).refuses(purge(1))
+    Story(folder, *FIRST, cancel(1)).takes(purge(1))
     story.takes(timed.event())
     story.lists(Head(2), Q, FIRST_ROWS[2], timed)
     story.refuses(timed.event(), of_q(1).event())

@@ -47,14 +47,16 @@ PASSED_ON = {
     ("spool_core", "finish"): 1,
     ("spool_core", "journal"): 1,
     ("spool_core", "journal_reopening"): 1,
+    ("spool_core", "read_front"): 1,
     ("spool_core", "read_payload"): 1,
-    ("spool_core", "read_whole"): 1,
     ("spool_core", "take_row"): 2,
     ("spool_engine", "answer"): 1,
     ("spool_engine", "close_typed"): 1,
     ("spool_engine", "serve_end"): 1,
     ("spool_engine", "serve_whole"): 1,
     ("spool_engine", "take_piece"): 1,
+    ("spool_admin", "no_task"): 1,
+    ("spool_admin", "read_words"): 1,
     # An error of the system whose kind says so.
     ("spool_host", "from"): 1,
     ("spool_host", "long_root"): 1,
@@ -87,15 +89,16 @@ CAPACITIES = {
     ("mime_costs", "walk_lines"): ["MOST_LINES"],
     ("row_effects", "make_room"): ["MOST_KEPT"],
     ("spool_core", "drive_all"): ["1"],
-    # 64 KiB, for as long as a checkpoint is prepared.
-    ("spool_core", "listing_frames"): ["LONGEST_SEND"],
+    # 576 KiB, for as long as a checkpoint lasts.
+    ("spool_core", "prepare"): ["BLOCK_ROOM"],
+    # In room that is there.
+    ("spool_core", "put_zeros"): ["block.len() + count"],
     ("spool_host", "reserve"): ["1"],
 }
 
 # The great numbers in bodies: bounds of loops, of counts and of fields. None is a capacity.
 NUMBERS = {
     ("backend_codes", "unless_spent"): ["u32::MAX"],
-    ("event_codec", "job_state_at"): ["1_048_576"],
     ("job_table", "is_startable"): ["u32::MAX"],
     ("job_table", "is_untyped"): ["u32::MAX"],
     ("mime_rules", "int_bytes"): ["16_777_216"],
@@ -128,6 +131,7 @@ CONSTANTS = {
     ("mime_rules", "GREATEST"): 1,
     ("side_channel", "SESSION_READS"): 1,
     ("spool_areas", "LAST_EPOCH"): 1,
+    ("spool_core", "BLOCK_ROOM"): 1,
     ("spool_host", "DEFAULT_SIZE"): 1,
     ("spool_host", "GREATEST_SIZE"): 1,
     ("spool_host", "MOST_BLOCKS"): 1,

@@ -7,10 +7,11 @@ each error policy, jobs in each phase, documents, the rows of a checkpoint, and 
 jobs were processing. All of it is seen again:
 
 - SHELL answers the same on a copy, and leaves what the model of tests/spool_model.py says, in version 1.
-- It takes the events of version 1, and writes the records that tests/journal.py spells; `createby` is `error 17 NeedsCheckpoint`.
+- It takes the events of version 1, and writes the records that tests/journal.py spells; `createby` and `purge` are `error 17
+  NeedsCheckpoint`.
 - Each job that hasn't ended is printed, with its document.
 - A checkpoint writes the area 0 in version 2, with the rows that the model says, and leaves the other one. Then `createby` makes a
-  job, which the clock cancels. All is there in further openings, and behind a further checkpoint.
+  job, which the clock cancels and `purge` takes away. All is there in further openings, and behind a further checkpoint.
 
 With `--old OLD`, a program of version 1, commands at random are given to both on copies of the spool: the replies and the files are
 the same. And OLD refuses the newer spool: `spool: damaged 0`, the place of the header that it doesn't know.
@@ -335,7 +336,7 @@ def takes_the_events_of_version_one(shell, folder, content, replies):
     words = options(spool.root, BACKEND)
     it = model.opened(content)
     for command, reply, event in EVENTS:
-        spool.answers(f"{CREATE_BY}\n{command}\n{CREATE_BY}\n".encode(), [NOT_YET, reply, NOT_YET], words)
+        spool.answers(f"{CREATE_BY}\n{command}\npurge 1\npurge 99\n".encode(), [NOT_YET, reply, NOT_YET, NOT_YET], words)
         same("whether there is room", model.tried(it, event), True)
         same(f"the file behind {command!r}", spool.content() == it.file, True)
     same("the versions", spool.versions(), [1, 1])
@@ -397,6 +398,9 @@ def goes_over(shell, folder, content, replies):
         same("the other jobs", [line.split()[:3] for line in found[:-2]], [line.split()[:3] for line in jobs[:-1]])
         same("the job that is late", found[-2:], ['job 19 aim 7 canceled "ann" 0 0 "By then"', "ok 19"])
         spool.says(("checkpoint", "ok"))
+    spool.says(("purge 19", "ok"))
+    left = spool.serve(b"jobs\n")[0]
+    same("the jobs without it", [line.split()[:3] for line in left[:-1]], [line.split()[:3] for line in jobs[:-1]])
     return newer, spool.content()
 
 
@@ -427,7 +431,6 @@ def some_commands(chance):
             b"info %b i l" % queue.encode(),
             b"jobs",
             b"queues",
-            b"purge 1",
         ]) + b"\n"
 
 

@@ -17,6 +17,7 @@ pub mod Choice
 pub mod Next
 pub mod Stages
 pub mod Over
+pub mod Purged
 pub mod Above
 pub mod Loaded
 pub mod Settled
@@ -34,7 +35,6 @@ pub mod Timely
 pub mod Seats
 pub mod Retimed
 pub mod Late
-pub mod Thinned
 pub mod Indexed
 pub mod Busy
 pub mod Held

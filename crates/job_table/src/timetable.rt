@@ -1,12 +1,12 @@
 //! The waiting jobs that are to start by a moment, of all queues: the clock cancels those whose moment is over, and looks at
 //! no other job.
-ghost use Rattle.std.specs.Prelude.{◌≡◌, ℕ, ◌+◌, ◌<◌, ◌≤◌, ◌↔◌, ◌⊎◌, Option, Some, IfSome, IfOk, OnOk, None, length, count_by, nat_lt};
+ghost use Rattle.std.specs.Prelude.{◌≡◌, ℕ, ◌+◌, ◌<◌, ◌≤◌, ◌↔◌, ◌⊎◌, Option, Some, IfSome, IfOk, OnOk, None, cond, length};
 ghost use Rattle.std.specs.Option.{IsNone};
 ghost use Rattle.std.specs.List.{Contains};
 ghost use Rattle.queue_sched.specs.Deadlines.{HasEachDeadlineOnce};
 ghost use Rattle.queue_sched.specs.declared.deadlines.Deadline.{Deadline as AnyDeadline};
 ghost use Rattle.spool_types.specs.State.{Job as AnyJob};
-ghost use Rattle.job_table.specs.Timely.{deadline_of, deadline_found, unsorted, IsAdmitted, IsTimely, IsRetimed, MayRetime};
+ghost use Rattle.job_table.specs.Timely.{deadline_of, deadline_found, unsorted, IsAdmitted, IsDismissed, IsTimely, IsRetimed, MayDismiss, MayRetime};
 
 use queue_sched::{Deadline, Deadlines};
 use spool_types::{Job, JobId, Moment, Phase};
@@ -66,13 +66,6 @@ impl Timetable {
         self.deadlines.first_before(moment)
     }
 
-    /// How many waiting jobs were to start before this moment. They are counted by binary search.
-    pub(crate) fn count_before(&self, moment: Moment) -> usize
-        ensures { result ≡ count_by (λ d. nat_lt d.by moment) self.now.deadlines.items }
-    {
-        self.deadlines.count_before(moment)
-    }
-
     /// A new job comes in that doesn't wait yet. It is told whether it is to start by a moment. It takes no memory.
     pub(crate) fn admit(&mut self, timed: bool)
         requires room { self.old.timed < self.old.deadlines.room }
@@ -84,6 +77,18 @@ impl Timetable {
             let has_room = self.timed < self.deadlines.room();
             prove!(has_room);
             self.timed += 1;
+        }
+    }
+
+    /// A job goes that has no deadline any more. It is told whether it was to start by a moment. It takes no memory.
+    pub(crate) fn dismiss(&mut self, timed: bool)
+        requires { MayDismiss self.old timed }
+        ensures timely { (old new : ℕ → Option AnyJob) (j : ℕ) → IsTimely old self.old → IsDismissed old new j timed → IsTimely new self.new }
+        ensures timed { self.new.timed + cond timed 1 0 ≡ self.old.timed }
+        ensures room { self.new.deadlines.room ≡ self.old.deadlines.room }
+    {
+        if timed {
+            self.timed -= 1;
         }
     }
 

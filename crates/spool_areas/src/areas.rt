@@ -16,6 +16,8 @@ use gate_journal::{Journal, JournalFault, Window};
 use spool_disk::Disk;
 use std::marker::Model;
 
+mod steps;
+
 /// The areas of a spool's device, opened at the current one. It holds the disk.
 #[derive(Drop)]
 pub struct Areas<D: Disk> {
@@ -229,6 +231,20 @@ impl<D: Disk> Areas<D> {
         ensures known { IsVersion result }
     {
         self.version
+    }
+
+    /// Where the current area begins.
+    pub fn base(&self) -> u64
+        ensures { result ≡ self.now.base }
+    {
+        self.base
+    }
+
+    /// The epoch of the current area.
+    pub fn epoch(&self) -> u64
+        ensures { result ≡ self.now.epoch }
+    {
+        self.epoch
     }
 
     /// Whether a call has met a fault of the device.

@@ -6,6 +6,8 @@ pub mod IdleLaws
 pub mod ReadOn
 pub mod Numbers
 pub mod AllLaws
+pub mod AddLaws
+pub mod OverLaws
 pub mod FillLaws
 pub mod PartLaws
 pub mod FoldLaws
@@ -21,4 +23,4 @@ pub mod CheckpointLaws
 pub mod ChangeLaws
 pub mod Decided
 pub mod EachImage
-pub mod WholeLaws
+pub mod FrontLaws

@@ -54,12 +54,13 @@
 //!   the documents too: from an event's disk on what it sent isn't lost (`whole`). At the end every image has what the
 //!   acknowledged events sent (`sent`).
 //! - *ManyLives*: a spool that is driven, crashes and is opened again, any number of times, has the tables and the documents of
-//!   one list of events, and a job whose end was acknowledged has ended in all later lives ([`lives_go_on`]).
+//!   one list of events, and a job whose end was acknowledged has ended in all later lives, or was purged ([`lives_go_on`]).
 //! - *CrashSafeDrive*, at its end: every image has the table that is shown (`kept`), or after a fault that one or the one with
 //!   the event in hand (`after_fault`). [`replay`] is the same fold from the empty table on, with no disk.
-//! - *EndedStaysEnded*: a table changes by accepted events only (`answer`), and none changes a job that has ended
-//!   (`ended_jobs_stay` of `job_table`). [`drive`] says it of its events: such a job stays as it is (`ended`), and a number
-//!   that is over stays so (`over`). What is about it is refused (`refused`), and it is not given again (`number`).
+//! - *EndedStaysEnded*: a table changes by accepted events only (`answer`), and none but its purge changes a job that has ended
+//!   (`ended_jobs_stay` of `job_table`). [`drive`] says it of its events: such a job stays as it is, or one of them purged it
+//!   (`ended`), and a number that is over stays so (`over`). What is about it is refused (`refused`), and it is not given again
+//!   (`number`).
 //! - *QueuesApart* (`queues_stay_apart` of `job_table`): what [`replay`] leaves of a queue are the rows after the queue's own events,
 //!   and [`drive`] leads a queue's part of a table on to its part (`apart`).
 //! - *ExactRefusals*: each answer of `apply` comes with its cause, in the order of [`ApplyFault`] (`answer`). `open`
@@ -83,11 +84,13 @@
 //! whether the event is on it: the table stays as it was, and the spool is dead, since what it would append next might
 //! follow an event that it doesn't know.
 //!
-//! `checkpoint` first takes all its memory: for new places of the documents, and for the frames of the table's rows, with
-//! zeros in the stead of the documents' bytes. Then it reads these into the frames, notes where each will lie, and hands all
-//! frames to the areas, which put them into the other one and then change over. So all rows are in memory meanwhile, with
-//! every document. Until the header there is opened a crash leaves the events that led to the table, and from then on its
-//! rows, with room for a reopening behind them. Once it is open the table has its documents in the new places.
+//! `checkpoint` first takes all its memory: for new places of the documents, and for one block of rows. It adds up how long all
+//! records are, and looks whether they fit. Then it fills the other area: it spells the table's rows into the block, one behind
+//! the other, reads the documents' bytes into their pieces, notes where each will lie, and has the block written each time that
+//! it is long enough. A sync stands behind the last row alone: until the header there is opened no image counts what lies in
+//! that area, so a crash leaves the events that led to the table, and from then on its rows, with room for a reopening behind
+//! them. Meanwhile the documents are read from the current area, which stays. Once the header is open the table has its
+//! documents in the new places.
 //!
 //! `open` first makes the table and writes nothing: it syncs, so that a crash leaves what it reads. It takes each row as the
 //! next one of a listing (`Loading` of `job_table`), and from the first event on commits each to the table that was listed,
@@ -113,8 +116,8 @@
 //! - [`OpenError`] hands the disk back with an [`OpenFault`]. But for `Disk` it reads as before. `NotASpool` and `Damaged`
 //!   are faults of the bytes, which have no table. `Memory` and `Disk` say nothing of the bytes, and the disk may be
 //!   opened again.
-//! - [`Unread`], of [`read_whole`], which reads a document as long as the table says: after `Memory` nothing has changed, and after
-//!   `Disk` it is as after that fault of the device.
+//! - [`Unread`], of [`read_whole`] and [`read_front`], which read a document as long as the table says, or its first bytes: after
+//!   `Memory` nothing has changed, and after `Disk` it is as after that fault of the device.
 //! - [`ReadFault`]: the table and what a crash leaves are as before. After `Disk`, which comes only where the device's count of
 //!   failures rose, the spool is dead.
 //! - [`MakeFault`]: after `Full` nothing has changed. After `Disk` the device may hold no spool, and is made anew.
@@ -131,7 +134,7 @@ mod spool;
 pub use driving::{Driven, Ending, drive};
 pub use laws::{lives_go_on, one_reading};
 pub use making::make;
-pub use reading::{Unread, read_whole};
+pub use reading::{Unread, read_front, read_whole};
 pub use replaying::replay;
 pub use spool::{ApplyFault, CheckpointFault, Spool};
 pub use spool_areas::{MakeFault, OpenError, OpenFault, ReadFault};

@@ -1,0 +1,74 @@
+//! Why the program ends with status 1.
+ghost use Rattle.std.specs.Prelude.{◌≡◌, OnErr, OnOk};
+ghost use Rattle.std.specs.Process.{exit_status};
+ghost use Rattle.spool_host.specs.Faults.{of_opening};
+ghost use Rattle.spool_admin.specs.Faults.{of_checkpoint};
+ghost use Rattle.spool_admin.specs.declared.fault.AdminFault.TheVariants.{Shell};
+
+use spool_core::{CheckpointFault, OpenFault};
+use spool_host::{DiskCause, ShellFault, tell_end};
+use std::process::ExitCode;
+use thiserror::Error;
+
+/// Why the program ends with status 1. Its text is what follows `spool: ` on standard error.
+#[derive(Debug, Drop, Error)]
+pub enum AdminFault {
+    /// A fault that the spooler may have too.
+    #[error("{0}")]
+    Shell(ShellFault),
+    /// The new file would be smaller than the old one.
+    #[error("smaller")]
+    Smaller,
+    /// The table doesn't fit into an area of the new file.
+    #[error("full")]
+    Full,
+    /// The spool has the greatest epoch, so no listing can follow.
+    #[error("epoch-end")]
+    EpochEnd,
+}
+
+impl From<ShellFault> for AdminFault {
+    ghost from_gives = { λ fault told. told ≡ Shell fault };
+
+    fn from(fault: ShellFault) -> AdminFault {
+        AdminFault::Shell(fault)
+    }
+}
+
+impl From<OpenFault> for AdminFault {
+    ghost from_gives = { λ fault told. told ≡ Shell (of_opening fault) };
+
+    fn from(fault: OpenFault) -> AdminFault {
+        AdminFault::Shell(ShellFault::from(fault))
+    }
+}
+
+impl From<CheckpointFault> for AdminFault {
+    ghost from_gives = { λ fault told. told ≡ of_checkpoint fault };
+
+    fn from(fault: CheckpointFault) -> AdminFault {
+        match fault {
+            CheckpointFault::EpochEnd => AdminFault::EpochEnd,
+            CheckpointFault::Memory => AdminFault::Shell(ShellFault::Memory),
+            CheckpointFault::Full => AdminFault::Full,
+            CheckpointFault::Dead | CheckpointFault::Disk => {
+                AdminFault::Shell(ShellFault::Disk(DiskCause::Failed))
+            }
+        }
+    }
+}
+
+/// Tells how the program ended, on standard error and by the status.
+pub fn tell_admin_end<R: Eprint>(rt: &R, ended: Result<(), AdminFault>) -> ExitCode
+    ensures ok { OnOk ended (exit_status result ≡ 0) }
+    ensures fault { OnErr ended (exit_status result ≡ 1) }
+{
+    match ended {
+        Ok(()) => tell_end(rt, Ok(())),
+        Err(AdminFault::Shell(fault)) => tell_end(rt, Err(fault)),
+        Err(fault) => {
+            let _ = eprintln!(rt; "spool: {fault}");
+            ExitCode::FAILURE
+        }
+    }
+}
