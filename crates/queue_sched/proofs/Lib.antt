@@ -11,4 +11,3 @@ pub mod Startable
 pub mod Due
 pub mod Indexed
 pub mod Exchanged
-pub mod Kept

@@ -1,9 +1,7 @@
 //! The index of a queue's waiting jobs.
 ghost use Rattle.std.specs.Prelude.{◌≡◌, ◌<◌, ◌≤◌, ◌+◌, ◌↔◌, ◌⊎◌, [], length, map, vec_capacity, IsOk, OnOk, OnErr, IfOk, IfSome};
 ghost use Rattle.std.specs.Option.{IsNone, option_copied};
-ghost use Rattle.std.specs.Fn.{CalledAt};
 ghost use Rattle.std.specs.List.{Contains};
-ghost use Rattle.std.specs.List.Retain.{IsFiltered};
 ghost use Rattle.queue_sched.specs.Index.{InOrder, LacksJob, HasEachOnce, IsFirstStartable, NoneIsStartable};
 ghost use Rattle.queue_sched.specs.declared.entry.Entry.{Entry};
 
@@ -76,8 +74,8 @@ impl Index {
         let mut jobs = Vec::with_capacity(alloc, room)?;
         let mut ready = VecDeque::with_capacity(alloc, room)?;
         sort(&mut entries);
-        let entries = VecDeque::from_vec(entries);
         fill_numbers(&mut jobs, &entries);
+        let entries = VecDeque::from_vec(entries);
         fill_ready(&mut ready, &entries, moment);
         let due = due_of(&entries, moment);
         Ok(Index {
@@ -180,18 +178,6 @@ impl Index {
         if entry.is_startable(self.moment) {
             take(&mut self.ready, &entry);
         }
-    }
-
-    /// Keeps those that pass the test, and takes all others away, in one pass. It takes no memory.
-    pub fn retain<F: FnMut(&Entry) -> bool>(&mut self, keep: F)
-        requires { F.IsAlwaysCallable keep }
-        ensures filtered { IsFiltered (CalledAt F.FnMut) keep self.old.items self.new.items }
-        ensures moment { self.new.moment ≡ self.old.moment }
-        ensures room { self.new.room ≡ self.old.room }
-    {
-        self.entries.retain(keep);
-        fill_numbers(&mut self.jobs, &self.entries);
-        fill_ready(&mut self.ready, &self.entries, self.moment);
     }
 
     /// Puts another entry of a job in the place of the one that is there. Where its turn stays, nothing moves but the jobs

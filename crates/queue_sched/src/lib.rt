@@ -21,10 +21,8 @@
 //!   (`InOrder`), and `next` is the first that may be started. [`index_law`]: the order is that of the rule, and where the
 //!   entries are those of a queue's waiting jobs (`IsIndexOf`), the first that may be started is the next job of the queue,
 //!   if the queue is free; where there is none, none is eligible.
-//! - [`Index::retain`] keeps exactly the entries of which its test says so, in their order (`filtered`).
 //! - The deadlines of a queue: [`Deadlines::first_before`] names a job whose moment is below the given one (`found`), and none
-//!   exactly where no moment is (`none`). [`Deadlines::count_before`] tells how many are. Adding and taking away change what is
-//!   there by that one (`items`).
+//!   exactly where no moment is (`none`). Adding and taking away change what is there by that one (`items`).
 //!
 //! # What an index keeps
 //!
@@ -47,13 +45,12 @@
 //! The choice of an index looks at one entry. Adding and taking away find their place by binary search and move the entries
 //! before it or behind it, whichever are fewer, and the numbers behind it. An entry whose job keeps its turn is replaced where
 //! it stands, and only the ready ones beside it move. A moment before the due one looks at none, and any other goes through
-//! all. So does [`Index::retain`], however many it takes away. [`Index::of_entries`] sorts its entries once. Only that and
-//! [`Index::reserve`] take memory, and where `reserve` fails, the index is as before.
+//! all. [`Index::of_entries`] sorts its entries once. Only that and [`Index::reserve`] take memory,
+//! and where `reserve` fails, the index is as before.
 //!
-//! To tell whether a deadline has passed, the first one alone is looked at; how many have is counted by binary search. Adding
-//! and taking away find their place by binary search and move the deadlines before it or behind it, whichever are fewer: none,
-//! where the first one is taken away. [`Deadlines::of_items`] sorts them once. Only [`Deadlines::reserve`] takes memory, and
-//! where it fails, the deadlines are as before.
+//! To tell whether a deadline has passed, the first one alone is looked at. Adding and taking away find their place by binary
+//! search and move the deadlines before it or behind it, whichever are fewer. [`Deadlines::of_items`] sorts them once. Only
+//! [`Deadlines::reserve`] takes memory, and where it fails, the deadlines are as before.
 #![tactic(auto)]
 
 mod choice;

@@ -103,9 +103,9 @@ pub(crate) fn sort(entries: &mut Vec<Entry>)
 }
 
 // Lists the numbers of the entries.
-pub(crate) fn fill_numbers(jobs: &mut Vec<JobId>, entries: &VecDeque<Entry>)
-    requires { length entries.now.items ≤ vec_capacity jobs.old }
-    ensures items { jobs.new.items ≡ map (λ e. e.id) entries.now.items }
+pub(crate) fn fill_numbers(jobs: &mut Vec<JobId>, entries: &[Entry])
+    requires { length entries.now ≤ vec_capacity jobs.old }
+    ensures items { jobs.new.items ≡ map (λ e. e.id) entries.now }
     ensures room { vec_capacity jobs.new ≡ vec_capacity jobs.old }
 {
     jobs.clear();

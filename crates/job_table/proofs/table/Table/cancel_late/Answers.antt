@@ -13,7 +13,7 @@ use Rattle.job_table.specs.declared.table.Table.TheInside.{Inside}
 use Rattle.job_table.proofs.Held.{stepped}
 use Rattle.job_table.proofs.Late.{late_listed, none_listed, cancel_accepted, cancel_alive, cancel_less, cancel_others, cancel_rest}
 use Rattle.job_table.proofs.Rooms.{no_more_then}
-use Rattle.job_table.proofs.table.Table.cancel_few.Goals as goal
+use Rattle.job_table.proofs.table.Table.cancel_late.Goals as goal
 
 module _ (a : Inside) (v : Contents) (view : table_of a ≡ v) (is : IsInLanes a) where
   legal : IsLegal v.state

@@ -3,7 +3,7 @@ use Rattle.std.proofs.Common.{◌≡◌}
 use Rattle.job_table.specs.Changes.{at_moment, change_jobs}
 use Rattle.job_table.specs.Contents.{HasNoMore, KeepsPlaces}
 use Rattle.job_table.proofs.Late.{waiting_count}
-use Rattle.job_table.proofs.table.Table.cancel_few.Given as goal
+use Rattle.job_table.proofs.table.Table.cancel_late.Given as goal
 
 abbrev pub invariant-loop-job : goal.invariant-loop-job
 invariant-loop-job l = record {
