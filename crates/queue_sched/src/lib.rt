@@ -59,6 +59,8 @@ mod entry;
 mod index;
 mod laws;
 mod lists;
+mod slots;
+mod turns;
 
 pub use choice::{beats, next_job};
 pub use deadlines::{Deadline, Deadlines};
