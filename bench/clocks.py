@@ -9,9 +9,9 @@ floor: two writes and two syncs by a plain program (floor.c). Then clocks that c
 left, each with the time of a job that it cancels, without that of a clock that cancels none.
 
 The time of a clock that cancels none should be that of any event, however many jobs wait. A job that is canceled is taken out
-of the list of those that wait, as by `cancel`, which moves what is behind it. In a folder in memory the syncs take no time, and
-what the program itself does is seen. Times depend on the machine and its disk; only the ratios are of interest, and no test
-reads them.
+of the list of those that wait, as by `cancel`, which moves no other: so its time should hardly grow with their number. In a
+folder in memory the syncs take no time, and what the program itself does is seen. Times depend on the machine and its disk; only
+the ratios are of interest, and no test reads them.
 """
 import os
 import subprocess

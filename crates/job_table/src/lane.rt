@@ -193,7 +193,7 @@ impl Lane {
         ensures room { self.new.index.room ≡ self.old.index.room }
         ensures rest { (self.new.processing ≡ self.old.processing) × (self.new.live ≡ self.old.live) × (self.new.reserved ≡ self.old.reserved) }
     {
-        let waiting = self.index.jobs().len();
+        let waiting = self.index.len();
         let has_room = waiting < self.reserved;
         prove!(has_room);
         self.index.insert(entry);

@@ -1,13 +1,13 @@
 -- A list with an entry more: what it has, and what of it may be started.
-use Rattle.std.proofs.Common.{◌≡◌, ℕ, zero, suc, ◌+◌, ◌-◌, ◌<◌, ◌≤◌, ◌⊎◌, ◌↔◌, Bool, true, false, cond, List, [], ◌∷◌, ◌++◌, length, take, drop, get_or, inl, inr, refl, sym, ap, subst, ◌∙◌, arith, length-append, IsTrue}
+use Rattle.std.proofs.Common.{◌≡◌, zero, suc, ◌+◌, ◌-◌, ◌<◌, ◌≤◌, ◌⊎◌, ◌↔◌, Bool, true, false, cond, List, [], ◌∷◌, ◌++◌, length, inl, inr, refl, sym, ap, subst, ◌∙◌, arith, length-append, IsTrue}
 use Rattle.std.proofs.Math.Logic.{⊎_elim}
 use Rattle.std.proofs.lemmas.Bool.{both_ways}
-use Rattle.std.proofs.lemmas.List.{get_or_at, take_at, drop_at}
+use Rattle.std.proofs.lemmas.List.{get_or_at}
 use Rattle.std.proofs.lemmas.List.Edits.{insert-append_right, remove-append_right}
 use Rattle.std.proofs.lemmas.List.Elements.{filter-append, filter_passes, All-contains, All-filter, All-contains_itself, Contains-append_left, Contains-append_right, Contains-append_cases, Contains-push}
 use Rattle.std.proofs.lemmas.List.Kept.{AllPairs-filter}
 use Rattle.std.proofs.lemmas.List.Sums.{length-filter, count_by-le-length}
-use Rattle.std.specs.List.{All, Contains, filter, insert, remove}
+use Rattle.std.specs.List.{Contains, filter, insert, remove}
 use Rattle.queue_sched.specs.Index.{goes_before, InOrder}
 use Rattle.queue_sched.specs.Turned.{IsMore, IsExchange}
 use Rattle.queue_sched.specs.declared.entry.Entry.{Entry}

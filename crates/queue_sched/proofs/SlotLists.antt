@@ -1,14 +1,14 @@
 -- Slots in the order of their turns, and the entries that are there.
-use Rattle.std.proofs.Common.{◌≡◌, ℕ, zero, suc, ◌+◌, ◌<◌, ◌≤◌, ◌⊎◌, Bool, true, false, not, cond, ◌&&◌, ◌==◌, List, [], ◌∷◌, ◌++◌, length, map, set, take, drop, get_or, Some, None, slice_get, inl, inr, refl, sym, ap, subst, ◌∙◌, arith, drop-cons, IsTrue}
+use Rattle.std.proofs.Common.{◌≡◌, ℕ, zero, suc, ◌<◌, ◌≤◌, ◌⊎◌, Bool, true, false, not, cond, ◌&&◌, List, [], ◌∷◌, ◌++◌, length, map, set, take, drop, get_or, Some, None, slice_get, refl, sym, ap, subst, ◌∙◌, arith, drop-cons, IsTrue}
 use Rattle.std.proofs.Math.Logic.{⊎_elim}
 use Rattle.std.proofs.lemmas.Bool.{both_ways, cases_order, true_from_ne_false}
 use Rattle.std.proofs.lemmas.List.{take-append-drop, get_or_default, get_or-map, get_or-set_same, get_or-set_other, length-set, length-map, map-append, set_split}
 use Rattle.std.proofs.lemmas.List.Elements.{filter-append, Contains-append_left, Contains-append_right, Contains-append_cases, Contains-push}
 use Rattle.std.proofs.lemmas.List.Kept.{AllPairs-filter}
 use Rattle.std.proofs.lemmas.List.Sums.{length-filter, count_by-le-length}
-use Rattle.std.specs.List.{AllPairs, AllWithin, Contains, filter, insert}
+use Rattle.std.specs.List.{AllWithin, Contains, filter, insert}
 use Rattle.std.specs.List.Sorted.{IsPartitionedBy}
-use Rattle.queue_sched.specs.Index.{goes_before, is_startable, InOrder, LacksJob}
+use Rattle.queue_sched.specs.Index.{goes_before, InOrder, LacksJob}
 use Rattle.queue_sched.specs.Next.{goes_first}
 use Rattle.queue_sched.specs.Slots.{is_there, items_of, there_of, InSlotOrder, IsFirstThere}
 use Rattle.queue_sched.specs.Turned.{IsMore, IsExchange}

@@ -1,11 +1,12 @@
 //! The index of a queue's waiting jobs.
-ghost use Rattle.std.specs.Prelude.{◌≡◌, ◌<◌, ◌≤◌, ◌+◌, ◌↔◌, ◌⊎◌, [], length, vec_capacity, IsOk, OnOk, OnErr, IfOk, IfSome};
+ghost use Rattle.std.specs.Prelude.{◌≡◌, ◌<◌, ◌≤◌, ◌+◌, ◌↔◌, ◌⊎◌, [], length, map, vec_capacity, IsOk, OnOk, OnErr, IfOk, IfSome};
 ghost use Rattle.std.specs.Option.{IsNone, option_copied};
 ghost use Rattle.std.specs.List.{Contains};
 ghost use Rattle.queue_sched.specs.Index.{InOrder, LacksJob, HasEachOnce, IsFirstStartable, NoneIsStartable};
 ghost use Rattle.queue_sched.specs.declared.entry.Entry.{Entry};
 
 use crate::entry::Entry;
+use crate::jobs::Jobs;
 use crate::lists::{is_before, sooner, sort};
 use crate::turns::Turns;
 use spool_types::{JobId, Moment};
@@ -77,6 +78,14 @@ impl Index {
             due,
             moment,
         })
+    }
+
+    /// The numbers of the waiting jobs, in the order of their turns.
+    pub fn jobs(&self) -> Jobs<'_>
+        ensures numbers { result ≡ map (λ e. e.id) self.now.items }
+        ensures order { InOrder self.now.items }
+    {
+        self.entries.jobs()
     }
 
     /// How many jobs wait.

@@ -1,5 +1,5 @@
 //! Entries in the order of their turns.
-ghost use Rattle.std.specs.Prelude.{◌≡◌, ◌<◌, ◌≤◌, true, false, [], length, slice_get, OnOk, IfOk, IfSome};
+ghost use Rattle.std.specs.Prelude.{◌≡◌, ◌<◌, ◌≤◌, true, false, [], length, map, slice_get, OnOk, IfOk, IfSome};
 ghost use Rattle.std.specs.Option.{IsNone, option_copied};
 ghost use Rattle.std.specs.List.{filter, Contains};
 ghost use Rattle.queue_sched.specs.Index.{is_startable, InOrder, LacksJob};
@@ -7,6 +7,7 @@ ghost use Rattle.queue_sched.specs.Lists.{IsSameUntil};
 ghost use Rattle.queue_sched.specs.Turned.{IsExchange, IsMore};
 
 use crate::entry::Entry;
+use crate::jobs::Jobs;
 use crate::slots::{
     Slot, due_of, exchange_slot, fill_slots, find, free_slot, let_go, pick_ready, put_slot,
     take_slot,
@@ -76,6 +77,13 @@ impl Turns {
     {
         pick_ready(&mut self.slots, &all.slots, now);
         self.len = self.slots.len();
+    }
+
+    // The numbers of their jobs, in their order.
+    pub(crate) fn jobs(&self) -> Jobs<'_>
+        ensures { result ≡ map (λ e. e.id) self.now.items }
+    {
+        Jobs::of_slots(&self.slots)
     }
 
     // How many there are.

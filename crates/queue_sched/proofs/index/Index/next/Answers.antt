@@ -1,5 +1,5 @@
 -- the first of those that may be started
-use Rattle.std.proofs.Common.{◌≡◌, ◌<◌, length, get_or, refl, subst, ap, ◌∙◌, arith}
+use Rattle.std.proofs.Common.{◌≡◌, ◌<◌, length, get_or, refl, subst, ap, arith}
 use Rattle.std.specs.List.{filter}
 use Rattle.queue_sched.specs.Index.{is_startable, IsFirstStartable, NoneIsStartable}
 use Rattle.queue_sched.specs.Lists.{waits_of}

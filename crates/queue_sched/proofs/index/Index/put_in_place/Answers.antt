@@ -1,5 +1,5 @@
 -- an entry in the place of another one
-use Rattle.std.proofs.Common.{◌≡◌, ◌⊎◌, ◌↔◌, length, List, true, false, sym, ap, subst, ◌∙◌, arith}
+use Rattle.std.proofs.Common.{◌≡◌, ◌⊎◌, ◌↔◌, length, true, false, sym, ap, subst, ◌∙◌, arith}
 use Rattle.std.specs.List.{Contains, filter}
 use Rattle.queue_sched.specs.Index.{InOrder, is_startable}
 use Rattle.queue_sched.specs.declared.entry.Entry.{Entry}

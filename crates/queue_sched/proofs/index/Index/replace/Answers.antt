@@ -1,5 +1,5 @@
 -- an entry of a job for another one
-use Rattle.std.proofs.Common.{◌≡◌, ◌⊎◌, inl, inr, refl, ◌∙◌}
+use Rattle.std.proofs.Common.{◌≡◌, inl, inr, refl, ◌∙◌}
 use Rattle.std.proofs.Math.Logic.{⊎_elim}
 use Rattle.std.specs.List.{Contains}
 use Rattle.queue_sched.proofs.index.Index.replace.Goals as goal

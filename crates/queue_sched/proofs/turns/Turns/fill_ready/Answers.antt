@@ -3,7 +3,7 @@ use Rattle.std.proofs.Common.{length, sym, ap, subst, ◌∙◌, arith}
 use Rattle.std.specs.List.{filter}
 use Rattle.queue_sched.specs.Index.{is_startable}
 use Rattle.queue_sched.specs.Slots.{items_of, InSlotOrder, IsFirstThere}
-use Rattle.queue_sched.proofs.SlotLists.{passes, picked, picked_count, picked_first, picked_in_order}
+use Rattle.queue_sched.proofs.SlotLists.{picked, picked_count, picked_first, picked_in_order}
 use Rattle.queue_sched.proofs.turns.Turns.fill_ready.Goals as goal
 
 pub invariant_of-self : goal.invariant_of-self

@@ -1,7 +1,6 @@
 -- the first slot's entry is there
-use Rattle.std.proofs.Common.{◌≡◌, rules, length, None, slice_get, refl, sym, ap, ◌∙◌, arith}
+use Rattle.std.proofs.Common.{◌≡◌, rules, None, slice_get, ap, ◌∙◌, arith}
 use Rattle.std.specs.Option.{option_copied}
-use Rattle.queue_sched.specs.Slots.{items_of}
 use Rattle.queue_sched.proofs.SlotLists.{first_item, first_none}
 use Rattle.queue_sched.proofs.turns.Turns.front.Goals as goal
 

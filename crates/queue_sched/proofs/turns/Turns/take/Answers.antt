@@ -1,5 +1,5 @@
 -- the slot is marked, and gone ones are let go
-use Rattle.std.proofs.Common.{◌≡◌, ◌-◌, length, sym, ap, subst, ◌∙◌, arith}
+use Rattle.std.proofs.Common.{length, sym, ap, subst, arith}
 use Rattle.std.specs.List.{Contains}
 use Rattle.queue_sched.specs.Slots.{items_of}
 use Rattle.queue_sched.specs.Turned.{IsMore}
