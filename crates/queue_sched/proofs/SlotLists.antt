@@ -316,11 +316,6 @@ first_set [] at s g first = tt
 first_set (t ∷ ss) zero s g first = g
 first_set (t ∷ ss) (suc at) s g first = first
 
-pub first_insert : (ss : List Slot) (at : ℕ) (s : Slot) → s.gone ≡ false → IsFirstThere ss → IsFirstThere (insert ss at s)
-first_insert ss zero s g first = g
-first_insert [] (suc at) s g first = g
-first_insert (t ∷ ss) (suc at) s g first = first
-
 pub first_item : (ss : List Slot) (s : Slot) → IsFirstThere ss → 0 < length ss → s ≡ get_or ss 0 s → Some s.entry ≡ slice_get (items_of ss) 0
 first_item [] s first inside is = absurd (omega (arith, inside))
 first_item (t ∷ ss) s first inside is =
@@ -329,14 +324,6 @@ first_item (t ∷ ss) s first inside is =
 pub first_none : (ss : List Slot) → length ss ≡ 0 → None ≡ slice_get (items_of ss) 0
 first_none [] none = refl
 first_none (s ∷ ss) none = absurd (omega (arith, none))
-
-pub first_from : (ss : List Slot) (s : Slot) → s ≡ get_or ss 0 s → s.gone ≡ false → IsFirstThere ss
-first_from [] s is g = tt
-first_from (t ∷ ss) s is g = subst (λ (u : Slot). u.gone ≡ false) is g
-
-pub first_empty : (ss : List Slot) → length ss ≡ 0 → IsFirstThere ss
-first_empty [] none = tt
-first_empty (s ∷ ss) none = absurd (omega (arith, none))
 
 -- in a loop that lets go the gone ones in front
 pub record IsTrimmed (old new : List Slot) : Type 0 where
@@ -350,15 +337,6 @@ not_trimmed ss = record {
   order = λ order. order;
   few = omega arith;
 }
-
-pub one_trimmed : (old ss ss' : List Slot) (s : Slot) → IsTrimmed old ss → s ≡ get_or ss 0 s → s.gone ≡ true → 0 < length ss → ss' ≡ drop 1 ss → IsTrimmed old ss'
-one_trimmed old [] ss' s so_far is g inside rest = absurd (omega (arith, inside))
-one_trimmed old (t ∷ ss) ss' s so_far is g inside rest =
-    subst (λ l. IsTrimmed old l) (sym rest) (record {
-      items = sym (items_gone t ss (subst (λ (u : Slot). u.gone ≡ true) is g)) ∙ so_far.items;
-      order = λ order i j d lt within. so_far.order order (suc i) (suc j) d (omega (arith, lt)) (omega (arith, within));
-      few = omega (arith, so_far.few);
-    })
 
 -- in a loop that looks for a job: all that are left are of the list, and of the list all that are the job's are left
 pub record IsSought (all left : List Entry) (id : ℕ) : Type 0 where
