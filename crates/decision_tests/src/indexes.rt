@@ -46,6 +46,20 @@ const PLACES: [Row; 9] = [
     (Bring(100), &[], 0),
 ];
 
+// A job comes back to where it was, and others come where all but one are gone.
+const COMING_BACK: [Row; 10] = [
+    (Add((1, 50, Free, 0, false)), &[1], 1),
+    (Add((2, 50, Free, 0, false)), &[1, 2], 1),
+    (Add((3, 50, Free, 0, false)), &[1, 2, 3], 1),
+    (Take(2), &[1, 3], 1),
+    (Add((2, 50, Until(20), 0, false)), &[1, 2, 3], 1),
+    (Take(1), &[2, 3], 3),
+    (Take(2), &[3], 3),
+    (Add((1, 50, Free, 0, false)), &[1, 3], 1),
+    (Add((2, 50, Free, 0, false)), &[1, 2, 3], 1),
+    (Take(3), &[1, 2], 1),
+];
+
 // A held job keeps its place and is passed over.
 const HELD: [Row; 10] = [
     (Add((1, 90, ForGood, 0, false)), &[1], 0),
@@ -62,7 +76,7 @@ const HELD: [Row; 10] = [
 
 // Adds a job that isn't there.
 fn add(index: &mut Index, entry: Entry) -> Result<(), Fail> {
-    index.reserve(index.jobs().len() + 1)?;
+    index.reserve(index.len() + 1)?;
     match index.entry(entry.id) {
         Some(_) => return Err("the job is there")?,
         None => index.insert(entry),
@@ -109,10 +123,9 @@ fn makes(index: &mut Index, change: Change) -> Result<bool, Fail> {
 
 // Whether it has these jobs in this order, and this next one, or none where it is 0.
 fn has(index: &Index, numbers: &[u32], next: u32) -> bool {
-    let jobs = index.jobs();
-    jobs.len() == numbers.len()
-        && jobs
-            .iter()
+    index.len() == numbers.len()
+        && index
+            .jobs()
             .zip(numbers)
             .all(|(id, number)| id.get() == *number)
         && index.next() == JobId::new(next)
@@ -139,6 +152,7 @@ fn first_failure_of(alloc: Global, rows: &[Row]) -> Result<usize, Fail> {
 fn an_index_follows_its_rows(rt: HostRuntime) -> Result<(), Fail> {
     assert!(rt; first_failure_of(rt.alloc(), &WORKED)? == 0);
     assert!(rt; first_failure_of(rt.alloc(), &PLACES)? == 0);
+    assert!(rt; first_failure_of(rt.alloc(), &COMING_BACK)? == 0);
     assert!(rt; first_failure_of(rt.alloc(), &HELD)? == 0);
     Ok(())
 }

@@ -114,10 +114,10 @@ late_waits now r late = (and_parts (is_waiting r.phase) (is_passed now r.by) lat
 at_not_waiting : (now : ℕ) (r : Job) → is_waiting r.phase ≡ false → at_moment now r ≡ r
 at_not_waiting now r is = ap (λ b. cond (b && is_passed now r.by) (ended Canceled r) r) is
 
-pub at_kept : (now : ℕ) (r : Job) → is_late now r ≡ false → at_moment now r ≡ r
+at_kept : (now : ℕ) (r : Job) → is_late now r ≡ false → at_moment now r ≡ r
 at_kept now r timely = ap (λ b. cond b (ended Canceled r) r) timely
 
-pub at_late : (now : ℕ) (r : Job) → is_late now r ≡ true → at_moment now r ≡ ended Canceled r
+at_late : (now : ℕ) (r : Job) → is_late now r ≡ true → at_moment now r ≡ ended Canceled r
 at_late now r late = ap (λ b. cond b (ended Canceled r) r) late
 
 pub ended_waits_not : (p : Phase) → has_ended p ≡ true → is_waiting p ≡ false

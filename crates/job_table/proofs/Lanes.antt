@@ -115,7 +115,7 @@ module _ (p q : ℕ → Bool) (j n : ℕ) (most : AtMost p n) (others : (k : ℕ
 live_waiting : (to : Standing) (e : Entry) → to ≡ Waiting e → is_live to ≡ true
 live_waiting to e is = ap is_live is
 
-pub ended_and_live : (to : Standing) → to ≡ Ended → is_live to ≡ true → ⊥
+ended_and_live : (to : Standing) → to ≡ Ended → is_live to ≡ true → ⊥
 ended_and_live to is live = (let no : false ≡ true = sym (ap is_live is) ∙ live in absurd (cc))
 
 module _ (old new : ℕ → Standing) (j : ℕ) (n : ℕ) (most : AtMostLive old n) where
@@ -149,22 +149,17 @@ differ_numbers id (x ∷ xs) apart = (
 not_before_itself : (e : Entry) → goes_before e e ≡ false
 not_before_itself e = search rules
 
-pub same_entry : (e f : Entry) → Waiting e ≡ Waiting f → e ≡ f
+same_entry : (e f : Entry) → Waiting e ≡ Waiting f → e ≡ f
 same_entry e f is = cc
 
 module _ (seats : ℕ → Standing) where
   abbrev IsItem : Entry → Type 0
   IsItem e = seats e.id ≡ Waiting e
 
-  -- no two entries have the same number
-  pub entries_apart : (lane : Lane) → IsLane seats lane → InOrder lane.index.items → AllPairs (λ e f. ¬ (f.id ≡ e.id)) lane.index.items
-  entries_apart lane is order =
-      apart_in_order (λ (e : Entry). e.id) goes_before not_before_itself IsItem (λ e f at_e at_f same. same_entry e f (sym at_e ∙ ap seats same ∙ at_f)) lane.index.items order is.waiting
-
   pub as_many_wait : (lane : Lane) → IsLane seats lane → InOrder lane.index.items → length lane.index.items ≤ lane.live
   as_many_wait lane is order =
       let items = lane.index.items in
-      let apart = entries_apart lane is order in
+      let apart = apart_in_order (λ (e : Entry). e.id) goes_before not_before_itself IsItem (λ e f at_e at_f same. same_entry e f (sym at_e ∙ ap seats same ∙ at_f)) items order is.waiting in
       subst (λ n. n ≤ lane.live) (length-map items (λ e. e.id))
       (is.live (map (λ e. e.id) items) (differ_numbers (λ (e : Entry). e.id) items apart)
       (all_numbers (λ (e : Entry). e.id) items (λ k. is_live (seats k) ≡ true) (all_from (λ e. is_live (seats e.id) ≡ true) items (λ e there. live_waiting (seats e.id) e (is.waiting e there)))))
@@ -379,19 +374,13 @@ put_back old new j to seated = record { own = seated.own; others = λ k other. s
 
 -- ## A list whose elements change one after another
 
-module _ {Y : Type 0} (first now : List Y) (at : ℕ) (new : Y) (within : at < length now) where
-  -- the places so far, each by what is asked of it
-  pub set_done_each : (R : ℕ → Y → Y → Type 0) → ((i : ℕ) (d : Y) → i < at → R i (get_or first i d) (get_or now i d)) → ((d : Y) → R at (get_or first at d) new)
-      → (i : ℕ) (d : Y) → i < at + 1 → R i (get_or first i d) (get_or (set now at new) i d)
-  set_done_each R done step i d lt = elim (cases_eq i at) [
-    | inl same ↦ subst (λ n. R n (get_or first n d) (get_or (set now at new) n d)) (sym same) (subst (λ y. R at (get_or first at d) y) (sym (get_or-set_same now at new d within)) (step d))
-    | inr other ↦ subst (λ y. R i (get_or first i d) y) (sym (get_or-set_other now at i new d other)) (done i d (omega (arith, lt, other)))
-  ]
-
 module _ {Y : Type 0} (R : Y → Y → Type 0) (first now : List Y) (at : ℕ) (new : Y) (within : at < length now) where
   pub set_done : ((i : ℕ) (d : Y) → i < at → R (get_or first i d) (get_or now i d)) → ((d : Y) → R (get_or first at d) new)
       → (i : ℕ) (d : Y) → i < at + 1 → R (get_or first i d) (get_or (set now at new) i d)
-  set_done = set_done_each first now at new within (λ i. R)
+  set_done done step i d lt = elim (cases_eq i at) [
+    | inl same ↦ subst (λ n. R (get_or first n d) (get_or (set now at new) n d)) (sym same) (subst (λ y. R (get_or first at d) y) (sym (get_or-set_same now at new d within)) (step d))
+    | inr other ↦ subst (λ y. R (get_or first i d) y) (sym (get_or-set_other now at i new d other)) (done i d (omega (arith, lt, other)))
+  ]
 
   pub set_all : ((i : ℕ) (d : Y) → i < length now → R (get_or first i d) (get_or now i d)) → ((d : Y) → R (get_or first at d) (get_or now at d) → R (get_or first at d) new)
       → (i : ℕ) (d : Y) → i < length (set now at new) → R (get_or first i d) (get_or (set now at new) i d)

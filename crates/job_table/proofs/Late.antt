@@ -11,7 +11,6 @@ use Rattle.spool_types.specs.Phases.{has_ended, is_waiting}
 use Rattle.spool_types.specs.State.{State, Job, job_at}
 use Rattle.queue_sched.specs.declared.deadlines.Deadline.{Deadline}
 use Rattle.job_table.specs.Changes.{at_moment, change_found, change_jobs, ended, is_late}
-use Rattle.job_table.specs.Lanes.{is_waiting_at}
 use Rattle.job_table.specs.Legal.{IsLegal}
 use Rattle.job_table.specs.Over.{is_over, is_over_by}
 use Rattle.job_table.specs.Shapes.{passes}
@@ -52,9 +51,13 @@ passing_less p q j others was not_now (suc n) lt = elim (cases_eq n j) [
       omega (arith, rest, same))
 ]
 
+abbrev waits_found : Option Job → Bool
+waits_found None = false
+waits_found (Some r) = is_waiting r.phase
+
 -- how many jobs of a table wait
 abbrev pub waiting_count : State → ℕ
-waiting_count s = passing (λ j. is_waiting_at (job_at s j)) (s.highest + 1)
+waiting_count s = passing (λ j. waits_found (job_at s j)) (s.highest + 1)
 
 -- ## What the timetable tells of late jobs
 
@@ -111,10 +114,10 @@ module _ (now : ℕ) (s : State) (legal : IsLegal s) (j : ℕ) (r : Job) (there 
     pub cancel_others : t ≡ record s { jobs = t.jobs }
     cancel_others = canceled ∙ ap (λ (u : State). record s { jobs = u.jobs }) (sym canceled)
 
-    pub other_job : (k : ℕ) → ¬ (k ≡ j) → job_at t k ≡ job_at s k
+    other_job : (k : ℕ) → ¬ (k ≡ j) → job_at t k ≡ job_at s k
     other_job k other = ap (λ (u : State). job_at u k) canceled ∙ put_other s j (ended Canceled r) k other
 
-    pub own_job : job_at t j ≡ Some (ended Canceled r)
+    own_job : job_at t j ≡ Some (ended Canceled r)
     own_job = ap (λ (u : State). job_at u j) canceled ∙ put_own s j (ended Canceled r)
 
     same_highest : t.highest ≡ s.highest
@@ -130,6 +133,6 @@ module _ (now : ℕ) (s : State) (legal : IsLegal s) (j : ℕ) (r : Job) (there 
     -- one waits no more
     pub cancel_less : waiting_count t < waiting_count s
     cancel_less =
-        subst (λ n. passing (λ k. is_waiting_at (job_at t k)) (n + 1) < waiting_count s) (sym same_highest)
-        (passing_less (λ k. is_waiting_at (job_at s k)) (λ k. is_waiting_at (job_at t k)) j (λ k other. ap is_waiting_at (other_job k other))
-        (ap is_waiting_at there ∙ waits) (ap is_waiting_at own_job) (s.highest + 1) (omega (arith, at_most_highest s j r legal there)))
+        subst (λ n. passing (λ k. waits_found (job_at t k)) (n + 1) < waiting_count s) (sym same_highest)
+        (passing_less (λ k. waits_found (job_at s k)) (λ k. waits_found (job_at t k)) j (λ k other. ap waits_found (other_job k other))
+        (ap waits_found there ∙ waits) (ap waits_found own_job) (s.highest + 1) (omega (arith, at_most_highest s j r legal there)))

@@ -34,7 +34,6 @@ pub mod Timely
 pub mod Seats
 pub mod Retimed
 pub mod Late
-pub mod Thinned
 pub mod Indexed
 pub mod Busy
 pub mod Held

@@ -20,7 +20,7 @@ use Rattle.job_table.specs.Ended.{subject}
 use Rattle.job_table.specs.Legal.{IsLegal}
 use Rattle.job_table.specs.Shapes.{Change, NewQueueRow, OfQueue, NewJobRow, OfJob, OfBoth, OfClock, OfAll, subject_of, causes_of}
 use Rattle.job_table.specs.Step.{row, change_by, first_cause, refusal_of, after}
-use Rattle.job_table.specs.Lanes.{standing_in, standing_of, seat_of, seat, is_live, live_count, IsLane, IsReseated, IsSameLane, IsAdvanced, IsThinned, IsSweptLane, HasSeat, AreBeside, IsLaneOf, AreLanes, AreUntouched}
+use Rattle.job_table.specs.Lanes.{standing_in, standing_of, seat_of, seat, is_live, live_count, IsLane, IsReseated, IsSameLane, IsAdvanced, HasSeat, AreBeside, IsLaneOf, AreLanes}
 use Rattle.job_table.specs.Places.{IsNameAt}
 use Rattle.job_table.specs.declared.lane.Lane.{Lane}
 use Rattle.job_table.specs.declared.lane.Standing.{Standing}
@@ -78,10 +78,10 @@ dead_phase r (phases.Aborted reason) is = refl
 
 -- ## Where a job stands
 
-pub of_own : (name : List ℕ) (r : Job) → r.queue ≡ name → is_of name r ≡ true
+of_own : (name : List ℕ) (r : Job) → r.queue ≡ name → is_of name r ≡ true
 of_own name r own = (bytes_decides r.queue name).1 own
 
-pub own_of : (name : List ℕ) (r : Job) → is_of name r ≡ true → r.queue ≡ name
+own_of : (name : List ℕ) (r : Job) → is_of name r ≡ true → r.queue ≡ name
 own_of name r is = (bytes_decides r.queue name).0 is
 
 module _ (s : State) (name : List ℕ) (j : ℕ) where
@@ -402,33 +402,6 @@ module _ (s : State) (v : ℕ) (lanes news : List Lane) (are : AreLanes s v lane
         moment = new.moment;
         spare = omega (arith, is.spare, new.live, new.reserved);
       }))
-
-  -- jobs that waited have ended
-  pub lanes_thinned : (t : State) (late : List Bool) (passes : ℕ → Bool) → finite.keys t.queues ≡ finite.keys s.queues → t.moment ≡ s.moment
-      → ((name : List ℕ) → IsThinned passes (seat s name) (seat t name)) → AreUntouched s t late
-      → ((i : ℕ) (d : Lane) → i < length news → IsSweptLane (get_or late i false) passes (get_or lanes i d) (get_or news i d)) → AreLanes t v news
-  lanes_thinned t late passes names moment thinned untouched each =
-      subst (λ ns. AreBeside (IsLaneOf t v) ns news) (sym names)
-      (beside_each (IsLaneOf s v) (IsLaneOf t v) (finite.keys s.queues) lanes news are count (λ i k d lt is. either i k d lt is (get_or late i false) refl))
-    where
-      either : (i : ℕ) (k : List ℕ) (d : Lane) → i < length news → IsLaneOf s v (get_or (finite.keys s.queues) i k) (get_or lanes i d) → (b : Bool) → get_or late i false ≡ b → IsLaneOf t v (get_or (finite.keys s.queues) i k) (get_or news i d)
-      either i k d lt is true told =
-          let new = (each i d lt).thinned told in
-          let name = get_or (finite.keys s.queues) i k in
-          record {
-            lane = new.lane (seat s name) (seat t name) (thinned name) is.lane;
-            moment = new.moment ∙ is.moment ∙ sym moment;
-            spare = omega (arith, is.spare, new.fewer, new.reserved);
-          }
-      either i k d lt is false told =
-          let within : i < length (finite.keys s.queues) = omega (arith, lt, count, are.count) in
-          subst (IsLaneOf t v (get_or (finite.keys s.queues) i k)) (sym ((each i d lt).same told))
-          (record {
-            lane = lane_as (seat s (get_or (finite.keys s.queues) i k)) (seat t (get_or (finite.keys s.queues) i k)) (get_or lanes i d)
-                (λ n. subst (λ name. seat t name n ≡ seat s name n) (get_or_default (finite.keys s.queues) i [] k within) (untouched i within told n)) is.lane;
-            moment = is.moment ∙ sym moment;
-            spare = is.spare;
-          })
 
   -- room is made
   pub lanes_kept : (w : ℕ) → ((i : ℕ) (d : Lane) → i < length news → IsSameLane (get_or lanes i d) (get_or news i d))

@@ -3,7 +3,6 @@ use Rattle.std.specs.Prelude.{◌≡◌, ℕ, ◌+◌, ◌<◌, ◌≤◌, Bool,
 use Rattle.std.specs.List.{Contains, AllByRecursion}
 use Rattle.std.specs.FinMap as finite
 use Rattle.spool_types.specs.Busy.{is_of}
-use Rattle.spool_types.specs.Phases.{is_waiting}
 use Rattle.spool_types.specs.State.{State, Job, job_at}
 use Rattle.spool_types.specs.declared.phase.Phase.{Phase}
 use Rattle.spool_types.specs.declared.phase.Phase.TheVariants as phases
@@ -32,11 +31,6 @@ seat_of name (Some r) = cond (is_of name r) (standing_of r) Ended
 -- where the job of this number stands in the queue of this name
 abbrev pub seat : State → List ℕ → ℕ → Standing
 seat s name j = seat_of name (job_at s j)
-
--- whether a job is there, and waits
-abbrev pub is_waiting_at : Option Job → Bool
-is_waiting_at None = false
-is_waiting_at (Some r) = is_waiting r.phase
 
 abbrev pub is_live : Standing → Bool
 is_live Ended = false
@@ -75,17 +69,6 @@ pub record IsReseated (old new : ℕ → Standing) (j : ℕ) (to : Standing) : T
   pub own : new j ≡ to
   pub others : (k : ℕ) → ¬ (k ≡ j) → new k ≡ old k
 
--- those that waited and don't pass have ended, and all others stand as before
-pub record IsThinned (passes : ℕ → Bool) (old new : ℕ → Standing) : Type 0 where
-  pub gone : (j : ℕ) (e : Entry) → old j ≡ Waiting e → passes j ≡ false → new j ≡ Ended
-  pub kept : (j : ℕ) (e : Entry) → old j ≡ Waiting e → passes j ≡ true → new j ≡ Waiting e
-  pub others : (j : ℕ) → ((e : Entry) → ¬ (old j ≡ Waiting e)) → new j ≡ old j
-
--- the lane is that of some jobs
-pub record HasJobs (owner : Lane) : Type 0 where
-  pub seats : ℕ → Standing
-  pub lane : IsLane seats owner
-
 -- the lane has a job that stands so
 pub record HasSeat (owner : Lane) (j : ℕ) (standing : Standing) : Type 0 where
   pub seats : ℕ → Standing
@@ -106,19 +89,6 @@ pub record IsAdvanced (now : ℕ) (old new : Lane) : Type 0 where
   pub moment : new.index.moment ≡ now
   pub reserved : new.reserved ≡ old.reserved
 
--- the same jobs and as much room, but for those that waited and don't pass; these aren't counted any more
-pub record IsThinnedLane (passes : ℕ → Bool) (old new : Lane) : Type 0 where
-  pub lane : (before after : ℕ → Standing) → IsThinned passes before after → IsLane before old → IsLane after new
-  pub live : new.live + length old.index.items ≡ old.live + length new.index.items
-  pub fewer : new.live ≤ old.live
-  pub moment : new.index.moment ≡ old.index.moment
-  pub reserved : new.reserved ≡ old.reserved
-
--- a lane that may have such jobs is without them, and another one is as it was
-pub record IsSweptLane (late : Bool) (passes : ℕ → Bool) (old new : Lane) : Type 0 where
-  pub thinned : late ≡ true → IsThinnedLane passes old new
-  pub same : late ≡ false → new ≡ old
-
 -- ## The lanes of all queues
 
 -- each of the one list beside the one of the other that has its place
@@ -134,7 +104,3 @@ pub record IsLaneOf (s : State) (vacant : ℕ) (name : List ℕ) (owner : Lane) 
 
 abbrev pub AreLanes : State → ℕ → List Lane → Type 0
 AreLanes s vacant lanes = AreBeside (IsLaneOf s vacant) (finite.keys s.queues) lanes
-
--- in each lane that isn't told to have late jobs all jobs stand as before
-abbrev pub AreUntouched : State → State → List Bool → Type 0
-AreUntouched old new late = (i : ℕ) → i < length (finite.keys old.queues) → slice_index_or late i false ≡ false → (j : ℕ) → seat new (slice_index_or (finite.keys old.queues) i []) j ≡ seat old (slice_index_or (finite.keys old.queues) i []) j

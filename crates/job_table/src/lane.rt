@@ -5,12 +5,10 @@ ghost use Rattle.std.specs.Option.{IsNone};
 ghost use Rattle.std.specs.List.{Contains};
 ghost use Rattle.queue_sched.specs.Index.{IsFirstStartable, NoneIsStartable};
 ghost use Rattle.queue_sched.specs.declared.entry.Entry.{Entry};
-ghost use Rattle.job_table.specs.Lanes.{standing_of, is_live, is_waiting_at, live_count, IsLane, IsReseated, HasJobs, HasSeat, IsSameLane, IsAdvanced, IsThinnedLane, IsSweptLane};
-ghost use Rattle.spool_types.specs.State.{job_at};
+ghost use Rattle.job_table.specs.Lanes.{standing_of, is_live, live_count, IsLane, IsReseated, HasSeat, IsSameLane, IsAdvanced};
 ghost use Rattle.job_table.specs.declared.lane.Standing.{Standing};
 ghost use Rattle.job_table.specs.declared.lane.Lane.{Lane};
 
-use crate::store::Store;
 use queue_sched::{Entry, Index};
 use spool_types::{Job, JobId, Moment, Phase};
 use std::alloc::{AllocError, Global};
@@ -138,17 +136,6 @@ impl Lane {
         }
     }
 
-    /// Drops the jobs that waited and have ended since, in one pass. It takes no memory.
-    pub(crate) fn drop_ended(&mut self, store: &Store)
-        requires { HasJobs self.old }
-        ensures { IsThinnedLane (λ j. is_waiting_at (job_at store.now.state j)) self.old self.new }
-    {
-        let before = self.index.jobs().len();
-        self.index.retain(|entry| store.is_waiting(entry.id));
-        let after = self.index.jobs().len();
-        self.live -= before - after;
-    }
-
     // Takes a job away.
     fn leave(&mut self, _job: JobId, from: Standing)
         requires { HasSeat self.old _job from }
@@ -206,7 +193,7 @@ impl Lane {
         ensures room { self.new.index.room ≡ self.old.index.room }
         ensures rest { (self.new.processing ≡ self.old.processing) × (self.new.live ≡ self.old.live) × (self.new.reserved ≡ self.old.reserved) }
     {
-        let waiting = self.index.jobs().len();
+        let waiting = self.index.len();
         let has_room = waiting < self.reserved;
         prove!(has_room);
         self.index.insert(entry);
@@ -223,20 +210,6 @@ pub(crate) fn reserve_each(lanes: &mut [Lane]) -> Result<(), AllocError>
         lanes[at].reserve()?;
     }
     Ok(())
-}
-
-/// Drops the jobs that waited and have ended since, from each lane that is told to have such jobs. It takes no memory.
-pub(crate) fn drop_from_each(lanes: &mut [Lane], late: &[bool], store: &Store)
-    requires told { length lanes.old ≤ length late.now }
-    requires jobs { (i : ℕ) (d : Lane) → i < length lanes.old → HasJobs (slice_index_or lanes.old i d) }
-    ensures count { length lanes.new ≡ length lanes.old }
-    ensures each { (i : ℕ) (d : Lane) → i < length lanes.new → IsSweptLane (slice_index_or late.now i false) (λ j. is_waiting_at (job_at store.now.state j)) (slice_index_or lanes.old i d) (slice_index_or lanes.new i d) }
-{
-    for at in 0..lanes.len() {
-        if late[at] {
-            lanes[at].drop_ended(store);
-        }
-    }
 }
 
 /// Brings a moment that isn't earlier to each lane.

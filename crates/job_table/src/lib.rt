@@ -97,11 +97,8 @@
 //!
 //! A row is found by binary search. The next job, and the processing one, is read from a lane. An event about a job takes
 //! its entry from the lane's index and puts it where it goes now, each by binary search. So does its deadline come or go. A
-//! clock counts by binary search the deadlines that are over: where none is, it looks at no job. It cancels up to 64 late jobs
-//! one after another, each like any other event about a job. More it cancels in the rows, where it looks at no other job, and
-//! takes their deadlines from the front of the timetable; then each lane that had one drops them in one pass over its waiting
-//! jobs, in which the row of each is found by binary search. So k late jobs among n that wait cost no k times n. At last a
-//! clock goes to each lane, and looks through the jobs of one only where a job of it may be started from then on.
+//! clock looks at the first deadline, and at one job for each that it cancels: where it cancels none, it looks at no job.
+//! Then it goes to each lane, and looks through the jobs of one only where a job of it may be started from then on.
 //! [`Loading::into_table`] sorts each queue's waiting jobs and all deadlines once.
 //!
 //! # Faults

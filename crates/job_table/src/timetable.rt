@@ -1,6 +1,6 @@
 //! The waiting jobs that are to start by a moment, of all queues: the clock cancels those whose moment is over, and looks at
 //! no other job.
-ghost use Rattle.std.specs.Prelude.{◌≡◌, ℕ, ◌+◌, ◌<◌, ◌≤◌, ◌↔◌, ◌⊎◌, Option, Some, IfSome, IfOk, OnOk, None, length, count_by, nat_lt};
+ghost use Rattle.std.specs.Prelude.{◌≡◌, ℕ, ◌+◌, ◌<◌, ◌≤◌, ◌↔◌, ◌⊎◌, Option, Some, IfSome, IfOk, OnOk, None, length};
 ghost use Rattle.std.specs.Option.{IsNone};
 ghost use Rattle.std.specs.List.{Contains};
 ghost use Rattle.queue_sched.specs.Deadlines.{HasEachDeadlineOnce};
@@ -64,13 +64,6 @@ impl Timetable {
         ensures none { IsNone result → (d : AnyDeadline) → Contains self.now.deadlines.items d → moment ≤ d.by }
     {
         self.deadlines.first_before(moment)
-    }
-
-    /// How many waiting jobs were to start before this moment. They are counted by binary search.
-    pub(crate) fn count_before(&self, moment: Moment) -> usize
-        ensures { result ≡ count_by (λ d. nat_lt d.by moment) self.now.deadlines.items }
-    {
-        self.deadlines.count_before(moment)
     }
 
     /// A new job comes in that doesn't wait yet. It is told whether it is to start by a moment. It takes no memory.

@@ -12,7 +12,7 @@ use Rattle.queue_sched.specs.Index.{is_startable}
 use Rattle.queue_sched.specs.Next.{may_start}
 use Rattle.queue_sched.specs.Lists.{IsBefore, IsSameUntil}
 use Rattle.queue_sched.specs.declared.entry.Entry.{Entry}
-use Rattle.queue_sched.proofs.Startable.{agreed}
+use Rattle.queue_sched.proofs.More.{agreed}
 
 -- what may be started now, may be started later
 still : (now m : ℕ) (hold : Hold) (not_before : ℕ) → now ≤ m → may_start now hold not_before ≡ true → may_start m hold not_before ≡ true

@@ -1,12 +1,10 @@
 -- The order of deadlines: by the moment, and then by the number.
-use Rattle.std.proofs.Common.{◌≡◌, ℕ, zero, suc, ◌<◌, ◌≤◌, Bool, true, false, cond, ◌==◌, nat_lt, List, [], ◌∷◌, length, get_or, sym, ap, subst, ◌∙◌, arith}
+use Rattle.std.proofs.Common.{◌≡◌, ℕ, ◌<◌, ◌≤◌, Bool, true, false, cond, ◌==◌, nat_lt, List, get_or, sym, ap, subst, ◌∙◌, arith}
 use Rattle.std.proofs.Math.Logic.{⊎_elim}
 use Rattle.std.proofs.lemmas.Bool.{cases_order}
 use Rattle.std.proofs.lemmas.Bool.Decides.{nat_tests}
 use Rattle.std.proofs.lemmas.List.{get_or_default}
-use Rattle.std.proofs.lemmas.List.Sums.{length-filter}
-use Rattle.std.specs.List.{AllWithin, Contains, count_by, filter}
-use Rattle.std.specs.List.Sorted.{IsPartitionedBy}
+use Rattle.std.specs.List.{Contains}
 use Rattle.queue_sched.specs.Deadlines.{InTurn, comes_before}
 use Rattle.queue_sched.specs.declared.deadlines.Deadline.{Deadline}
 
@@ -55,36 +53,3 @@ first_is_least xs first order here d there =
     (λ (gt : there.0 < 0). absurd (omega arith))
     other)
     (cases_order 0 there.0)
-
--- ## How many are before a moment
-
-lt_before : (a b m : ℕ) → a ≤ b → nat_lt b m ≡ true → nat_lt a m ≡ true
-lt_before a b m le lt = grind (arith, nat_tests)
-
--- what is before the moment stands before what isn't
-pub earlier_parted : (xs : List Deadline) (m : ℕ) → InTurn xs → IsPartitionedBy (λ d. nat_lt d.by m) xs
-earlier_parted xs m order i j d le within earlier =
-    ⊎_elim
-    (λ (same : i ≡ j). subst (λ k. nat_lt (get_or xs k d).by m ≡ true) (sym same) earlier)
-    (λ other. ⊎_elim
-    (λ (lt : i < j).
-    let e = get_or xs i d in
-    let f = get_or xs j d in
-    lt_before e.by f.by m (comes_no_later e.by e.id f.by f.id (order i j d lt within)) earlier)
-    (λ (gt : j < i). absurd (omega arith))
-    other)
-    (cases_order i j)
-
--- where those that pass come first, their end is their count
-module _ {X : Type 0} (p : X → Bool) where
-  parted_filter : (xs : List X) (at : ℕ) → at ≤ length xs → AllWithin (λ x. p x ≡ true) xs 0 at → AllWithin (λ x. p x ≡ false) xs at (length xs) → at ≡ length (filter p xs)
-  parted_filter [] at le first last = omega (arith, le)
-  parted_filter (x ∷ xs) zero le first last =
-      parted_filter xs zero (omega arith) (λ k d low high. absurd (omega (arith, high))) (λ k d low high. last (suc k) d (omega arith) (omega (arith, high)))
-      ∙ ap (λ b. length (cond b (x ∷ filter p xs) (filter p xs))) (sym (last 0 x (omega arith) (omega arith)))
-  parted_filter (x ∷ xs) (suc at) le first last =
-      ap suc (parted_filter xs at (omega (arith, le)) (λ k d low high. first (suc k) d (omega arith) (omega (arith, high))) (λ k d low high. last (suc k) d (omega (arith, low)) (omega (arith, high))))
-      ∙ ap (λ b. length (cond b (x ∷ filter p xs) (filter p xs))) (sym (first 0 x (omega arith) (omega arith)))
-
-  pub parted_count : (xs : List X) (at : ℕ) → at ≤ length xs → AllWithin (λ x. p x ≡ true) xs 0 at → AllWithin (λ x. p x ≡ false) xs at (length xs) → at ≡ count_by p xs
-  parted_count xs at le first last = parted_filter xs at le first last ∙ length-filter p xs

@@ -1,5 +1,5 @@
 -- The first entry that may be started, and the next job.
-use Rattle.std.proofs.Common.{◌≡◌, ℕ, ◌<◌, Bool, true, false, List, length, get_or, refl, sym, ap, subst, ◌∙◌, arith, IsTrue}
+use Rattle.std.proofs.Common.{◌≡◌, ℕ, ◌<◌, Bool, true, false, List, [], ◌∷◌, length, get_or, slice_get, Some, None, refl, sym, ap, subst, ◌∙◌, arith, IsTrue}
 use Rattle.std.proofs.Math.Logic.{⊎_elim}
 use Rattle.std.proofs.lemmas.Bool.{both_ways, and_parts, and_from, false_from_ne_true, cases_order}
 use Rattle.std.proofs.lemmas.List.{get_or_default}
@@ -14,8 +14,8 @@ use Rattle.spool_types.specs.State.{Job}
 use Rattle.queue_sched.specs.Index.{Waits, InOrder, IsFirstStartable, NoneIsStartable, IsIndexOf, entry_of, goes_before, is_startable, not_before_of}
 use Rattle.queue_sched.specs.Next.{may_start, is_ready, is_free, is_ready_of, is_eligible, IsNextJob}
 use Rattle.queue_sched.specs.declared.entry.Entry.{Entry}
-use Rattle.queue_sched.proofs.Startable.{Contains-filter, Contains-unfilter}
-use Rattle.queue_sched.proofs.Turns.{itself, onward}
+use Rattle.queue_sched.proofs.More.{has_passed}
+use Rattle.queue_sched.proofs.TurnOrder.{itself, onward}
 
 -- a waiting job is ready where its entry may be started
 same_test : (now : ℕ) (phase : Phase) → IsTrue (is_waiting phase) → may_start now (hold_of phase) (not_before_of phase) ≡ is_ready now phase
@@ -72,10 +72,10 @@ first_of w e order inside here =
     let ready = filter p w.items in
     let kept : InOrder ready = AllPairs-filter (λ f g. IsTrue (goes_before f g)) p w.items order in
     record {
-      there = Contains-unfilter p w.items e (0, inside, here);
+      there = ((has_passed p w.items e).0 (0, inside, here)).0;
       startable = subst (λ f. p f ≡ true) here (filter_passes p w.items 0 e inside);
       first = λ f there starts beats.
-          let own = Contains-filter p w.items f there starts in
+          let own = (has_passed p w.items f).1 (there, starts) in
           ⊎_elim
           (λ (same : 0 ≡ own.0).
           let is : e ≡ f = sym here ∙ get_or_default ready 0 e f inside ∙ ap (λ n. get_or ready n f) same ∙ own.2 in
@@ -94,4 +94,13 @@ first_of w e order inside here =
 pub none_of : (w : Waits) → length (filter (is_startable w.moment) w.items) ≡ 0 → NoneIsStartable w
 none_of w empty e there =
     false_from_ne_true (is_startable w.moment e)
-    (λ starts. let own = Contains-filter (is_startable w.moment) w.items e there starts in absurd (omega (arith, empty, own.1)))
+    (λ starts. let own = (has_passed (is_startable w.moment) w.items e).1 (there, starts) in absurd (omega (arith, empty, own.1)))
+
+-- what the first of a list is
+pub head_is : (xs : List Entry) (e : Entry) → Some e ≡ slice_get xs 0 → (0 < length xs) × (get_or xs 0 e ≡ e)
+head_is [] e is = absurd (cc)
+head_is (x ∷ xs) e is = (omega arith, sym (cc))
+
+pub no_head : (xs : List Entry) → None ≡ slice_get xs 0 → length xs ≡ 0
+no_head [] is = refl
+no_head (x ∷ xs) is = absurd (cc)

@@ -5,10 +5,10 @@ pub mod Next
 pub mod Ordered
 pub mod Numbered
 pub mod Earliest
-pub mod Turns
+pub mod TurnOrder
 pub mod Sorted
-pub mod Startable
+pub mod More
+pub mod SlotLists
 pub mod Due
+pub mod SlotLoops
 pub mod Indexed
-pub mod Exchanged
-pub mod Kept

@@ -10,7 +10,7 @@ use Rattle.std.specs.List.{Contains, AllPairs, AllWithin, insert, remove}
 use Rattle.std.specs.List.Sorted.{IsPartitionedBy}
 
 -- the only item of a list of one
-single : {A : Type 0} (e f : A) → Contains (e ∷ []) f → f ≡ e
+pub single : {A : Type 0} (e f : A) → Contains (e ∷ []) f → f ≡ e
 single e f there = ⊎_elim (λ (none : Contains [] f). absurd (omega (arith, none.1))) (λ (same : e ≡ f). sym same) (Contains-push_cases [] e f there)
 
 module _ {A : Type 0} (before_it : A → A → Bool) (itself : (e : A) → before_it e e ≡ false) (onward : (e f g : A) → before_it e f ≡ true → before_it f g ≡ true → before_it e g ≡ true) where

@@ -5,7 +5,7 @@ use Rattle.std.specs.List.Sorted.{IsPermutation, IsSortedBy}
 use Rattle.queue_sched.specs.Index.{goes_before, HasEachOnce, InOrder}
 use Rattle.queue_sched.specs.declared.entry.Entry.{Entry}
 use Rattle.queue_sched.proofs.Numbered as numbered
-use Rattle.queue_sched.proofs.Turns.{itself, onward, not_onward, other_way}
+use Rattle.queue_sched.proofs.TurnOrder.{itself, onward, not_onward, other_way}
 
 pub ranked : IsStrictWeakOrder goes_before
 ranked = numbered.ranked (λ (e : Entry). e.id) goes_before itself onward not_onward other_way

@@ -1,7 +1,6 @@
 -- What the fields of an index mean.
-use Rattle.std.specs.Prelude.{◌≡◌, ℕ, ◌<◌, ◌≤◌, List, length, map, vec_capacity, Option, None, Some}
+use Rattle.std.specs.Prelude.{◌≡◌, ℕ, ◌<◌, ◌≤◌, List, length, Option, None, Some}
 use Rattle.std.specs.List.{Contains, filter}
-use Rattle.std.specs.VecDeque.{deque_capacity}
 use Rattle.queue_sched.specs.Index.{Waits, InOrder, is_startable}
 use Rattle.queue_sched.specs.declared.entry.Entry.{Entry}
 use Rattle.queue_sched.specs.declared.index.Index.TheInside.{Inside}
@@ -22,13 +21,11 @@ IsBefore m (Some due) = m < due
 abbrev pub IsSameUntil : List Entry → ℕ → Option ℕ → Type 0
 IsSameUntil items now due = (e : Entry) → Contains items e → (m : ℕ) → now ≤ m → IsBefore m due → is_startable m e ≡ is_startable now e
 
--- the numbers are those of the entries, the ready ones are those that may be started now, and each list has the room
+-- the entries stand in order, the ready ones are those that may be started now, and each list has the room
 pub record IsInStep (a : Inside) : Type 0 where
   pub order : InOrder a.entries.items
-  pub jobs : a.jobs.items ≡ map (λ e. e.id) a.entries.items
   pub ready : a.ready.items ≡ filter (is_startable a.moment) a.entries.items
   pub fits : length a.entries.items ≤ a.room
-  pub room_of_entries : a.room ≤ deque_capacity a.entries
-  pub room_of_jobs : a.room ≤ vec_capacity a.jobs
-  pub room_of_ready : a.room ≤ deque_capacity a.ready
+  pub room_of_entries : a.room ≤ a.entries.room
+  pub room_of_ready : a.room ≤ a.ready.room
   pub due : IsSameUntil a.entries.items a.moment a.due

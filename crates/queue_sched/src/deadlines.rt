@@ -1,5 +1,5 @@
 //! The waiting jobs of a queue that are to start by a moment.
-ghost use Rattle.std.specs.Prelude.{◌≡◌, ◌<◌, ◌≤◌, ◌+◌, ◌↔◌, ◌⊎◌, ℕ, true, false, [], length, count_by, nat_lt, slice_index_or, vec_capacity, IsOk, OnOk, OnErr, IfSome};
+ghost use Rattle.std.specs.Prelude.{◌≡◌, ◌<◌, ◌≤◌, ◌+◌, ◌↔◌, ◌⊎◌, ℕ, true, false, [], length, slice_index_or, vec_capacity, IsOk, OnOk, OnErr, IfSome};
 ghost use Rattle.std.specs.Option.{IsNone};
 ghost use Rattle.std.specs.List.{AllWithin, Contains, insert, remove};
 ghost use Rattle.std.specs.List.Sorted.{IsPermutation};
@@ -159,13 +159,6 @@ impl Deadlines {
         } else {
             None
         }
-    }
-
-    /// How many are before this moment. They are counted by binary search.
-    pub fn count_before(&self, moment: Moment) -> usize
-        ensures { result ≡ count_by (λ d. nat_lt d.by moment) self.now.items }
-    {
-        self.items.partition_point(|deadline| deadline.by < moment)
     }
 }
 

@@ -1,32 +1,25 @@
 //! The index of a queue's waiting jobs.
 ghost use Rattle.std.specs.Prelude.{◌≡◌, ◌<◌, ◌≤◌, ◌+◌, ◌↔◌, ◌⊎◌, [], length, map, vec_capacity, IsOk, OnOk, OnErr, IfOk, IfSome};
 ghost use Rattle.std.specs.Option.{IsNone, option_copied};
-ghost use Rattle.std.specs.Fn.{CalledAt};
 ghost use Rattle.std.specs.List.{Contains};
-ghost use Rattle.std.specs.List.Retain.{IsFiltered};
 ghost use Rattle.queue_sched.specs.Index.{InOrder, LacksJob, HasEachOnce, IsFirstStartable, NoneIsStartable};
 ghost use Rattle.queue_sched.specs.declared.entry.Entry.{Entry};
 
 use crate::entry::Entry;
-use crate::lists::{
-    due_of, exchange, fill_numbers, fill_ready, is_before, put, put_number, sooner, sort, take,
-    take_ready,
-};
+use crate::jobs::Jobs;
+use crate::lists::{is_before, sooner, sort};
+use crate::turns::Turns;
 use spool_types::{JobId, Moment};
 use std::alloc::{AllocError, Global};
-use std::collections::VecDeque;
 use std::marker::Model;
 
 /// The waiting jobs of one queue in the order of their turns, at a moment.
 #[derive(Drop)]
 pub struct Index {
-    // In the order of their turns.
-    entries: VecDeque<Entry>,
-    // Their numbers, which are lent as a slice.
-    jobs: Vec<JobId>,
-    // Those that may be started now, in the same order.
-    ready: VecDeque<Entry>,
-    // Each list has room for so many, the ready ones too: all could be ready.
+    entries: Turns,
+    // Those that may be started now.
+    ready: Turns,
+    // Each of the two has room for so many, the ready ones too: all could be ready.
     room: usize,
     // Until this moment no other one may be started.
     due: Option<Moment>,
@@ -53,9 +46,8 @@ impl Index {
         ensures room { result.room ≡ 0 }
     {
         Index {
-            entries: VecDeque::new(alloc),
-            jobs: Vec::new(alloc),
-            ready: VecDeque::new(alloc),
+            entries: Turns::new(alloc),
+            ready: Turns::new(alloc),
             room: 0,
             due: None,
             moment: Moment::ZERO,
@@ -73,16 +65,14 @@ impl Index {
     {
         let alloc = *entries.allocator();
         let room = entries.capacity();
-        let mut jobs = Vec::with_capacity(alloc, room)?;
-        let mut ready = VecDeque::with_capacity(alloc, room)?;
+        let mut turns = Turns::with_room(alloc, room)?;
+        let mut ready = Turns::with_room(alloc, room)?;
         sort(&mut entries);
-        let entries = VecDeque::from_vec(entries);
-        fill_numbers(&mut jobs, &entries);
-        fill_ready(&mut ready, &entries, moment);
-        let due = due_of(&entries, moment);
+        turns.fill(&entries);
+        ready.fill_ready(&turns, moment);
+        let due = turns.due(moment);
         Ok(Index {
-            entries,
-            jobs,
+            entries: turns,
             ready,
             room,
             due,
@@ -91,11 +81,19 @@ impl Index {
     }
 
     /// The numbers of the waiting jobs, in the order of their turns.
-    pub fn jobs(&self) -> &[JobId]
-        ensures numbers { result.now ≡ map (λ e. e.id) self.now.items }
+    pub fn jobs(&self) -> Jobs<'_>
+        ensures numbers { result ≡ map (λ e. e.id) self.now.items }
         ensures order { InOrder self.now.items }
     {
-        &self.jobs
+        self.entries.jobs()
+    }
+
+    /// How many jobs wait.
+    pub fn len(&self) -> usize
+        ensures count { result ≡ length self.now.items }
+        ensures order { InOrder self.now.items }
+    {
+        self.entries.len()
     }
 
     /// The moment now.
@@ -110,8 +108,7 @@ impl Index {
         ensures found { IfSome (option_copied result) (λ e. Contains self.now.items e × (e.id ≡ id)) }
         ensures absent { IsNone result → LacksJob self.now.items id }
     {
-        let at = self.entries.iter().position(|entry| entry.id == id)?;
-        Some(&self.entries[at])
+        self.entries.find(id)
     }
 
     /// The job whose turn is first, among those that may be started now. No other job is looked at.
@@ -138,9 +135,8 @@ impl Index {
         if count <= self.room {
             return Ok(());
         }
-        self.entries.reserve(count - self.entries.len())?;
-        self.jobs.reserve(count - self.jobs.len())?;
-        self.ready.reserve(count - self.ready.len())?;
+        self.entries.reserve(count)?;
+        self.ready.reserve(count)?;
         self.room = count;
         Ok(())
     }
@@ -156,10 +152,9 @@ impl Index {
         ensures moment { self.new.moment ≡ self.old.moment }
         ensures room { self.new.room ≡ self.old.room }
     {
-        let at = put(&mut self.entries, entry);
-        put_number(&mut self.jobs, at, entry.id);
+        self.entries.put(entry);
         if entry.is_startable(self.moment) {
-            put(&mut self.ready, entry);
+            self.ready.put(entry);
         } else {
             self.due = sooner(self.due, entry.start());
         }
@@ -175,23 +170,8 @@ impl Index {
         ensures moment { self.new.moment ≡ self.old.moment }
         ensures room { self.new.room ≡ self.old.room }
     {
-        let at = take(&mut self.entries, &entry);
-        self.jobs.remove(at);
-        if entry.is_startable(self.moment) {
-            take(&mut self.ready, &entry);
-        }
-    }
-
-    /// Keeps those that pass the test, and takes all others away, in one pass. It takes no memory.
-    pub fn retain<F: FnMut(&Entry) -> bool>(&mut self, keep: F)
-        requires { F.IsAlwaysCallable keep }
-        ensures filtered { IsFiltered (CalledAt F.FnMut) keep self.old.items self.new.items }
-        ensures moment { self.new.moment ≡ self.old.moment }
-        ensures room { self.new.room ≡ self.old.room }
-    {
-        self.entries.retain(keep);
-        fill_numbers(&mut self.jobs, &self.entries);
-        fill_ready(&mut self.ready, &self.entries, self.moment);
+        self.entries.take(&entry);
+        self.ready.take_ready(&entry, self.moment);
     }
 
     /// Puts another entry of a job in the place of the one that is there. Where its turn stays, nothing moves but the jobs
@@ -225,10 +205,10 @@ impl Index {
         ensures moment { self.new.moment ≡ self.old.moment }
         ensures room { self.new.room ≡ self.old.room }
     {
-        exchange(&mut self.entries, &from, to);
-        take_ready(&mut self.ready, &from, self.moment);
+        self.entries.exchange(&from, to);
+        self.ready.take_ready(&from, self.moment);
         if to.is_startable(self.moment) {
-            put(&mut self.ready, to);
+            self.ready.put(to);
         } else {
             self.due = sooner(self.due, to.start());
         }
@@ -244,8 +224,8 @@ impl Index {
     {
         self.moment = moment;
         if !is_before(moment, self.due) {
-            fill_ready(&mut self.ready, &self.entries, moment);
-            self.due = due_of(&self.entries, moment);
+            self.ready.fill_ready(&self.entries, moment);
+            self.due = self.entries.due(moment);
         }
     }
 }

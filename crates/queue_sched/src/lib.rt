@@ -21,18 +21,17 @@
 //!   (`InOrder`), and `next` is the first that may be started. [`index_law`]: the order is that of the rule, and where the
 //!   entries are those of a queue's waiting jobs (`IsIndexOf`), the first that may be started is the next job of the queue,
 //!   if the queue is free; where there is none, none is eligible.
-//! - [`Index::retain`] keeps exactly the entries of which its test says so, in their order (`filtered`).
 //! - The deadlines of a queue: [`Deadlines::first_before`] names a job whose moment is below the given one (`found`), and none
-//!   exactly where no moment is (`none`). [`Deadlines::count_before`] tells how many are. Adding and taking away change what is
-//!   there by that one (`items`).
+//!   exactly where no moment is (`none`). Adding and taking away change what is there by that one (`items`).
 //!
 //! # What an index keeps
 //!
-//! 1. Its entries stand in the order of their turns, and beside them their numbers.
-//! 2. Those that may be started now stand in a list of their own, in the same order.
+//! 1. Its entries stand in the order of their turns. One that is taken away is marked where it stands, as gone.
+//! 2. Those that may be started now stand in a list of their own, in the same order and the same way.
 //! 3. Until the due moment no other entry may be started, and where there is no due moment, none ever will. So a moment
 //!    before it changes no list.
-//! 4. Each of the three lists has the index's room, since all entries may come to be ones that may be started.
+//! 4. Each of the two lists has the index's room, since all entries may come to be ones that may be started.
+//! 5. In neither list more are gone than there, and the first isn't gone.
 //!
 //! # What deadlines keep
 //!
@@ -44,27 +43,32 @@
 //! The choice among rows reads each row at most twice and takes no memory. It can't fail. It asks nothing of the rows:
 //! neither their order nor that their numbers differ.
 //!
-//! The choice of an index looks at one entry. Adding and taking away find their place by binary search and move the entries
-//! before it or behind it, whichever are fewer, and the numbers behind it. An entry whose job keeps its turn is replaced where
-//! it stands, and only the ready ones beside it move. A moment before the due one looks at none, and any other goes through
-//! all. So does [`Index::retain`], however many it takes away. [`Index::of_entries`] sorts its entries once. Only that and
-//! [`Index::reserve`] take memory, and where `reserve` fails, the index is as before.
+//! The choice of an index looks at one entry. Adding and taking away find their place by binary search. Adding moves the
+//! entries before it or behind it, whichever are fewer. Taking away moves none, and an entry whose job keeps its turn is
+//! replaced where it stands. The gone ones are let go in one pass once they are more than the others, or where a new entry finds
+//! no free slot. Each list has half as many slots more than its room, so either comes only after many have gone, and each of
+//! these bears a few moves. A moment before the due one looks at none, and any other goes through all.
+//! [`Index::of_entries`] sorts its entries once. Only that and [`Index::reserve`] take memory, and where `reserve` fails, the
+//! index is as before.
 //!
-//! To tell whether a deadline has passed, the first one alone is looked at; how many have is counted by binary search. Adding
-//! and taking away find their place by binary search and move the deadlines before it or behind it, whichever are fewer: none,
-//! where the first one is taken away. [`Deadlines::of_items`] sorts them once. Only [`Deadlines::reserve`] takes memory, and
-//! where it fails, the deadlines are as before.
+//! To tell whether a deadline has passed, the first one alone is looked at. Adding and taking away find their place by binary
+//! search and move the deadlines before it or behind it, whichever are fewer. [`Deadlines::of_items`] sorts them once. Only
+//! [`Deadlines::reserve`] takes memory, and where it fails, the deadlines are as before.
 #![tactic(auto)]
 
 mod choice;
 mod deadlines;
 mod entry;
 mod index;
+mod jobs;
 mod laws;
 mod lists;
+mod slots;
+mod turns;
 
 pub use choice::{beats, next_job};
 pub use deadlines::{Deadline, Deadlines};
 pub use entry::Entry;
 pub use index::Index;
+pub use jobs::Jobs;
 pub use laws::{index_law, order_law};

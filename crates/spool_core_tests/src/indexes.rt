@@ -73,24 +73,18 @@ fn number(word: &str) -> Result<JobId, Fail> {
     }
 }
 
-// Whether these are the numbers that a text has.
-fn are(jobs: &[JobId], text: &str) -> Result<bool, Fail> {
-    let mut at = 0;
+// Whether the index of a queue has the numbers that a text has.
+fn has(table: &Table, queue: &QueueName, text: &str) -> Result<bool, Fail> {
+    let Some(index) = table.index(queue) else {
+        return Ok(false);
+    };
+    let mut jobs = index.jobs();
     for word in text.split_whitespace() {
-        if jobs.len() <= at || jobs[at] != number(word)? {
+        if jobs.next() != Some(number(word)?) {
             return Ok(false);
         }
-        at += 1;
     }
-    Ok(at == jobs.len())
-}
-
-// Whether the index of a queue has these numbers.
-fn has(table: &Table, queue: &QueueName, text: &str) -> Result<bool, Fail> {
-    match table.index(queue) {
-        Some(index) => are(index.jobs(), text),
-        None => Ok(false),
-    }
+    Ok(jobs.next().is_none())
 }
 
 // The first line behind whose event the queue has another index, if there is one.

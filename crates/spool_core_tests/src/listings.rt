@@ -134,7 +134,9 @@ fn loaded_again(alloc: Global, table: &Table) -> Result<Table, Fail> {
 fn has_turns(alloc: Global, table: &Table, turns: &[JobId]) -> Result<bool, Fail> {
     let queue = QueueName::read(alloc, "q")?;
     match table.index(&queue) {
-        Some(index) => Ok(index.jobs() == turns),
+        Some(index) => Ok(
+            index.len() == turns.len() && index.jobs().zip(turns).all(|(job, turn)| job == *turn),
+        ),
         None => Ok(false),
     }
 }

@@ -3,8 +3,7 @@ ghost use Rattle.std.specs.Prelude.{◌≡◌, ◌<◌, length, slice_index_or, 
 ghost use Rattle.std.specs.Ordering.{nat_cmp};
 ghost use Rattle.std.specs.Cmp.Lexicographic.{slice_cmp};
 ghost use Rattle.std.specs.FinMap as finite;
-ghost use Rattle.spool_types.specs.State.{queue_at, job_at};
-ghost use Rattle.job_table.specs.Lanes.{is_waiting_at};
+ghost use Rattle.spool_types.specs.State.{queue_at};
 ghost use Rattle.job_table.specs.Legal.{IsLegal};
 ghost use Rattle.job_table.specs.Places.{IsPlace, IsGap, IsNameAt, IsNameGap};
 ghost use Rattle.job_table.specs.Rows.{queue_entry, job_entry};
@@ -21,15 +20,6 @@ impl Store {
         ensures legal { IsLegal self.now.state }
     {
         queue_place(&self.queues, name)
-    }
-
-    pub(crate) fn is_waiting(&self, job: JobId) -> bool
-        ensures { result ≡ is_waiting_at (job_at self.now.state job) }
-    {
-        match self.job(job) {
-            Some(row) => row.job.phase.is_waiting(),
-            None => false,
-        }
     }
 
     pub(crate) fn job_count(&self) -> usize

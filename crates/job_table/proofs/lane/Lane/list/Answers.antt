@@ -1,7 +1,5 @@
 -- all that wait are among the jobs that haven't ended
-use Rattle.std.proofs.Common.{◌≡◌, ◌≤◌, length, ap, ◌∙◌, arith}
-use Rattle.std.proofs.lemmas.List.{length-map}
-use Rattle.queue_sched.specs.declared.entry.Entry.{Entry}
+use Rattle.std.proofs.Common.{◌≤◌, length, arith}
 use Rattle.job_table.proofs.Lanes.{as_many_wait, lacks}
 use Rattle.job_table.proofs.lane.Lane.list.Goals as goal
 
@@ -11,6 +9,5 @@ insert-requires-clause-absent c = lacks c.requires.there.seats _ c.args.entry.id
 pub prove-unreachable-requires : goal.prove-unreachable-requires
 prove-unreachable-requires c =
     let waiting = c.args.self.now.index.items in
-    let most : length waiting ≤ c.args.self.now.live = as_many_wait c.requires.there.seats c.args.self.now c.requires.there.lane c.jobs-waiting.ensures.order in
-    let count : length c.jobs-waiting.result.now ≡ length waiting = ap length c.jobs-waiting.ensures.numbers ∙ length-map waiting (λ (e : Entry). e.id) in
-    omega (arith, most, count, c.if-prove.true, c.requires.room)
+    let most : length waiting ≤ c.args.self.now.live = as_many_wait c.requires.there.seats c.args.self.now c.requires.there.lane c.len-waiting.ensures.order in
+    omega (arith, most, c.len-waiting.ensures.count, c.if-prove.true, c.requires.room)

@@ -11,11 +11,9 @@ invariant_of-self-else-not-is_before c =
     let before : IsBefore c.args.moment a.due = c.is_before.ensures.0 c.if-not-is_before.false in
     record {
       order = c.self.invariant.order;
-      jobs = c.self.invariant.jobs;
       ready = c.self.invariant.ready ∙ same_later a.entries.items a.moment c.args.moment a.due c.self.invariant.due le before;
       fits = c.self.invariant.fits;
       room_of_entries = c.self.invariant.room_of_entries;
-      room_of_jobs = c.self.invariant.room_of_jobs;
       room_of_ready = c.self.invariant.room_of_ready;
       due = until_later a.entries.items a.moment c.args.moment a.due c.self.invariant.due le before;
     }
