@@ -71,6 +71,7 @@ class Folder:
     def __init__(self):
         self.path = tempfile.mkdtemp(prefix="spool-children-")
         self.root = "spool"
+        self.size = 16_777_216
         os.mkdir(self.at(self.root))
         self.lines = []
         self.write("types", TYPES)
@@ -101,7 +102,7 @@ class Folder:
     def words(self):
         self.write("programs", "".join(line + "\n" for line in self.lines))
         files = [word for name in ("types", "convs", "programs") for word in (f"--{name}", name)]
-        return [shell, "--root", self.root, "--size", "16777216", *files]
+        return [shell, "--root", self.root, "--size", str(self.size), *files]
 
     def run(self, script, status=0, told=None, **how):
         """The replies to a script. Standard error is `told`, or else has lines of stages and of programs alone."""

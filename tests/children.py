@@ -261,13 +261,13 @@ COUNTS = '#!/bin/sh\nwc -c >"$0.$1"\n'
 
 
 def outputs(folder):
-    sizes = [0, 1, 65536, 1048576, 1048577, 3000000]
+    sizes = [0, 1, 65536, 16777216, 16777217, 20000000]
     folder.program("filter", "first", COPIES)
     folder.program("backend", "count", COUNTS)
     script = b"".join(printed(f"q{n}", "count:/x", "b/b", number=n, title=str(size)) for n, size in enumerate(sizes, 1))
     replies = folder.run(script + b"drain 5\njobs\n")
     for number, size in enumerate(sizes, 1):
-        fits = size <= 1048576
+        fits = size <= 16777216
         same(f"{size} bytes", states(replies)[number], "9 job-completed-successfully" if fits else "8 filter-failed")
         count = folder.at(f"backend-count.{number}")
         same(f"{size} bytes counted", int(folder.read(count)) if os.path.exists(count) else None, size if fits else None)
@@ -275,7 +275,8 @@ def outputs(folder):
 
 
 def documents(folder):
-    document = os.urandom(1048576)
+    folder.size = 67_108_864
+    document = os.urandom(16777216)
     folder.program("filter", "first", '#!/bin/sh\ncat "$6"\n')
     folder.program("backend", "keep", '#!/bin/sh\ncat >"$0.kept"\n')
     replies = folder.run(printed("q", "keep:/x", "b/b", document=document) + b"drain 5\njobs\n")

@@ -109,9 +109,9 @@ def causes(folder):
     folder.program("backend", "says", '#!/bin/sh\necho "ERROR: no paper" >&2\nexit 1\n')
     folder.program("backend", "mumbles", '#!/bin/sh\necho "DEBUG: no paper" >&2\necho "oh" >&2\nexit 5\n')
     folder.program("backend", "kill", "#!/bin/sh\nkill -KILL $$\n")
-    script = printed("a", "exit:/0", "b/b", title="1048577") + printed("b", "exit:/7", number=2) + printed("c", "says:/x", number=3)
+    script = printed("a", "exit:/0", "b/b", title="16777217") + printed("b", "exit:/7", number=2) + printed("c", "says:/x", number=3)
     script += printed("d", "mumbles:/x", number=4) + printed("e", "kill:/x", number=5) + printed("f", "exit:/0", number=6)
-    told = ["spool: job 1 attempt 1 stage 1 first: output above 1048576 bytes"]
+    told = ["spool: job 1 attempt 1 stage 1 first: output above 16777216 bytes"]
     told.append("spool: job 2 attempt 1 stage 1 exit: ended with status 7, and told no cause")
     told.append("spool: job 4 attempt 1 stage 1 mumbles: ended with status 5, and told no cause")
     told.append("spool: job 5 attempt 1 stage 1 kill: ended by a signal, and told no cause")

@@ -142,9 +142,9 @@ def jobs_held_and_released(folder):
 
 def the_longest_document(folder):
     part = b"x" * 65_536
-    story = Story(folder, LAB.event(), of_lab(1).event(), *[send(1, part)] * 16, size=4_194_304)
+    story = Story(folder, LAB.event(), of_lab(1).event(), *[send(1, part)] * 256, size=67_108_864)
     story.refuses(send(1, b"!"))
-    story.lists(Head(1), LAB, of_lab(1, size=1_048_576), *[Piece(1, part)] * 16)
+    story.lists(Head(1), LAB, of_lab(1, size=16_777_216), *[Piece(1, part)] * 256)
 
 
 def the_next_job_is_chosen_and_started(folder):

@@ -153,7 +153,7 @@ def jobs_in_their_order(folder):
     story.refuses(replace(waits, attempts=GREATEST), replace(runs, attempts=0), replace(runs, media=None))
     story.refuses(replace(runs, phase=processing(0)), replace(runs, phase=processing(2)))
     story.refuses(replace(runs, filters=("f",), phase=processing(3)))
-    story.refuses(replace(waits, number=10), replace(waits, number=0), replace(waits, size=1_048_577))
+    story.refuses(replace(waits, number=10), replace(waits, number=0), replace(waits, size=16_777_217))
     story.takes(runs)
     story.refuses(Queue("roof"), Head(9, 100), waits, runs, replace(waits, number=1), replace(runs, number=3))
     third, fourth = replace(runs, number=3, queue="pit"), Job(4, "pit", media="a/b", attempts=1, size=7, phase=COMPLETED)

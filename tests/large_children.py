@@ -7,7 +7,7 @@ from journal import COMPLETED, Head, Job, Queue, aborted, current_payloads
 from large_run import SEND, TYPE, Script, quoted, same
 
 QUEUES = 64
-DOCUMENT = 1_048_576
+DOCUMENT = 16_777_216
 DONE = "9 job-completed-successfully"
 
 TYPES = "a/0 page\n"
@@ -156,11 +156,11 @@ def many_attempts(place):
 
 # ---- long documents
 
-MANY = 32
+MANY = 8
 
 
 def long_documents(place):
-    """Documents of 1,048,576 bytes on 32 queues at once, typed by their last bytes, and not a byte more."""
+    """Documents of 16,777,216 bytes on eight queues at once, typed by their last bytes, and not a byte more."""
     place.tool("backend", "spoolfile")
     place.list_programs()
     place.write("types", f"a/tail string({DOCUMENT - 5},TAIL!)\n".encode())
@@ -186,7 +186,7 @@ def long_documents(place):
     script.ask("round", f"ok started {MANY} finished {MANY}")
     jobs = [listed(number, f"q{number}", DONE, DOCUMENT) for number in documents]
     ask_jobs(script, jobs + [listed(MANY + 1, "q1", "8 no-filter", DOCUMENT)])
-    place.print_all(script, "--size", str(1 << 27))
+    place.print_all(script, "--size", str(1 << 29))
     for number, document in documents.items():
         same_file(place, f"printed-{number}", document)
 
@@ -196,7 +196,7 @@ ADDS = 'cat "$6"\nhead -c "$3" /dev/zero\n'
 
 
 def long_outputs(place):
-    """An output of 1,048,576 bytes goes on to the next stage. One byte more is lost, and so are 3 MiB."""
+    """An output of 16,777,216 bytes goes on to the next stage. One byte more is lost, and so are 48 MiB."""
     place.script("filter", "adds", ADDS)
     place.tool("backend", "spoolfile")
     place.list_programs()

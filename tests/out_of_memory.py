@@ -95,7 +95,6 @@ CAPACITIES = {
 # The great numbers in bodies: bounds of loops, of counts and of fields. None is a capacity.
 NUMBERS = {
     ("backend_codes", "unless_spent"): ["u32::MAX"],
-    ("event_codec", "job_state_at"): ["1_048_576"],
     ("job_table", "is_startable"): ["u32::MAX"],
     ("job_table", "is_untyped"): ["u32::MAX"],
     ("mime_rules", "int_bytes"): ["16_777_216"],

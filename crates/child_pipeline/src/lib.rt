@@ -23,7 +23,7 @@
 //!   (`StartsStage`), and none where it answers out of memory. `finish_stage` finishes the child of a slot that runs one,
 //!   and else none (`FinishesStage`), whatever it answers. A slot with a ticket can't be freed.
 //! - The event of a stage has its exit, and the effects of the first 1,048,576 bytes of standard error (`end_of`). A child
-//!   that gave more than 1,048,576 bytes of output, or of whose end nothing is known, is Lost.
+//!   that gave more than 16,777,216 bytes of output, or of whose end nothing is known, is Lost.
 //!
 //! # Faults
 //!

@@ -115,7 +115,7 @@ LeastRows = map (λ row. length (hex row)) (empty_head ∷ least_queue ∷ (leas
 
 -- a job of two attempts, three pages and one filter, up to its phase
 abbrev pub before_phase : List ℕ
-before_phase = hex (codes "42 00 00 00 01 00 01 71 00 01 75 00 00 00 01 32 00 00 00 01 00 01 66 00 00 00 02 00 00 00 03 00 10 00 00")
+before_phase = hex (codes "42 00 00 00 01 00 01 71 00 01 75 00 00 00 01 32 00 00 00 01 00 01 66 00 00 00 02 00 00 00 03 01 00 00 00")
 
 -- this job in a phase, and the moment by which it is to start
 abbrev pub in_phase : Option ℕ → List ℕ × Phase → List ℕ × Row
@@ -133,7 +133,7 @@ in_phase by row = (
     filters = codes "f" ∷ [];
     attempts = 2;
     pages = 3;
-    size = 1048576;
+    size = 16777216;
     phase = row.1;
     by = by;
   }),

@@ -11,7 +11,7 @@ use Rattle.decision_facts.specs.Bytes.{tabbed, times}
 
 abbrev pub LimitsRows : Type 0
 LimitsRows = greatest_number ∷ greatest_moment ∷ longest_send ∷ longest_document ∷ most_queues ∷ greatest_attempts ∷ []
-    ≡ 2147483647 ∷ 4000000000000 ∷ 65536 ∷ 1048576 ∷ 64 ∷ 4294967295 ∷ []
+    ≡ 2147483647 ∷ 4000000000000 ∷ 65536 ∷ 16777216 ∷ 64 ∷ 4294967295 ∷ []
 
 -- a moment so many seconds later
 abbrev pub later : ℕ → ℕ → ℕ

@@ -10,10 +10,14 @@ use crate::phase_reading::phase_at;
 use crate::reading::{filters_at, flag_at, media_at, new_queue_at, piece_at, ticket_at};
 use field_codec::{CodecFault, ended, job_id, moment, ranged, text_at, u8_at, u32_at, u64_at};
 use spool_types::{
-    Attribute, AttributeName, Attributes, Filters, Head, Job, JobId, MOST_KEPT, MediaType, Message,
-    Moment, NewJob, NewQueue, Note, Phase, QueueRow, Ranged, Reason, Reasons, Row, Version,
+    Attribute, AttributeName, Attributes, Filters, Head, Job, JobId, LONGEST_DOCUMENT, MOST_KEPT,
+    MediaType, Message, Moment, NewJob, NewQueue, Note, Phase, QueueRow, Ranged, Reason, Reasons,
+    Row, Version,
 };
 use std::alloc::Global;
+
+// How many bytes the document of a row has.
+const LONGEST: u32 = LONGEST_DOCUMENT as u32;
 
 /// The media type of a job, where it has one.
 #[tactic(auto, unfolding(crate::specs::RowReading::typed_at, crate::specs::RowReading::flagged_media_at, crate::specs::RowReading::some_media_at))]
@@ -275,7 +279,7 @@ fn job_state_at(alloc: Global, bytes: &[u8]) -> Result<(JobState, &[u8]), CodecF
     let (attempts, rest) = u32_at(rest)?;
     let (pages, rest) = u32_at(rest)?;
     let (size, rest) = u32_at(rest)?;
-    let size: Ranged<0, 1_048_576> = ranged(size)?;
+    let size: Ranged<0, { LONGEST }> = ranged(size)?;
     let stages = filters.as_slice().len() as u8 + 1;
     // `?` isn't proved here: a phase, which may have a moment, stands beside a slice.
     match phase_at(attempts, stages, rest) {

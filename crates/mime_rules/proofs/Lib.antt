@@ -6,3 +6,4 @@ pub mod OrderLaws
 pub mod GrammarLaws
 pub mod FindLaws
 pub mod LineLaws
+pub mod ReachLaws

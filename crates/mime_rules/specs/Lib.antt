@@ -8,3 +8,4 @@ pub mod Lines
 pub mod Best
 pub mod TypesValue
 pub mod Seen
+pub mod Reach

@@ -45,6 +45,7 @@ mod line;
 mod meaning;
 mod names;
 mod pattern;
+mod reach;
 mod rule;
 mod stop;
 mod tokens;

@@ -1,13 +1,15 @@
 //! The types of documents.
-ghost use Rattle.std.specs.Prelude.{◌≡◌, ◌∷◌, ◌++◌, [], IfOk, map};
+ghost use Rattle.std.specs.Prelude.{◌≡◌, ◌∷◌, ◌++◌, [], IfOk, map, min};
 ghost use Rattle.std.specs.Option.{option_map};
 ghost use Rattle.mime_lines.specs.Seen.{line_of};
 ghost use Rattle.mime_rules.specs.Lines.{alternatives_of, warnings_of, alternatives_in, warnings_in};
 ghost use Rattle.mime_rules.specs.Best.{type_of, best, better, beats};
+ghost use Rattle.mime_rules.specs.Reach.{reach, IsEnough};
 ghost use Rattle.mime_rules.specs.Seen.{types_of, alternative_of, subject_of};
 
 use crate::line::{Alternative, read_line};
 use crate::meaning::{Subject, holds};
+use crate::reach::reach_of_alternatives;
 use crate::stop::Stop;
 use mime_lines::{JoinedLine, joined_lines};
 use spool_types::{MediaType, Warning};
@@ -55,6 +57,14 @@ impl Types {
             Some(alternative) => Some(&alternative.media_type),
             None => None,
         }
+    }
+
+    /// How many of its first bytes tell the type of a document of this length: no rule looks at one behind them.
+    pub fn reach(&self, len: usize) -> usize
+        ensures value { result ≡ min len (reach self.now) }
+        ensures enough { IsEnough self.now len result }
+    {
+        reach_of_alternatives(&self.alternatives, len)
     }
 }
 

@@ -21,4 +21,4 @@ pub mod CheckpointLaws
 pub mod ChangeLaws
 pub mod Decided
 pub mod EachImage
-pub mod WholeLaws
+pub mod FrontLaws

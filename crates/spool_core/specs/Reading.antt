@@ -1,5 +1,5 @@
 -- What the reading of a whole document gives, and what it leaves.
-use Rattle.std.specs.Prelude.{◌≡◌, ◌↔◌, ◌⊎◌, ℕ, false, List, length, ⊤, IsTrue, Some, Result, Ok, Err}
+use Rattle.std.specs.Prelude.{◌≡◌, ◌↔◌, ◌⊎◌, ℕ, false, List, length, take, drop, ⊤, IsTrue, Some, Result, Ok, Err}
 use Rattle.spool_disk.specs.Disk.{DiskView, Blames, ChangesNothing}
 use Rattle.job_table.specs.Over.{is_over}
 use Rattle.spool_core.specs.Image.{HasDocument}
@@ -22,6 +22,12 @@ pub record IsDocument {D : Type 0} (device : DiskView D) (spool : Standing D) (j
   pub long : length document ≡ len_at spool.state j
   pub own : is_over spool.state j ≡ false → (bytes kept : List ℕ) → device.bytes spool.disk ≡ Some bytes → HasDocument j kept bytes → document ≡ kept
 
+-- so many bytes of a job's document, from a place in it on
+pub record IsPart {D : Type 0} (device : DiskView D) (spool : Standing D) (j at count : ℕ) (part : List ℕ) : Type 0 where
+  pub document : List ℕ
+  pub is : IsDocument device spool j document
+  pub part_is : part ≡ take count (drop at document)
+
 -- there was no memory for it, or the device failed
 abbrev pub IsUnreadFor : {D : Type 0} → DiskView D → Standing D → Unread → Standing D → Type 0
 IsUnreadFor device old Memory new = new ≡ old
@@ -31,3 +37,8 @@ IsUnreadFor device old Disk new = IsReading device old ⊤ new
 abbrev pub IsDocumentRead : {D : Type 0} → DiskView D → Standing D → ℕ → Result (List ℕ) Unread → Standing D → Type 0
 IsDocumentRead device old j (Ok document) new = IsReading device old ⊥ new × IsDocument device old j document
 IsDocumentRead device old j (Err why) new = IsUnreadFor device old why new
+
+-- and its first bytes, as many as these
+abbrev pub IsFrontRead : {D : Type 0} → DiskView D → Standing D → ℕ → ℕ → Result (List ℕ) Unread → Standing D → Type 0
+IsFrontRead device old j count (Ok front) new = IsReading device old ⊥ new × IsPart device old j 0 count front
+IsFrontRead device old j count (Err why) new = IsUnreadFor device old why new

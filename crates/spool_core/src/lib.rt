@@ -113,8 +113,8 @@
 //! - [`OpenError`] hands the disk back with an [`OpenFault`]. But for `Disk` it reads as before. `NotASpool` and `Damaged`
 //!   are faults of the bytes, which have no table. `Memory` and `Disk` say nothing of the bytes, and the disk may be
 //!   opened again.
-//! - [`Unread`], of [`read_whole`], which reads a document as long as the table says: after `Memory` nothing has changed, and after
-//!   `Disk` it is as after that fault of the device.
+//! - [`Unread`], of [`read_whole`] and [`read_front`], which read a document as long as the table says, or its first bytes: after
+//!   `Memory` nothing has changed, and after `Disk` it is as after that fault of the device.
 //! - [`ReadFault`]: the table and what a crash leaves are as before. After `Disk`, which comes only where the device's count of
 //!   failures rose, the spool is dead.
 //! - [`MakeFault`]: after `Full` nothing has changed. After `Disk` the device may hold no spool, and is made anew.
@@ -131,7 +131,7 @@ mod spool;
 pub use driving::{Driven, Ending, drive};
 pub use laws::{lives_go_on, one_reading};
 pub use making::make;
-pub use reading::{Unread, read_whole};
+pub use reading::{Unread, read_front, read_whole};
 pub use replaying::replay;
 pub use spool::{ApplyFault, CheckpointFault, Spool};
 pub use spool_areas::{MakeFault, OpenError, OpenFault, ReadFault};

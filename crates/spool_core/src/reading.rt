@@ -1,8 +1,8 @@
-//! Reading a job's document whole.
-ghost use Rattle.std.specs.Prelude.{◌≡◌, false, IfOk, IfErr, IsSome};
+//! Reading a job's document, whole or its first bytes.
+ghost use Rattle.std.specs.Prelude.{◌≡◌, ◌≤◌, false, IfOk, IfErr, IsSome};
 ghost use Rattle.spool_types.specs.State.{job_at};
 ghost use Rattle.spool_core.specs.Standing.{len_at};
-ghost use Rattle.spool_core.specs.Reading.{IsDocument, IsReading, IsUnreadFor};
+ghost use Rattle.spool_core.specs.Reading.{IsDocument, IsPart, IsReading, IsUnreadFor};
 
 use crate::spool::Spool;
 use job_table::{Table, document_len};
@@ -42,7 +42,24 @@ pub fn read_whole<D: Disk>(
     ensures unread { IfErr result (λ why. IsUnreadFor D.device spool.old why spool.new) }
 {
     let len = len_of(spool.table(), job);
-    let mut bytes = match Vec::from_elem(alloc, 0, len) {
+    read_front(alloc, spool, job, len)
+}
+
+/// Reads the first bytes of a job's document from the device, as many as are asked for.
+pub fn read_front<D: Disk>(
+    alloc: Global,
+    spool: &mut Spool<D>,
+    job: JobId,
+    count: usize,
+) -> Result<Vec<u8>, Unread>
+    requires alive { spool.old.dead ≡ false }
+    requires there { IsSome (job_at spool.old.state job) }
+    requires inside { count ≤ len_at spool.old.state job }
+    ensures front { IfOk result (λ bytes. IsPart D.device spool.old job 0 count bytes.items) }
+    ensures reading { IfOk result (λ bytes. IsReading D.device spool.old ⊥ spool.new) }
+    ensures unread { IfErr result (λ why. IsUnreadFor D.device spool.old why spool.new) }
+{
+    let mut bytes = match Vec::from_elem(alloc, 0, count) {
         Ok(bytes) => bytes,
         Err(_) => return Err(Unread::Memory),
     };

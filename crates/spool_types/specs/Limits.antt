@@ -7,7 +7,7 @@ most_queues = 64
 
 -- bytes of a job's document
 abbrev pub longest_document : ℕ
-longest_document = 1048576
+longest_document = 16777216
 
 -- bytes of one send
 abbrev pub longest_send : ℕ

@@ -4,7 +4,7 @@
 pub const MOST_QUEUES: usize = 64;
 
 /// How many bytes a job's document has.
-pub const LONGEST_DOCUMENT: usize = 1_048_576;
+pub const LONGEST_DOCUMENT: usize = 16_777_216;
 
 /// How many bytes one send takes.
 pub const LONGEST_SEND: usize = 65_536;

@@ -1,20 +1,28 @@
 -- As many bytes are read as the table says that the document has.
-use Rattle.std.proofs.Common.{◌≡◌, length, sym, ap, ◌∙◌}
-use Rattle.std.proofs.lemmas.List.{take_at}
+use Rattle.std.proofs.Common.{◌≡◌, ◌≤◌, List, ℕ, length, take, drop, subst, refl, sym, ap, ◌∙◌, arith, Result, Ok, Err}
+use Rattle.std.specs.Prelude.{IfOk}
+use Rattle.std.proofs.Math.Seq.{take-length}
 use Rattle.spool_types.specs.State.{State}
-use Rattle.spool_core.specs.Standing.{len_at}
-use Rattle.spool_core.proofs.WholeLaws.{whole_read}
+use Rattle.spool_disk.specs.Disk.{DiskView}
+use Rattle.spool_core.specs.Reading.{IsDocument, IsPart}
+use Rattle.spool_core.specs.Standing.{Standing, len_at}
 use Rattle.spool_core.proofs.reading.read_whole.Goals as goal
 
-pub returns-in-Ok-read_document-clause-document : goal.returns-in-Ok-read_document-clause-document
-returns-in-Ok-read_document-clause-document g c =
+-- as many as there are are all
+whole_part : {D : Type 0} (v : DiskView D) (s : Standing D) (j n : ℕ) (part : List ℕ) → n ≡ len_at s.state j → IsPart v s j 0 n part → IsDocument v s j part
+whole_part v s j n part all is =
+    subst (IsDocument v s j) (sym (is.part_is ∙ ap (λ (m : ℕ). take m is.document) (all ∙ sym is.is.long) ∙ take-length is.document)) is.is
+
+ok_whole : {X E D : Type 0} (bytes : X → List ℕ) (r : Result X E) (v : DiskView D) (s : Standing D) (j n : ℕ) → n ≡ len_at s.state j → IfOk r (λ x. IsPart v s j 0 n (bytes x)) → IfOk r (λ x. IsDocument v s j (bytes x))
+ok_whole bytes (Ok x) v s j n all is = whole_part v s j n (bytes x) all is
+ok_whole bytes (Err e) v s j n all is = tt
+
+pub read_front-requires-clause-inside : goal.read_front-requires-clause-inside
+read_front-requires-clause-inside g c =
     let table : c.len_of-len.result ≡ len_at c.args.spool.now.state c.args.job = c.len_of-len.ensures ∙ ap (λ (s : State). len_at s c.args.job) c.table.ensures.table in
-    let filled : c.in-Ok.bytes.len ≡ c.len_of-len.result = c.in-Ok.ensures.len in
-    let long : length c.deref_mut.result.now ≡ c.len_of-len.result = c.deref_mut.ensures.len ∙ filled in
-    let same : length c.read_document.new.into ≡ length c.deref_mut.result.now = search in
-    let is = take_at c.read_document.new.into _ c.in-Ok.bytes.len (same ∙ c.deref_mut.ensures.len) in
-    record {
-      long = ap length is ∙ same ∙ long ∙ table;
-      own = λ lasts bytes kept tells has.
-          is ∙ whole_read c.read_document.new.into kept (length c.deref_mut.result.now) (c.in-Ok-read_document.ensures.«data» bytes kept tells has) (c.read_document.ensures.long c.requires.alive lasts bytes kept tells has ∙ sym table ∙ sym long);
-    }
+    omega (arith, table)
+
+pub returns-clause-document : goal.returns-clause-document
+returns-clause-document g c =
+    let table : c.len_of-len.result ≡ len_at c.args.spool.now.state c.args.job = c.len_of-len.ensures ∙ ap (λ (s : State). len_at s c.args.job) c.table.ensures.table in
+    ok_whole (λ x. x.items) c.read_front.result g.D.Disk.device c.args.spool.now c.args.job c.len_of-len.result table c.read_front.ensures.front

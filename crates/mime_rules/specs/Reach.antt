@@ -1,0 +1,56 @@
+-- How much of a document the rules look at.
+use Rattle.std.specs.Prelude.{◌≡◌, ℕ, ◌+◌, max, take, length, map, List, [], ◌∷◌, box_value}
+use Rattle.mime_rules.specs.declared.line.Alternative.{Alternative as MemoryAlternative}
+use Rattle.mime_rules.specs.declared.rule.Test.{Test}
+use Rattle.mime_rules.specs.declared.rule.Test.TheVariants.{Suffix, Match, Ascii, Printable, Text, FoldedText, Contains, Locale}
+use Rattle.mime_rules.specs.declared.rule.Rule.{Rule}
+use Rattle.mime_rules.specs.declared.rule.Rule.TheOpen.{Rule-F, Leaf, Not, All, Any}
+use Rattle.mime_rules.specs.declared.rule.Rule.TheFolds.{fold-Rule}
+use Rattle.mime_rules.specs.Tests.{Subject}
+use Rattle.mime_rules.specs.TypesValue.{TypesValue}
+use Rattle.mime_rules.specs.Best.{type_of}
+use Rattle.mime_rules.specs.Seen.{types_of}
+
+-- a document of which only the first n bytes are there
+abbrev pub front : ℕ → Subject → Subject
+front n s = record s { bytes = take n s.bytes }
+
+-- the greatest of these, or 0
+abbrev pub greatest : List ℕ → ℕ
+greatest [] = 0
+greatest (n ∷ ns) = max n (greatest ns)
+
+-- behind so many bytes a test looks at none
+abbrev pub reach_of_test : Test → ℕ
+reach_of_test (Suffix suffix) = 0
+reach_of_test (Match pattern) = 0
+reach_of_test (Ascii place) = place.offset + place.count
+reach_of_test (Printable place) = place.offset + place.count
+reach_of_test (Text o t) = o + length t.items
+reach_of_test (FoldedText o t) = o + length t.items
+reach_of_test (Contains place t) = place.offset + place.count
+reach_of_test (Locale t) = 0
+
+-- a rule, where the reach of each rule in it is known already
+abbrev pub reach_step : Rule-F ℕ → ℕ
+reach_step (Leaf t) = reach_of_test t
+reach_step (Not n) = box_value n
+reach_step (All ns) = greatest ns.items
+reach_step (Any ns) = greatest ns.items
+
+abbrev pub reach_of : Rule → ℕ
+reach_of = fold-Rule ℕ reach_step
+
+abbrev pub reach_of_all : List Rule → ℕ
+reach_of_all rules = greatest (map reach_of rules)
+
+abbrev pub reach_of_alternatives : List MemoryAlternative → ℕ
+reach_of_alternatives alternatives = greatest (map (λ a. reach_of a.rule) alternatives)
+
+-- behind so many bytes no rule of the file looks at any
+abbrev pub reach : TypesValue → ℕ
+reach types = reach_of_alternatives types
+
+-- the first n bytes are enough to type a document of this length
+abbrev pub IsEnough : TypesValue → ℕ → ℕ → Type 0
+IsEnough types len n = (s : Subject) → length s.bytes ≡ len → type_of (front n s) (types_of types) ≡ type_of s (types_of types)
