@@ -1,10 +1,11 @@
 -- A table over its rows and its lanes.
-use Rattle.std.proofs.Common.{◌≡◌, ℕ, ◌<◌, [], Option, None, Some, Result, Ok, refl, sym, ap, subst, ◌∙◌, arith}
+use Rattle.std.proofs.Common.{◌≡◌, ℕ, ◌<◌, [], true, Option, None, Some, Result, Ok, refl, sym, ap, subst, ◌∙◌, arith}
 use Rattle.std.specs.FinMap as finite
 use Rattle.std.specs.Ordering.{nat_cmp}
 use Rattle.std.specs.Cmp.Lexicographic.{slice_cmp}
 use Rattle.std.proofs.lemmas.List.{length-map}
-use Rattle.spool_types.specs.State.{State, nothing, job_at}
+use Rattle.spool_types.specs.Phases.{has_ended}
+use Rattle.spool_types.specs.State.{State, Job, nothing, job_at}
 use Rattle.spool_types.specs.declared.event.NewJob.{NewJob}
 use Rattle.spool_types.specs.declared.event.Event.{Event}
 use Rattle.spool_types.specs.declared.event.Event.TheVariants.{Purge}
@@ -18,9 +19,9 @@ use Rattle.job_table.specs.Lanes.{AreLanes}
 use Rattle.job_table.specs.Legal.{IsLegal}
 use Rattle.job_table.specs.RowChanges.{WritesRows, IsOfRows}
 use Rattle.job_table.specs.Shapes.{Change, NewQueueRow, OfQueue, NewJobRow, OfJob, OfBoth, WithoutJob, OfClock, OfAll, subject_of, IsOfOne, made}
-use Rattle.job_table.specs.Step.{row, change_by, creation, step, answered, refusal_of, after, reply_to}
+use Rattle.job_table.specs.Step.{change_by, creation, step, answered, refusal_of, after, reply_to}
 use Rattle.job_table.specs.declared.table.Table.TheInside.{Inside}
-use Rattle.job_table.proofs.Accepted.{accepted_create, accepted_purge, gone_found}
+use Rattle.job_table.proofs.Accepted.{accepted_create}
 use Rattle.job_table.proofs.Changes.{without_own, without_other}
 use Rattle.job_table.proofs.Moves.{Stays, stays_queue, put_other, put_own}
 use Rattle.job_table.proofs.Seats.{Gains, Leaves, lanes_stay}
@@ -107,15 +108,12 @@ creation_room room n (Some by) has = has
 -- ## A job goes
 
 -- a purge takes away a job that has ended
-pub purged : (s : State) (j : ℕ) → refusal_of s (Purge j) ≡ None → Leaves s (after s (Purge j)) j
-purged s j accepted =
-    let found = gone_found s j ((row (Purge j)).own s) accepted in
-    record {
-      names = refl;
-      moment = refl;
-      row = found.0;
-      there = found.1;
-      ended = accepted_purge s j found.0 found.1 accepted;
-      absent = without_own s j;
-      others = λ k other. without_other s j k other;
-    }
+pub purged : (s t : State) (j : ℕ) (r : Job) → job_at s j ≡ Some r → has_ended r.phase ≡ true → t ≡ after s (Purge j) → Leaves s t j r
+purged s t j r there ended same = record {
+  names = ap (λ (u : State). finite.keys u.queues) same;
+  moment = ap (λ (u : State). u.moment) same;
+  there = there;
+  ended = ended;
+  absent = ap (λ (u : State). job_at u j) same ∙ without_own s j;
+  others = λ k other. ap (λ (u : State). job_at u k) same ∙ without_other s j k other;
+}

@@ -88,11 +88,11 @@ ended_waits Completed over = refl
 ended_waits Canceled over = refl
 ended_waits (Aborted reason) over = refl
 
-pub left_dismissed : (s t : State) (j : ℕ) (leaves : Leaves s t j) → IsDismissed (job_at s) (job_at t) j (is_some leaves.row.by)
-left_dismissed s t j leaves = record {
+pub left_dismissed : (s t : State) (j : ℕ) (r : Job) → Leaves s t j r → IsDismissed (job_at s) (job_at t) j (is_some r.by)
+left_dismissed s t j r leaves = record {
   own =
       ap deadline_found leaves.there
-      ∙ ap (λ b. cond b (option_map (λ by. record { by = by; id = leaves.row.id }) leaves.row.by) None) (ended_waits leaves.row.phase leaves.ended);
+      ∙ ap (λ b. cond b (option_map (λ by. record { by = by; id = r.id }) r.by) None) (ended_waits r.phase leaves.ended);
   by = ap has_by leaves.there;
   absent = leaves.absent;
   others = leaves.others;

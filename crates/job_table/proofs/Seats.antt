@@ -121,25 +121,24 @@ ended_standing r phases.Completed over = refl
 ended_standing r phases.Canceled over = refl
 ended_standing r (phases.Aborted reason) over = refl
 
--- a job that has ended goes, and nothing else does
-pub record Leaves (s t : State) (j : ℕ) : Type 0 where
+-- a job of this row, which has ended, goes, and nothing else does
+pub record Leaves (s t : State) (j : ℕ) (row : Job) : Type 0 where
   pub names : finite.keys t.queues ≡ finite.keys s.queues
   pub moment : t.moment ≡ s.moment
-  pub row : Job
   pub there : job_at s j ≡ Some row
   pub ended : has_ended row.phase ≡ true
   pub absent : job_at t j ≡ None
   pub others : (k : ℕ) → ¬ (k ≡ j) → job_at t k ≡ job_at s k
 
 -- it stood in no lane
-seat_left : (s t : State) (j : ℕ) → Leaves s t j → (name : List ℕ) (k : ℕ) → seat t name k ≡ seat s name k
-seat_left s t j leaves name k = elim (cases_eq k j) [
-  | inl own ↦ ap (seat t name) own ∙ seat_absent t name j leaves.absent ∙ sym (ap (seat s name) own ∙ ap (seat_of name) leaves.there ∙ either (is_of name leaves.row))
+seat_left : (s t : State) (j : ℕ) (r : Job) → Leaves s t j r → (name : List ℕ) (k : ℕ) → seat t name k ≡ seat s name k
+seat_left s t j r leaves name k = elim (cases_eq k j) [
+  | inl own ↦ ap (seat t name) own ∙ seat_absent t name j leaves.absent ∙ sym (ap (seat s name) own ∙ ap (seat_of name) leaves.there ∙ either (is_of name r))
   | inr other ↦ ap (seat_of name) (leaves.others k other)
 ]
   where
-    either : (b : Bool) → cond b (standing_of leaves.row) Ended ≡ Ended
-    either true = ended_standing leaves.row leaves.row.phase leaves.ended
+    either : (b : Bool) → cond b (standing_of r) Ended ≡ Ended
+    either true = ended_standing r r.phase leaves.ended
     either false = refl
 
 -- a lane goes by where the jobs stand
@@ -321,13 +320,13 @@ module _ (s t : State) (v : ℕ) (lanes : List Lane) (are : AreLanes s v lanes) 
       }))
 
   -- without a job that had ended, and with no room for a new one
-  pub lanes_left : (j : ℕ) → Leaves s t j → AreLanes t 0 lanes
-  lanes_left j leaves =
+  pub lanes_left : (j : ℕ) (r : Job) → Leaves s t j r → AreLanes t 0 lanes
+  lanes_left j r leaves =
       subst (λ ns. AreBeside (IsLaneOf t 0) ns lanes) (sym leaves.names)
       (beside_each (IsLaneOf s v) (IsLaneOf t 0) names lanes lanes are refl (λ i k d lt is.
       let fewer = is.spare in
       record {
-        lane = lane_as (seat s (get_or names i k)) (seat t (get_or names i k)) (get_or lanes i d) (seat_left s t j leaves (get_or names i k)) is.lane;
+        lane = lane_as (seat s (get_or names i k)) (seat t (get_or names i k)) (get_or lanes i d) (seat_left s t j r leaves (get_or names i k)) is.lane;
         moment = is.moment ∙ sym leaves.moment;
         spare = omega (arith, fewer);
       }))

@@ -171,7 +171,7 @@ impl Store {
 
     /// Takes the row of a job that has ended out of the rows, and answers it. Its number stays given.
     pub(crate) fn purge(&mut self, job: JobId) -> JobRow
-        requires accepted { refusal_of self.old.state (Event.Purge job) ≡ None }
+        requires { refusal_of self.old.state (Event.Purge job) ≡ None }
         ensures state { self.new.state ≡ after self.old.state (Event.Purge job) }
         ensures row { job_at self.old.state job ≡ Some result.job }
         ensures ended { has_ended result.job.phase ≡ true }
