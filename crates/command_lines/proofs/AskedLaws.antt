@@ -8,7 +8,7 @@ use Rattle.spool_types.specs.Limits.{longest_send}
 use Rattle.spool_types.specs.Values.{is_queue_name, is_uri, is_user_name, is_title, is_options, is_note, is_file_name, text_in, media_in}
 use Rattle.spool_types.specs.declared.phase.Policy.{Policy}
 use Rattle.spool_types.specs.declared.event.Event.{Event}
-use Rattle.spool_types.specs.declared.event.Event.TheVariants.{SetAccept, SetStop, Release, Abandon, Cancel, Clock}
+use Rattle.spool_types.specs.declared.event.Event.TheVariants.{SetAccept, SetStop, Release, Abandon, Cancel, Purge, Clock}
 use Rattle.command_lines.specs.Asked.{is_line_event, AsksForLineEvent}
 use Rattle.command_lines.specs.Lines.{first_line, after_line}
 use Rattle.command_lines.specs.Words.{words_of}
@@ -52,8 +52,9 @@ one_word_asks name word =
     (either IsOfLine (is_word name (codes "release")) _ _ (mapped (λ job. Release job) (λ x. refl) (job_in word))
     (either IsOfLine (is_word name (codes "cancel")) _ _ (mapped (λ job. Cancel job) (λ x. refl) (job_in word))
     (either IsOfLine (is_word name (codes "abandon")) _ _ (mapped (λ job. Abandon job) (λ x. refl) (job_in word))
+    (either IsOfLine (is_word name (codes "purge")) _ _ (mapped (λ job. Purge job) (λ x. refl) (job_in word))
     (either IsOfLine (is_word name (codes "clock")) _ _ (mapped (λ moment. Clock moment) (λ x. refl) (moment_in word))
-    tt)))))))
+    tt))))))))
 
 says_event : (event : Option Event) → IsOfLine event → MayAsk (option_map (λ e. Says (Apply e)) event)
 says_event None h = tt

@@ -1,7 +1,7 @@
 -- The events that a line asks for.
 use Rattle.std.specs.Prelude.{Bool, true, false, IsTrue}
 use Rattle.spool_types.specs.declared.event.Event.{Event}
-use Rattle.spool_types.specs.declared.event.Event.TheVariants.{Info, SetAccept, SetStop, Send, Hold, Release, Abandon, Cancel, Clock}
+use Rattle.spool_types.specs.declared.event.Event.TheVariants.{Info, SetAccept, SetStop, Send, Hold, Release, Abandon, Cancel, Purge, Clock}
 use Rattle.command_lines.specs.declared.command.Command.{Command}
 use Rattle.command_lines.specs.declared.command.Command.TheVariants.{Apply}
 
@@ -16,6 +16,7 @@ is_line_event (Hold job until) = true
 is_line_event (Release job) = true
 is_line_event (Abandon job) = true
 is_line_event (Cancel job) = true
+is_line_event (Purge job) = true
 is_line_event (Clock moment) = true
 is_line_event e = false
 

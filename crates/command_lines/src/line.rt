@@ -161,6 +161,9 @@ fn event_of_word(alloc: Global, name: &[u8], word: &[u8]) -> Result<Option<Event
     if name == b"abandon".as_slice() {
         return Ok(job_number(word).map(|job| Event::Abandon(job)));
     }
+    if name == b"purge".as_slice() {
+        return Ok(job_number(word).map(|job| Event::Purge(job)));
+    }
     if name == b"clock".as_slice() {
         return Ok(moment_number(word).map(|moment| Event::Clock(moment)));
     }

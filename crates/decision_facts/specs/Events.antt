@@ -39,6 +39,7 @@ EventRows = AreSpelled [] (
     ∷ (codes "0C 00 00 00 01", events.Start 1)
     ∷ (codes "0E 00 00 00 01", events.Abandon 1)
     ∷ (codes "0F", events.Reopen)
+    ∷ (codes "10 00 00 00 01", events.Purge 1)
     ∷ (codes "11 00 01 71 00 00 00 01 00 01 75 00 00 00 01 32 00 00 00 00 00 00 00 00 07 D0", events.CreateBy (record { queue = codes "q"; job = 1; user = codes "u"; title = []; copies = 1; priority = 50; options = [] }) 2000)
     ∷ (codes "0D 00 00 00 01 00 00 00 01 01 00 00 00 00 00 00 00 00", stage (exits.Code 0) [])
     ∷ (codes "0D 00 00 00 01 00 00 00 01 01 01 00 00 00 00 00 00", stage exits.Signal [])

@@ -18,7 +18,7 @@ use Rattle.spool_types.specs.declared.event.NewJob.{NewJob}
 use Rattle.spool_types.specs.declared.event.Closing.{Closing}
 use Rattle.spool_types.specs.declared.event.StageEnd.{StageEnd}
 use Rattle.spool_types.specs.declared.event.Event.{Event}
-use Rattle.spool_types.specs.declared.event.Event.TheVariants.{AddQueue, Info, SetAccept, SetStop, Create, CreateBy, Send, Close, Hold, Release, Cancel, Clock, Start, Stage, Abandon, Reopen}
+use Rattle.spool_types.specs.declared.event.Event.TheVariants.{AddQueue, Info, SetAccept, SetStop, Create, CreateBy, Send, Close, Hold, Release, Cancel, Clock, Start, Stage, Abandon, Reopen, Purge}
 use Rattle.spool_types.specs.Limits.{greatest_number, greatest_moment, greatest_attempts, longest_send}
 use Rattle.spool_types.specs.Values.{is_queue_name, is_uri, is_media_type, is_user_name, is_title, is_options, is_note, is_filter_name, is_reason, is_attribute_name, is_message}
 use Rattle.spool_types.specs.Effects.{AreEffects}
@@ -169,6 +169,7 @@ spelling (Start j) = 0x0C ∷ to_be_bytes w32 j
 spelling (Stage e) = 0x0D ∷ stage_code e
 spelling (Abandon j) = 0x0E ∷ to_be_bytes w32 j
 spelling Reopen = 0x0F ∷ []
+spelling (Purge j) = 0x10 ∷ to_be_bytes w32 j
 spelling (CreateBy n by) = 0x11 ∷ job_by_code n by
 
 -- ---- what has a spelling: an event whose fields are within their limits, as the event of each value of the type is
@@ -282,5 +283,6 @@ IsSpellable (Clock m) = IsIn 0 greatest_moment m
 IsSpellable (Start j) = IsJobNumber j
 IsSpellable (Stage e) = IsStageEnd e
 IsSpellable (Abandon j) = IsJobNumber j
+IsSpellable (Purge j) = IsJobNumber j
 IsSpellable (CreateBy n by) = IsJobBy n by
 IsSpellable Reopen = Unit {0}

@@ -21,6 +21,7 @@
 //! | 0D | Stage | job in 4 bytes, attempt in 4, stage in 1, exit, dropped effects in 4, the number of effects in 2, and each effect |
 //! | 0E | Abandon | job in 4 bytes |
 //! | 0F | Reopen | none |
+//! | 10 | Purge | job in 4 bytes |
 //! | 11 | CreateBy | fields of 05, a moment in 8 bytes |
 //!
 //! An exit is 0 and a status in 1 byte; or 1 after a signal, 2 where nothing was started, 3 where the end or the output

@@ -404,6 +404,7 @@ fn event_of_kind(alloc: Global, kind: u8, fields: &[u8]) -> Result<Event, CodecF
         0x0D => stage_of(alloc, fields),
         0x0E => Ok(Event::Abandon(only_job(fields)?)),
         0x0F => reopen_of(fields),
+        0x10 => Ok(Event::Purge(only_job(fields)?)),
         0x11 => job_by_of(alloc, fields),
         _ => Err(CodecFault::Kind),
     }

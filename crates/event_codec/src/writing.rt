@@ -247,6 +247,7 @@ fn put_event(out: &mut Vec<u8>, event: &Event)
         Event::Stage(end) => put_stage(out, 0x0D, end),
         Event::Abandon(job) => put_number(out, 0x0E, *job),
         Event::Reopen => put_kind(out, 0x0F),
+        Event::Purge(job) => put_number(out, 0x10, *job),
         Event::CreateBy { job, by } => put_job_by(out, 0x11, job, *by),
     }
 }

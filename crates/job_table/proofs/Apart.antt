@@ -1,6 +1,6 @@
 -- What a table has of a queue comes of the queue's own events alone.
 use Rattle.std.proofs.Common.{◌≡◌, ℕ, Bool, true, false, cond, ◌==◌, List, [], ◌∷◌, ◌++◌, Some, None, Option, refl, sym, ap, subst, ◌∙◌, arith}
-use Rattle.std.specs.Prelude.{filter}
+use Rattle.std.specs.Prelude.{filter, is_none}
 use Rattle.std.specs.Cmp.Lexicographic.{slice_cmp, bytes_decides}
 use Rattle.std.specs.Ordering.{nat_cmp}
 use Rattle.std.specs.FinMap as finite
@@ -9,8 +9,9 @@ use Rattle.spool_types.specs.declared.effect.Effect.{Effect}
 use Rattle.spool_types.specs.declared.event.Event.{Event}
 use Rattle.spool_types.specs.declared.event.Event.TheVariants.{Send}
 use Rattle.spool_types.specs.declared.refusal.Refusal.{Refusal}
-use Rattle.spool_types.specs.declared.refusal.Refusal.TheVariants.{NoJob}
+use Rattle.spool_types.specs.declared.refusal.Refusal.TheVariants.{NoJob, NeedsCheckpoint}
 use Rattle.spool_types.specs.declared.version.Version.{Version}
+use Rattle.spool_types.specs.declared.version.Version.TheVariants.{One, Two}
 use Rattle.spool_types.specs.Busy.{is_of}
 use Rattle.spool_types.specs.Sent.{sent, sent_by, sent_to}
 use Rattle.spool_types.specs.State.{State, Job, nothing_in, queue_at, job_at}
@@ -18,8 +19,8 @@ use Rattle.job_table.specs.Apart.{IsPart, own_of, rows_of, names_it, numbers_of,
 use Rattle.job_table.specs.Ended.{IsAbout, subject}
 use Rattle.job_table.specs.Fold.{after_one, after_all, accepted, if_accepted, unless_refused}
 use Rattle.job_table.specs.Legal.{IsLegal}
-use Rattle.job_table.specs.Shapes.{Change, NewQueueRow, OfQueue, NewJobRow, OfJob, OfBoth, OfClock, OfAll, IsOfOne, subject_of}
-use Rattle.job_table.specs.Step.{change_by, refusal_of, answer_to, unless_refused_reply}
+use Rattle.job_table.specs.Shapes.{Change, NewQueueRow, OfQueue, NewJobRow, OfJob, OfBoth, WithoutJob, OfClock, OfAll, IsOfOne, subject_of, causes_of, lacks_purge}
+use Rattle.job_table.specs.Step.{row, change_by, first_cause, refusal_of, answer_to, unless_refused_reply}
 use Rattle.job_table.proofs.Legal.{KeepsOrder, keeps_each, legal_nothing, legal_after_one, legal_after_all}
 use Rattle.job_table.proofs.Over.{refused_as_absent}
 use Rattle.job_table.proofs.Owners.{named, own_number, own_event}
@@ -60,6 +61,19 @@ module _ (name : List ℕ) (js : List ℕ) (j : ℕ) (given : is_in j js ≡ tru
           → sent_to j (sent_by e) ++ sent es j ≡ sent (cond b (e ∷ filter (is_about name js) es) (filter (is_about name js) es)) j
       by_own e es true own rest = ap (λ l. sent_to j (sent_by e) ++ l) rest
       by_own e es false other rest = ap (λ l. l ++ sent es j) (none_sent e other) ∙ rest
+
+-- ## A purge of a job that isn't there
+
+abbrev absent_refusal : Version → Refusal
+absent_refusal One = NeedsCheckpoint
+absent_refusal Two = NoJob
+
+purge_absent : (s : State) (j : ℕ) (own : List (Bool × Refusal)) → job_at s j ≡ None → first_cause (causes_of s (WithoutJob j) own) ≡ Some (absent_refusal s.version)
+purge_absent s j own none = ap (λ o. first_cause ((lacks_purge s.version, NeedsCheckpoint) ∷ (is_none o, NoJob) ∷ own)) none ∙ by_version s.version
+  where
+    by_version : (v : Version) → cond (lacks_purge v) (Some NeedsCheckpoint) (Some NoJob) ≡ Some (absent_refusal v)
+    by_version One = refl
+    by_version Two = refl
 
 -- ## The part of a table
 
@@ -164,12 +178,26 @@ module _ (law : (effects : List Effect) → KeepsOrder effects) (name : List ℕ
         by_job None none = alike_refused e NoJob (refused_as_absent whole j legal_whole none e names) (refused_as_absent own j legal_own (parts.jobs j ∙ ap (own_of name) none) e names)
         by_job (Some r) there = alike_own e about (reads ∙ ap (is_own_job name) there ∙ sym (own_number law name v es legal_whole j r there) ∙ given)
 
+    -- of a purge of such a number
+    of_purge : (e : Event) (j : ℕ) → change_by e ≡ WithoutJob j → is_in j (numbers_of name (accepted (nothing_in v) es)) ≡ true → IsAlike e
+    of_purge e j is given = by_job (job_at whole j) refl
+      where
+        refused : (u : State) → job_at u j ≡ None → refusal_of u e ≡ Some (absent_refusal u.version)
+        refused u none = ap (λ change. first_cause (causes_of u change ((row e).own u))) is ∙ purge_absent u j ((row e).own u) none
+
+        by_job : (o : Option Job) → job_at whole j ≡ o → IsAlike e
+        by_job None none = alike_refused e (absent_refusal whole.version) (refused whole none)
+            (refused own (parts.jobs j ∙ ap (own_of name) none) ∙ ap (λ u. Some (absent_refusal u)) parts.version)
+        by_job (Some r) there = alike_own e (subst IsOfOne (sym is) tt)
+            (ap (names_it name (λ k. is_own_job name (job_at whole k))) is ∙ ap (is_own_job name) there ∙ sym (own_number law name v es legal_whole j r there) ∙ given)
+
     alike_by : (e : Event) (change : Change) → change_by e ≡ change → IsOfOne change → names_it name (λ j. is_in j (numbers_of name (accepted (nothing_in v) es))) change ≡ true → IsAlike e
     alike_by e (NewQueueRow q) is about named_so = absurd about
     alike_by e (OfQueue k f) is about named_so = alike_own e (subst IsOfOne (sym is) about) (ap (names_it name (λ j. is_own_job name (job_at whole j))) is ∙ named_so)
     alike_by e (NewJobRow r) is about named_so = absurd about
     alike_by e (OfJob j f) is about named_so = of_number e j (subst IsOfOne (sym is) about) (ap (names_it name (λ j. is_own_job name (job_at whole j))) is) (ap subject_of is) named_so
     alike_by e (OfBoth j effects verdict) is about named_so = of_number e j (subst IsOfOne (sym is) about) (ap (names_it name (λ j. is_own_job name (job_at whole j))) is) (ap subject_of is) named_so
+    alike_by e (WithoutJob j) is about named_so = of_purge e j is named_so
     alike_by e (OfClock m) is about named_so = absurd about
     alike_by e OfAll is about named_so = absurd about
 

@@ -1,12 +1,14 @@
 -- A table over its rows and its lanes.
-use Rattle.std.proofs.Common.{◌≡◌, ℕ, ◌<◌, [], Option, None, Some, Result, Ok, refl, sym, ap, subst, ◌∙◌, arith}
+use Rattle.std.proofs.Common.{◌≡◌, ℕ, ◌<◌, [], true, Option, None, Some, Result, Ok, refl, sym, ap, subst, ◌∙◌, arith}
 use Rattle.std.specs.FinMap as finite
 use Rattle.std.specs.Ordering.{nat_cmp}
 use Rattle.std.specs.Cmp.Lexicographic.{slice_cmp}
 use Rattle.std.proofs.lemmas.List.{length-map}
-use Rattle.spool_types.specs.State.{State, nothing, job_at}
+use Rattle.spool_types.specs.Phases.{has_ended}
+use Rattle.spool_types.specs.State.{State, Job, nothing, job_at}
 use Rattle.spool_types.specs.declared.event.NewJob.{NewJob}
 use Rattle.spool_types.specs.declared.event.Event.{Event}
+use Rattle.spool_types.specs.declared.event.Event.TheVariants.{Purge}
 use Rattle.spool_types.specs.declared.event.Reply.{Reply}
 use Rattle.spool_types.specs.declared.rows.QueueRow.{QueueRow}
 use Rattle.job_table.specs.Changes.{new_job}
@@ -15,12 +17,14 @@ use Rattle.job_table.specs.Ended.{IsAbout, subject}
 use Rattle.job_table.specs.Held.{IsInLanes}
 use Rattle.job_table.specs.Lanes.{AreLanes}
 use Rattle.job_table.specs.Legal.{IsLegal}
-use Rattle.job_table.specs.Shapes.{Change, NewQueueRow, OfQueue, NewJobRow, OfJob, OfBoth, OfClock, OfAll, subject_of, IsOfOne, made}
+use Rattle.job_table.specs.RowChanges.{WritesRows, IsOfRows}
+use Rattle.job_table.specs.Shapes.{Change, NewQueueRow, OfQueue, NewJobRow, OfJob, OfBoth, WithoutJob, OfClock, OfAll, subject_of, IsOfOne, made}
 use Rattle.job_table.specs.Step.{change_by, creation, step, answered, refusal_of, after, reply_to}
 use Rattle.job_table.specs.declared.table.Table.TheInside.{Inside}
 use Rattle.job_table.proofs.Accepted.{accepted_create}
+use Rattle.job_table.proofs.Changes.{without_own, without_other}
 use Rattle.job_table.proofs.Moves.{Stays, stays_queue, put_other, put_own}
-use Rattle.job_table.proofs.Seats.{Gains, lanes_stay}
+use Rattle.job_table.proofs.Seats.{Gains, Leaves, lanes_stay}
 use Rattle.job_table.proofs.Steps.{after_creation}
 use Rattle.job_table.proofs.Timely.{timely_as}
 
@@ -71,17 +75,18 @@ pub legal_then : (s : State) (then : ℕ) → IsLegal s → IsLegal (record s { 
 legal_then s then legal = record { few_queues = legal.few_queues; names = legal.names; in_order = legal.in_order; numbers = legal.numbers; jobs = legal.jobs; one_processing = legal.one_processing }
 
 -- an event about a queue that is there leaves the jobs
-stays_by : (s : State) (change : Change) → IsOfOne change → subject_of change ≡ None → Stays s (made s change)
-stays_by s (OfQueue name f) about none = stays_queue s name f
-stays_by s (NewQueueRow q) about none = absurd about
-stays_by s (NewJobRow r) about none = absurd about
-stays_by s (OfClock m) about none = absurd about
-stays_by s OfAll about none = absurd about
-stays_by s (OfJob j f) about none = absurd (cc)
-stays_by s (OfBoth j effects verdict) about none = absurd (cc)
+stays_by : (s : State) (change : Change) → IsOfOne change → WritesRows change → subject_of change ≡ None → Stays s (made s change)
+stays_by s (OfQueue name f) about writes none = stays_queue s name f
+stays_by s (NewQueueRow q) about writes none = absurd about
+stays_by s (NewJobRow r) about writes none = absurd about
+stays_by s (WithoutJob j) about writes none = absurd writes
+stays_by s (OfClock m) about writes none = absurd about
+stays_by s OfAll about writes none = absurd about
+stays_by s (OfJob j f) about writes none = absurd (cc)
+stays_by s (OfBoth j effects verdict) about writes none = absurd (cc)
 
-pub stays_about : (s : State) (e : Event) → IsAbout e → subject e ≡ None → Stays s (after s e)
-stays_about s e about none = stays_by s (change_by e) about none
+pub stays_about : (s : State) (e : Event) → IsAbout e → IsOfRows e → subject e ≡ None → Stays s (after s e)
+stays_about s e about writes none = stays_by s (change_by e) about writes none
 
 -- ## A job comes
 
@@ -99,3 +104,16 @@ created s legal n by accepted = subst (λ t. Gains s t n.job (new_job n by)) (sy
 pub creation_room : (room : Room) (n : NewJob) (by : Option ℕ) → HasRoom room (creation n by) → 0 < room.jobs
 creation_room room n None has = has
 creation_room room n (Some by) has = has
+
+-- ## A job goes
+
+-- a purge takes away a job that has ended
+pub purged : (s t : State) (j : ℕ) (r : Job) → job_at s j ≡ Some r → has_ended r.phase ≡ true → t ≡ after s (Purge j) → Leaves s t j r
+purged s t j r there ended same = record {
+  names = ap (λ (u : State). finite.keys u.queues) same;
+  moment = ap (λ (u : State). u.moment) same;
+  there = there;
+  ended = ended;
+  absent = ap (λ (u : State). job_at u j) same ∙ without_own s j;
+  others = λ k other. ap (λ (u : State). job_at u k) same ∙ without_other s j k other;
+}

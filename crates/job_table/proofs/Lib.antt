@@ -17,6 +17,7 @@ pub mod Choice
 pub mod Next
 pub mod Stages
 pub mod Over
+pub mod Purged
 pub mod Above
 pub mod Loaded
 pub mod Settled

@@ -15,7 +15,7 @@ use Rattle.job_table.specs.Changes.{with_stopped, change_found, change_job, chan
 use Rattle.row_effects.specs.Fold.{queue_after}
 use Rattle.job_table.specs.Ended.{subject}
 use Rattle.job_table.specs.Legal.{IsLegal}
-use Rattle.job_table.specs.Shapes.{Change, NewQueueRow, OfQueue, NewJobRow, OfJob, OfBoth, OfClock, OfAll, subject_of, made}
+use Rattle.job_table.specs.Shapes.{Change, NewQueueRow, OfQueue, NewJobRow, OfJob, OfBoth, WithoutJob, OfClock, OfAll, subject_of, made}
 use Rattle.job_table.specs.Step.{change_by, refusal_of, after}
 use Rattle.job_table.proofs.Changes.{some_same, same_number, same_itself}
 use Rattle.job_table.proofs.Ended.{number_of}
@@ -158,6 +158,7 @@ module _ (s : State) (legal : IsLegal s) (j : ℕ) where
   moves_by (OfBoth k (Some effects) verdict) keeps sound is = at_number _ k is (moves_then s (with_effects s k effects) (made s (OfBoth k (Some effects) verdict)) k
       (moves_effects s k effects)
       (moves_ruled (with_effects s k effects) (legal_effects s k effects keeps legal) k verdict _ refl))
+  moves_by (WithoutJob k) keeps sound is = absurd (cc)
   moves_by (OfClock m) keeps sound is = absurd (cc)
   moves_by OfAll keeps sound is = absurd (cc)
 

@@ -1,6 +1,7 @@
 -- A number that is over stays so.
-use Rattle.std.proofs.Common.{◌≡◌, ℕ, ◌≤◌, Bool, true, false, cond, List, [], ◌∷◌, Some, None, Option, IsSome, refl, sym, ap, subst, ◌∙◌, arith}
+use Rattle.std.proofs.Common.{◌≡◌, ℕ, ◌≤◌, Bool, true, false, inl, inr, cond, List, [], ◌∷◌, Some, None, Option, IsSome, refl, sym, ap, subst, ◌∙◌, arith}
 use Rattle.std.specs.Prelude.{nat_le, is_none}
+use Rattle.std.specs.FinMap as finite
 use Rattle.std.proofs.lemmas.Bool.{both_ways}
 use Rattle.std.proofs.lemmas.Bool.Decides.{nat_tests}
 use Rattle.spool_types.specs.Phases.{has_ended}
@@ -15,15 +16,19 @@ use Rattle.job_table.specs.Ended.{subject}
 use Rattle.job_table.specs.Fold.{after_all, after_one, unless_refused}
 use Rattle.job_table.specs.Legal.{IsLegal}
 use Rattle.job_table.specs.Over.{is_over_by, is_over, IsOver, late_refusal}
-use Rattle.job_table.specs.Shapes.{Change, NewQueueRow, OfQueue, NewJobRow, OfJob, OfBoth, OfClock, OfAll, subject_of, causes_of, where_it}
+use Rattle.job_table.specs.Shapes.{Change, NewQueueRow, OfQueue, NewJobRow, OfJob, OfBoth, WithoutJob, OfClock, OfAll, subject_of, causes_of, made, where_it}
 use Rattle.job_table.specs.Step.{creation, row, change_by, refusal_of, after, first_cause}
 use Rattle.job_table.proofs.Accepted.{accepted_create}
+use Rattle.job_table.proofs.Changes.{at_most_highest, without_own}
 use Rattle.job_table.proofs.Ended.{unchanged, refused_as_ended, number_refused, number_of, lose_other, some_unless}
 use Rattle.job_table.proofs.Legal.{KeepsOrder, Keeps, keeps_each, legal_after_one}
 use Rattle.job_table.proofs.Stages.{IsStillAbsent, stays_absent, absent_ruled}
 
 given_by : (j highest : ℕ) → nat_le j highest ≡ true → j ≤ highest
 given_by j highest is = grind (arith, nat_tests)
+
+is_within : (j highest : ℕ) → j ≤ highest → nat_le j highest ≡ true
+is_within j highest within = grind (arith, nat_tests)
 
 is_given : (j low high : ℕ) → nat_le j low ≡ true → low ≤ high → nat_le j high ≡ true
 is_given j low high is up = grind (arith, nat_tests)
@@ -34,6 +39,10 @@ over_absent s t j still given = subst (λ (o : Option Job). is_over_by t.highest
 over_there : (t : State) (j : ℕ) (r : Job) → job_at t j ≡ Some r → has_ended r.phase ≡ true → IsOver t j
 over_there t j r there over = subst (λ (o : Option Job). is_over_by t.highest j o ≡ true) (sym there) over
 
+-- the number of a job that goes is over
+pub over_without : (s : State) (j : ℕ) → j ≤ s.highest → IsOver (record s { jobs = finite.remove s.jobs j }) j
+over_without s j within = subst (λ (o : Option Job). is_over_by s.highest j o ≡ true) (sym (without_own s j)) (is_within j s.highest within)
+
 -- the causes of an event about a job begin with the one that there is none
 absent_first : (o : Option Job) (rest : List (Bool × Refusal)) → o ≡ None → first_cause ((is_none o, NoJob) ∷ rest) ≡ Some NoJob
 absent_first o rest none = ap (λ p. first_cause ((is_none p, NoJob) ∷ rest)) none
@@ -41,7 +50,10 @@ absent_first o rest none = ap (λ p. first_cause ((is_none p, NoJob) ∷ rest)) 
 module _ (s : State) (j : ℕ) (legal : IsLegal s) where
   over_by : (e : Event) → Keeps e → refusal_of s e ≡ None → (o : Option Job) → job_at s j ≡ o → is_over_by s.highest j o ≡ true → IsOver (after s e) j
   over_by e keeps accepted None none given = over_absent s (after s e) j (stays_absent s j none (given_by j s.highest given) legal e keeps accepted) given
-  over_by e keeps accepted (Some r) there over = over_there (after s e) j r (unchanged s j r (record { legal = legal; there = there; ended = over }) e keeps accepted) over
+  over_by e keeps accepted (Some r) there over = elim (unchanged s j r (record { legal = legal; there = there; ended = over }) e keeps accepted) [
+    | inl same ↦ over_there (after s e) j r same over
+    | inr goes ↦ subst (λ (t : State). IsOver t j) (sym (ap (made s) goes)) (over_without s j (at_most_highest s j r legal there))
+  ]
 
   pub over_after : (e : Event) → Keeps e → refusal_of s e ≡ None → IsOver s j → IsOver (after s e) j
   over_after e keeps accepted over = over_by e keeps accepted (job_at s j) refl over
@@ -59,6 +71,7 @@ module _ (s : State) (j : ℕ) (legal : IsLegal s) where
   absent_by none (NewJobRow x) own same = absurd (cc)
   absent_by none (OfJob k f) own same = absent_first (job_at s k) (where_it (job_at s k) (λ r. has_ended r.phase) JobEnded ∷ own) (at_same k (number_of j k same) none)
   absent_by none (OfBoth k effects verdict) own same = absent_first (job_at s k) (where_it (job_at s k) (λ r. has_ended r.phase) JobEnded ∷ own) (at_same k (number_of j k same) none)
+  absent_by none (WithoutJob k) own same = absurd (cc)
   absent_by none (OfClock m) own same = absurd (cc)
   absent_by none OfAll own same = absurd (cc)
 

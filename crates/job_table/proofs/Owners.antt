@@ -24,9 +24,9 @@ use Rattle.job_table.specs.Attempts.{ruled, rule_by, rule_found, lost_by, reopen
 use Rattle.job_table.specs.Changes.{at_moment, at_clock, change_found, change_found_queue, change_job}
 use Rattle.job_table.specs.Fold.{after_one, after_all, accepted, if_accepted, unless_refused}
 use Rattle.job_table.specs.Legal.{IsLegal}
-use Rattle.job_table.specs.Shapes.{Change, NewQueueRow, OfQueue, NewJobRow, OfJob, OfBoth, OfClock, OfAll, causes_of, made}
+use Rattle.job_table.specs.Shapes.{Change, NewQueueRow, OfQueue, NewJobRow, OfJob, OfBoth, WithoutJob, OfClock, OfAll, causes_of, made}
 use Rattle.job_table.specs.Step.{row, change_by, refusal_of, after, first_cause}
-use Rattle.job_table.proofs.Accepted.{accepted_new, job_found}
+use Rattle.job_table.proofs.Accepted.{accepted_new, gone_found, job_found}
 use Rattle.job_table.proofs.Changes.{some_same, at_most_highest, change_queue_other, change_own_other, same_number, same_itself}
 use Rattle.job_table.proofs.Clocked.{at_queue, clock_job}
 use Rattle.job_table.proofs.Legal.{KeepsOrder, KeepsBy, Keeps, keeps_each, IsSound, sound, legal_nothing, legal_after_one, legal_effects}
@@ -98,23 +98,31 @@ clock_owner s now j = ap (option_map (λ (r : Job). r.queue)) (clock_job s now j
 queue_owner : (s : State) (name : List ℕ) (f : QueueRow → QueueRow) (j : ℕ) → owner (change_found_queue s name f (queue_at s name)) j ≡ owner s j
 queue_owner s name f j = ap (option_map (λ (r : Job). r.queue)) (change_queue_other s name f j (queue_at s name))
 
--- an event that isn't refused leaves each job its queue, and adds one at most
-owner_made : (s : State) → IsLegal s → (change : Change) → KeepsBy change → IsSound s change → (j : ℕ) → owner (made s change) j ≡ owner_by (job_made change) j (owner s j)
-owner_made s legal (NewQueueRow q) keeps fine j = refl
-owner_made s legal (OfQueue name f) keeps fine j = queue_owner s name f j
-owner_made s legal (NewJobRow r) keeps fine j = ap (option_map (λ (x : Job). x.queue)) (finite.get-insert nat_cmp_total s.jobs r.id r j) ∙ either (eq_by_cmp nat_cmp j r.id)
+-- an event that isn't refused leaves each job that stays its queue, and adds one at most
+owner_made : (s : State) → IsLegal s → (change : Change) → KeepsBy change → IsSound s change → (j : ℕ) (q : List ℕ) → owner (made s change) j ≡ Some q → owner_by (job_made change) j (owner s j) ≡ Some q
+owner_made s legal (NewQueueRow x) keeps fine j q at = at
+owner_made s legal (OfQueue name f) keeps fine j q at = sym (queue_owner s name f j) ∙ at
+owner_made s legal (NewJobRow r) keeps fine j q at =
+    sym (ap (option_map (λ (x : Job). x.queue)) (finite.get-insert nat_cmp_total s.jobs r.id r j) ∙ either (eq_by_cmp nat_cmp j r.id)) ∙ at
   where
     either : (b : Bool) → option_map (λ (x : Job). x.queue) (cond b (Some r) (job_at s j)) ≡ cond b (Some r.queue) (owner s j)
     either true = refl
     either false = refl
-owner_made s legal (OfJob k f) keeps fine j = change_owner s k f (λ x. (fine.same x).queue) j
-owner_made s legal (OfBoth k None verdict) keeps fine j = rule_owner s legal k verdict j
-owner_made s legal (OfBoth k (Some effects) verdict) keeps fine j = rule_owner (with_effects s k effects) (legal_effects s k effects keeps legal) k verdict j ∙ effects_owner s k effects j
-owner_made s legal (OfClock m) keeps fine j = clock_owner s (max s.moment m) j
-owner_made s legal OfAll keeps fine j = reopened_owner s legal j
+owner_made s legal (OfJob k f) keeps fine j q at = sym (change_owner s k f (λ x. (fine.same x).queue) j) ∙ at
+owner_made s legal (OfBoth k None verdict) keeps fine j q at = sym (rule_owner s legal k verdict j) ∙ at
+owner_made s legal (OfBoth k (Some effects) verdict) keeps fine j q at =
+    sym (rule_owner (with_effects s k effects) (legal_effects s k effects keeps legal) k verdict j ∙ effects_owner s k effects j) ∙ at
+owner_made s legal (WithoutJob k) keeps fine j q at =
+    either (eq_by_cmp nat_cmp j k) (sym (ap (option_map (λ (x : Job). x.queue)) (finite.get-remove nat_cmp_total s.jobs k j)) ∙ at)
+  where
+    either : (b : Bool) → option_map (λ (x : Job). x.queue) (cond b None (job_at s j)) ≡ Some q → owner s j ≡ Some q
+    either true gone = absurd (cc)
+    either false there = there
+owner_made s legal (OfClock m) keeps fine j q at = sym (clock_owner s (max s.moment m) j) ∙ at
+owner_made s legal OfAll keeps fine j q at = sym (reopened_owner s legal j) ∙ at
 
-owner_after : (s : State) → IsLegal s → (e : Event) → Keeps e → refusal_of s e ≡ None → (j : ℕ) → owner (after s e) j ≡ owner_by (job_made (change_by e)) j (owner s j)
-owner_after s legal e keeps taken j = owner_made s legal (change_by e) keeps (sound s e taken) j
+owner_after : (s : State) → IsLegal s → (e : Event) → Keeps e → refusal_of s e ≡ None → (j : ℕ) (q : List ℕ) → owner (after s e) j ≡ Some q → owner_by (job_made (change_by e)) j (owner s j) ≡ Some q
+owner_after s legal e keeps taken j q at = owner_made s legal (change_by e) keeps (sound s e taken) j q at
 
 -- the highest number given doesn't fall
 same_most : (m n : ℕ) → m ≡ n → m ≤ n
@@ -141,6 +149,7 @@ grows_by s (OfBoth k None verdict) own taken = same_most _ _ (rule_most s verdic
 grows_by s (OfBoth k (Some effects) verdict) own taken =
     let s1 = change_job s k (with_pages effects) in
     same_most _ _ (change_most s k (with_pages effects) (job_at s k) ∙ own_counts s1 (queue_after effects) (job_at s1 k) ∙ rule_most (with_effects s k effects) verdict _)
+grows_by s (WithoutJob j) own taken = omega arith
 grows_by s (OfClock m) own taken = omega arith
 grows_by s OfAll own taken = same_most _ _ (sym (reopened_counts s).0)
 
@@ -248,6 +257,7 @@ module _ (law : (effects : List Effect) → KeepsOrder effects) (name : List ℕ
     same_by : (change : Change) (own : List (Bool × Refusal)) → first_cause (causes_of s change own) ≡ None → names_it name (λ j. is_own_job name (job_at s j)) change ≡ names_it name (λ j. is_in j (old ++ new)) change
     same_by (OfJob j f) own taken = let r = job_found s j own taken in job_own j r.0 r.1
     same_by (OfBoth j effects verdict) own taken = let r = job_found s j own taken in job_own j r.0 r.1
+    same_by (WithoutJob j) own taken = let r = gone_found s j own taken in job_own j r.0 r.1
     same_by change own taken = refl
 
     same_own : (e : Event) → refusal_of s e ≡ None → is_own s name e ≡ is_about name (old ++ new) e
@@ -264,7 +274,7 @@ module _ (law : (effects : List Effect) → KeepsOrder effects) (name : List ℕ
   module _ (s : State) (legal : IsLegal s) (e : Event) (taken : refusal_of s e ≡ None) (old : List ℕ) (given : IsGiven old s) where
     none_then : job_made (change_by e) ≡ None → IsGiven (old ++ []) (after s e)
     none_then made = record {
-      owners = λ j q at. ap (is_in j) (append-nil old) ∙ given.owners j q (sym (owner_after s legal e (keeps_each law e) taken j ∙ ap (λ o. owner_by o j (owner s j)) made) ∙ at);
+      owners = λ j q at. ap (is_in j) (append-nil old) ∙ given.owners j q (sym (ap (λ o. owner_by o j (owner s j)) made) ∙ owner_after s legal e (keeps_each law e) taken j q at);
       up = λ j among. let low = given.up j (sym (ap (is_in j) (append-nil old)) ∙ among) in let more = grows s e taken in omega (arith, low, more);
     }
 
@@ -298,7 +308,7 @@ module _ (law : (effects : List Effect) → KeepsOrder effects) (name : List ℕ
       some_then = record {
         owners = λ j q at.
             in_both old p n.id j
-            ∙ owner_some j q (eq_by_cmp nat_cmp j n.id) refl (sym (owner_after s legal e (keeps_each law e) taken j ∙ ap (λ o. owner_by o j (owner s j)) made_one) ∙ at);
+            ∙ owner_some j q (eq_by_cmp nat_cmp j n.id) refl (sym (ap (λ o. owner_by o j (owner s j)) made_one) ∙ owner_after s legal e (keeps_each law e) taken j q at);
         up = λ j among. up_some j (or_cases (is_in j old) (p && (n.id == j)) (sym (in_both old p n.id j) ∙ among));
       }
 

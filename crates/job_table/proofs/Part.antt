@@ -85,6 +85,27 @@ module _ (name : List ℕ) where
     pub part_put_other : (j : ℕ) (x : Job) (h : ℕ) → t.highest ≤ h → own_of name (job_at s j) ≡ None → is_of name x ≡ false → IsPart name (record s { jobs = finite.insert s.jobs j x; highest = h }) t
     part_put_other j x h most before other = record { queue = part.queue; only = part.only; jobs = put_one j x before other; moment = part.moment; version = part.version; highest = most }
 
+    pub part_without : (j : ℕ) → IsPart name (record s { jobs = finite.remove s.jobs j }) (record t { jobs = finite.remove t.jobs j })
+    part_without j = record { queue = part.queue; only = part.only; jobs = left; moment = part.moment; version = part.version; highest = part.highest }
+      where
+        either : (k : ℕ) (b : Bool) → cond b None (finite.get t.jobs k) ≡ own_of name (cond b None (finite.get s.jobs k))
+        either k true = refl
+        either k false = part.jobs k
+
+        left : (k : ℕ) → finite.get (finite.remove t.jobs j) k ≡ own_of name (finite.get (finite.remove s.jobs j) k)
+        left k =
+            finite.get-remove nat_cmp_total t.jobs j k ∙ either k (eq_by_cmp nat_cmp k j) ∙ sym (ap (own_of name) (finite.get-remove nat_cmp_total s.jobs j k))
+
+    pub part_without_other : (j : ℕ) → is_own_job name (job_at s j) ≡ false → IsPart name (record s { jobs = finite.remove s.jobs j }) t
+    part_without_other j other = record { queue = part.queue; only = part.only; jobs = left; moment = part.moment; version = part.version; highest = part.highest }
+      where
+        either : (k : ℕ) (b : Bool) → eq_by_cmp nat_cmp k j ≡ b → finite.get t.jobs k ≡ own_of name (cond b None (finite.get s.jobs k))
+        either k true same = part.jobs k ∙ ap (λ n. own_of name (job_at s n)) (same_number j k same) ∙ none_own (job_at s j) other
+        either k false apart = part.jobs k
+
+        left : (k : ℕ) → finite.get t.jobs k ≡ own_of name (finite.get (finite.remove s.jobs j) k)
+        left k = either k (eq_by_cmp nat_cmp k j) refl ∙ sym (ap (own_of name) (finite.get-remove nat_cmp_total s.jobs j k))
+
     -- ## Queues
 
     pub part_name : (x : QueueRow) → IsPart name (record s { queues = finite.insert s.queues name x }) (record t { queues = finite.insert t.queues name x })

@@ -9,10 +9,10 @@ use Rattle.std.proofs.lemmas.Bool.{both_ways}
 use Rattle.std.proofs.lemmas.Bool.Decides.{nat_tests}
 use Rattle.std.proofs.lemmas.Map.Lookups.{exact_bytes}
 use Rattle.spool_types.specs.declared.event.Event.{Event}
-use Rattle.spool_types.specs.declared.event.Event.TheVariants.{Send, Close, Hold, Release, Start, Stage, Abandon}
+use Rattle.spool_types.specs.declared.event.Event.TheVariants.{Send, Close, Hold, Release, Start, Stage, Abandon, Purge}
 use Rattle.spool_types.specs.declared.event.Reply.TheVariants.{Size, Phase as PhaseNow}
 use Rattle.spool_types.specs.declared.refusal.Refusal.{Refusal}
-use Rattle.spool_types.specs.declared.refusal.Refusal.TheVariants.{NoQueue, QueueExists, TooManyQueues, NotAccepting, NoJob, NotIncoming, TooLong, OldNumber, NoNumberLeft, JobEnded, NotWaiting, NotNext, NotProcessing, WrongStage, NotHeld, NeedsCheckpoint}
+use Rattle.spool_types.specs.declared.refusal.Refusal.TheVariants.{NoQueue, QueueExists, TooManyQueues, NotAccepting, NoJob, NotIncoming, TooLong, OldNumber, NoNumberLeft, JobEnded, NotWaiting, NotNext, NotProcessing, WrongStage, NotHeld, NotEnded, NeedsCheckpoint}
 use Rattle.spool_types.specs.declared.rows.QueueRow.{QueueRow}
 use Rattle.spool_types.specs.Busy.{is_of}
 use Rattle.spool_types.specs.Limits.{most_queues, longest_document, greatest_number}
@@ -24,13 +24,13 @@ use Rattle.job_table.specs.Changes.{change_job}
 use Rattle.job_table.specs.Ended.{IsAbout, subject}
 use Rattle.job_table.specs.Fold.{after_one, unless_refused}
 use Rattle.job_table.specs.Legal.{IsLegal}
-use Rattle.job_table.specs.Shapes.{Change, NewQueueRow, OfQueue, NewJobRow, OfJob, OfBoth, OfClock, OfAll, IsOfOne, subject_of, causes_of, made, lacks_by, where_it, passes, about_queue, about_job}
+use Rattle.job_table.specs.Shapes.{Change, NewQueueRow, OfQueue, NewJobRow, OfJob, OfBoth, WithoutJob, OfClock, OfAll, IsOfOne, subject_of, causes_of, made, lacks_by, lacks_purge, where_it, passes, about_queue, about_job}
 use Rattle.job_table.specs.Step.{row, change_by, refusal_of, after, reply_to, answer_to, unless_refused_reply, first_cause, phase_found, size_found}
 use Rattle.job_table.proofs.Accepted.{none_first, accepted_new, queue_absent}
 use Rattle.job_table.proofs.Changes.{not_both, changed_there}
 use Rattle.job_table.proofs.Ended.{number_of}
 use Rattle.job_table.proofs.Legal.{KeepsBy, Keeps, IsSound, sound, legal_effects}
-use Rattle.job_table.proofs.Part.{of_both, own_job, own_queue, same_name, part_there, part_queue, part_put, part_put_other, part_named, part_named_other, part_clock, part_change, part_change_other, part_change_queue, part_change_queue_other}
+use Rattle.job_table.proofs.Part.{of_both, own_job, own_queue, same_name, part_there, part_queue, part_put, part_put_other, part_without, part_without_other, part_named, part_named_other, part_clock, part_change, part_change_other, part_change_queue, part_change_queue_other}
 use Rattle.job_table.proofs.PartLoss.{HasOwn, part_rule, part_rule_other, rule_own, effects_own, part_effects, part_effects_other, part_reopened}
 use Rattle.job_table.proofs.PartNext.{same_next}
 
@@ -89,6 +89,10 @@ alike name s t part legal legal_part (Abandon j) own = record {
   own = ap (λ o. where_it o (λ (r : Job). not (is_processing r.phase)) NotProcessing ∷ []) (same_job name s t part j own);
   reply = λ u v same. ap (λ o. PhaseNow (phase_found o)) (same j refl);
 }
+alike name s t part legal legal_part (Purge j) own = record {
+  own = ap (λ o. where_it o (λ (r : Job). not (has_ended r.phase)) NotEnded ∷ []) (same_job name s t part j own);
+  reply = λ u v same. refl;
+}
 alike name s t part legal legal_part e own = record { own = refl; reply = λ u v same. refl }
 
 module _ (name : List ℕ) (s t : State) (part : IsPart name s t) (legal : IsLegal s) (legal_part : IsLegal t) where
@@ -104,6 +108,10 @@ module _ (name : List ℕ) (s t : State) (part : IsPart name s t) (legal : IsLeg
   same_causes (NewJobRow r) a b about own same = absurd about
   same_causes (OfJob j f) a b about own same = ap (λ o. (is_none o, NoJob) ∷ where_it o (λ (r : Job). has_ended r.phase) JobEnded ∷ a) (same_job name s t part j own) ∙ ap (about_job s j) same
   same_causes (OfBoth j effects verdict) a b about own same = ap (λ o. (is_none o, NoJob) ∷ where_it o (λ (r : Job). has_ended r.phase) JobEnded ∷ a) (same_job name s t part j own) ∙ ap (about_job s j) same
+  same_causes (WithoutJob j) a b about own same =
+      ap (λ v. (lacks_purge v, NeedsCheckpoint) ∷ (is_none (job_at t j), NoJob) ∷ a) part.version
+      ∙ ap (λ o. (lacks_purge s.version, NeedsCheckpoint) ∷ (is_none o, NoJob) ∷ a) (same_job name s t part j own)
+      ∙ ap (λ cs. (lacks_purge s.version, NeedsCheckpoint) ∷ (is_none (job_at s j), NoJob) ∷ cs) same
   same_causes (OfClock m) a b about own same = absurd about
   same_causes OfAll a b about own same = absurd about
 
@@ -143,6 +151,7 @@ module _ (name : List ℕ) (s t : State) (part : IsPart name s t) (legal : IsLeg
   accepted_by (OfQueue k f) a b own same accepted = ap first_cause (same_causes (OfQueue k f) a b tt own same) ∙ accepted
   accepted_by (OfJob j f) a b own same accepted = ap first_cause (same_causes (OfJob j f) a b tt own same) ∙ accepted
   accepted_by (OfBoth j effects verdict) a b own same accepted = ap first_cause (same_causes (OfBoth j effects verdict) a b tt own same) ∙ accepted
+  accepted_by (WithoutJob j) a b own same accepted = ap first_cause (same_causes (WithoutJob j) a b tt own same) ∙ accepted
   accepted_by (OfClock m) a b own same accepted = ap first_cause same ∙ accepted
   accepted_by OfAll a b own same accepted = ap first_cause same ∙ accepted
 
@@ -164,6 +173,7 @@ module _ (name : List ℕ) (s t : State) (part : IsPart name s t) (legal : IsLeg
       let found = own_job name (job_at s j) own in
       part_rule name (with_effects s j effects) (with_effects t j effects) (part_effects name s t part j effects found.0 found.1 found.2)
       (legal_effects s j effects keeps legal) j verdict _ (effects_own name s t part j effects found.0 found.1) found.2
+  part_by (WithoutJob j) keeps fine own = part_without name s t part j
   part_by (OfClock m) keeps fine own = part_clock name s t part (max s.moment m) (max t.moment m) (ap (λ n. max n m) part.moment)
   part_by OfAll keeps fine own = part_reopened name s t part legal legal_part
 
@@ -188,6 +198,7 @@ module _ (name : List ℕ) (s t : State) (part : IsPart name s t) (legal : IsLeg
       subst (HasOwn name (made s (OfBoth k (Some effects) verdict))) (number_of j k is)
       (rule_own name (with_effects s k effects) (with_effects t k effects) (part_effects name s t part k effects found.0 found.1 found.2)
       (legal_effects s k effects keeps legal) k verdict _ (effects_own name s t part k effects found.0 found.1) found.2)
+  own_by (WithoutJob k) j keeps fine own is = absurd (cc)
   own_by (OfClock m) j keeps fine own is = absurd (cc)
   own_by OfAll j keeps fine own is = absurd (cc)
 
@@ -228,6 +239,7 @@ module _ (name : List ℕ) (s t : State) (part : IsPart name s t) (legal : IsLeg
   other_by (OfBoth j (Some effects) verdict) own keeps fine other accepted =
       let told = part_effects_other name s t part j effects other in
       part_rule_other name (with_effects s j effects) t told.0 (legal_effects s j effects keeps legal) j verdict told.1
+  other_by (WithoutJob j) own keeps fine other accepted = part_without_other name s t part j other
   other_by (OfClock m) own keeps fine other accepted = absurd (both_ways _ other refl)
   other_by OfAll own keeps fine other accepted = absurd (both_ways _ other refl)
 

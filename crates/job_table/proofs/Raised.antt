@@ -1,12 +1,12 @@
 -- A table of any version is, but for its version, the one that the same events lead to in the newest.
 use Rattle.std.proofs.Common.{◌≡◌, ℕ, Bool, true, false, cond, not, List, [], ◌∷◌, Some, None, Option, refl, sym, ap, subst, ◌∙◌}
-use Rattle.std.specs.Prelude.{nat_le}
+use Rattle.std.specs.Prelude.{nat_le, is_none}
 use Rattle.std.specs.FinMap as finite
 use Rattle.spool_types.specs.declared.effect.Effect.{Effect}
 use Rattle.spool_types.specs.declared.event.Event.{Event}
 use Rattle.spool_types.specs.declared.event.Event.TheVariants.{Reopen}
 use Rattle.spool_types.specs.declared.refusal.Refusal.{Refusal}
-use Rattle.spool_types.specs.declared.refusal.Refusal.TheVariants.{NotAccepting, OldNumber, NoNumberLeft, NeedsCheckpoint}
+use Rattle.spool_types.specs.declared.refusal.Refusal.TheVariants.{NotAccepting, NoJob, OldNumber, NoNumberLeft, NeedsCheckpoint}
 use Rattle.spool_types.specs.declared.rows.QueueRow.{QueueRow}
 use Rattle.spool_types.specs.declared.version.Version.TheVariants.{Two}
 use Rattle.spool_types.specs.Limits.{greatest_number}
@@ -17,7 +17,7 @@ use Rattle.job_table.specs.Attempts.{rule_by, rule_found, rule_at, lost_by, is_p
 use Rattle.job_table.specs.Changes.{change_found_queue, change_found, change_own_queue, change_job}
 use Rattle.job_table.specs.Fold.{after_one, after_all, unless_refused, AreAccepted}
 use Rattle.job_table.specs.Legal.{IsLegal}
-use Rattle.job_table.specs.Shapes.{Change, NewQueueRow, OfQueue, NewJobRow, OfJob, OfBoth, OfClock, OfAll, lacks_by, about_queue, where_it, causes_of, made}
+use Rattle.job_table.specs.Shapes.{Change, NewQueueRow, OfQueue, NewJobRow, OfJob, OfBoth, WithoutJob, OfClock, OfAll, lacks_by, lacks_purge, about_queue, where_it, causes_of, made}
 use Rattle.job_table.specs.Step.{row, change_by, refusal_of, after, reply_to, first_cause}
 use Rattle.job_table.specs.Versions.{raised}
 use Rattle.job_table.proofs.Accepted.{none_first}
@@ -74,6 +74,7 @@ made_raised s (OfBoth j None verdict) = rule_raised s verdict (job_at s j)
 made_raised s (OfBoth j (Some effects) verdict) =
     ap (λ (u : State). rule_at u j verdict) (effects_raised s j effects)
     ∙ rule_raised (with_effects s j effects) verdict (job_at (with_effects s j effects) j)
+made_raised s (WithoutJob j) = refl
 made_raised s (OfClock m) = refl
 made_raised s OfAll = reopened_raised s
 
@@ -112,6 +113,7 @@ accepted_by s (NewJobRow r) own accepted =
     ∙ (none_first (lacks_by s.version r.by) NeedsCheckpoint (new_causes s r own) accepted).1
 accepted_by s (OfJob j f) own accepted = accepted
 accepted_by s (OfBoth j effects verdict) own accepted = accepted
+accepted_by s (WithoutJob j) own accepted = (none_first (lacks_purge s.version) NeedsCheckpoint ((is_none (job_at s j), NoJob) ∷ own) accepted).1
 accepted_by s (OfClock m) own accepted = accepted
 accepted_by s OfAll own accepted = accepted
 
@@ -175,6 +177,7 @@ made_version s (OfBoth j (Some effects) verdict) =
     rule_version (with_effects s j effects) verdict (job_at (with_effects s j effects) j)
     ∙ own_version s1 (queue_after effects) (job_at s1 j)
     ∙ job_version s j (with_pages effects) (job_at s j)
+made_version s (WithoutJob j) = refl
 made_version s (OfClock m) = refl
 made_version s OfAll = (reopened_counts s).2
 

@@ -1,16 +1,18 @@
 -- What an event makes of the deadlines of a table's jobs.
-use Rattle.std.proofs.Common.{◌≡◌, ℕ, inl, inr, false, cond, Some, None, refl, sym, ap, ◌∙◌}
+use Rattle.std.proofs.Common.{◌≡◌, ℕ, inl, inr, Bool, true, false, cond, [], ◌∷◌, Option, Some, None, refl, sym, ap, ◌∙◌, arith}
 use Rattle.std.specs.Prelude.{is_some}
 use Rattle.std.specs.Option.{option_map}
 use Rattle.std.proofs.lemmas.Bool.{cases_eq}
-use Rattle.spool_types.specs.Phases.{is_waiting}
+use Rattle.spool_types.specs.Phases.{has_ended, is_waiting}
+use Rattle.spool_types.specs.declared.phase.Phase.{Phase}
+use Rattle.spool_types.specs.declared.phase.Phase.TheVariants.{Incoming, Waiting, Processing, Completed, Canceled, Aborted}
 use Rattle.spool_types.specs.State.{State, Job, job_at}
 use Rattle.queue_sched.specs.declared.deadlines.Deadline.{Deadline}
 use Rattle.job_table.specs.Legal.{IsLegal}
-use Rattle.job_table.specs.Timely.{deadline_found, has_by, IsAdmitted, IsRetimed, IsTimely, MayRetime}
+use Rattle.job_table.specs.Timely.{deadline_found, has_by, IsAdmitted, IsDismissed, IsRetimed, IsTimely, MayDismiss, MayRetime}
 use Rattle.job_table.specs.declared.timetable.Timetable.{Timetable}
 use Rattle.job_table.proofs.Moves.{Moves}
-use Rattle.job_table.proofs.Seats.{Gains}
+use Rattle.job_table.proofs.Seats.{Gains, Leaves}
 use Rattle.job_table.proofs.Timely.{deadline_own}
 
 -- deadlines of one moment and one number are the same
@@ -75,3 +77,27 @@ gained_admitted s t j q gains idle = record {
   by = ap has_by gains.there;
   others = gains.others;
 }
+
+-- ## A job goes
+
+ended_waits : (p : Phase) → has_ended p ≡ true → is_waiting p ≡ false
+ended_waits (Incoming hold) over = refl
+ended_waits (Waiting hold not_before first) over = absurd (cc)
+ended_waits (Processing attempt stage stages) over = refl
+ended_waits Completed over = refl
+ended_waits Canceled over = refl
+ended_waits (Aborted reason) over = refl
+
+pub left_dismissed : (s t : State) (j : ℕ) (r : Job) → Leaves s t j r → IsDismissed (job_at s) (job_at t) j (is_some r.by)
+left_dismissed s t j r leaves = record {
+  own =
+      ap deadline_found leaves.there
+      ∙ ap (λ b. cond b (option_map (λ by. record { by = by; id = r.id }) r.by) None) (ended_waits r.phase leaves.ended);
+  by = ap has_by leaves.there;
+  absent = leaves.absent;
+  others = leaves.others;
+}
+
+-- one that was to start by a moment was counted
+pub may_dismiss : (jobs : ℕ → Option Job) (t : Timetable) → IsTimely jobs t → (j : ℕ) (timed : Bool) → has_by (jobs j) ≡ timed → MayDismiss t timed
+may_dismiss jobs t is j timed same = λ was. let one = is.few (j ∷ []) (tt, tt) (same ∙ was, tt) in omega (arith, one)

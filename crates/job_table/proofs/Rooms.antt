@@ -1,8 +1,9 @@
 -- The room beside the rows, where rows are put in or written over.
-use Rattle.std.proofs.Common.{◌≡◌, ℕ, zero, suc, ◌+◌, ◌++◌, ◌-◌, ◌<◌, ◌≤◌, Bool, true, false, cond, List, [], ◌∷◌, length, get_or, set, map, Option, Some, None, unwrap_or, refl, sym, ap, subst, ◌∙◌, arith, Vec, Global}
-use Rattle.std.specs.List.{insert}
+use Rattle.std.proofs.Common.{◌≡◌, ℕ, zero, suc, ◌+◌, ◌++◌, ◌-◌, ◌<◌, ◌≤◌, Bool, true, false, cond, IsTrue, List, [], ◌∷◌, length, get_or, set, map, Option, Some, None, unwrap_or, refl, sym, ap, subst, ◌∙◌, arith, Vec, Global}
+use Rattle.std.specs.List.{insert, remove}
 use Rattle.std.specs.Vec.{vec_len, vec_capacity}
 use Rattle.std.specs.Ordering.{nat_cmp, is_eq}
+use Rattle.std.specs.Cmp.{nat_cmp_total}
 use Rattle.std.specs.FinMap as finite
 use Rattle.spool_types.specs.Phases.{has_ended}
 use Rattle.spool_types.specs.State.{Job, job_of}
@@ -13,7 +14,9 @@ use Rattle.extents.specs.declared.extent.Extent.{Extent}
 use Rattle.extents.specs.Extents.{size_of}
 use Rattle.job_table.specs.Documents.{document_len}
 use Rattle.job_table.specs.Rows.{document_spare, document_entry, place_entry, job_entry, IsFreed, HoldsDocument, HoldDocuments, KeepsDocument}
+use Rattle.job_table.specs.Places.{IsPlace}
 use Rattle.job_table.proofs.Changes.{some_same, same_number}
+use Rattle.job_table.proofs.Rows as rows
 
 pub same_room : (n : ℕ) → n ≤ n
 same_room n = omega arith
@@ -61,6 +64,35 @@ room_insert [] (suc i) y le none j = absurd (omega arith)
 room_insert (z ∷ zs) zero y le none j = none_more (is_eq (nat_cmp j y.job.id)) (document_spare y) (finite.find nat_cmp j (map document_entry (z ∷ zs))) none
 room_insert (z ∷ zs) (suc i) y le none j =
     at_most_either (is_eq (nat_cmp j z.job.id)) (document_spare z) (document_spare z) (finite.find nat_cmp j (map document_entry (insert zs i y))) (finite.find nat_cmp j (map document_entry zs)) (omega arith) (room_insert zs i y (omega arith) none j)
+
+less_unless : (b : Bool) (o : Option ℕ) → unwrap_or (cond b None o) 0 ≤ unwrap_or o 0
+less_unless true o = omega arith
+less_unless false o = omega arith
+
+-- what is found among rows once one is taken out
+module _ (ys : List JobRow) (sorted : IsTrue (finite.is_sorted nat_cmp (map job_entry ys))) (j at : ℕ) (place : IsPlace nat_cmp (λ (r : JobRow). r.job.id) ys j at) where
+  pub room_remove : (k : ℕ) → room_among (remove ys at) k ≤ room_among ys k
+  room_remove k =
+      subst (λ o. unwrap_or o 0 ≤ room_among ys k)
+      (sym (rows.find_remove nat_cmp nat_cmp_total (λ (r : JobRow). r.job.id) document_spare finite.nat_cmp-IsAntisymmetric ys
+      (rows.sorted_alike nat_cmp (λ (r : JobRow). r.job.id) document_spare job_of ys ∙ sorted) j at place k))
+      (less_unless (is_eq (nat_cmp k j)) (finite.find nat_cmp k (map document_entry ys)))
+
+  pub places_remove : (k : ℕ) → ¬ (k ≡ j) → unwrap_or (finite.find nat_cmp k (map place_entry (remove ys at))) [] ≡ unwrap_or (finite.find nat_cmp k (map place_entry ys)) []
+  places_remove k other =
+      ap (λ o. unwrap_or o [])
+      (rows.find_remove nat_cmp nat_cmp_total (λ (r : JobRow). r.job.id) (λ (r : JobRow). r.document.items) finite.nat_cmp-IsAntisymmetric ys
+      (rows.sorted_alike nat_cmp (λ (r : JobRow). r.job.id) (λ (r : JobRow). r.document.items) job_of ys ∙ sorted) j at place k
+      ∙ either (is_eq (nat_cmp k j)) refl)
+    where
+      either : (b : Bool) → is_eq (nat_cmp k j) ≡ b → cond b None (finite.find nat_cmp k (map place_entry ys)) ≡ finite.find nat_cmp k (map place_entry ys)
+      either true same = absurd (other (same_number j k same))
+      either false apart = refl
+
+pub holds_remove : (ys : List JobRow) (i : ℕ) → i < length ys → HoldDocuments ys → HoldDocuments (remove ys i)
+holds_remove [] i lt holds = absurd (omega arith)
+holds_remove (z ∷ zs) zero lt holds = holds.1
+holds_remove (z ∷ zs) (suc i) lt holds = (holds.0, holds_remove zs i (omega arith) holds.1)
 
 pub holds_set : (ys : List JobRow) (i : ℕ) (y d : JobRow) → i < length ys → (HoldsDocument (get_or ys i d) → HoldsDocument y) → HoldDocuments ys → HoldDocuments (set ys i y)
 holds_set [] i y d lt keeps holds = absurd (omega arith)

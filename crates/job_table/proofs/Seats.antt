@@ -18,7 +18,7 @@ use Rattle.queue_sched.specs.Index.{entry_of}
 use Rattle.queue_sched.specs.declared.entry.Entry.{Entry}
 use Rattle.job_table.specs.Ended.{subject}
 use Rattle.job_table.specs.Legal.{IsLegal}
-use Rattle.job_table.specs.Shapes.{Change, NewQueueRow, OfQueue, NewJobRow, OfJob, OfBoth, OfClock, OfAll, subject_of, causes_of}
+use Rattle.job_table.specs.Shapes.{Change, NewQueueRow, OfQueue, NewJobRow, OfJob, OfBoth, WithoutJob, OfClock, OfAll, subject_of, causes_of}
 use Rattle.job_table.specs.Step.{row, change_by, first_cause, refusal_of, after}
 use Rattle.job_table.specs.Lanes.{standing_in, standing_of, seat_of, seat, is_live, live_count, IsLane, IsReseated, IsSameLane, IsAdvanced, HasSeat, AreBeside, IsLaneOf, AreLanes}
 use Rattle.job_table.specs.Places.{IsNameAt}
@@ -112,6 +112,34 @@ module _ (s : State) (name : List ℕ) (j : ℕ) where
       by_job : (o : Option Job) → job_at s j ≡ o → (r : Job) × (job_at s j ≡ Some r) × (r.queue ≡ name) × (standing_of r ≡ x)
       by_job None at = absurd (ended_dead x (sym (seat_absent at) ∙ is) live)
       by_job (Some r) at = by_own r at (is_of name r) refl
+
+ended_standing : (r : Job) (p : Phase) → has_ended p ≡ true → standing_in r p ≡ Ended
+ended_standing r (phases.Incoming hold) over = absurd (cc)
+ended_standing r (phases.Waiting hold not_before first) over = absurd (cc)
+ended_standing r (phases.Processing attempt stage stages) over = absurd (cc)
+ended_standing r phases.Completed over = refl
+ended_standing r phases.Canceled over = refl
+ended_standing r (phases.Aborted reason) over = refl
+
+-- a job of this row, which has ended, goes, and nothing else does
+pub record Leaves (s t : State) (j : ℕ) (row : Job) : Type 0 where
+  pub names : finite.keys t.queues ≡ finite.keys s.queues
+  pub moment : t.moment ≡ s.moment
+  pub there : job_at s j ≡ Some row
+  pub ended : has_ended row.phase ≡ true
+  pub absent : job_at t j ≡ None
+  pub others : (k : ℕ) → ¬ (k ≡ j) → job_at t k ≡ job_at s k
+
+-- it stood in no lane
+seat_left : (s t : State) (j : ℕ) (r : Job) → Leaves s t j r → (name : List ℕ) (k : ℕ) → seat t name k ≡ seat s name k
+seat_left s t j r leaves name k = elim (cases_eq k j) [
+  | inl own ↦ ap (seat t name) own ∙ seat_absent t name j leaves.absent ∙ sym (ap (seat s name) own ∙ ap (seat_of name) leaves.there ∙ either (is_of name r))
+  | inr other ↦ ap (seat_of name) (leaves.others k other)
+]
+  where
+    either : (b : Bool) → cond b (standing_of r) Ended ≡ Ended
+    either true = ended_standing r r.phase leaves.ended
+    either false = refl
 
 -- a lane goes by where the jobs stand
 pub lane_as : (old new : ℕ → Standing) (lane : Lane) → ((k : ℕ) → new k ≡ old k) → IsLane old lane → IsLane new lane
@@ -291,6 +319,18 @@ module _ (s t : State) (v : ℕ) (lanes : List Lane) (are : AreLanes s v lanes) 
         spare = is.spare;
       }))
 
+  -- without a job that had ended, and with no room for a new one
+  pub lanes_left : (j : ℕ) (r : Job) → Leaves s t j r → AreLanes t 0 lanes
+  lanes_left j r leaves =
+      subst (λ ns. AreBeside (IsLaneOf t 0) ns lanes) (sym leaves.names)
+      (beside_each (IsLaneOf s v) (IsLaneOf t 0) names lanes lanes are refl (λ i k d lt is.
+      let fewer = is.spare in
+      record {
+        lane = lane_as (seat s (get_or names i k)) (seat t (get_or names i k)) (get_or lanes i d) (seat_left s t j r leaves (get_or names i k)) is.lane;
+        moment = is.moment ∙ sym leaves.moment;
+        spare = omega (arith, fewer);
+      }))
+
   -- with a job that went elsewhere
   pub lanes_moved : IsLegal t → (j : ℕ) (moves : Moves s t j) (r : Job) (there : job_at s j ≡ Some r) (at : ℕ) → IsNameAt names r.queue at
       → (q : Job) → job_at t j ≡ Some q → (is_live (standing_of q) ≡ true → is_live (standing_of r) ≡ false → ⊥)
@@ -423,6 +463,7 @@ subject_by s j (OfQueue name f) own is accepted = absurd (cc)
 subject_by s j (NewJobRow x) own is accepted = absurd (cc)
 subject_by s j (OfJob k f) own is accepted = same_subject s j k is (job_found s k own accepted)
 subject_by s j (OfBoth k effects verdict) own is accepted = same_subject s j k is (job_found s k own accepted)
+subject_by s j (WithoutJob k) own is accepted = absurd (cc)
 subject_by s j (OfClock m) own is accepted = absurd (cc)
 subject_by s j OfAll own is accepted = absurd (cc)
 

@@ -11,7 +11,7 @@ use Rattle.job_table.specs.Changes.{at_moment, change_found, change_found_queue,
 use Rattle.job_table.specs.Fold.{after_all, after_one, unless_refused}
 use Rattle.job_table.specs.Legal.{IsLegal, Fits}
 use Rattle.job_table.specs.Stages.{Key, key_of, IsUpTo, IsSpentOf, IsSpentBy, IsSpent, IsIn}
-use Rattle.job_table.specs.Shapes.{Change, NewQueueRow, OfQueue, NewJobRow, OfJob, OfBoth, OfClock, OfAll, causes_of, made}
+use Rattle.job_table.specs.Shapes.{Change, NewQueueRow, OfQueue, NewJobRow, OfJob, OfBoth, WithoutJob, OfClock, OfAll, causes_of, made}
 use Rattle.job_table.specs.Step.{row, change_by, first_cause, refusal_of, after}
 use Rattle.spool_types.specs.declared.effect.Effect.{Effect}
 use Rattle.spool_types.specs.declared.event.Event.{Event}
@@ -27,7 +27,7 @@ use Rattle.row_effects.specs.Fold.{queue_after}
 use Rattle.backend_codes.specs.declared.verdicts.Verdict.{Verdict}
 use Rattle.backend_codes.specs.declared.verdicts.Verdict.TheVariants as verdicts
 use Rattle.job_table.proofs.Accepted.{accepted_new, job_there, accepted_stage}
-use Rattle.job_table.proofs.Changes.{not_both, at_most_highest, same_itself, same_number, some_same, change_queue_other, change_own_other}
+use Rattle.job_table.proofs.Changes.{not_both, at_most_highest, same_itself, same_number, some_same, change_queue_other, change_own_other, without_other, without_own, without_none}
 use Rattle.job_table.proofs.Clocked.{at_either, clock_job}
 use Rattle.job_table.proofs.Ended.{unchanged, below_number}
 use Rattle.job_table.proofs.Follows.{Follows, in_place, ruled_follows}
@@ -96,7 +96,7 @@ lost s j r there legal true busy = by_queue (queue_at s r.queue) refl ((legal.jo
     by_queue (Some q) is some =
         (ruled s.moment q.interval (lost_by r q) r, (reopened_lost s legal j r q (record { there = there; queue = is; processing = busy })).job, ruled_follows s.moment q.interval (lost_by r q) r)
 
-module _ (s : State) (j : ℕ) (r : Job) (there : job_at s j ≡ Some r) (legal : IsLegal s) where
+module _ (s : State) (j : ℕ) (r : Job) (there : job_at s j ≡ Some r) (legal : IsLegal s) (alive : has_ended r.phase ≡ false) where
   goes_on_by : (change : Change) (own : List (Bool × Refusal)) → KeepsBy change → IsSound s change → first_cause (causes_of s change own) ≡ None → IsFollowed j r.attempts r.phase (made s change)
   goes_on_by (NewQueueRow q) own keeps sound accepted = found_same s (made s (NewQueueRow q)) j r there refl
   goes_on_by (OfQueue name f) own keeps sound accepted = found_same s (made s (OfQueue name f)) j r there (change_queue_other s name f j _)
@@ -110,6 +110,9 @@ module _ (s : State) (j : ℕ) (r : Job) (there : job_at s j ≡ Some r) (legal 
       let found = folded s j r there k effects in
       alike_then j (made s (OfBoth k (Some effects) verdict)) r found.0 found.2
       (verdict_on (with_effects s k effects) j found.0 found.1 (legal_effects s k effects keeps legal) k verdict _ refl)
+  goes_on_by (WithoutJob k) own keeps sound accepted =
+      let apart : ¬ (j ≡ k) = λ same. both_ways _ alive (sound r (ap (job_at s) (sym same) ∙ there)) in
+      found_same s (made s (WithoutJob k)) j r there (without_other s k j apart)
   goes_on_by (OfClock m) own keeps sound accepted =
       let now = max s.moment m in
       (at_moment now r, clock_job s now j _ there, at_either (Follows r.attempts r.phase) now r (in_place r) (λ late. inl refl))
@@ -185,6 +188,7 @@ module _ (s : State) (j : ℕ) (none : job_at s j ≡ None) (given : j ≤ s.hig
       let first = absent_folded s j none k effects in
       absent_then s (with_effects s k effects) (made s (OfBoth k (Some effects) verdict)) j first
       (absent_ruled (with_effects s k effects) j first.absent (legal_effects s k effects keeps legal) k verdict _ refl)
+  absent_by (WithoutJob k) own keeps accepted = record { highest = omega arith; absent = without_none s k j none }
   absent_by (OfClock m) own keeps accepted = record { highest = omega arith; absent = clock_job s (max s.moment m) j _ none }
   absent_by OfAll own keeps accepted = absent_same s (reopened s) j none (sym (reopened_counts s).0) ((reopened_onward s legal).absent j none ∙ sym none)
 
@@ -205,6 +209,10 @@ spent_followed k r x alive (inr (inr goes)) (inr (inr left)) = inr (inr (goes.0 
 
 by_row : (k : Key) (t : State) (x : Job) → job_at t k.job ≡ Some x → IsSpentOf k x → IsSpent t k
 by_row k t x there spent = subst (IsSpentBy t.highest k) (sym there) spent
+
+-- a stage of a job that goes is spent
+spent_without : (s : State) (k : Key) → k.job ≤ s.highest → IsSpent (record s { jobs = finite.remove s.jobs k.job }) k
+spent_without s k within = subst (IsSpentBy s.highest k) (sym (without_own s k.job)) within
 
 -- a job that is processing has as many attempts as its phase says
 newest : (r : Job) (attempt stage stages : ℕ) (p : Phase) → p ≡ Processing attempt stage stages → Fits r p → attempt ≡ r.attempts
@@ -266,9 +274,12 @@ module _ (s : State) (e : Event) (k : Key) (keeps : Keeps e) (legal : IsLegal s)
   spent_after accepted (Some r) there spent = either (has_ended r.phase) refl
     where
       either : (b : Bool) → has_ended r.phase ≡ b → IsSpent (after s e) k
-      either true over = by_row k (after s e) r (unchanged s k.job r (record { legal = legal; there = there; ended = over }) e keeps accepted) (inl over)
+      either true over = elim (unchanged s k.job r (record { legal = legal; there = there; ended = over }) e keeps accepted) [
+        | inl same ↦ by_row k (after s e) r same (inl over)
+        | inr goes ↦ subst (λ (t : State). IsSpent t k) (sym (ap (made s) goes)) (spent_without s k (at_most_highest s k.job r legal there))
+      ]
       either false alive =
-          let found = goes_on s k.job r there legal e keeps accepted in
+          let found = goes_on s k.job r there legal alive e keeps accepted in
           by_row k (after s e) found.0 found.1 (spent_followed k r found.0 alive found.2 spent)
 
   spent_unless : (o : Option Refusal) → refusal_of s e ≡ o → IsSpent s k → IsSpent (unless_refused s e o) k
@@ -279,7 +290,7 @@ module _ (s : State) (e : Event) (k : Key) (keeps : Keeps e) (legal : IsLegal s)
   spent_after_one spent = spent_unless _ refl spent
 
   in_unless : (o : Option Refusal) → refusal_of s e ≡ o → IsIn s k → IsIn (unless_refused s e o) k ⊎ IsSpent (unless_refused s e o) k
-  in_unless None accepted now = in_followed k s (after s e) now legal (legal_after s e keeps accepted legal) (goes_on s k.job now.row now.there legal e keeps accepted)
+  in_unless None accepted now = in_followed k s (after s e) now legal (legal_after s e keeps accepted legal) (goes_on s k.job now.row now.there legal (alive_in s k now) e keeps accepted)
   in_unless (Some x) refused now = inl now
 
   pub in_after_one : IsIn s k → IsIn (after_one s e) k ⊎ IsSpent (after_one s e) k

@@ -1,6 +1,6 @@
 -- The lemmas on rows, for queues by their names and for jobs by their numbers.
-use Rattle.std.proofs.Common.{◌≡◌, ℕ, IsTrue, List, [], ◌∷◌, length, get_or, set, map, Option, Some, None, IsSome, refl, sym, ap, ◌∙◌}
-use Rattle.std.specs.List.{insert}
+use Rattle.std.proofs.Common.{◌≡◌, ℕ, ◌<◌, IsTrue, List, [], ◌∷◌, length, get_or, set, map, Option, Some, None, IsSome, refl, sym, ap, ◌∙◌}
+use Rattle.std.specs.List.{insert, remove}
 use Rattle.std.specs.Ordering.{nat_cmp}
 use Rattle.std.specs.Cmp.{nat_cmp_total}
 use Rattle.std.specs.Cmp.Lexicographic.{slice_cmp, nat_list_cmp_total}
@@ -86,6 +86,12 @@ module _ (ys : List JobRow) (h : IsTrue (finite.is_sorted nat_cmp (map job_entry
 
   pub sorted_set_job : (y : JobRow) (k i : ℕ) (d : JobRow) → IsJobPlace ys k i → (get_or ys i d).job.id ≡ y.job.id → IsTrue (finite.is_sorted nat_cmp (map job_entry (set ys i y)))
   sorted_set_job = rows.sorted_set nat_cmp nat_cmp_total (λ r. r.job.id) job_of ys h
+
+  pub remove_job : (k i : ℕ) → IsJobPlace ys k i → jobs_of (remove ys i) ≡ finite.remove (jobs_of ys) k
+  remove_job = rows.map_remove nat_cmp nat_cmp_total (λ r. r.job.id) job_of finite.nat_cmp-IsAntisymmetric ys h
+
+  pub sorted_remove_job : (i : ℕ) → i < length ys → IsTrue (finite.is_sorted nat_cmp (map job_entry (remove ys i)))
+  sorted_remove_job = rows.sorted_remove nat_cmp nat_cmp_total (λ r. r.job.id) job_of finite.nat_cmp-IsAntisymmetric ys h
 
   -- what is found among the rows is what the map has
   pub find_job : (k : ℕ) → finite.find nat_cmp k (map job_entry ys) ≡ finite.get (jobs_of ys) k

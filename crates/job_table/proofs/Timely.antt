@@ -10,9 +10,9 @@ use Rattle.spool_types.specs.State.{Job}
 use Rattle.queue_sched.specs.Deadlines.{Limits, InTurn, LacksDeadline, comes_before}
 use Rattle.queue_sched.specs.declared.deadlines.Deadline.{Deadline}
 use Rattle.job_table.specs.Lanes.{AtMost}
-use Rattle.job_table.specs.Timely.{deadline_of, deadline_found, has_by, unsorted, IsAdmitted, IsTimely, IsRetimed}
+use Rattle.job_table.specs.Timely.{deadline_of, deadline_found, has_by, unsorted, IsAdmitted, IsDismissed, IsTimely, IsRetimed}
 use Rattle.job_table.specs.declared.timetable.Timetable.{Timetable}
-use Rattle.job_table.proofs.Lanes.{all_from, all_numbers, apart_in_order, as_many, differ_numbers, no_more, none_pass, one_more}
+use Rattle.job_table.proofs.Lanes.{all_from, all_numbers, apart_in_order, as_many, differ_numbers, no_more, none_pass, one_less, one_more}
 
 -- ## The deadline of a job
 
@@ -189,4 +189,34 @@ module _ (old new : ℕ → Option Job) (j : ℕ) (t : Timetable) (is : IsTimely
     listed = λ k d at. is.listed k d (sym (same_deadlines k) ∙ at);
     few = subst (AtMost (λ k. has_by (new k))) (sym more) (one_more (λ k. has_by (old k)) (λ k. has_by (new k)) j t.timed is.few others_timed);
     room = omega (arith, more, space);
+  }
+
+-- ## A job goes
+
+module _ (old new : ℕ → Option Job) (j : ℕ) (t : Timetable) (is : IsTimely old t) (timed : Bool) (dismissed : IsDismissed old new j timed) where
+  kept_deadlines : (k : ℕ) → deadline_found (new k) ≡ deadline_found (old k)
+  kept_deadlines k = elim (cases_eq k j) [
+    | inl own ↦ ap (λ i. deadline_found (new i)) own ∙ ap deadline_found dismissed.absent ∙ sym (ap (λ i. deadline_found (old i)) own ∙ dismissed.own)
+    | inr other ↦ ap deadline_found (dismissed.others k other)
+  ]
+
+  kept_timed : (k : ℕ) → ¬ (k ≡ j) → has_by (new k) ≡ has_by (old k)
+  kept_timed k other = ap has_by (dismissed.others k other)
+
+  -- it was to start by no moment
+  pub dismissed_free : IsTimely new t
+  dismissed_free = record {
+    only = λ d there. kept_deadlines d.id ∙ is.only d there;
+    listed = λ k d at. is.listed k d (sym (kept_deadlines k) ∙ at);
+    few = as_many (λ k. has_by (old k)) (λ k. has_by (new k)) j t.timed is.few kept_timed (ap has_by dismissed.absent);
+    room = is.room;
+  }
+
+  -- it was one of those that were to start by a moment
+  pub dismissed_timed : timed ≡ true → (n : ℕ) → n + 1 ≡ t.timed → IsTimely new (record t { timed = n })
+  dismissed_timed was n less = record {
+    only = λ d there. kept_deadlines d.id ∙ is.only d there;
+    listed = λ k d at. is.listed k d (sym (kept_deadlines k) ∙ at);
+    few = one_less (λ k. has_by (old k)) (λ k. has_by (new k)) j t.timed is.few kept_timed (ap has_by dismissed.absent) (dismissed.by ∙ was) n less;
+    room = (let before = is.room in omega (arith, less, before));
   }

@@ -8,7 +8,7 @@ use Rattle.spool_types.specs.declared.version.Version.{Version}
 use Rattle.spool_types.specs.Busy.{is_of}
 use Rattle.spool_types.specs.State.{State, Job, nothing_in, queue_at, job_at}
 use Rattle.job_table.specs.Fold.{after_one, after_all, accepted}
-use Rattle.job_table.specs.Shapes.{Change, NewQueueRow, OfQueue, NewJobRow, OfJob, OfBoth, OfClock, OfAll}
+use Rattle.job_table.specs.Shapes.{Change, NewQueueRow, OfQueue, NewJobRow, OfJob, OfBoth, WithoutJob, OfClock, OfAll}
 use Rattle.job_table.specs.Step.{change_by}
 
 -- ## The rows
@@ -44,6 +44,7 @@ names_it name is_its (OfQueue queue f) = pointwise nat_eq queue name
 names_it name is_its (NewJobRow r) = is_of name r
 names_it name is_its (OfJob j f) = is_its j
 names_it name is_its (OfBoth j effects verdict) = is_its j
+names_it name is_its (WithoutJob j) = is_its j
 names_it name is_its (OfClock m) = true
 names_it name is_its OfAll = true
 

@@ -3,9 +3,8 @@ use Rattle.std.specs.Prelude.{◌≡◌, ℕ, true, None}
 use Rattle.spool_types.specs.Phases.{has_ended}
 use Rattle.spool_types.specs.State.{State, Job}
 use Rattle.spool_types.specs.declared.event.Event.{Event}
-use Rattle.spool_types.specs.declared.event.Event.TheVariants.{Clock, Reopen}
 use Rattle.job_table.specs.Changes.{closed, ended, held}
-use Rattle.job_table.specs.Shapes.{OfJob}
+use Rattle.job_table.specs.Shapes.{Change, OfJob, WithoutJob, OfClock, OfAll}
 use Rattle.job_table.specs.Step.{change_by, refusal_of}
 use Rattle.job_table.specs.declared.store.row_changes.RowChange.{RowChange}
 use Rattle.job_table.specs.declared.store.row_changes.RowChange.TheVariants.{Hold, End, Close}
@@ -27,8 +26,12 @@ pub record IsAsked (s : State) (j : ℕ) (change : RowChange) : Type 0 where
   pub accepted : refusal_of s event ≡ None
   pub changes : change_by event ≡ OfJob j (meant change)
 
--- it changes rows at once, and not one after another as the clock and a reopening do
+-- it writes rows at once, and not one after another as the clock and a reopening do, and takes none away
+abbrev pub WritesRows : Change → Type 0
+WritesRows (WithoutJob j) = ⊥
+WritesRows (OfClock m) = ⊥
+WritesRows OfAll = ⊥
+WritesRows change = Unit {0}
+
 abbrev pub IsOfRows : Event → Type 0
-IsOfRows (Clock m) = ⊥
-IsOfRows Reopen = ⊥
-IsOfRows event = Unit {0}
+IsOfRows e = WritesRows (change_by e)

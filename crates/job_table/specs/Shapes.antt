@@ -15,13 +15,14 @@ use Rattle.job_table.specs.Attempts.{with_effects, rule_at, reopened}
 use Rattle.job_table.specs.Changes.{change_queue, change_job, at_clock}
 
 -- a new queue, a change of a queue, a new job, a change of a job, a verdict on a job and its queue (behind the effects that
--- were told, if any), the moment, or the policy on every processing job
+-- were told, if any), a job that goes, the moment, or the policy on every processing job
 pub data Change : Type 0 where
   NewQueueRow : QueueRow → Change
   OfQueue : List ℕ → (QueueRow → QueueRow) → Change
   NewJobRow : Job → Change
   OfJob : ℕ → (Job → Job) → Change
   OfBoth : ℕ → Option (List Effect) → (Job → QueueRow → Verdict) → Change
+  WithoutJob : ℕ → Change
   OfClock : ℕ → Change
   OfAll : Change
 
@@ -37,12 +38,14 @@ made s (OfQueue name f) = change_queue s name f
 made s (NewJobRow r) = record s { jobs = map.insert s.jobs r.id r; highest = r.id }
 made s (OfJob j f) = change_job s j f
 made s (OfBoth j effects verdict) = rule_at (told s j effects) j verdict
+-- its number stays the highest, if it is
+made s (WithoutJob j) = record s { jobs = map.remove s.jobs j }
 made s (OfClock m) = at_clock (max s.moment m) s
 made s OfAll = reopened s
 
 -- ## What it is about
 
--- the job that is there already and that it is about
+-- the job that it is about, where that has to be there and not to have ended
 abbrev pub subject_of : Change → Option ℕ
 subject_of (OfJob j f) = Some j
 subject_of (OfBoth j effects verdict) = Some j
@@ -53,6 +56,7 @@ abbrev pub IsOfOne : Change → Type 0
 IsOfOne (OfQueue name f) = Unit {0}
 IsOfOne (OfJob j f) = Unit {0}
 IsOfOne (OfBoth j effects verdict) = Unit {0}
+IsOfOne (WithoutJob j) = Unit {0}
 IsOfOne change = ⊥
 
 -- ## Why it is refused
@@ -85,6 +89,11 @@ lacks_by version None = false
 lacks_by One (Some by) = true
 lacks_by Two (Some by) = false
 
+-- the first version has no bytes for a purge
+abbrev pub lacks_purge : Version → Bool
+lacks_purge One = true
+lacks_purge Two = false
+
 -- the causes of the shape, and then the event's own
 abbrev pub causes_of : State → Change → List (Bool × Refusal) → List (Bool × Refusal)
 causes_of s (NewQueueRow q) own =
@@ -101,5 +110,9 @@ causes_of s (NewJobRow r) own =
     ∷ own)
 causes_of s (OfJob j f) own = about_job s j own
 causes_of s (OfBoth j effects verdict) own = about_job s j own
+causes_of s (WithoutJob j) own =
+    (lacks_purge s.version, NeedsCheckpoint)
+    ∷ (is_none (job_at s j), NoJob)
+    ∷ own
 causes_of s (OfClock m) own = own
 causes_of s OfAll own = own

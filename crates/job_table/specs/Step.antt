@@ -4,18 +4,18 @@ use Rattle.spool_types.specs.declared.phase.Phase.{Phase}
 use Rattle.spool_types.specs.declared.phase.Phase.TheVariants.{Canceled}
 use Rattle.spool_types.specs.declared.phase.Hold.TheVariants.{Free}
 use Rattle.spool_types.specs.declared.event.Event.{Event}
-use Rattle.spool_types.specs.declared.event.Event.TheVariants.{AddQueue, Info, SetAccept, SetStop, Create, CreateBy, Send, Close, Hold, Release, Cancel, Clock, Start, Stage, Abandon, Reopen}
+use Rattle.spool_types.specs.declared.event.Event.TheVariants.{AddQueue, Info, SetAccept, SetStop, Create, CreateBy, Send, Close, Hold, Release, Cancel, Clock, Start, Stage, Abandon, Reopen, Purge}
 use Rattle.spool_types.specs.declared.event.NewJob.{NewJob}
 use Rattle.spool_types.specs.declared.event.Reply.{Reply}
 use Rattle.spool_types.specs.declared.event.Reply.TheVariants.{Done, Number, Size, Phase as PhaseNow}
 use Rattle.spool_types.specs.declared.refusal.Refusal.{Refusal}
-use Rattle.spool_types.specs.declared.refusal.Refusal.TheVariants.{NotIncoming, TooLong, NotWaiting, NotNext, NotProcessing, WrongStage, NotHeld}
+use Rattle.spool_types.specs.declared.refusal.Refusal.TheVariants.{NotIncoming, TooLong, NotWaiting, NotNext, NotProcessing, WrongStage, NotHeld, NotEnded}
 use Rattle.spool_types.specs.Limits.{longest_document}
-use Rattle.spool_types.specs.Phases.{is_incoming, is_processing, is_waiting, hold_of, is_in_force, hold_until}
+use Rattle.spool_types.specs.Phases.{has_ended, is_incoming, is_processing, is_waiting, hold_of, is_in_force, hold_until}
 use Rattle.spool_types.specs.State.{State, Job, job_at}
 use Rattle.job_table.specs.Attempts.{is_next, is_in_stage, started, stage_verdict, lost_by}
 use Rattle.job_table.specs.Changes.{new_queue, with_notes, with_accepting, with_stopped, new_job, with_bytes, ended, closed, held}
-use Rattle.job_table.specs.Shapes.{Change, NewQueueRow, OfQueue, NewJobRow, OfJob, OfBoth, OfClock, OfAll, made, causes_of, where_it}
+use Rattle.job_table.specs.Shapes.{Change, NewQueueRow, OfQueue, NewJobRow, OfJob, OfBoth, WithoutJob, OfClock, OfAll, made, causes_of, where_it}
 
 -- the refusal of the first cause that holds
 abbrev pub first_cause : List (Bool × Refusal) → Option Refusal
@@ -105,6 +105,12 @@ row (Abandon j) = record {
   reply = phase_then j;
 }
 row Reopen = record { change = OfAll; own = no_own; reply = λ s t. Done }
+row (Purge j) = record {
+  change = WithoutJob j;
+  own = λ s. where_it (job_at s j) (λ r. not (has_ended r.phase)) NotEnded
+      ∷ [];
+  reply = λ s t. Done;
+}
 
 -- the event that makes a job, which is to start by a moment if one is told
 abbrev pub creation : NewJob → Option ℕ → Event

@@ -1,5 +1,5 @@
 -- The waiting jobs that are to start by a moment.
-use Rattle.std.specs.Prelude.{◌≡◌, ℕ, ◌≤◌, Bool, true, false, cond, List, is_some, Option, None, Some}
+use Rattle.std.specs.Prelude.{◌≡◌, ℕ, ◌<◌, ◌≤◌, Bool, true, false, cond, List, is_some, Option, None, Some}
 use Rattle.std.specs.Option.{option_map}
 use Rattle.std.specs.List.{Contains}
 use Rattle.spool_types.specs.Phases.{is_waiting}
@@ -42,6 +42,17 @@ pub record IsAdmitted (old new : ℕ → Option Job) (j : ℕ) (timed : Bool) : 
   pub own : deadline_found (new j) ≡ None
   pub by : has_by (new j) ≡ timed
   pub others : (k : ℕ) → ¬ (k ≡ j) → new k ≡ old k
+
+-- a job goes that has no deadline, and may be one that was to start by a moment
+pub record IsDismissed (old new : ℕ → Option Job) (j : ℕ) (timed : Bool) : Type 0 where
+  pub own : deadline_found (old j) ≡ None
+  pub by : has_by (old j) ≡ timed
+  pub absent : new j ≡ None
+  pub others : (k : ℕ) → ¬ (k ≡ j) → new k ≡ old k
+
+-- a job that was to start by a moment is one of those that the timetable counts
+abbrev pub MayDismiss : Timetable → Bool → Type 0
+MayDismiss t timed = timed ≡ true → 0 < t.timed
 
 -- one job has this deadline, and all others have theirs as before; each is to start by a moment as before
 pub record IsRetimed (old new : ℕ → Option Job) (j : ℕ) (to : Option Deadline) : Type 0 where

@@ -6,7 +6,7 @@ ghost use Rattle.std.specs.List.{Contains};
 ghost use Rattle.queue_sched.specs.Deadlines.{HasEachDeadlineOnce};
 ghost use Rattle.queue_sched.specs.declared.deadlines.Deadline.{Deadline as AnyDeadline};
 ghost use Rattle.spool_types.specs.State.{Job as AnyJob};
-ghost use Rattle.job_table.specs.Timely.{deadline_of, deadline_found, unsorted, IsAdmitted, IsTimely, IsRetimed, MayRetime};
+ghost use Rattle.job_table.specs.Timely.{deadline_of, deadline_found, unsorted, IsAdmitted, IsDismissed, IsTimely, IsRetimed, MayDismiss, MayRetime};
 
 use queue_sched::{Deadline, Deadlines};
 use spool_types::{Job, JobId, Moment, Phase};
@@ -77,6 +77,18 @@ impl Timetable {
             let has_room = self.timed < self.deadlines.room();
             prove!(has_room);
             self.timed += 1;
+        }
+    }
+
+    /// A job goes that has no deadline any more. It is told whether it was to start by a moment. It takes no memory.
+    pub(crate) fn dismiss(&mut self, timed: bool)
+        requires { MayDismiss self.old timed }
+        ensures timely { (old new : ℕ → Option AnyJob) (j : ℕ) → IsTimely old self.old → IsDismissed old new j timed → IsTimely new self.new }
+        ensures timed { self.new.timed ≤ self.old.timed }
+        ensures room { self.new.deadlines.room ≡ self.old.deadlines.room }
+    {
+        if timed {
+            self.timed -= 1;
         }
     }
 

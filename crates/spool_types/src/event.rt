@@ -89,6 +89,8 @@ pub enum Event {
     Abandon(JobId),
     /// Gives up every attempt, as the spooler was started anew.
     Reopen,
+    /// Takes the row of an ended job away. Its number isn't given again.
+    Purge(JobId),
 }
 
 /// What an accepted event is answered.

@@ -4,7 +4,7 @@ use Rattle.std.specs.Prelude.{◌≡◌, ℕ, true, false, List, [], ◌∷◌, 
 use Rattle.spool_types.specs.declared.phase.Policy.{Policy}
 use Rattle.spool_types.specs.declared.phase.Policy.TheVariants.{AbortJob, StopPrinter}
 use Rattle.spool_types.specs.declared.event.Event.{Event}
-use Rattle.spool_types.specs.declared.event.Event.TheVariants.{Info, SetAccept, SetStop, Send, Hold, Release, Abandon, Cancel, Clock}
+use Rattle.spool_types.specs.declared.event.Event.TheVariants.{Info, SetAccept, SetStop, Send, Hold, Release, Abandon, Cancel, Purge, Clock}
 use Rattle.command_lines.specs.Text.{commands_of}
 use Rattle.command_lines.specs.declared.command.Command.{Command}
 use Rattle.command_lines.specs.declared.command.Command.TheVariants.{Apply, Queue, Create, Close, OversizedSend, Jobs, Queues, Round, Drain, Checkpoint, Malformed}
@@ -24,13 +24,13 @@ info queue told place = Info (record { queue = text queue; info = text told; loc
 
 -- each command once
 abbrev pub ScriptRows : Type 0
-ScriptRows = commands_of (text "queue lab spoolfile:/out Text/PLAIN abort-job|info lab \"Front desk\" \"Room 4\"|reject lab|disable lab|accept lab|enable lab|create lab ann \"First page\" 1 50 \"\"|createby lab ann \"x\" 1 50 \"\" 2000|send 1 3|a|b|# a remark||close 1 page.txt|hold 1 100|release 1|abandon 1|cancel 1|clock 7|round|drain 5|checkpoint|queues|jobs")
+ScriptRows = commands_of (text "queue lab spoolfile:/out Text/PLAIN abort-job|info lab \"Front desk\" \"Room 4\"|reject lab|disable lab|accept lab|enable lab|create lab ann \"First page\" 1 50 \"\"|createby lab ann \"x\" 1 50 \"\" 2000|send 1 3|a|b|# a remark||close 1 page.txt|hold 1 100|release 1|abandon 1|cancel 1|purge 1|clock 7|round|drain 5|checkpoint|queues|jobs")
     ≡ new_queue "lab" "spoolfile:/out" "text/plain" AbortJob 30 5 ∷ Apply (info "lab" "Front desk" "Room 4")
     ∷ Apply (SetAccept (codes "lab") false) ∷ Apply (SetStop (codes "lab") true) ∷ Apply (SetAccept (codes "lab") true)
     ∷ Apply (SetStop (codes "lab") false) ∷ creation "lab" "ann" "First page" 1 50 "" None
     ∷ creation "lab" "ann" "x" 1 50 "" (Some 2000) ∷ Apply (Send 1 (97 ∷ 10 ∷ 98 ∷ [])) ∷ Close 1 (codes "page.txt")
     ∷ Apply (Hold 1 (Some 100)) ∷ Apply (Release 1) ∷ Apply (Abandon 1) ∷ Apply (Cancel 1)
-    ∷ Apply (Clock 7) ∷ Round ∷ Drain 5 ∷ Checkpoint ∷ Queues ∷ Jobs ∷ []
+    ∷ Apply (Purge 1) ∷ Apply (Clock 7) ∷ Round ∷ Drain 5 ∷ Checkpoint ∷ Queues ∷ Jobs ∷ []
 
 -- queues with interval and limit
 abbrev pub QueueRows : Type 0
@@ -88,6 +88,12 @@ HoldRows = commands_of (text "hold 1 100|hold 1 indefinite|hold 1 \"indefinite\"
 abbrev pub ReleaseRows : Type 0
 ReleaseRows = commands_of (text "release 1|release x|")
     ≡ Apply (Release 1) ∷ Malformed ∷ []
+
+-- purges
+abbrev pub PurgeRows : Type 0
+PurgeRows = commands_of (text "purge 1|purge 2147483647|purge 2147483648|purge 0|purge|purge 1 2|purge x|Purge 1|purges 1|")
+    ≡ Apply (Purge 1) ∷ Apply (Purge 2147483647) ∷ Malformed ∷ Malformed ∷ Malformed ∷ Malformed ∷ Malformed ∷ Malformed
+    ∷ Malformed ∷ []
 
 -- listings take no words
 abbrev pub ListingRows : Type 0

@@ -127,6 +127,7 @@ pub fn command_examples()
     ensures stop { commands.StopRows }
     ensures hold { commands.HoldRows }
     ensures release { commands.ReleaseRows }
+    ensures purge { commands.PurgeRows }
     ensures listing { commands.ListingRows }
     ensures drain { commands.DrainRows }
     ensures checkpoint { commands.CheckpointRows }

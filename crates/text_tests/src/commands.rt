@@ -83,7 +83,7 @@ fn letters(alloc: Global, size: usize) -> Result<String, AllocError>
 fn has_its_letters(alloc: Global, size: usize) -> Result<bool, AllocError>
     requires { 0 < size }
 {
-    Ok(letters(alloc, size)?.as_str() == "qeeeeeccedeeeeeruks?j")
+    Ok(letters(alloc, size)?.as_str() == "qeeeeeccedeeeeeeruks?j")
 }
 
 const SCRIPT: &[u8] = b"queue lab spoolfile:/out Text/PLAIN abort-job\n\
@@ -102,6 +102,7 @@ hold 1 100\n\
 release 1\n\
 abandon 1\n\
 cancel 1\n\
+purge 1\n\
 clock 7\n\
 round\n\
 drain 5\n\

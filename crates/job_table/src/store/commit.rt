@@ -1,10 +1,12 @@
 //! What an accepted event changes.
-ghost use Rattle.std.specs.Prelude.{◌≡◌, ◌+◌, ◌<◌, ◌^◌, None, Some, Ok};
+ghost use Rattle.std.specs.Prelude.{◌≡◌, ◌+◌, ◌<◌, ◌^◌, true, None, Some, Ok};
 ghost use Rattle.job_table.specs.Changes.{change_job};
 ghost use Rattle.job_table.specs.Step.{creation, refusal_of, step, after, reply_to};
 ghost use Rattle.job_table.specs.RowChanges.{meant, EndsInEnd, IsAsked, IsOfRows};
 ghost use Rattle.job_table.specs.Contents.{IsPrepared, HasNoMore, HasPlace, KeepsPlaces, AddsPlaces, document_room};
+ghost use Rattle.spool_types.specs.Phases.{has_ended};
 ghost use Rattle.spool_types.specs.Sent.{bytes_behind, sent_by};
+ghost use Rattle.spool_types.specs.State.{job_at};
 
 use super::Store;
 use super::lookup::{job_place, queue_place};
@@ -13,7 +15,7 @@ use super::row_changes::{
     set_stopped,
 };
 use spool_types::{
-    Event, Hold, JobId, Moment, NewJob, NewQueue, Phase, Piece, QueueName, QueueNotes, Reply,
+    Event, Hold, JobId, JobRow, Moment, NewJob, NewQueue, Phase, Piece, QueueName, QueueNotes, Reply,
 };
 
 impl Store {
@@ -47,8 +49,8 @@ impl Store {
             Event::Start(job) => Reply::Phase(self.start(job)),
             Event::Stage(end) => Reply::Phase(self.end_stage(end)),
             Event::Abandon(job) => Reply::Phase(self.abandon(job)),
-            // They are many events in turn.
-            Event::Clock(_) | Event::Reopen => unreachable!(),
+            // The first two are many events in turn, and the last takes a row away.
+            Event::Clock(_) | Event::Reopen | Event::Purge(_) => unreachable!(),
         }
     }
 
@@ -165,6 +167,23 @@ impl Store {
             Err(_) => unreachable!(),
         }
         Reply::Done
+    }
+
+    /// Takes the row of a job that has ended out of the rows, and answers it. Its number stays given.
+    pub(crate) fn purge(&mut self, job: JobId) -> JobRow
+        requires { refusal_of self.old.state (Event.Purge job) ≡ None }
+        ensures state { self.new.state ≡ after self.old.state (Event.Purge job) }
+        ensures row { job_at self.old.state job ≡ Some result.job }
+        ensures ended { has_ended result.job.phase ≡ true }
+        ensures places { KeepsPlaces self.old self.new }
+
+        // Only for jobs there may be more room.
+        ensures room { HasNoMore self.old.room (record self.new.room { jobs = 0 }) }
+    {
+        match job_place(&self.jobs, job) {
+            Ok(at) => self.jobs.remove(at),
+            Err(_) => unreachable!(),
+        }
     }
 
     /// Brings a moment.

@@ -36,6 +36,7 @@ impl Table {
             Event::Start(job) => self.start_refusal(*job),
             Event::Stage(end) => self.stage_refusal(end),
             Event::Abandon(job) => self.processing_job(*job).err(),
+            Event::Purge(job) => self.purge_refusal(*job),
         }
     }
 
@@ -146,6 +147,19 @@ impl Table {
             Ok(row) if !is_in_stage(row.phase, end.attempt, end.stage) => Some(Refusal::WrongStage),
             Ok(_) => None,
             Err(refusal) => Some(refusal),
+        }
+    }
+
+    fn purge_refusal(&self, job: JobId) -> Option<Refusal>
+        ensures { result ≡ refusal_of self.now.state (Event.Purge job) }
+    {
+        if self.version() == Version::One {
+            return Some(Refusal::NeedsCheckpoint);
+        }
+        match self.job(job) {
+            None => Some(Refusal::NoJob),
+            Some(row) if row.job.phase.has_ended() => None,
+            Some(_) => Some(Refusal::NotEnded),
         }
     }
 

@@ -54,6 +54,10 @@ pub returns-clause-release : goal.returns-clause-release
 unfolding encode_utf8 is_utf8 chars words_of words_within kind_of commands_of commands_within
 returns-clause-release c = refl
 
+pub returns-clause-purge : goal.returns-clause-purge
+unfolding encode_utf8 is_utf8 chars words_of words_within kind_of commands_of commands_within
+returns-clause-purge c = refl
+
 pub returns-clause-listing : goal.returns-clause-listing
 unfolding encode_utf8 is_utf8 chars words_of words_within kind_of commands_of commands_within
 returns-clause-listing c = refl

@@ -16,7 +16,7 @@ invariant_of-self c =
     let e = c.args.event in
     let accepted : refusal_of s e ≡ None = ap (λ v. refusal_of v.state e) c.self.view_is ∙ c.requires.prepared.accepted in
     let after_it : t ≡ after s e = (stepped s e t c.commit.result accepted c.commit.ensures.step).0 in
-    let stays : Stays s t = subst (Stays s) (sym after_it) (stays_about s e c.requires.about (sym c.in-None.ensures)) in
+    let stays : Stays s t = subst (Stays s) (sym after_it) (stays_about s e c.requires.about c.requires.one (sym c.in-None.ensures)) in
     held_stays c.self.inside c.commit.new.self stays
     (subst IsLegal (sym after_it) (legal_after s e (keeps_each c.queues_stay_in_order.ensures.stays e) accepted c.self.invariant.legal)) c.self.invariant
 

@@ -1,0 +1,32 @@
+-- the job stood in no lane, and had no deadline
+use Rattle.std.proofs.Common.{◌≡◌, None, sym, ap, subst, ◌∙◌, arith}
+use Rattle.spool_types.specs.declared.event.Event.TheVariants.{Purge}
+use Rattle.spool_types.specs.State.{job_at}
+use Rattle.job_table.specs.Contents.{Contents}
+use Rattle.job_table.specs.Legal.{IsLegal}
+use Rattle.job_table.specs.Step.{refusal_of}
+use Rattle.job_table.specs.Timely.{has_by, IsDismissed}
+use Rattle.job_table.proofs.Held.{purged}
+use Rattle.job_table.proofs.Legal.{legal_after}
+use Rattle.job_table.proofs.Retimed.{left_dismissed, may_dismiss}
+use Rattle.job_table.proofs.Seats.{lanes_left}
+use Rattle.job_table.proofs.table.Table.purge.Goals as goal
+
+pub dismiss-requires : goal.dismiss-requires
+dismiss-requires c =
+    may_dismiss (job_at c.self.inside.store.state) c.self.inside.timetable c.self.invariant.timely c.args.job c.is_timed-timed.result
+    (ap has_by c.purge.ensures.row ∙ sym c.is_timed-timed.ensures)
+
+pub invariant_of-self : goal.invariant_of-self
+invariant_of-self c =
+    let s = c.self.inside.store.state in
+    let t = c.purge.new.self.state in
+    let accepted : refusal_of s (Purge c.args.job) ≡ None = ap (λ (v : Contents). refusal_of v.state (Purge c.args.job)) c.self.view_is ∙ c.requires.accepted in
+    let leaves = purged s t c.args.job c.purge.result.job c.purge.ensures.row c.purge.ensures.ended c.purge.ensures.state in
+    record {
+      legal = subst IsLegal (sym c.purge.ensures.state) (legal_after s (Purge c.args.job) tt accepted c.self.invariant.legal);
+      lanes = lanes_left s t c.self.inside.vacant c.self.inside.lanes.items c.self.invariant.lanes c.args.job c.purge.result.job leaves;
+      timely = c.dismiss.ensures.timely (job_at s) (job_at t) c.args.job c.self.invariant.timely
+          (subst (IsDismissed (job_at s) (job_at t) c.args.job) (sym c.is_timed-timed.ensures) (left_dismissed s t c.args.job c.purge.result.job leaves));
+      spare = omega (arith, c.self.invariant.timely.room, c.dismiss.ensures.timed, c.dismiss.ensures.room);
+    }
