@@ -2,7 +2,7 @@
 use Rattle.std.proofs.Common.{inl}
 use Rattle.spool_disk.proofs.Moments.{weaker_run, twice_still, still_then, still_changes}
 use Rattle.spool_areas.specs.Checkpoint.{IsClosing}
-use Rattle.spool_areas.proofs.checkpoint.close_header.Goals as goal
+use Rattle.spool_areas.proofs.filling.close_header.Goals as goal
 
 pub returns-in_err-read-clause-any_moment : goal.returns-in_err-read-clause-any_moment
 returns-in_err-read-clause-any_moment g c =
