@@ -33,7 +33,7 @@ use Rattle.spool_core.specs.Filling.{AreAlike}
 use Rattle.spool_core.specs.Seen.{IsStandingAt}
 use Rattle.spool_core.proofs.AllLaws.{head_rows, lying, placed-append, none_placed}
 use Rattle.spool_core.proofs.FillLaws.{all_there}
-use Rattle.spool_core.proofs.ListingLaws.{rows_of}
+use Rattle.spool_core.specs.Filling.{rows_of}
 use Rattle.spool_core.proofs.Numbers.{AreApart, AreFound, jobs_found, jobs_apart}
 use Rattle.spool_core.proofs.PartLaws.{other_test}
 use Rattle.spool_core.proofs.ReadOn.{some_same}
