@@ -16,7 +16,7 @@ use Rattle.spool_types.specs.declared.listing.Row.TheVariants.{Head, Queue}
 use Rattle.spool_disk.specs.Disk.{DiskView, IsLawful}
 use Rattle.gate_journal.specs.Entries.{records}
 use Rattle.event_codec.specs.RowSpelling.{row_spelling}
-use Rattle.job_table.specs.Contents.{Contents, Noted, HasNoMoves, move_room, places_at, places_of}
+use Rattle.job_table.specs.Contents.{Contents, Noted, AreSized, HasNoMoves, move_room, places_at, places_of}
 use Rattle.job_table.specs.Documents.{AreDocuments, document_len}
 use Rattle.job_table.specs.Listing.{head_of, job_rows, listing}
 use Rattle.documents.specs.Documents.{joined}
@@ -124,14 +124,15 @@ module _ {D : Type 0} (v : DiskView D) (lawful : IsLawful v) (c : Contents) (i :
   next_there d same = ap (λ (s : State). job_at s q.id) same ∙ here
 
   -- the rows of the next job are due
-  pub next_due : (d : Contents) → d.state ≡ c.state → d.moves ≡ noted → MayFill v (flat_map blank_rows all_jobs) old → AllByRecursion MayBeListed all_jobs → DocumentsLieIn (now.areas.base + 16) now.areas.end d → IsDue v d q.id now
-  next_due d same moves may listed lie = record {
+  pub next_due : (d : Contents) → d.state ≡ c.state → d.moves ≡ noted → MayFill v (flat_map blank_rows all_jobs) old → AllByRecursion MayBeListed all_jobs → DocumentsLieIn (now.areas.base + 16) now.areas.end d → AreSized d → IsDue v d q.id now
+  next_due d same moves may listed lie sized = record {
     row = q;
     there = next_there d same;
     id = refl;
     listed = (subst (AllByRecursion MayBeListed) split (all_behind MayBeListed i all_jobs listed)).0;
     may = may_here may;
     lie = lie q.id;
+    sized = sized q.id q (next_there d same);
     room = subst (λ (n : Noted). document_len q ≤ move_room n q.id * longest_send) (sym moves) (subst (AllByRecursion (λ (r : Job). document_len r ≤ move_room noted r.id * longest_send)) split p.room).0;
   }
 

@@ -8,7 +8,7 @@ use Rattle.std.specs.Cmp.Lexicographic.{slice_cmp}
 use Rattle.std.proofs.lemmas.Bool.{and_parts, cases_lt}
 use Rattle.std.proofs.lemmas.Grind.{common_steps}
 use Rattle.std.proofs.lemmas.List.Concat.{flat_map-append}
-use Rattle.std.proofs.lemmas.List.{map-append, append-nil, take_more, take_all, take-replicate, drop-replicate, length-replicate}
+use Rattle.std.proofs.lemmas.List.{map-append, append-nil, take_more, drop_more, take-append-drop, take_all, take-replicate, drop-replicate, length-replicate}
 use Rattle.std.proofs.lemmas.Nat.{div-mul-add, div-add-mod'}
 use Rattle.std.proofs.Math.Nat.{mod-lt}
 use Rattle.spool_types.specs.Limits.{longest_send}
@@ -112,6 +112,12 @@ pub queues_next : (qs : List QueueRow) (i : ℕ) (q : QueueRow) → i < length q
 queues_next qs i q lt is =
     let row : QueueRow → Row = λ x. Queue x in
     ap (map row) (take_more qs i q lt) ∙ map-append row (take i qs) (get_or qs i q ∷ []) ∙ ap (λ (x : QueueRow). map row (take i qs) ++ row x ∷ []) (sym is)
+
+pub queues_split : (qs : List QueueRow) (i : ℕ) (q : QueueRow) → i < length qs → q ≡ get_or qs i q → map (λ x. Queue x) qs ≡ map (λ x. Queue x) (take i qs) ++ (Queue q ∷ map (λ x. Queue x) (drop (i + 1) qs))
+queues_split qs i q lt is =
+    let row : QueueRow → Row = λ x. Queue x in
+    ap (map row) (sym (take-append-drop i qs)) ∙ map-append row (take i qs) (drop i qs)
+    ∙ ap (λ (l : List QueueRow). map row (take i qs) ++ map row l) (drop_more qs i q lt ∙ ap (λ (x : QueueRow). x ∷ drop (i + 1) qs) (sym is))
 
 -- ## Answers
 

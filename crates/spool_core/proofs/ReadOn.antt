@@ -44,6 +44,3 @@ module _ {D : Type 0} (v : DiskView D) (lawful : IsLawful v) (a : Current D) (c 
 
   pub places_long : (r : List ℕ) → v.bytes a.disk ≡ Some r → length (joined r (places_at c j)) ≡ len_at c.state j
   places_long r tells = long_by (has_ended found.job.phase) refl r (lawful.image_size a.disk r (lawful.reads_image a.disk r tells)) ∙ ap size_of (sym places) ∙ sized ∙ ap len_found is
-
-  pub document_long : (row : Job) → job_at c.state j ≡ Some row → (r : List ℕ) → TellsBut v a r → length (joined r (places_at c j)) ≡ document_len row
-  document_long row there r tells = long_by (has_ended found.job.phase) refl r (told_size v lawful a r tells) ∙ ap size_of (sym places) ∙ sized ∙ ap document_len (some_same (job_of found) row (is ∙ there))

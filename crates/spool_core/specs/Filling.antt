@@ -7,6 +7,7 @@ use Rattle.std.specs.List.{flat_map, AllByRecursion}
 use Rattle.std.specs.declared.alloc.Global.{Global}
 use Rattle.std.specs.declared.vec.Vec.{Vec}
 use Rattle.extents.specs.declared.extent.Extent.{Extent}
+use Rattle.extents.specs.Extents.{size_of}
 use Rattle.spool_types.specs.Limits.{longest_send}
 use Rattle.spool_types.specs.Sent.{piece_of, placed_to, with_placed}
 use Rattle.spool_types.specs.State.{State, Job, job_at}
@@ -164,6 +165,7 @@ pub record IsDue {D : Type 0} (v : DiskView D) (table : Contents) (job : ℕ) (f
   pub listed : MayBeListed row
   pub may : MayFill v (blank_rows row) f
   pub lie : is_over table.state job ≡ false → LieIn (f.areas.base + header_len) f.areas.end (places_at table job)
+  pub sized : size_of (places_at table job) ≡ document_len row
   pub room : document_len row ≤ move_room table.moves job * longest_send
 
 -- They were added with the document.

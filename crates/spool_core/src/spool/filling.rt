@@ -1,6 +1,6 @@
 //! Filling the other area with a table's listing: its rows are spelled into one block, one behind the other, and each time
 //! that it is long enough it is written. It is noted where the documents will lie.
-ghost use Rattle.std.specs.Prelude.{◌≡◌, ◌<◌, ◌≤◌, ◌+◌, ◌^◌, ◌∷◌, [], ℕ, List, length, map, replicate, take, drop, false, Ok, Some, OnOk, vec_len, vec_capacity};
+ghost use Rattle.std.specs.Prelude.{◌≡◌, ◌<◌, ◌≤◌, ◌+◌, ◌^◌, ◌∷◌, [], ℕ, List, length, map, replicate, take, drop, false, Ok, Some, IsSome, OnOk, vec_len, vec_capacity};
 ghost use Rattle.std.specs.FinMap as finite;
 ghost use Rattle.std.specs.List.{flat_map, AllByRecursion};
 ghost use Rattle.spool_types.specs.Limits.{longest_send};
@@ -8,17 +8,19 @@ ghost use Rattle.spool_types.specs.State.{Job as JobOf, job_at};
 ghost use Rattle.spool_types.specs.declared.listing.Row.{Row as RowOf};
 ghost use Rattle.spool_types.specs.declared.version.Version.TheVariants.{Two};
 ghost use Rattle.gate_journal.specs.Appends.{kept_room};
+ghost use Rattle.spool_areas.specs.Filling.{block_len};
 ghost use Rattle.spool_areas.specs.Header.{header_len};
 ghost use Rattle.spool_areas.specs.Seen.{IsArea};
 ghost use Rattle.spool_areas.specs.Checkpoint.{area_len, other_base, plan_of};
 ghost use Rattle.event_codec.specs.RowSpelling.{row_spelling, IsOrderedQueue, IsRowSpellable};
 ghost use Rattle.job_table.specs.Contents.{HasNoMoves, move_room, places_at};
+ghost use Rattle.job_table.specs.Documents.{document_len};
 ghost use Rattle.job_table.specs.Listing.{listing};
 ghost use Rattle.documents.specs.Documents.{joined, LieIn};
 ghost use Rattle.spool_core.specs.Checkpointing.{blank, blank_rows, MayBeListed};
 ghost use Rattle.spool_core.specs.Seen.{DocumentsLieIn, IsStandingAt};
 ghost use Rattle.spool_core.specs.Standing.{len_at};
-ghost use Rattle.spool_core.specs.Filling.{block_room, filling, filling_at, next_place, records_len, HasMoveRoom, MayFill, IsFillingOn, IsReadOn, AddsRows, TellsBut, IsPieceAdded, IsPieceNoted, IsDue, IsDocumentAdded, IsDocumentNoted, AreJobsAdded, AreJobsNoted, IsListingAdded, AreDocumentsNoted, IsFilledOver};
+ghost use Rattle.spool_core.specs.Filling.{block_room, filling, filling_at, next_place, IsPut, records_len, HasMoveRoom, MayFill, IsFillingOn, IsReadOn, AddsRows, TellsBut, IsPieceAdded, IsPieceNoted, IsDue, IsDocumentAdded, IsDocumentNoted, AreJobsAdded, AreJobsNoted, IsListingAdded, AreDocumentsNoted, IsFilledOver};
 
 use super::block::{PIECE_HEAD, put_head, put_job, put_piece, put_queue};
 use documents::read_joined;
@@ -156,13 +158,7 @@ fn add_job<D: Disk>(
     ensures noted { OnOk result ((r : JobOf) → job_at table.old.state job ≡ Some r →
         IsDocumentNoted r (next_place (filling_at areas.old filler.old)) table.old.moves table.new.moves) }
 {
-    let (start, len) = match table.job(job) {
-        Some(row) => (
-            put_job(&mut filler.block, &row.job),
-            document_len(&row.job),
-        ),
-        None => unreachable!(),
-    };
+    let (start, len) = put_row(&mut filler.block, table, job);
     end_record(areas, filler, start)?;
     let mut done = 0;
     while done < len {
@@ -171,6 +167,24 @@ fn add_job<D: Disk>(
         done += count;
     }
     Ok(())
+}
+
+// Spells the row of a job into a block. It answers where its record begins, and how long its document is.
+fn put_row(block: &mut Vec<u8>, table: &Table, job: JobId) -> (usize, usize)
+    requires few { length block.old.items < block_len }
+    requires spare { block_room ≤ vec_capacity block.old }
+    requires there { IsSome (job_at table.now.state job) }
+    ensures put { (r : JobOf) → job_at table.now.state job ≡ Some r → IsPut (RowOf.Job r) block.old block.new result.0 }
+    ensures len { (r : JobOf) → job_at table.now.state job ≡ Some r → result.1 ≡ document_len r }
+    ensures spellable { (r : JobOf) → job_at table.now.state job ≡ Some r → MayBeListed r → IsRowSpellable Two (RowOf.Job r) }
+{
+    match table.job(job) {
+        Some(row) => {
+            let start = put_job(block, &row.job);
+            (start, document_len(&row.job))
+        }
+        None => unreachable!(),
+    }
 }
 
 // Adds the row of a piece of a document, so many bytes of it from a place on, and notes where they will lie.
