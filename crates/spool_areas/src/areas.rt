@@ -16,6 +16,8 @@ use gate_journal::{Journal, JournalFault, Window};
 use spool_disk::Disk;
 use std::marker::Model;
 
+mod steps;
+
 /// The areas of a spool's device, opened at the current one. It holds the disk.
 #[derive(Drop)]
 pub struct Areas<D: Disk> {

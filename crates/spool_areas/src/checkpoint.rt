@@ -1,14 +1,16 @@
 //! Putting rows into the other area, in three parts: its header is closed, the area is filled, and its header is opened.
-ghost use Rattle.std.specs.Prelude.{◌≡◌, ◌≢◌, ◌∷◌, ◌<◌, ◌≤◌, ◌+◌, ◌-◌, ◌^◌, ◌++◌, [], List, ℕ, false, true, Some, IsSome, OnOk, IfOk, length, slice_index_or};
-ghost use Rattle.spool_disk.specs.Disk.{IsSynced, LeavesOnly, ChangesOnly, HasCause};
+ghost use Rattle.std.specs.Prelude.{◌≡◌, ◌∷◌, ◌<◌, ◌≤◌, ◌+◌, ◌-◌, ◌^◌, ◌++◌, [], List, ℕ, false, true, Some, IsSome, IsTrue, OnOk, IfOk, length, map};
+ghost use Rattle.spool_disk.specs.Disk.{IsSynced, ChangesOnly, HasCause};
 ghost use Rattle.gate_journal.specs.Appends.{kept_room};
-ghost use Rattle.gate_journal.specs.Entries.{open_gate, KeepsEntries, records};
+ghost use Rattle.gate_journal.specs.Entries.{KeepsEntries, records};
 ghost use Rattle.spool_areas.specs.Payloads.{gate_after};
 ghost use Rattle.gate_journal.specs.Journal.{base_of, end_of, place_of, is_dead};
 ghost use Rattle.gate_journal.specs.Frame.{payload_of};
-ghost use Rattle.spool_areas.specs.Checkpoint.{has_room, frames_of, payloads_in, lengths_in, IsFrame, AreFrames, IsClosing, HasHeader, Stands, StandsNew, ChangesOver};
+ghost use Rattle.spool_areas.specs.Checkpoint.{has_room, frames_of, payloads_in, lengths_in, IsFrame, AreFrames, HasHeader, Stands, StandsNew, ChangesOver};
+ghost use Rattle.spool_areas.specs.Filling.{sum_of};
 ghost use Rattle.spool_areas.specs.Header.{half, least_area, header_len};
 
+use crate::filling::close_header;
 use crate::header::{HEADER_LEN, header_behind_gate};
 use gate_journal::{HEAD_LEN, Journal, JournalFault, KEPT_ROOM, OPEN_GATE};
 use spool_disk::{DeviceFault, Disk, persist};
@@ -45,6 +47,15 @@ pub(crate) fn rows_have_room(end: u64, first: u64, rows: &[Vec<u8>]) -> bool
     true
 }
 
+/// The same by what the records take together, 5 bytes and the payload each. The greatest number stands for all above it.
+pub(crate) fn have_room_by_sum(end: u64, first: u64, sum: u64) -> bool
+    requires { first + kept_room ≤ end }
+    ensures exact { (payloads : List (List ℕ)) → sum ≡ sum_of payloads → result ≡ has_room end first (map length payloads) }
+    ensures fits { IsTrue result → (payloads : List (List ℕ)) → sum ≡ sum_of payloads → first + length (records payloads) + kept_room ≤ end }
+{
+    end - first - KEPT_ROOM >= sum
+}
+
 // Whether the record of a payload of this length and the 7 bytes kept behind it lie between a gate and the end.
 fn has_room_at(end: u64, gate: u64, len: u64) -> bool
     requires { gate ≤ end }
@@ -52,24 +63,6 @@ fn has_room_at(end: u64, gate: u64, len: u64) -> bool
 {
     let taken = HEAD_LEN + KEPT_ROOM;
     end - gate >= taken && end - gate - taken >= len
-}
-
-// Closes the gate of the other area's header where it reads open, and syncs. Writing it closed where it is closed already
-// would leave any byte there in a crash, an open gate too, before what lies behind it is one header.
-fn close_header<D: Disk>(disk: &mut D, other: u64) -> Result<(), DeviceFault>
-    requires { other < D.device.size disk.old }
-    ensures any_moment { LeavesOnly D.device disk.old disk.new (IsClosing D.device disk.old other) }
-    ensures closed { OnOk result ((r : List ℕ) → D.device.bytes disk.new ≡ Some r → slice_index_or r other 0 ≢ open_gate) }
-    ensures durable { OnOk result (IsSynced D.device disk.new) }
-    ensures changes { ChangesOnly D.device disk.old disk.new other 1 }
-    ensures cause { HasCause D.device disk.old disk.new result }
-{
-    let mut gate = [0; 1];
-    disk.read(other, &mut gate)?;
-    if gate[0] != OPEN_GATE {
-        return disk.sync();
-    }
-    persist(disk, other, &[0])
 }
 
 // Appends a row to a journal that has room for it.

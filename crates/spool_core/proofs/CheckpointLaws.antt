@@ -26,7 +26,7 @@ use Rattle.job_table.specs.Listing.{head_of, listing}
 use Rattle.event_codec.specs.RowSpelling.{row_spelling}
 use Rattle.spool_core.specs.Seen.{standing_at}
 use Rattle.spool_core.specs.Checkpointing.{blank, listed_payloads, holds_listing, MayList, IsCheckpoint, AreFramesOf, fault_for}
-use Rattle.spool_core.proofs.ListingLaws.{rows_of}
+use Rattle.spool_core.specs.Filling.{rows_of}
 
 -- ## What a plan tells
 

@@ -6,6 +6,7 @@ pub mod IdleLaws
 pub mod ReadOn
 pub mod Numbers
 pub mod AllLaws
+pub mod AddLaws
 pub mod FillLaws
 pub mod PartLaws
 pub mod FoldLaws

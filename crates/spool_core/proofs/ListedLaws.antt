@@ -13,45 +13,26 @@ use Rattle.spool_types.specs.State.{State, Job, job_at}
 use Rattle.spool_types.specs.declared.rows.QueueRow.{QueueRow}
 use Rattle.spool_types.specs.declared.listing.Row.{Row}
 use Rattle.spool_types.specs.declared.listing.Row.TheVariants.{Head, Queue, Job as JobRow, Piece}
-use Rattle.spool_disk.specs.Disk.{DiskView, IsLawful}
 use Rattle.gate_journal.specs.Entries.{records}
-use Rattle.spool_areas.specs.Current.{Current}
 use Rattle.spool_areas.specs.Extents.{bytes_of}
-use Rattle.spool_areas.specs.Header.{header_len}
 use Rattle.event_codec.specs.RowSpelling.{row_spelling}
 use Rattle.job_table.specs.Contents.{Contents, AreSized, places_at}
-use Rattle.job_table.specs.Over.{is_over_by}
+use Rattle.job_table.specs.Over.{is_over, is_over_by}
 use Rattle.job_table.specs.Documents.{AreDocuments, document_len}
 use Rattle.job_table.specs.Legal.{IsLegal}
 use Rattle.job_table.specs.Listing.{head_of, job_rows, listing, pieces}
-use Rattle.documents.specs.Documents.{joined}
+use Rattle.documents.specs.Documents.{joined, LieIn}
 use Rattle.documents.specs.Placed.{placed_pieces}
 use Rattle.documents.proofs.Joined.{bytes_are, joined_len}
 use Rattle.documents.proofs.Moved.{in_listing, spells_pieces}
 use Rattle.documents.proofs.Placed.{sized}
-use Rattle.spool_core.specs.Filling.{AreAlike}
-use Rattle.spool_core.specs.Seen.{IsStandingAt}
-use Rattle.spool_core.proofs.AllLaws.{head_rows, lying, placed-append, none_placed}
-use Rattle.spool_core.proofs.FillLaws.{all_there}
-use Rattle.spool_core.proofs.ListingLaws.{rows_of}
+use Rattle.spool_core.specs.Filling.{AreAlike, lying, rows_of}
+use Rattle.spool_core.proofs.AllLaws.{head_rows, placed-append, none_placed}
 use Rattle.spool_core.proofs.Numbers.{AreApart, AreFound, jobs_found, jobs_apart}
 use Rattle.spool_core.proofs.PartLaws.{other_test}
 use Rattle.spool_core.proofs.ReadOn.{some_same}
 
 -- ## Rows that differ in the bytes of their pieces
-
-pub alike_lengths : (rows others : List Row) → AreAlike rows others → map length (map (row_spelling Two) others) ≡ map length (map (row_spelling Two) rows)
-alike_lengths [] [] are = refl
-alike_lengths [] (b ∷ others) are = absurd are
-alike_lengths (a ∷ rows) [] are = absurd are
-alike_lengths (a ∷ rows) (b ∷ others) are = λ i. are.0.long i ∷ alike_lengths rows others are.1 i
-
-pub alike_records : (rows others : List Row) → AreAlike rows others → length (records (map (row_spelling Two) others)) ≡ length (records (map (row_spelling Two) rows))
-alike_records [] [] are = refl
-alike_records [] (b ∷ others) are = absurd are
-alike_records (a ∷ rows) [] are = absurd are
-alike_records (a ∷ rows) (b ∷ others) are =
-    omega (arith, are.0.long, alike_records rows others are.1, length-append (row_spelling Two a) (records (map (row_spelling Two) rows)), length-append (row_spelling Two b) (records (map (row_spelling Two) others)))
 
 pub alike_placed : (gate : ℕ) (rows others : List Row) (j : ℕ) → AreAlike rows others → placed_pieces Two gate others j ≡ placed_pieces Two gate rows j
 alike_placed gate [] [] j are = refl
@@ -62,6 +43,10 @@ alike_placed gate (a ∷ rows) (b ∷ others) j are =
     ∙ ap (λ (l : List Extent). placed_to (gate + 5) j (piece_of a) ++ l) (alike_placed (gate + 5 + length (row_spelling Two a)) rows others j are.1)
 
 -- ## A job of the listing
+
+all_there : {X : Type 0} (P : X → Type 0) (front : List X) (x : X) (back : List X) → AllByRecursion P (front ++ x ∷ back) → P x
+all_there P [] x back all = all.0
+all_there P (y ∷ front) x back all = all_there P front x back all.1
 
 pub record Split (rs : List Job) (r : Job) : Type 0 where
   pub before : List Job
@@ -145,15 +130,12 @@ most : (r : List ℕ) (xs : List Extent) → length (joined r xs) ≤ size_of xs
 most r [] = omega arith
 most r (x ∷ xs) = omega (arith, length-append (bytes_of r x) (joined r xs), ap length (bytes_are r x), length-take {A = ℕ}, most r xs)
 
+-- as many bytes as the extents have
+pub lying_long : (low high : ℕ) (r : List ℕ) (xs : List Extent) (len : ℕ) (ended : Bool) → (ended ≡ true → len ≡ 0) → (ended ≡ false → LieIn low high xs) → size_of xs ≡ len → high ≤ length r → length (joined r xs) ≡ len
+lying_long low high r xs len true none lie sized within = omega (arith, most r xs, sized, none refl)
+lying_long low high r xs len false none lie sized within = joined_len low high xs r (lie refl) within ∙ sized
+
 -- they have the documents' lengths
-pub lying_fit : {D : Type 0} (v : DiskView D) → IsLawful v → (a : Current D) (c : Contents) → IsStandingAt v a c → AreSized c → (r : List ℕ) → v.bytes a.disk ≡ Some r → AreDocuments c.state (lying c r)
-lying_fit v lawful a c stands are r tells j q there = either (has_ended q.phase) refl
-  where
-    either : (b : Bool) → has_ended q.phase ≡ b → length (joined r (places_at c j)) ≡ document_len q
-    either true over =
-        let none : document_len q ≡ 0 = ap (λ b. cond b 0 q.size) over in
-        omega (arith, most r (places_at c j), are j q there, none)
-    either false lives =
-        joined_len (a.base + header_len) a.gate (places_at c j) r (stands.lie j (ap (is_over_by c.state.highest j) there ∙ lives))
-        (omega (arith, stands.inside, stands.area.within, lawful.image_size a.disk r (lawful.reads_image a.disk r tells)))
-        ∙ are j q there
+pub lying_fit : (low high : ℕ) (c : Contents) → ((j : ℕ) → is_over c.state j ≡ false → LieIn low high (places_at c j)) → AreSized c → (r : List ℕ) → high ≤ length r → AreDocuments c.state (lying c r)
+lying_fit low high c lie are r within j q there =
+    lying_long low high r (places_at c j) (document_len q) (has_ended q.phase) (λ over. ap (λ b. cond b 0 q.size) over) (λ lives. lie j (ap (is_over_by c.state.highest j) there ∙ lives)) (are j q there) within

@@ -1,15 +1,14 @@
--- The rows of a table's listing, and their frames.
+-- The rows of a table's listing.
 use Rattle.spool_types.specs.declared.version.Version.TheVariants.{Two}
 use Rattle.std.proofs.Common.{◌≡◌, ⊎_elim, ℕ, zero, suc, ◌+◌, ◌-◌, ◌*◌, ◌/◌, ◌%◌, ◌^◌, ◌<◌, ◌≤◌, true, List, [], ◌∷◌, ◌++◌, length, get_or, take, drop, map, min, replicate, refl, sym, subst, ap, ◌∙◌, arith, append_assoc, length-drop}
-use Rattle.std.specs.Prelude.{Result, Ok, Err, OnOk}
+use Rattle.std.specs.Prelude.{Result, Ok, Err, IfOk, OnOk, OnErr}
 use Rattle.std.specs.List.{flat_map, list_all, AllByRecursion}
 use Rattle.std.specs.Ordering.{nat_cmp, is_lt}
 use Rattle.std.specs.Cmp.Lexicographic.{slice_cmp}
-use Rattle.std.specs.declared.alloc.Global.{Global}
-use Rattle.std.specs.declared.vec.Vec.{Vec}
 use Rattle.std.proofs.lemmas.Bool.{and_parts, cases_lt}
 use Rattle.std.proofs.lemmas.Grind.{common_steps}
-use Rattle.std.proofs.lemmas.List.{map-append, append-nil, take_more, take_all, take-replicate, drop-replicate, length-replicate}
+use Rattle.std.proofs.lemmas.List.Concat.{flat_map-append}
+use Rattle.std.proofs.lemmas.List.{map-append, append-nil, take_more, drop_more, take-append-drop, take_all, take-replicate, drop-replicate, length-replicate}
 use Rattle.std.proofs.lemmas.Nat.{div-mul-add, div-add-mod'}
 use Rattle.std.proofs.Math.Nat.{mod-lt}
 use Rattle.spool_types.specs.Limits.{longest_send}
@@ -27,7 +26,8 @@ use Rattle.job_table.specs.Legal.{Fits}
 use Rattle.job_table.specs.Listing.{parts, pieces, job_rows}
 use Rattle.job_table.specs.Loading.{Progress, ArePlaced, loaded, loaded_all}
 use Rattle.event_codec.specs.RowSpelling.{Ascend, IsOrderedQueue, IsPhaseOf, IsLegalRow, IsRowSpellable, row_spelling}
-use Rattle.spool_core.specs.Checkpointing.{AreFramesOf, AreAdded, MayBeListed}
+use Rattle.spool_core.specs.Checkpointing.{MayBeListed}
+use Rattle.spool_core.specs.Filling.{rows_of}
 
 -- ## A row can tell what a legal table has
 
@@ -56,10 +56,6 @@ placed_behind p (row ∷ front) back placed = placed_behind (loaded p row) front
 queues_ordered : (qs : List QueueRow) (p : Progress) (rest : List Row) → ArePlaced p (map (λ q. Queue q) qs ++ rest) → AllByRecursion IsOrderedQueue qs
 queues_ordered [] p rest placed = tt
 queues_ordered (q ∷ qs) p rest placed = (ordered q placed.0.new.in_order, queues_ordered qs (loaded p (Queue q)) rest placed.1)
-
--- the rows of jobs, each with its document
-abbrev pub rows_of : (ℕ → List ℕ) → List Job → List Row
-rows_of documents rs = flat_map (λ r. job_rows r (documents r.id)) rs
 
 jobs_may : (documents : ℕ → List ℕ) (rs : List Job) (p : Progress) → ArePlaced p (rows_of documents rs) → AllByRecursion MayBeListed rs
 jobs_may documents [] p placed = tt
@@ -106,44 +102,36 @@ mapped_at f [] i x lt is = absurd (omega (arith, lt))
 mapped_at f (y ∷ ys) zero x lt is = (omega arith, ap f is)
 mapped_at f (y ∷ ys) (suc i) x lt is = let rest = mapped_at f ys i x (omega (arith, lt)) is in (omega (arith, rest.0), rest.1)
 
--- ## Frames
+-- ## Rows in turn
+
+pub flat_next : {X : Type 0} (rows : X → List Row) (xs : List X) (i : ℕ) (d : X) → i < length xs → flat_map rows (take (i + 1) xs) ≡ flat_map rows (take i xs) ++ rows (get_or xs i d)
+flat_next rows xs i d lt =
+    ap (flat_map rows) (take_more xs i d lt) ∙ flat_map-append rows (take i xs) (get_or xs i d ∷ []) ∙ ap (λ (l : List Row). flat_map rows (take i xs) ++ l) (append-nil (rows (get_or xs i d)))
+
+pub queues_next : (qs : List QueueRow) (i : ℕ) (q : QueueRow) → i < length qs → q ≡ get_or qs i q → map (λ x. Queue x) (take (i + 1) qs) ≡ map (λ x. Queue x) (take i qs) ++ Queue q ∷ []
+queues_next qs i q lt is =
+    let row : QueueRow → Row = λ x. Queue x in
+    ap (map row) (take_more qs i q lt) ∙ map-append row (take i qs) (get_or qs i q ∷ []) ∙ ap (λ (x : QueueRow). map row (take i qs) ++ row x ∷ []) (sym is)
+
+pub queues_split : (qs : List QueueRow) (i : ℕ) (q : QueueRow) → i < length qs → q ≡ get_or qs i q → map (λ x. Queue x) qs ≡ map (λ x. Queue x) (take i qs) ++ (Queue q ∷ map (λ x. Queue x) (drop (i + 1) qs))
+queues_split qs i q lt is =
+    let row : QueueRow → Row = λ x. Queue x in
+    ap (map row) (sym (take-append-drop i qs)) ∙ map-append row (take i qs) (drop i qs)
+    ∙ ap (λ (l : List QueueRow). map row (take i qs) ++ map row l) (drop_more qs i q lt ∙ ap (λ (x : QueueRow). x ∷ drop (i + 1) qs) (sym is))
+
+-- ## Answers
 
 pub on_ok : {T E : Type 0} {P Q : Type 0} (r : Result T E) → OnOk r P → (P → Q) → OnOk r Q
 on_ok (Ok x) is more = more is
 on_ok (Err e) is more = tt
 
-pub no_frames : (frames : List (Vec ℕ Global)) → frames ≡ [] → AreFramesOf [] frames
-no_frames frames is = subst (AreFramesOf []) (sym is) (record { framed = tt; payloads = refl; spellable = tt })
+pub if_ok : {T E : Type 0} {P Q : T → Type 0} (r : Result T E) → IfOk r P → ((t : T) → P t → Q t) → IfOk r Q
+if_ok (Ok t) is more = more t is
+if_ok (Err e) is more = tt
 
-pub added_then : (front back : List Row) (old mid new : List (Vec ℕ Global)) → AreAdded front old mid → AreAdded back mid new → AreAdded (front ++ back) old new
-added_then front back old mid new first more others are =
-    subst (λ (rows : List Row). AreFramesOf rows new) (append_assoc others front back) (more (others ++ front) (first others are))
-
--- four free bytes, the spelling of a row and one free byte
-pub framed_more : (row : Row) (old new : List (Vec ℕ Global)) (start spelled whole : Vec ℕ Global) → start.items ≡ 0 ∷ 0 ∷ 0 ∷ 0 ∷ [] → spelled.items ≡ start.items ++ row_spelling Two row → whole.items ≡ spelled.items ++ 0 ∷ []
-    → new ≡ old ++ whole ∷ [] → length (row_spelling Two row) < 2 ^ 19 → IsRowSpellable Two row → AreAdded (row ∷ []) old new
-framed_more row old new start spelled whole begins then ends last short is = λ others are. grind (arith, common_steps)
-
--- ## Rows in turn
-
-flat_more : {X : Type 0} (rows_of : X → List Row) (ys : List X) (y : X) → flat_map rows_of (ys ++ y ∷ []) ≡ flat_map rows_of ys ++ rows_of y
-flat_more rows_of [] y = append-nil (rows_of y)
-flat_more rows_of (z ∷ ys) y = ap (λ (l : List Row). rows_of z ++ l) (flat_more rows_of ys y) ∙ sym (append_assoc (rows_of z) (flat_map rows_of ys) (rows_of y))
-
-pub added_more : {X : Type 0} (rows_of : X → List Row) (xs : List X) (i : ℕ) (d : X) (old mid new : List (Vec ℕ Global)) → i < length xs
-    → AreAdded (flat_map rows_of (take i xs)) old mid → AreAdded (rows_of (get_or xs i d)) mid new → AreAdded (flat_map rows_of (take (i + 1) xs)) old new
-added_more rows_of xs i d old mid new lt first more =
-    subst (λ (rows : List Row). AreAdded rows old new)
-    (sym (ap (flat_map rows_of) (take_more xs i d lt) ∙ flat_more rows_of (take i xs) (get_or xs i d)))
-    (added_then (flat_map rows_of (take i xs)) (rows_of (get_or xs i d)) old mid new first more)
-
-pub queue_more : (qs : List QueueRow) (i : ℕ) (d : QueueRow) (x : QueueRow) (old mid new : List (Vec ℕ Global)) → i < length qs → x ≡ get_or qs i d
-    → AreAdded (map (λ q. Queue q) (take i qs)) old mid → AreAdded (Queue x ∷ []) mid new → AreAdded (map (λ q. Queue q) (take (i + 1) qs)) old new
-queue_more qs i d x old mid new lt is first more =
-    let row : QueueRow → Row = λ q. Queue q in
-    subst (λ (rows : List Row). AreAdded rows old new)
-    (sym (ap (map row) (take_more qs i d lt) ∙ map-append row (take i qs) (get_or qs i d ∷ []) ∙ ap (λ (q : QueueRow). map row (take i qs) ++ row q ∷ []) (sym is)))
-    (added_then (map row (take i qs)) (row x ∷ []) old mid new first more)
+pub on_err : {T E : Type 0} {P Q : Type 0} (r : Result T E) → OnErr r P → (P → Q) → OnErr r Q
+on_err (Ok x) is more = tt
+on_err (Err e) is more = more is
 
 -- ## The pieces of a document
 
@@ -178,31 +166,3 @@ many_next bytes more =
 -- the first piece, and those of the rest
 pub pieces_next : (bytes : List ℕ) → 0 < length bytes → pieces bytes ≡ take (min (length bytes) longest_send) bytes ∷ pieces (drop (min (length bytes) longest_send) bytes)
 pieces_next bytes some = ⊎_elim (many_next bytes) (few_next bytes some) (cases_lt 65536 (length bytes))
-
--- the frames of the first pieces of a document are added, and these bytes are left of it
-pub record IsPartAdded (job : ℕ) (document rest : List ℕ) (old new : List (Vec ℕ Global)) : Type 0 where
-  pub done : List (List ℕ)
-  pub parts : pieces document ≡ done ++ pieces rest
-  pub added : AreAdded (map (λ bytes. Piece job bytes) done) old new
-
-part_more : (job : ℕ) (document rest bytes behind : List ℕ) (n : ℕ) (old mid new : List (Vec ℕ Global)) → 0 < length rest → n ≡ min (length rest) longest_send → bytes ≡ take n rest → behind ≡ drop n rest
-    → IsPartAdded job document rest old mid → AreAdded (Piece job bytes ∷ []) mid new → IsPartAdded job document behind old new
-part_more job document rest bytes behind n old mid new some cut is left part more =
-    let piece : List ℕ → Row = λ b. Piece job b in
-    let next : pieces rest ≡ bytes ∷ pieces behind = pieces_next rest some ∙ (λ i. (ap (λ k. take k rest) (sym cut) ∙ sym is) i ∷ pieces ((ap (λ k. drop k rest) (sym cut) ∙ sym left) i)) in
-    record {
-      done = part.done ++ bytes ∷ [];
-      parts = part.parts ∙ ap (λ (l : List (List ℕ)). part.done ++ l) next ∙ sym (append_assoc part.done (bytes ∷ []) (pieces behind));
-      added = subst (λ (rows : List Row). AreAdded rows old new) (sym (map-append piece part.done (bytes ∷ [])))
-          (added_then (map piece part.done) (Piece job bytes ∷ []) old mid new part.added more);
-    }
-
--- so it is with zeros
-pub zeros_more : (job len rest n : ℕ) (zeros : List ℕ) (old mid new : List (Vec ℕ Global)) → zeros ≡ replicate longest_send 0 → 0 < rest → n ≡ min rest longest_send
-    → IsPartAdded job (replicate len 0) (replicate rest 0) old mid → AreAdded (Piece job (take n zeros) ∷ []) mid new → IsPartAdded job (replicate len 0) (replicate (rest - n) 0) old new
-zeros_more job len rest n zeros old mid new are some cut part more =
-    let left : List ℕ = replicate rest 0 in
-    let long : length left ≡ rest = length-replicate rest 0 in
-    part_more job (replicate len 0) left (take n zeros) (replicate (rest - n) 0) n old mid new (omega (arith, long, some)) (omega (arith, long, cut))
-    (ap (take n) are ∙ take-replicate n longest_send 0 (omega (arith, cut)) ∙ sym (take-replicate n rest 0 (omega (arith, cut))))
-    (sym (drop-replicate n rest 0)) part more

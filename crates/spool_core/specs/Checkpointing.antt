@@ -1,8 +1,5 @@
 -- What a checkpoint makes of a spool: its table, listed in the other area.
-use Rattle.std.specs.Prelude.{◌≡◌, ◌+◌, ◌-◌, ◌<◌, ◌≤◌, ◌++◌, ℕ, Bool, true, false, List, length, map, replicate, IsTrue, Result, Ok, Err}
-use Rattle.std.specs.declared.alloc.Global.{Global}
-use Rattle.std.specs.declared.vec.Vec.{Vec}
-use Rattle.std.specs.List.{AllByRecursion}
+use Rattle.std.specs.Prelude.{◌≡◌, ◌+◌, ◌-◌, ◌<◌, ◌≤◌, ℕ, Bool, true, false, List, length, map, replicate, IsTrue, Result, Ok, Err}
 use Rattle.spool_types.specs.declared.listing.Row.{Row}
 use Rattle.spool_types.specs.Limits.{longest_document}
 use Rattle.spool_types.specs.State.{State, Job}
@@ -11,8 +8,8 @@ use Rattle.spool_disk.specs.Disk.{DiskView}
 use Rattle.job_table.specs.Listing.{listing, job_rows}
 use Rattle.job_table.specs.Versions.{raised}
 use Rattle.spool_types.specs.declared.version.Version.TheVariants.{Two}
-use Rattle.event_codec.specs.RowSpelling.{row_spelling, IsRowSpellable}
-use Rattle.spool_areas.specs.Checkpoint.{has_room, last_epoch, frames_of, payloads_in, AreFrames}
+use Rattle.event_codec.specs.RowSpelling.{row_spelling}
+use Rattle.spool_areas.specs.Checkpoint.{has_room, last_epoch}
 use Rattle.spool_areas.specs.Header.{half, header_len, header_at, epoch_of, version_of, newest_version, current_area}
 use Rattle.spool_areas.specs.Payloads.{HasPayloads, gate_after}
 use Rattle.spool_areas.specs.declared.fault.AreaFault.{AreaFault}
@@ -104,17 +101,7 @@ fault_for areas.EpochEnd = EpochEnd
 fault_for areas.Full = Full
 fault_for areas.Disk = Disk
 
--- ## Its frames
-
--- the frames hold the spellings of these rows, in order
-pub record AreFramesOf (rows : List Row) (frames : List (Vec ℕ Global)) : Type 0 where
-  pub framed : AreFrames (frames_of frames)
-  pub payloads : payloads_in (frames_of frames) ≡ map (row_spelling Two) rows
-  pub spellable : AllByRecursion (IsRowSpellable Two) rows
-
--- Frames of these rows are added to those of others.
-abbrev pub AreAdded : List Row → List (Vec ℕ Global) → List (Vec ℕ Global) → Type 0
-AreAdded rows old new = (others : List Row) → AreFramesOf others old → AreFramesOf (others ++ rows) new
+-- ## A job's row
 
 -- a row can tell the job's size and its phase
 pub record MayBeListed (r : Job) : Type 0 where

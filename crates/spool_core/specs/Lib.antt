@@ -5,6 +5,7 @@ pub mod Standing
 pub mod Reading
 pub mod Seen
 pub mod Checkpointing
+pub mod Measuring
 pub mod Filling
 pub mod Folding
 pub mod Driving

@@ -1,26 +1,22 @@
 //! Listing the table in the other area.
-ghost use Rattle.std.specs.Prelude.{◌≡◌, ◌≤◌, ◌<◌, ◌+◌, ◌∷◌, ◌↔◌, [], List, ℕ, length, map, replicate, false, Some, OnOk, OnErr, IfOk, IsErrOf, IsSome};
-ghost use Rattle.spool_types.specs.Limits.{longest_send, greatest_number};
-ghost use Rattle.spool_types.specs.State.{job_of};
-ghost use Rattle.spool_types.specs.declared.listing.Row.{Row as RowOf};
+ghost use Rattle.std.specs.Prelude.{◌≡◌, ◌≤◌, ◌+◌, ◌↔◌, [], List, ℕ, false, Some, OnOk, OnErr, IfOk, IsErrOf, IsSome, vec_capacity};
+ghost use Rattle.spool_types.specs.Limits.{greatest_number};
 ghost use Rattle.spool_disk.specs.Disk.{Blames, IsSynced, LeavesOnly};
-ghost use Rattle.event_codec.specs.RowSpelling.{IsLegalRow, IsOrderedQueue};
-ghost use Rattle.std.specs.List.{flat_map, AllByRecursion};
+ghost use Rattle.spool_areas.specs.Filling.{sum_of};
 ghost use Rattle.job_table.specs.Contents.{AreSized, HasNoMoves, HasOwnPlaces};
-ghost use Rattle.job_table.specs.Listing.{listing, pieces};
 ghost use Rattle.job_table.specs.Legal.{IsLegal};
 ghost use Rattle.spool_core.specs.Image.{HasInEitherVersion, HasTable, HasDocuments};
 ghost use Rattle.spool_core.specs.Seen.{standing_at, IsStandingAt};
-ghost use Rattle.spool_core.specs.Filling.{HasMoveRoom};
-ghost use Rattle.spool_core.specs.Checkpointing.{AreAdded, AreFramesOf, HasEpoch, IsCheckpoint, IsCheckpointed, MayBeListed, blank, blank_rows, fault_for};
+ghost use Rattle.spool_core.specs.Filling.{block_room, HasMoveRoom};
+ghost use Rattle.spool_core.specs.Checkpointing.{HasEpoch, IsCheckpoint, IsCheckpointed, blank, fault_for, listed_payloads};
 
-use super::filling::fill_documents;
+use super::block::BLOCK_ROOM;
+use super::filling::fill_other;
+use super::measuring::listing_len;
 use super::{CheckpointFault, Spool};
-use event_codec::{encode_job_onto, encode_queue_onto, encode_row_onto};
-use job_table::{Table, document_len, listings_are_loaded};
+use job_table::Table;
 use spool_areas::{AreaFault, Areas};
 use spool_disk::Disk;
-use spool_types::{Job, JobId, JobRow, LONGEST_SEND, Piece, QueueRow, Row};
 use std::alloc::{AllocError, Global};
 
 impl<D: Disk> Spool<D> {
@@ -54,8 +50,8 @@ impl<D: Disk> Spool<D> {
     }
 }
 
-// Lists the table in the other area, and moves the documents there. While it does so all rows of the listing are in memory,
-// with every document.
+// Lists the table in the other area, and moves the documents there. While it does so one block of rows is in memory, and the
+// new places of the documents.
 fn change_areas<D: Disk>(
     alloc: Global,
     areas: &mut Areas<D>,
@@ -81,20 +77,16 @@ fn change_areas<D: Disk>(
         Ok(_) => {}
         Err(fault) => return Err(fault_of(fault)),
     }
-    let mut frames = match prepare(alloc, table) {
-        Ok(frames) => frames,
+    let prepared = match prepare(alloc, table) {
+        Ok(prepared) => prepared,
         Err(_) => return Err(CheckpointFault::Memory),
     };
-    let first = match areas.plan_rows(&frames) {
-        Ok(first) => first,
+    match areas.plan_by_sum(prepared.sum) {
+        Ok(_) => {}
         Err(fault) => return Err(fault_of(fault)),
-    };
-    // From here on nothing takes memory: the disk has been read, and only Disk is answered.
-    match fill_documents(areas, table, &mut frames, first) {
-        Ok(()) => {}
-        Err(_) => return Err(CheckpointFault::Disk),
     }
-    match areas.checkpoint(&mut frames) {
+    // From here on nothing takes memory, and only Disk is answered.
+    match fill_other(areas, table, prepared.block) {
         Ok(()) => {
             table.commit_moves();
             table.raise();
@@ -102,7 +94,7 @@ fn change_areas<D: Disk>(
             let _jobs = table.jobs();
             Ok(())
         }
-        Err(fault) => Err(fault_of(fault)),
+        Err(_) => Err(CheckpointFault::Disk),
     }
 }
 
@@ -117,9 +109,18 @@ fn fault_of(fault: AreaFault) -> CheckpointFault
     }
 }
 
-// Takes all memory: for the new places of the documents, and for the frames of the listing.
-fn prepare(alloc: Global, table: &mut Table) -> Result<Vec<Vec<u8>>, AllocError>
-    ensures frames { IfOk result (λ frames. AreFramesOf (listing table.new.state (blank table.new.state)) frames.items) }
+// What a checkpoint has before it writes: memory for a block of rows, and how many bytes the records of all rows take.
+#[derive(Drop)]
+struct Prepared {
+    block: Vec<u8>,
+    sum: u64,
+}
+
+// Takes all memory: for the new places of the documents, and for the block.
+fn prepare(alloc: Global, table: &mut Table) -> Result<Prepared, AllocError>
+    ensures sum { IfOk result (λ p. p.sum ≡ sum_of (listed_payloads table.new.state (blank table.new.state))) }
+    ensures empty { IfOk result (λ p. p.block.items ≡ []) }
+    ensures spare { IfOk result (λ p. block_room ≤ vec_capacity p.block) }
     ensures legal { OnOk result (IsLegal table.new.state × (table.new.state.highest ≤ greatest_number)) }
     ensures none { OnOk result (HasNoMoves table.new.state table.new.moves) }
     ensures room { OnOk result (HasMoveRoom table.new.state table.new.moves) }
@@ -129,157 +130,11 @@ fn prepare(alloc: Global, table: &mut Table) -> Result<Vec<Vec<u8>>, AllocError>
     ensures places { table.new.places ≡ table.old.places }
 {
     table.prepare_moves()?;
-    listing_frames(alloc, table)
-}
-
-// The frames of the rows that a table is listed as, with zeros in the stead of the documents' bytes.
-fn listing_frames(alloc: Global, table: &Table) -> Result<Vec<Vec<u8>>, AllocError>
-    ensures frames { IfOk result (λ frames. AreFramesOf (listing table.now.state (blank table.now.state)) frames.items) }
-    ensures legal { OnOk result (IsLegal table.now.state × (table.now.state.highest ≤ greatest_number)) }
-    ensures sized { OnOk result (AreSized table.now) }
-    ensures own { OnOk result (HasOwnPlaces table.now) }
-{
-    listings_are_loaded();
-    let queues = table.queues();
-    let jobs = table.jobs();
+    let mut block = Vec::with_capacity(alloc, BLOCK_ROOM)?;
+    let sum = listing_len(table, &mut block)?;
+    block.clear();
+    let _jobs = table.jobs();
     // The highest number is one that a row can tell.
     let _highest = table.highest();
-    let zeros = vec![in alloc; 0; LONGEST_SEND]?;
-    let mut frames = Vec::new(alloc);
-    add_owned(alloc, &mut frames, Row::Head(table.head()))?;
-    add_queues(alloc, &mut frames, queues)?;
-    add_jobs(alloc, &mut frames, &zeros, jobs)?;
-    Ok(frames)
-}
-
-// Adds the frames of queues.
-fn add_queues(
-    alloc: Global,
-    frames: &mut Vec<Vec<u8>>,
-    queues: &[QueueRow],
-) -> Result<(), AllocError>
-    requires { AllByRecursion IsOrderedQueue queues.now }
-    ensures { OnOk result (AreAdded (map (λ q. RowOf.Queue q) queues.now) frames.old.items frames.new.items) }
-{
-    for queue in queues {
-        add_queue(alloc, frames, queue)?;
-    }
-    Ok(())
-}
-
-// Adds the frame of a queue.
-fn add_queue(alloc: Global, frames: &mut Vec<Vec<u8>>, queue: &QueueRow) -> Result<(), AllocError>
-    requires { IsOrderedQueue queue.now }
-    ensures { OnOk result (AreAdded (RowOf.Queue queue.now ∷ []) frames.old.items frames.new.items) }
-{
-    let mut frame = Vec::from_slice(alloc, &[0; 4])?;
-    encode_queue_onto(queue, &mut frame)?;
-    frame.push(0)?;
-    frames.push(frame)?;
-    Ok(())
-}
-
-// Adds the frames of jobs, each with those of its document's pieces.
-fn add_jobs(
-    alloc: Global,
-    frames: &mut Vec<Vec<u8>>,
-    zeros: &[u8],
-    jobs: &[JobRow],
-) -> Result<(), AllocError>
-    requires zeros { zeros.now ≡ replicate longest_send 0 }
-    requires may { AllByRecursion MayBeListed (map job_of jobs.now) }
-    ensures { OnOk result (AreAdded (flat_map blank_rows (map job_of jobs.now)) frames.old.items frames.new.items) }
-{
-    for row in jobs {
-        add_job(alloc, frames, zeros, &row.job)?;
-    }
-    Ok(())
-}
-
-// Adds the frames of a job and of the pieces of its document.
-fn add_job(
-    alloc: Global,
-    frames: &mut Vec<Vec<u8>>,
-    zeros: &[u8],
-    job: &Job,
-) -> Result<(), AllocError>
-    requires zeros { zeros.now ≡ replicate longest_send 0 }
-    requires may { MayBeListed job.now }
-    ensures { OnOk result (AreAdded (blank_rows job.now) frames.old.items frames.new.items) }
-{
-    add_job_row(alloc, frames, job)?;
-    add_pieces(alloc, frames, zeros, job.id, document_len(job))
-}
-
-// Adds the frame of a job without its document.
-fn add_job_row(alloc: Global, frames: &mut Vec<Vec<u8>>, job: &Job) -> Result<(), AllocError>
-    requires { MayBeListed job.now }
-    ensures { OnOk result (AreAdded (RowOf.Job job.now ∷ []) frames.old.items frames.new.items) }
-{
-    // There are at most 15, so that a row can tell the stage.
-    let _filters = job.filters.as_slice();
-    let mut frame = Vec::from_slice(alloc, &[0; 4])?;
-    encode_job_onto(job, &mut frame)?;
-    frame.push(0)?;
-    frames.push(frame)?;
-    Ok(())
-}
-
-// Adds the frames of the pieces of a document of so many bytes.
-fn add_pieces(
-    alloc: Global,
-    frames: &mut Vec<Vec<u8>>,
-    zeros: &[u8],
-    job: JobId,
-    len: usize,
-) -> Result<(), AllocError>
-    requires zeros { zeros.now ≡ replicate longest_send 0 }
-    ensures { OnOk result (AreAdded (map (λ bytes. RowOf.Piece job bytes) (pieces (replicate len 0))) frames.old.items frames.new.items) }
-{
-    let mut rest = len;
-    while rest > 0 {
-        let count = rest.min(LONGEST_SEND);
-        add_piece(alloc, frames, job, &zeros[..count])?;
-        rest -= count;
-    }
-    Ok(())
-}
-
-// Adds the frame of a piece of a document.
-fn add_piece(
-    alloc: Global,
-    frames: &mut Vec<Vec<u8>>,
-    job: JobId,
-    bytes: &[u8],
-) -> Result<(), AllocError>
-    requires some { 0 < length bytes.now }
-    requires short { length bytes.now ≤ longest_send }
-    ensures { OnOk result (AreAdded (RowOf.Piece job bytes.now ∷ []) frames.old.items frames.new.items) }
-{
-    match Piece::new(Vec::from_slice(alloc, bytes)?) {
-        Ok(bytes) => add_owned(alloc, frames, Row::Piece { job, bytes }),
-        Err(_) => unreachable!(),
-    }
-}
-
-// Adds the frame of a row, which is let go by one call, and not kind by kind at each way out.
-fn add_owned(alloc: Global, frames: &mut Vec<Vec<u8>>, row: Row) -> Result<(), AllocError>
-    requires { IsLegalRow row }
-    ensures { OnOk result (AreAdded (row ∷ []) frames.old.items frames.new.items) }
-{
-    let added = add_frame(alloc, frames, &row);
-    drop(row);
-    added
-}
-
-// Adds the frame of a row: four free bytes, its spelling and one free byte.
-fn add_frame(alloc: Global, frames: &mut Vec<Vec<u8>>, row: &Row) -> Result<(), AllocError>
-    requires { IsLegalRow row.now }
-    ensures { OnOk result (AreAdded (row.now ∷ []) frames.old.items frames.new.items) }
-{
-    let mut frame = Vec::from_slice(alloc, &[0; 4])?;
-    encode_row_onto(row, &mut frame)?;
-    frame.push(0)?;
-    frames.push(frame)?;
-    Ok(())
+    Ok(Prepared { block, sum })
 }

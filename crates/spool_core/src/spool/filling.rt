@@ -1,176 +1,266 @@
-//! Reading the documents into the frames of a listing, and noting where they will lie.
-ghost use Rattle.std.specs.Prelude.{◌≡◌, ◌<◌, ◌≤◌, ◌+◌, ◌^◌, length, take, false, Some, OnOk, IfOk};
-ghost use Rattle.spool_types.specs.State.{Job, job_at};
-ghost use Rattle.spool_areas.specs.Checkpoint.{frames_of, payloads_in, AreFrames};
-ghost use Rattle.gate_journal.specs.Entries.{records};
-ghost use Rattle.job_table.specs.Contents.{HasNoMoves, move_room, places_at};
-ghost use Rattle.job_table.specs.Over.{is_over};
-ghost use Rattle.job_table.specs.Listing.{listing};
-ghost use Rattle.extents.specs.Extents.{size_of};
-ghost use Rattle.documents.specs.Documents.{LieIn};
+//! Filling the other area with a table's listing: its rows are spelled into one block, one behind the other, and each time
+//! that it is long enough it is written. It is noted where the documents will lie.
+ghost use Rattle.std.specs.Prelude.{◌≡◌, ◌<◌, ◌≤◌, ◌+◌, ◌^◌, ◌∷◌, [], ℕ, List, length, map, replicate, take, drop, false, Ok, Some, IsSome, OnOk, vec_len, vec_capacity};
+ghost use Rattle.std.specs.FinMap as finite;
+ghost use Rattle.std.specs.List.{flat_map, AllByRecursion};
+ghost use Rattle.spool_types.specs.Limits.{longest_send};
+ghost use Rattle.spool_types.specs.State.{Job as JobOf, job_at};
+ghost use Rattle.spool_types.specs.declared.listing.Row.{Row as RowOf};
+ghost use Rattle.spool_types.specs.declared.version.Version.TheVariants.{Two};
+ghost use Rattle.gate_journal.specs.Appends.{kept_room};
+ghost use Rattle.spool_areas.specs.Filling.{block_len};
 ghost use Rattle.spool_areas.specs.Header.{header_len};
-ghost use Rattle.spool_core.specs.Checkpointing.{AreFramesOf, blank, listed_payloads};
-ghost use Rattle.spool_core.specs.Seen.{IsStandingAt};
+ghost use Rattle.spool_areas.specs.Seen.{IsArea};
+ghost use Rattle.spool_areas.specs.Checkpoint.{area_len, other_base, plan_of};
+ghost use Rattle.event_codec.specs.RowSpelling.{row_spelling, IsOrderedQueue, IsRowSpellable};
+ghost use Rattle.job_table.specs.Contents.{HasNoMoves, move_room, places_at};
+ghost use Rattle.job_table.specs.Documents.{document_len};
+ghost use Rattle.job_table.specs.Listing.{listing};
+ghost use Rattle.documents.specs.Documents.{joined, LieIn};
+ghost use Rattle.spool_core.specs.Checkpointing.{blank, blank_rows, MayBeListed};
+ghost use Rattle.spool_core.specs.Seen.{DocumentsLieIn, IsStandingAt};
 ghost use Rattle.spool_core.specs.Standing.{len_at};
-ghost use Rattle.spool_core.specs.Filling.{HasGateBehind, HasMoveRoom, HasPieceAt, IsDue, IsPieceFilled, IsPieceNoted, IsDocumentFilled, IsDocumentNoted, AreDocumentsFilled, AreDocumentsNoted, IsReadOn, IsFrameFilled, IsBehind};
+ghost use Rattle.spool_core.specs.Filling.{block_room, filling, filling_at, next_place, IsPut, records_len, HasMoveRoom, MayFill, IsFillingOn, IsReadOn, AddsRows, TellsBut, IsPieceAdded, IsPieceNoted, IsDue, IsDocumentAdded, IsDocumentNoted, AreJobsAdded, AreJobsNoted, IsListingAdded, AreDocumentsNoted, IsFilledOver};
 
+use super::block::{PIECE_HEAD, put_head, put_job, put_piece, put_queue};
 use documents::read_joined;
-use job_table::{Table, document_len};
-use spool_areas::{Areas, Extent, ReadFault};
+use job_table::{Table, document_len, listings_are_loaded};
+use spool_areas::{AreaFault, Areas, ReadFault};
 use spool_disk::Disk;
-use spool_types::{JobId, LONGEST_SEND};
+use spool_types::{JobId, LONGEST_SEND, QueueRow};
 
-// A frame, and where its gate will stand.
-#[derive(Clone, Copy)]
-struct Cursor {
-    frame: usize,
+// Rows that aren't written yet, and where their records go.
+#[derive(Drop)]
+struct Filler {
     gate: u64,
+    block: Vec<u8>,
 }
 
-// The frames of a listing hold zeros in the stead of the documents' bytes. Reads these, and notes where they will lie once the
-// first gate of the listing stands there. It takes no memory.
-pub(super) fn fill_documents<D: Disk>(
+/// Lists a table in the other area, and makes that the current one. Where its documents will lie is noted in the table. It
+/// takes no memory: the block has room for what is written at once.
+pub(super) fn fill_other<D: Disk>(
     areas: &mut Areas<D>,
     table: &mut Table,
-    frames: &mut [Vec<u8>],
-    first: u64,
-) -> Result<(), ReadFault>
+    block: Vec<u8>,
+) -> Result<(), AreaFault>
     requires alive { areas.old.dead ≡ false }
     requires stands { IsStandingAt D.device areas.old table.old }
-    requires framed { AreFramesOf (listing table.old.state (blank table.old.state)) frames.old }
-    requires short { first + length (records (listed_payloads table.old.state (blank table.old.state))) < 2 ^ 64 }
+    requires plan { plan_of areas.old [] ≡ Ok (other_base areas.old + header_len) }
+    requires room { other_base areas.old + header_len + records_len (listing table.old.state (blank table.old.state)) + kept_room ≤ other_base areas.old + area_len areas.old }
+    requires empty { block.items ≡ [] }
+    requires spare { block_room ≤ vec_capacity block }
     requires none { HasNoMoves table.old.state table.old.moves }
-    requires room { HasMoveRoom table.old.state table.old.moves }
+    requires moves { HasMoveRoom table.old.state table.old.moves }
 
-    ensures areas { IsReadOn D.device areas.old areas.new result }
+    ensures over { IsFilledOver D.device table.old areas.old areas.new result }
     ensures same { table.new.state ≡ table.old.state }
     ensures places { table.new.places ≡ table.old.places }
-    ensures filled { OnOk result (AreDocumentsFilled (D.device.bytes areas.old.disk) table.old frames.new) }
-    ensures noted { OnOk result (AreDocumentsNoted table.old.state first table.new.moves) }
+    ensures noted { OnOk result (AreDocumentsNoted table.old.state (other_base areas.old + header_len) table.new.moves) }
 {
-    let mut cursor = behind(frames, first, 1 + table.queues().len());
-    for at in 0..table.jobs().len() {
-        let job = table.jobs()[at].job.id;
-        cursor = fill_document(areas, table, job, frames, cursor)?;
+    let gate = areas.begin()?;
+    let mut filler = Filler { gate, block };
+    add_listing(areas, table, &mut filler)?;
+    let end = areas.write_rows(filler.gate, &mut filler.block)?;
+    areas.open_other(end)
+}
+
+// Adds the rows of a table's listing.
+fn add_listing<D: Disk>(
+    areas: &mut Areas<D>,
+    table: &mut Table,
+    filler: &mut Filler,
+) -> Result<(), AreaFault>
+    requires may { MayFill D.device (listing table.old.state (blank table.old.state)) (filling_at areas.old filler.old) }
+    requires lie { DocumentsLieIn (areas.old.base + header_len) areas.old.end table.old }
+    requires spare { block_room ≤ vec_capacity filler.old.block }
+    requires none { HasNoMoves table.old.state table.old.moves }
+    requires moves { HasMoveRoom table.old.state table.old.moves }
+
+    ensures on { IsFillingOn D.device (filling_at areas.old filler.old) (filling_at areas.new filler.new) result }
+    ensures spare { vec_capacity filler.old.block ≤ vec_capacity filler.new.block }
+    ensures same { table.new.state ≡ table.old.state }
+    ensures places { table.new.places ≡ table.old.places }
+    ensures added { OnOk result (IsListingAdded D.device table.old (filling_at areas.old filler.old) (filling_at areas.new filler.new)) }
+    ensures noted { OnOk result (AreDocumentsNoted table.old.state (next_place (filling_at areas.old filler.old)) table.new.moves) }
+{
+    listings_are_loaded();
+    // The highest number is one that a row can tell.
+    let _highest = table.highest();
+    let start = put_head(&mut filler.block, table.head());
+    end_record(areas, filler, start)?;
+    add_queues(areas, filler, table.queues())?;
+    add_jobs(areas, table, filler)
+}
+
+// Adds the rows of queues.
+fn add_queues<D: Disk>(
+    areas: &mut Areas<D>,
+    filler: &mut Filler,
+    queues: &[QueueRow],
+) -> Result<(), AreaFault>
+    requires may { MayFill D.device (map (λ q. RowOf.Queue q) queues.now) (filling_at areas.old filler.old) }
+    requires spare { block_room ≤ vec_capacity filler.old.block }
+    requires ordered { AllByRecursion IsOrderedQueue queues.now }
+
+    ensures on { IsFillingOn D.device (filling_at areas.old filler.old) (filling_at areas.new filler.new) result }
+    ensures spare { vec_capacity filler.old.block ≤ vec_capacity filler.new.block }
+    ensures added { OnOk result (AddsRows D.device (map (λ q. RowOf.Queue q) queues.now) (filling_at areas.old filler.old) (filling_at areas.new filler.new)) }
+{
+    for queue in queues {
+        let start = put_queue(&mut filler.block, queue);
+        end_record(areas, filler, start)?;
     }
     Ok(())
 }
 
-// The frame behind so many of them.
-fn behind(frames: &[Vec<u8>], first: u64, count: usize) -> Cursor
-    requires framed { AreFrames (frames_of frames.now) }
-    requires few { count ≤ length frames.now }
-    requires short { first + length (records (payloads_in (frames_of frames.now))) < 2 ^ 64 }
-    ensures frame { result.frame ≡ count }
-    ensures gate { result.gate ≡ first + length (records (take count (payloads_in (frames_of frames.now)))) }
+// Adds the rows of all jobs, each with those of its document's pieces.
+fn add_jobs<D: Disk>(
+    areas: &mut Areas<D>,
+    table: &mut Table,
+    filler: &mut Filler,
+) -> Result<(), AreaFault>
+    requires may { MayFill D.device (flat_map blank_rows (finite.values table.old.state.jobs)) (filling_at areas.old filler.old) }
+    requires lie { DocumentsLieIn (areas.old.base + header_len) areas.old.end table.old }
+    requires spare { block_room ≤ vec_capacity filler.old.block }
+    requires listed { AllByRecursion MayBeListed (finite.values table.old.state.jobs) }
+    requires moves { HasMoveRoom table.old.state table.old.moves }
+
+    ensures on { IsFillingOn D.device (filling_at areas.old filler.old) (filling_at areas.new filler.new) result }
+    ensures spare { vec_capacity filler.old.block ≤ vec_capacity filler.new.block }
+    ensures same { table.new.state ≡ table.old.state }
+    ensures places { table.new.places ≡ table.old.places }
+    ensures added { OnOk result (AreJobsAdded D.device table.old (filling_at areas.old filler.old) (filling_at areas.new filler.new)) }
+    ensures noted { OnOk result (AreJobsNoted table.old.state (next_place (filling_at areas.old filler.old)) table.old.moves table.new.moves) }
 {
-    let mut cursor = Cursor {
-        frame: 0,
-        gate: first,
-    };
-    for _ in 0..count {
-        cursor = next(frames, cursor);
+    for at in 0..table.jobs().len() {
+        let job = table.jobs()[at].job.id;
+        add_job(areas, table, job, filler)?;
     }
-    cursor
+    Ok(())
 }
 
-// The frame behind this one. A record is as long as its frame: a gate and four bytes stand before its payload.
-fn next(frames: &[Vec<u8>], cursor: Cursor) -> Cursor
-    requires inside { cursor.frame < length frames.now }
-    requires short { HasGateBehind frames.now cursor }
-    ensures { IsBehind frames.now cursor result }
-{
-    Cursor {
-        frame: cursor.frame + 1,
-        gate: cursor.gate + frames[cursor.frame].len() as u64,
-    }
-}
-
-// Reads a document into the frames of its pieces. The frame of its job is next, and theirs are behind it.
-fn fill_document<D: Disk>(
+// Adds the row of a job and those of its document's pieces.
+fn add_job<D: Disk>(
     areas: &mut Areas<D>,
     table: &mut Table,
     job: JobId,
-    frames: &mut [Vec<u8>],
-    cursor: Cursor,
-) -> Result<Cursor, ReadFault>
-    requires alive { areas.old.dead ≡ false }
-    requires stands { IsStandingAt D.device areas.old table.old }
-    requires due { IsDue table.old job cursor frames.old }
+    filler: &mut Filler,
+) -> Result<(), AreaFault>
+    requires due { IsDue D.device table.old job (filling_at areas.old filler.old) }
+    requires spare { block_room ≤ vec_capacity filler.old.block }
 
-    ensures areas { IsReadOn D.device areas.old areas.new result }
+    ensures on { IsFillingOn D.device (filling_at areas.old filler.old) (filling_at areas.new filler.new) result }
+    ensures spare { vec_capacity filler.old.block ≤ vec_capacity filler.new.block }
     ensures same { table.new.state ≡ table.old.state }
     ensures places { table.new.places ≡ table.old.places }
-    ensures filled { IfOk result (λ end. (r : Job) → job_at table.old.state job ≡ Some r →
-        IsDocumentFilled (D.device.bytes areas.old.disk) (places_at table.old job) r cursor frames.old end frames.new) }
-    ensures noted { OnOk result ((r : Job) → job_at table.old.state job ≡ Some r →
-        IsDocumentNoted r cursor.gate table.old.moves table.new.moves) }
+    ensures added { OnOk result ((r : JobOf) → job_at table.old.state job ≡ Some r →
+        IsDocumentAdded D.device (places_at table.old job) r (filling_at areas.old filler.old) (filling_at areas.new filler.new)) }
+    ensures noted { OnOk result ((r : JobOf) → job_at table.old.state job ≡ Some r →
+        IsDocumentNoted r (next_place (filling_at areas.old filler.old)) table.old.moves table.new.moves) }
 {
-    let len = match table.job(job) {
-        Some(row) => document_len(&row.job),
-        None => unreachable!(),
-    };
-    let mut cursor = next(frames, cursor);
+    let (start, len) = put_row(&mut filler.block, table, job);
+    end_record(areas, filler, start)?;
     let mut done = 0;
     while done < len {
         let count = (len - done).min(LONGEST_SEND);
-        cursor = fill_piece(areas, table, job, done, count, frames, cursor)?;
+        add_piece(areas, table, job, done, count, filler)?;
         done += count;
     }
-    Ok(cursor)
+    Ok(())
 }
 
-// Reads so many bytes of a document into the next frame, that of their piece, and notes where they will lie.
-fn fill_piece<D: Disk>(
+// Spells the row of a job into a block. It answers where its record begins, and how long its document is.
+fn put_row(block: &mut Vec<u8>, table: &Table, job: JobId) -> (usize, usize)
+    requires few { length block.old.items < block_len }
+    requires spare { block_room ≤ vec_capacity block.old }
+    requires there { IsSome (job_at table.now.state job) }
+    ensures put { (r : JobOf) → job_at table.now.state job ≡ Some r → IsPut (RowOf.Job r) block.old block.new result.0 }
+    ensures len { (r : JobOf) → job_at table.now.state job ≡ Some r → result.1 ≡ document_len r }
+    ensures spellable { (r : JobOf) → job_at table.now.state job ≡ Some r → MayBeListed r → IsRowSpellable Two (RowOf.Job r) }
+{
+    match table.job(job) {
+        Some(row) => {
+            let start = put_job(block, &row.job);
+            (start, document_len(&row.job))
+        }
+        None => unreachable!(),
+    }
+}
+
+// Adds the row of a piece of a document, so many bytes of it from a place on, and notes where they will lie.
+fn add_piece<D: Disk>(
     areas: &mut Areas<D>,
     table: &mut Table,
     job: JobId,
     at: usize,
     count: usize,
-    frames: &mut [Vec<u8>],
-    cursor: Cursor,
-) -> Result<Cursor, ReadFault>
-    requires alive { areas.old.dead ≡ false }
-    requires stands { IsStandingAt D.device areas.old table.old }
-    requires lives { is_over table.old.state job ≡ false }
+    filler: &mut Filler,
+) -> Result<(), AreaFault>
+    requires may { MayFill D.device (RowOf.Piece job (replicate count 0) ∷ []) (filling_at areas.old filler.old) }
+    requires spare { block_room ≤ vec_capacity filler.old.block }
+    requires some { 0 < count }
+    requires short { count ≤ longest_send }
+    requires lie { LieIn (areas.old.base + header_len) areas.old.end (places_at table.old job) }
     requires inside { at + count ≤ len_at table.old.state job }
-    requires piece { HasPieceAt job count cursor.frame frames.old }
-    requires short { cursor.gate + 14 + count < 2 ^ 64 }
     requires room { 0 < move_room table.old.moves job }
 
-    ensures areas { IsReadOn D.device areas.old areas.new result }
+    ensures on { IsFillingOn D.device (filling_at areas.old filler.old) (filling_at areas.new filler.new) result }
+    ensures spare { vec_capacity filler.old.block ≤ vec_capacity filler.new.block }
     ensures same { table.new.state ≡ table.old.state }
     ensures places { table.new.places ≡ table.old.places }
-    ensures cursor { IfOk result (λ end. (end.frame ≡ cursor.frame + 1) × (end.gate ≡ cursor.gate + 14 + count)) }
-    ensures filled { OnOk result (IsPieceFilled (D.device.bytes areas.old.disk) (places_at table.old job) job at count cursor.frame frames.old frames.new) }
-    ensures noted { OnOk result (IsPieceNoted job count cursor.gate table.old.moves table.new.moves) }
+    ensures added { OnOk result (IsPieceAdded D.device (places_at table.old job) job at count (filling_at areas.old filler.old) (filling_at areas.new filler.new)) }
+    ensures noted { OnOk result (IsPieceNoted job count (next_place (filling_at areas.old filler.old)) table.old.moves table.new.moves) }
 {
-    match table.job(job) {
-        Some(row) => read_piece(areas, &row.document, at, count, &mut frames[cursor.frame])?,
-        None => unreachable!(),
+    let start = put_piece(&mut filler.block, job, count);
+    match read_piece(areas, table, job, at, &mut filler.block[start + PIECE_HEAD..]) {
+        Ok(()) => {}
+        Err(_) => return Err(AreaFault::Disk),
     }
-    table.push_move(job, cursor.gate + 5, count);
-    Ok(next(frames, cursor))
+    table.push_move(job, filler.gate + start as u64 + 5, count);
+    end_record(areas, filler, start)
 }
 
-// Reads so many bytes of a document into the frame of their piece: four free bytes, the kind, the job and the length stand
-// before them, and a free byte behind.
+// Reads bytes of a document from the current area, which nothing has changed.
 fn read_piece<D: Disk>(
     areas: &mut Areas<D>,
-    document: &[Extent],
+    table: &Table,
+    job: JobId,
     at: usize,
-    count: usize,
-    frame: &mut Vec<u8>,
+    into: &mut [u8],
 ) -> Result<(), ReadFault>
     requires alive { areas.old.dead ≡ false }
-    requires lie { LieIn (areas.old.base + header_len) areas.old.end document.now }
-    requires inside { at + count ≤ size_of document.now }
-    requires within { areas.old.end ≤ D.device.size areas.old.disk }
-    requires sized { D.device.size areas.old.disk < 2 ^ 64 }
-    requires whole { length frame.old.items ≡ count + 14 }
+    requires area { IsArea areas.old.base areas.old.end (D.device.size areas.old.disk) }
+    requires lie { LieIn (areas.old.base + header_len) areas.old.end (places_at table.now job) }
+    requires some { 0 < length into.old }
+    requires inside { at + length into.old ≤ len_at table.now.state job }
 
-    ensures areas { IsReadOn D.device areas.old areas.new result }
-    ensures filled { OnOk result (IsFrameFilled (D.device.bytes areas.old.disk) document.now at count frame.old.items frame.new.items) }
+    ensures read { IsReadOn D.device areas.old areas.new result }
+    ensures data { OnOk result ((r : List ℕ) → TellsBut D.device areas.old r → into.new ≡ take (length into.old) (drop at (joined r (places_at table.now job)))) }
 {
-    read_joined(areas, document, at as u64, &mut frame[13..13 + count])
+    match table.job(job) {
+        Some(row) => read_joined(areas, &row.document, at as u64, into),
+        None => unreachable!(),
+    }
+}
+
+// Ends a record that begins at a place in the block. Where the block is long enough all of it is written.
+fn end_record<D: Disk>(
+    areas: &mut Areas<D>,
+    filler: &mut Filler,
+    start: usize,
+) -> Result<(), AreaFault>
+    requires alive { areas.old.dead ≡ false }
+    requires whole { start + 5 ≤ length filler.old.block.items }
+    requires short { length filler.old.block.items < 2 ^ 32 }
+    requires spare { vec_len filler.old.block + 1 ≤ vec_capacity filler.old.block }
+    requires behind { other_base areas.old + header_len ≤ filler.old.gate }
+    requires room { filler.old.gate + length filler.old.block.items + 1 ≤ other_base areas.old + area_len areas.old }
+
+    ensures on { IsFillingOn D.device (filling areas.old filler.old.gate (take start filler.old.block.items)) (filling_at areas.new filler.new) result }
+    ensures added { OnOk result ((row : RowOf) → drop (start + 5) filler.old.block.items ≡ row_spelling Two row → IsRowSpellable Two row →
+        AddsRows D.device (row ∷ []) (filling areas.old filler.old.gate (take start filler.old.block.items)) (filling_at areas.new filler.new)) }
+    ensures spare { vec_capacity filler.old.block ≤ vec_capacity filler.new.block }
+{
+    filler.gate = areas.add_row(filler.gate, &mut filler.block, start)?;
+    Ok(())
 }
