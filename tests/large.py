@@ -51,6 +51,7 @@ NEEDS = [
     (large_disks.gibibyte_file, 8_000),
     (large_disks.gibibyte_in_memory, 1_055_000),
     (large_limits.commands_at_their_limits, 4_100),
+    (large_limits.longest_document, 70_000),
     (large_files.long_files, 14_000),
     (large_files.long_queries, 32_000),
     (large_pieces.input_in_pieces, 137_000),
