@@ -1,5 +1,5 @@
 #!/usr/bin/env python3
-"""How many jobs are printed a second, by one queue and by eight, and what eight documents of the full size take of memory:
+"""How many jobs are printed a second, by one queue and by eight, and what eight documents of a mebibyte take of memory:
 printing.py [FOLDER]
 
 It runs crates/spool_shell/out/spool_shell (made by `rt run` in that folder) with `--root` in a new folder under FOLDER
@@ -38,12 +38,12 @@ PIECE = 65_536
 class Spooler:
     """A program that is served commands, one after another."""
 
-    def __init__(self, folder, size, programs):
+    def __init__(self, folder, size, programs, more=()):
         os.mkdir(folder)
         listed = folder + ".programs"
         with open(listed, "w") as file:
             file.write(programs)
-        words = [shell, "--root", ".", "--size", str(size), "--programs", listed]
+        words = [shell, "--root", ".", "--size", str(size), "--programs", listed, *more]
         self.running = subprocess.Popen(words, cwd=folder, stdin=subprocess.PIPE, stdout=subprocess.PIPE)
 
     def ask(self, command):
@@ -146,7 +146,7 @@ def tell(queues, times):
 
 
 def memory(room):
-    """Eight documents of the full size, handed to their backends at once."""
+    """Eight documents of a mebibyte, handed to their backends at once."""
     folder = os.path.join(room, "memory")
     spooler = Spooler(folder, 67_108_864, "backend cat /bin/cat\n")
     spooler.ask(b"jobs\n")

@@ -7,6 +7,8 @@ from large_run import TYPE, Script, quoted, same
 # How many bytes a line may have before its line feed.
 LINE = 4_096
 
+DOCUMENT = 16_777_216
+
 
 class Asked(Script):
     """Commands that make queues and jobs, and count them."""
@@ -173,6 +175,17 @@ def commands_at_their_limits(place):
     place.fresh_spool()
     place.serve(moments)
     look_for_what_is_not_listed(place)
+
+
+def longest_document(place):
+    """Over a disk in memory 256 sends make the longest document, and one byte more is too long."""
+    script = Script()
+    script.ask(f"queue lab spoolfile:/out {TYPE} abort-job", "ok")
+    script.ask('create lab ann "" 1 50 ""', "ok job 1")
+    script.document(1, bytes(DOCUMENT))
+    script.send(1, b"x", "error 7 TooLong")
+    script.send(1, b"", f"ok bytes {DOCUMENT}")
+    place.serve(script, "--size", "67108864", root=False)
 
 
 def look_for_what_is_not_listed(place):

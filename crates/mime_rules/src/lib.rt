@@ -26,6 +26,8 @@
 //!   can't be read (`Tokens`, with `Arguments` and `Patterns`), and the grammar over them by recursive descent (`Grammar`). A rule is what it means: true or false for
 //!   each name, bytes and locale (`Tests`).
 //! - [`Types::type_of`] gives the type of the `best` of the true alternatives (`Best`).
+//! - [`Types::reach`] tells how many of its first bytes have the type of a document (`value`, `enough`): the greatest end of a range that a
+//!   rule looks at (`Reach`).
 //! - [`best_law`]: the best is a true alternative that no true one beats, and all such are of one type; where there is none, no alternative is
 //!   true. [`order_law`]: what beats what is a strict order, which tells apart any two of different type or priority.
 //!

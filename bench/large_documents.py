@@ -1,0 +1,152 @@
+#!/usr/bin/env python3
+"""What documents of the full size take of memory, and how long it takes to close one: large_documents.py [FOLDER]
+
+It runs crates/spool_shell/out/spool_shell (made by `rt run` in that folder) with `--root` in a new folder under FOLDER
+(here, where none is given), one program for each row, so that each tells its own greatest memory (VmHWM of
+/proc/PID/status): with nothing, with a document that was sent, closed, handed to a small filter, and after the output
+of a stage as long; then in a checkpoint, and eight documents in flight at once, on eight queues. The second column says how many
+documents that is, above the memory of a program with nothing.
+
+A document is closed by as many of its first bytes as the rules of types look at. So a close is measured with no rule,
+with one that looks at the first bytes, and with one that looks at all of them. Times depend on the machine; no test reads
+them.
+"""
+import os
+import sys
+import tempfile
+import time
+
+from printing import PIECE, Spooler, shell
+
+DOCUMENT = 16_777_216
+SIZE = 1 << 29
+QUEUES = 8
+RUNS = 5
+
+UNKNOWN = b"application/octet-stream"
+
+# A filter that reads a document to its end and gives its first bytes, one that gives it whole, and a backend that does nothing.
+FILTERS = {"small": 'head -c 100 "$6"\ncat "$6" >/dev/null\n', "whole": 'cat "$6"\n'}
+
+RULES = {"no rule": "", "a rule of the first bytes": "a/b string(0,%PDF)\n", "a rule of the whole": f"a/b contains(0,{DOCUMENT},needle)\n"}
+
+
+def programs(room):
+    """The list of the programs."""
+    lines = ["backend nothing /bin/true"]
+    for name, text in FILTERS.items():
+        path = os.path.join(room, f"filter-{name}")
+        with open(path, "w") as file:
+            file.write("#!/bin/sh\n" + text)
+        os.chmod(path, 0o755)
+        lines.append(f"filter {name} {path}")
+    return "".join(line + "\n" for line in lines)
+
+
+class Case:
+    """A spooler with its own folder and files."""
+
+    def __init__(self, room, name, types="", convs="", size=SIZE):
+        self.folder = os.path.join(room, name.replace(" ", "-"))
+        files = {}
+        for kind, text in (("types", types), ("convs", convs)):
+            files[kind] = f"{self.folder}.{kind}"
+            with open(files[kind], "w") as file:
+                file.write(text)
+        words = [word for kind, path in files.items() for word in (f"--{kind}", path)]
+        self.spooler = Spooler(self.folder, size, programs(room), words)
+
+    def ask(self, command):
+        return self.spooler.ask(command)
+
+    def send(self, job, queue, target=UNKNOWN):
+        """Makes a job on a queue of its own, and sends its document."""
+        self.ask(b"queue %s nothing:/ %s abort-job\n" % (queue, target))
+        self.ask(b'create %s ann t 1 50 ""\n' % queue)
+        for _ in range(DOCUMENT // PIECE):
+            self.ask(b"send %d %d\n" % (job, PIECE) + PIECE * b"x" + b"\n")
+
+    def memory(self):
+        return self.spooler.memory()
+
+    def end(self):
+        self.spooler.end()
+
+
+def tell(name, memory, nothing):
+    print(f"{name:<44} {memory:>8} KiB {(memory - nothing) * 1024 / DOCUMENT:6.2f} documents", flush=True)
+
+
+def steps(room, filter_name):
+    """The greatest memory behind each step of a job that is printed by a filter and a backend."""
+    case = Case(room, filter_name, convs=f"application/octet-stream a/b 10 {filter_name}\n")
+    case.ask(b"jobs\n")
+    nothing = case.memory()
+    tell("nothing", nothing, nothing)
+    case.send(1, b"q", target=b"a/b")
+    tell("a document was sent", case.memory(), nothing)
+    case.ask(b"close 1 x\n")
+    tell("and closed", case.memory(), nothing)
+    case.ask(b"round\n")
+    tell(f"handed to a filter with {filter_name} output", case.memory(), nothing)
+    case.ask(b"round\n")
+    tell("and its output to a backend", case.memory(), nothing)
+    case.end()
+    return nothing
+
+
+def checkpoint(room, nothing):
+    case = Case(room, "checkpoint")
+    case.send(1, b"q")
+    case.ask(b"checkpoint\n")
+    tell("a document in a checkpoint", case.memory(), nothing)
+    case.end()
+
+
+def in_flight(room, nothing):
+    """Eight documents, handed to their backends at once, and listed by a checkpoint."""
+    case = Case(room, "flight")
+    for n in range(QUEUES):
+        case.send(n + 1, b"q%d" % n)
+        case.ask(b"close %d x\n" % (n + 1))
+    tell("eight documents, closed", case.memory(), nothing)
+    case.ask(b"round\n")
+    tell("all eight in flight", case.memory(), nothing)
+    case.end()
+    case = Case(room, "eight")
+    for n in range(QUEUES):
+        case.send(n + 1, b"q%d" % n)
+    case.ask(b"checkpoint\n")
+    tell("all eight in a checkpoint", case.memory(), nothing)
+    case.end()
+
+
+def closes(room, nothing):
+    """The least time of some closes of full documents."""
+    for name, rules in RULES.items():
+        case = Case(room, name, types=rules)
+        times = []
+        for job in range(1, RUNS + 1):
+            case.send(job, b"q%d" % job)
+            start = time.perf_counter()
+            case.ask(b"close %d x\n" % job)
+            times.append(time.perf_counter() - start)
+        tell(f"close, by {name}", case.memory(), nothing)
+        print(f"    {1000 * min(times):.2f} ms at least, {1000 * max(times):.2f} at most", flush=True)
+        case.end()
+
+
+def main():
+    if not os.path.exists(shell):
+        sys.exit("no program: run `rt run` in crates/spool_shell first")
+    folder = sys.argv[1] if len(sys.argv) > 1 else os.path.dirname(os.path.abspath(__file__))
+    with tempfile.TemporaryDirectory(dir=os.path.abspath(folder)) as room:
+        nothing = steps(room, "small")
+        steps(room, "whole")
+        checkpoint(room, nothing)
+        in_flight(room, nothing)
+        closes(room, nothing)
+
+
+if __name__ == "__main__":
+    main()
