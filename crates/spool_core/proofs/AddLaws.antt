@@ -82,11 +82,12 @@ module _ {D : Type 0} (v : DiskView D) (areas : Current D) (gate : ℕ) (row : R
   pub end_room : gate + length new.items + 1 ≤ other_base areas + area_len areas
   end_room = omega (arith, put_long row old new start is, may.room, length-append (row_spelling Two row) [])
 
-  pub put_on : {T : Type 0} (g : Filling D) (r : Result T AreaFault) → IsFillingOn v (filling areas gate (take start new.items)) g r → IsFillingOn v (filling areas gate old.items) g r
-  put_on g r on = subst (λ (block : List ℕ). IsFillingOn v (filling areas gate block) g r) (put_front row old new start is) on
+module _ {D : Type 0} (v : DiskView D) (areas : Current D) (gate : ℕ) (row : Row) (old new : Vec ℕ Global) (start : ℕ) (is : IsPut row old new start) (g : Filling D) where
+  pub put_on : {T : Type 0} (r : Result T AreaFault) → IsFillingOn v (filling areas gate (take start new.items)) g r → IsFillingOn v (filling areas gate old.items) g r
+  put_on r on = subst (λ (block : List ℕ). IsFillingOn v (filling areas gate block) g r) (put_front row old new start is) on
 
-  pub put_adds : (g : Filling D) → AddsRows v (row ∷ []) (filling areas gate (take start new.items)) g → AddsRows v (row ∷ []) (filling areas gate old.items) g
-  put_adds g adds = subst (λ (block : List ℕ). AddsRows v (row ∷ []) (filling areas gate block) g) (put_front row old new start is) adds
+  pub put_adds : AddsRows v (row ∷ []) (filling areas gate (take start new.items)) g → AddsRows v (row ∷ []) (filling areas gate old.items) g
+  put_adds adds = subst (λ (block : List ℕ). AddsRows v (row ∷ []) (filling areas gate block) g) (put_front row old new start is) adds
 
 -- ## A step of the areas
 
