@@ -82,11 +82,12 @@ module _ {D : Type 0} (v : DiskView D) (areas : Current D) (gate : ℕ) (row : R
   pub end_room : gate + length new.items + 1 ≤ other_base areas + area_len areas
   end_room = omega (arith, put_long row old new start is, may.room, length-append (row_spelling Two row) [])
 
-  pub put_on : {T : Type 0} (g : Filling D) (r : Result T AreaFault) → IsFillingOn v (filling areas gate (take start new.items)) g r → IsFillingOn v (filling areas gate old.items) g r
-  put_on g r on = subst (λ (block : List ℕ). IsFillingOn v (filling areas gate block) g r) (put_front row old new start is) on
+module _ {D : Type 0} (v : DiskView D) (areas : Current D) (gate : ℕ) (row : Row) (old new : Vec ℕ Global) (start : ℕ) (is : IsPut row old new start) (g : Filling D) where
+  pub put_on : {T : Type 0} (r : Result T AreaFault) → IsFillingOn v (filling areas gate (take start new.items)) g r → IsFillingOn v (filling areas gate old.items) g r
+  put_on r on = subst (λ (block : List ℕ). IsFillingOn v (filling areas gate block) g r) (put_front row old new start is) on
 
-  pub put_adds : (g : Filling D) → AddsRows v (row ∷ []) (filling areas gate (take start new.items)) g → AddsRows v (row ∷ []) (filling areas gate old.items) g
-  put_adds g adds = subst (λ (block : List ℕ). AddsRows v (row ∷ []) (filling areas gate block) g) (put_front row old new start is) adds
+  pub put_adds : AddsRows v (row ∷ []) (filling areas gate (take start new.items)) g → AddsRows v (row ∷ []) (filling areas gate old.items) g
+  put_adds adds = subst (λ (block : List ℕ). AddsRows v (row ∷ []) (filling areas gate block) g) (put_front row old new start is) adds
 
 -- ## A step of the areas
 
@@ -125,6 +126,18 @@ told_next P (Some a) (Some b) x is same = let here : a ≡ x = cc is in (b, refl
 told_next P (Some a) None x is same = absurd same
 told_next P None p x is same = absurd (cc is)
 
+pub tells_by : {D : Type 0} (v : DiskView D) (a b : Current D) → b.base ≡ a.base → b.end ≡ a.end → ChangesOnly v a.disk b.disk (other_base a) (area_len a) → (r : List ℕ) → TellsBut v a r → TellsBut v b r
+tells_by v a b base end changes r is =
+    let next = told_next (SameOutside (other_base a) (area_len a)) (v.bytes a.disk) (v.bytes b.disk) is.now is.tells changes.bytes in
+    let other : other_base b ≡ other_base a = λ i. other_of (end i - base i) (base i) in
+    let len : area_len b ≡ area_len a = λ i. end i - base i in
+    record {
+      now = next.0;
+      tells = next.1;
+      same = subst (λ (n : ℕ). SameOutside (other_base b) n r next.0) (sym len)
+          (subst (λ (o : ℕ). SameOutside o (area_len a) r next.0) (sym other) (twice (other_base a) (area_len a) r is.now next.0 is.same next.2));
+    }
+
 module _ {D : Type 0} (v : DiskView D) (lawful : IsLawful v) where
   module _ (f g : Filling D) (first : IsFillingOn {T = Unit {0}} v f g (Ok tt)) where
     pub other_on : other_base g.areas ≡ other_base f.areas
@@ -133,7 +146,7 @@ module _ {D : Type 0} (v : DiskView D) (lawful : IsLawful v) where
     pub len_on : area_len g.areas ≡ area_len f.areas
     len_on = λ i. first.end i - first.base i
 
-    change_on : (x : Change D) → IsChangeOf x f.areas → IsChangeOf x g.areas
+    pub change_on : (x : Change D) → IsChangeOf x f.areas → IsChangeOf x g.areas
     change_on x is = record { other = is.other ∙ sym other_on; len = is.len ∙ sym len_on }
 
     changes_on : {e : D} → ChangesOnly v g.areas.disk e (other_base g.areas) (area_len g.areas) → ChangesOnly v g.areas.disk e (other_base f.areas) (area_len f.areas)
@@ -141,14 +154,7 @@ module _ {D : Type 0} (v : DiskView D) (lawful : IsLawful v) where
 
     -- what was told but for the other area is told on
     pub tells_on : (r : List ℕ) → TellsBut v f.areas r → TellsBut v g.areas r
-    tells_on r is =
-        let next = told_next (SameOutside (other_base f.areas) (area_len f.areas)) (v.bytes f.areas.disk) (v.bytes g.areas.disk) is.now is.tells first.changes.bytes in
-        record {
-          now = next.0;
-          tells = next.1;
-          same = subst (λ (n : ℕ). SameOutside (other_base g.areas) n r next.0) (sym len_on)
-              (subst (λ (o : ℕ). SameOutside o (area_len f.areas) r next.0) (sym other_on) (twice (other_base f.areas) (area_len f.areas) r is.now next.0 is.same next.2));
-        }
+    tells_on r is = tells_by v f.areas g.areas first.base first.end first.changes r is
 
     module _ (rows : List Row) (adds : AddsRows v rows f g) where
       pub may_more : (more : List Row) → MayFill v (rows ++ more) f → MayFill v more g

@@ -22,7 +22,7 @@ use Rattle.job_table.specs.Listing.{head_of, job_rows, listing}
 use Rattle.documents.specs.Documents.{joined}
 use Rattle.documents.specs.Placed.{placed_pieces}
 use Rattle.spool_core.specs.Checkpointing.{MayBeListed, blank, blank_rows}
-use Rattle.spool_core.specs.Filling.{Filling, next_place, records_len, rows_of, lying, AreAlike, HasMoveRoom, MayFill, IsFillingOn, AddsRows, TellsBut, IsDue, IsDocumentAdded, IsDocumentNoted, AreJobsAdded, AreJobsNoted}
+use Rattle.spool_core.specs.Filling.{Filling, next_place, records_len, rows_of, lying, AreAlike, HasMoveRoom, MayFill, IsFillingOn, AddsRows, TellsBut, IsDue, IsDocumentAdded, IsDocumentNoted, AreJobsAdded, AreJobsNoted, IsListingAdded, AreDocumentsNoted}
 use Rattle.spool_core.specs.Seen.{DocumentsLieIn}
 use Rattle.spool_core.specs.Standing.{len_found}
 use Rattle.spool_core.proofs.AddLaws.{records_more, may_more, may_first, may_as, tells_on, then_adds, none_adds}
@@ -179,3 +179,35 @@ module _ {D : Type 0} (v : DiskView D) (c : Contents) (i : ℕ) (old : Filling D
     noted = λ j. p.places j ∙ ap (λ (l : List Job). places_of before.places j ++ placed_pieces Two (next_place old) (flat_map blank_rows l) j) all_taken;
     there = p.there;
   }
+
+-- ## The listing
+
+-- the head, the queues and then the jobs
+pub listing_may : {D : Type 0} (v : DiskView D) (s : State) (f : Filling D) → AreFound s (finite.values s.jobs) → MayFill v (listing s (blank s)) f → MayFill v (head_rows s ++ flat_map blank_rows (finite.values s.jobs)) f
+listing_may v s f found may = subst (λ (rows : List Row). MayFill v rows f) (blank_listing s found) may
+
+pub listing_noted : (s : State) (gate next : ℕ) (old new : Noted) → AreFound s (finite.values s.jobs) → next ≡ gate + records_len (head_rows s) → HasNoMoves s old → AreJobsNoted s next old new → AreDocumentsNoted s gate new
+listing_noted s gate next old new found at none are = record {
+  places = λ j r there.
+      let jobs = flat_map blank_rows (finite.values s.jobs) in
+      are.noted j
+      ∙ (λ i. unwrap_or (none j r there i) [] ++ placed_pieces Two (at i) jobs j)
+      ∙ ap (λ (l : List Extent). l ++ placed_pieces Two (gate + records_len (head_rows s)) jobs j) (sym (none_placed (gate + 5 + length (row_spelling Two (Head (head_of s)))) (finite.values s.queues) j))
+      ∙ sym (placed-append gate (head_rows s) jobs j)
+      ∙ ap (λ (l : List Row). placed_pieces Two gate l j) (sym (blank_listing s found));
+  there = λ j r there. are.there j (subst IsSome (sym (none j r there)) refl);
+}
+
+pub listing_added : {D : Type 0} (v : DiskView D) → IsLawful v → (c : Contents) (f now end : Filling D) → AreFound c.state (finite.values c.state.jobs) → IsFillingOn {T = Unit {0}} v f now (Ok tt) → AddsRows v (head_rows c.state) f now → AreJobsAdded v c now end → IsListingAdded v c f end
+listing_added v lawful c f now end found on adds jobs =
+    let all = then_adds v lawful f now on (head_rows c.state) adds end jobs.rows jobs.adds in
+    record {
+      rows = head_rows c.state ++ jobs.rows;
+      listing_is = record {
+        spellable = all.spellable;
+        alike = subst (λ (l : List Row). AreAlike l (head_rows c.state ++ jobs.rows)) (sym (blank_listing c.state found))
+            (alike_then (head_rows c.state) (head_rows c.state) (flat_map blank_rows (finite.values c.state.jobs)) jobs.rows (alike_itself (head_rows c.state)) jobs.alike);
+        told = λ r told. ap (λ (l : List Row). head_rows c.state ++ l) (jobs.told r (tells_on v lawful f now on r told));
+      };
+      adds = all;
+    }

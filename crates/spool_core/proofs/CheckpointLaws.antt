@@ -1,16 +1,14 @@
 -- What a checkpoint answers, and what it leaves.
 use Rattle.spool_types.specs.declared.version.Version.TheVariants.{Two}
 use Rattle.std.proofs.Common.{◌≡◌, inl, inr, ⊎_elim, ℕ, ◌+◌, ◌-◌, ◌^◌, ◌<◌, ◌≤◌, Bool, true, false, ◌&&◌, ◌==◌, List, [], ◌∷◌, ◌++◌, Ok, Err, Result, length, map, refl, sym, subst, ap, ◌∙◌, arith, length-append}
-use Rattle.std.specs.Prelude.{if◌then◌else◌, nat_le}
+use Rattle.std.specs.Prelude.{if◌then◌else◌, nat_le, IsErrOf}
 use Rattle.std.proofs.lemmas.Bool.{and_parts, leb-true}
 use Rattle.std.proofs.lemmas.Bool.Decides.{nat_tests}
 use Rattle.std.specs.FinMap as finite
-use Rattle.std.specs.declared.alloc.Global.{Global}
-use Rattle.std.specs.declared.vec.Vec.{Vec}
 use Rattle.spool_types.specs.State.{State}
 use Rattle.spool_types.specs.declared.listing.Row.{Row}
 use Rattle.spool_types.specs.declared.listing.Row.TheVariants.{Head, Queue}
-use Rattle.spool_disk.specs.Disk.{DiskView}
+use Rattle.spool_disk.specs.Disk.{DiskView, Blames}
 use Rattle.gate_journal.specs.Entries.{records}
 use Rattle.gate_journal.specs.Appends.{kept_room}
 use Rattle.spool_areas.specs.declared.fault.AreaFault.{AreaFault}
@@ -18,14 +16,15 @@ use Rattle.spool_areas.specs.declared.fault.AreaFault.TheVariants as areas
 use Rattle.spool_areas.specs.Header.{half, header_len}
 use Rattle.spool_areas.specs.Payloads.{gate_after}
 use Rattle.spool_areas.specs.Current.{Current}
-use Rattle.spool_areas.specs.Checkpoint.{last_epoch, area_len, other_base, has_room, plan_of, frames_of, AreFrames, payloads_in, lengths_in}
+use Rattle.spool_areas.specs.Checkpoint.{last_epoch, area_len, other_base, has_room, plan_of}
 use Rattle.spool_areas.specs.Seen.{IsArea}
-use Rattle.spool_areas.proofs.Filled.{payload_len}
 use Rattle.spool_areas.proofs.Plans.{two_of}
 use Rattle.job_table.specs.Listing.{head_of, listing}
 use Rattle.event_codec.specs.RowSpelling.{row_spelling}
 use Rattle.spool_core.specs.Seen.{standing_at}
-use Rattle.spool_core.specs.Checkpointing.{blank, listed_payloads, holds_listing, MayList, IsCheckpoint, AreFramesOf, fault_for}
+use Rattle.spool_core.specs.Checkpointing.{blank, listed_payloads, holds_listing, MayList, IsCheckpoint, fault_for}
+use Rattle.spool_core.specs.declared.spool.checkpoint_fault.CheckpointFault.{CheckpointFault}
+use Rattle.spool_core.specs.declared.spool.checkpoint_fault.CheckpointFault.TheVariants as checkpoint
 use Rattle.spool_core.specs.Filling.{rows_of}
 
 -- ## What a plan tells
@@ -71,10 +70,6 @@ room_there b end gate place (n ∷ ns) at = λ i.
     test_there b (place + 5 + n + 7) (gate + 5 + n + 7) end (omega (arith, at)) i
     && room_there b end (gate + 5 + n) (place + 5 + n) ns (omega (arith, at)) i
 
-pub lengths_of : (frames : List (List ℕ)) → AreFrames frames → lengths_in frames ≡ map length (payloads_in frames)
-lengths_of [] are = refl
-lengths_of (frame ∷ frames) are = λ i. sym (payload_len frame are.0.0) i ∷ lengths_of frames are.1 i
-
 first_room : (end gate n : ℕ) (ns : List ℕ) → has_room end gate (n ∷ ns) ≡ true → gate + kept_room ≤ end
 first_room end gate n ns room =
     let first = leb-true (gate + 5 + n + 7) end (and_parts (nat_le (gate + 5 + n + 7) end) (has_room end (gate + 5 + n) ns) room).0 in
@@ -119,34 +114,26 @@ module _ {D : Type 0} (v : DiskView D) (a : Current D) (ends : a.end ≡ a.base 
   fault_answer ns fault full is =
       answered ns fault full (caused a.dead (a.epoch == last_epoch) (has_room (other_base a + area_len a) (other_base a + header_len) ns) (other_base a + header_len) fault is)
 
-  module _ (blanks : List (Vec ℕ Global)) (are : AreFramesOf (listing s (blank s)) blanks) where
-    pub lengths_are : lengths_in (frames_of blanks) ≡ map length (listed_payloads s (blank s))
-    lengths_are = lengths_of (frames_of blanks) are.framed ∙ ap (map length) are.payloads
+  abbrev listed_lengths : List ℕ
+  listed_lengths = map length (listed_payloads s (blank s))
 
-    holds_is : has_room (half (v.size a.disk)) header_len (lengths_in (frames_of blanks)) ≡ holds_listing (half (v.size a.disk)) s
-    holds_is = ap (has_room (half (v.size a.disk)) header_len) lengths_are
+  -- nor is one for the rows whose listing has room
+  pub unlisted_for : (fault : AreaFault) → plan_of a listed_lengths ≡ Err fault → IsCheckpoint v (standing_at a s) (Err (fault_for fault)) (standing_at a s)
+  unlisted_for fault is = fault_answer listed_lengths fault (λ no. no) is
 
-    -- nor is one for the rows whose listing has room
-    pub unlisted_for : (fault : AreaFault) → plan_of a (lengths_in (frames_of blanks)) ≡ Err fault → IsCheckpoint v (standing_at a s) (Err (fault_for fault)) (standing_at a s)
-    unlisted_for fault is = fault_answer (lengths_in (frames_of blanks)) fault (λ no. sym holds_is ∙ no) is
+  module _ (first : ℕ) (plan : plan_of a listed_lengths ≡ Ok first) where
+    all_passed : (a.dead ≡ false) × ((a.epoch == last_epoch) ≡ false) × (has_room (other_base a + area_len a) (other_base a + header_len) listed_lengths ≡ true) × (first ≡ other_base a + header_len)
+    all_passed = passed a.dead (a.epoch == last_epoch) (has_room (other_base a + area_len a) (other_base a + header_len) listed_lengths) (other_base a + header_len) first plan
 
-    module _ (first : ℕ) (plan : plan_of a (lengths_in (frames_of blanks)) ≡ Ok first) where
-      all_passed : (a.dead ≡ false) × ((a.epoch == last_epoch) ≡ false) × (has_room (other_base a + area_len a) (other_base a + header_len) (lengths_in (frames_of blanks)) ≡ true) × (first ≡ other_base a + header_len)
-      all_passed = passed a.dead (a.epoch == last_epoch) (has_room (other_base a + area_len a) (other_base a + header_len) (lengths_in (frames_of blanks))) (other_base a + header_len) first plan
+    pub alive_planned : a.dead ≡ false
+    alive_planned = all_passed.0
 
-      pub alive_planned : a.dead ≡ false
-      alive_planned = all_passed.0
+    pub first_is : first ≡ other_base a + header_len
+    first_is = all_passed.3
 
-      pub first_is : first ≡ other_base a + header_len
-      first_is = all_passed.3
-
-      -- rows for which there is a plan have room
-      pub listing_fits : holds_listing (half (v.size a.disk)) s ≡ true
-      listing_fits = sym holds_is ∙ sym (room_is (lengths_in (frames_of blanks))) ∙ all_passed.2
-
-      -- so their gates have places
-      pub listing_short : (size : ℕ) → other_base a + half (v.size a.disk) ≤ size → size < 2 ^ 64 → first + length (records (listed_payloads s (blank s))) < 2 ^ 64
-      listing_short size within sized = omega (arith, first_is, listing_room (half (v.size a.disk)) s listing_fits, within, sized)
+    -- rows for which there is a plan have room
+    pub listing_fits : holds_listing (half (v.size a.disk)) s ≡ true
+    listing_fits = sym (room_is listed_lengths) ∙ all_passed.2
 
 -- the other area lies on the device, too
 pub other_area : {D : Type 0} (v : DiskView D) (a : Current D) → IsArea a.base a.end (v.size a.disk) → IsArea (other_base a) (other_base a + area_len a) (v.size a.disk)
@@ -160,3 +147,11 @@ other_area v a area =
       least = area.least;
       sized = area.sized;
     }
+
+-- a fault that leaves the disk as it was isn't the device's
+pub blames_none : {D : Type 0} (v : DiskView D) (a : Current D) (s t : State) (f : CheckpointFault) → IsCheckpoint v (standing_at a s) (Err f) (standing_at a t) → Blames (v.failures a.disk) (v.failures a.disk) (IsErrOf {T = Unit {0}} (Err f) checkpoint.Disk)
+blames_none v a s t checkpoint.Dead is = record { later = omega arith; failed = λ same. absurd (cc same); counted = λ no. refl }
+blames_none v a s t checkpoint.EpochEnd is = record { later = omega arith; failed = λ same. absurd (cc same); counted = λ no. refl }
+blames_none v a s t checkpoint.Memory is = record { later = omega arith; failed = λ same. absurd (cc same); counted = λ no. refl }
+blames_none v a s t checkpoint.Full is = record { later = omega arith; failed = λ same. absurd (cc same); counted = λ no. refl }
+blames_none v a s t checkpoint.Disk is = absurd (omega (arith, is.cause))

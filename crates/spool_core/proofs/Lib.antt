@@ -7,6 +7,7 @@ pub mod ReadOn
 pub mod Numbers
 pub mod AllLaws
 pub mod AddLaws
+pub mod OverLaws
 pub mod FillLaws
 pub mod PartLaws
 pub mod FoldLaws

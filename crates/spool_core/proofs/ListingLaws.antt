@@ -125,6 +125,10 @@ pub on_ok : {T E : Type 0} {P Q : Type 0} (r : Result T E) → OnOk r P → (P �
 on_ok (Ok x) is more = more is
 on_ok (Err e) is more = tt
 
+pub ok_by : {T E : Type 0} {P : Type 0} (r : Result T E) → P → OnOk r P
+ok_by (Ok x) is = is
+ok_by (Err e) is = tt
+
 pub if_ok : {T E : Type 0} {P Q : T → Type 0} (r : Result T E) → IfOk r P → ((t : T) → P t → Q t) → IfOk r Q
 if_ok (Ok t) is more = more t is
 if_ok (Err e) is more = tt

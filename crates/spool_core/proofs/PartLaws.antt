@@ -1,6 +1,6 @@
 -- The rows of a document, piece by piece.
 use Rattle.spool_types.specs.declared.version.Version.TheVariants.{Two}
-use Rattle.std.proofs.Common.{◌≡◌, ℕ, suc, ◌+◌, ◌-◌, ◌*◌, ◌==◌, if◌then◌else◌, true, ◌<◌, ◌≤◌, List, [], ◌∷◌, ◌++◌, length, take, drop, map, min, Option, Some, IsSome, Ok, false, replicate, refl, sym, subst, ap, ◌∙◌, arith, append_assoc, length-append, length-drop}
+use Rattle.std.proofs.Common.{◌≡◌, ℕ, suc, ◌+◌, ◌-◌, ◌*◌, ◌==◌, if◌then◌else◌, Bool, true, cond, ◌<◌, ◌≤◌, List, [], ◌∷◌, ◌++◌, length, take, drop, map, min, Option, Some, IsSome, Ok, false, replicate, refl, sym, subst, ap, ◌∙◌, arith, append_assoc, length-append, length-drop}
 use Rattle.std.proofs.lemmas.List.{map-append, append-nil, take-replicate, drop-replicate, drop-drop, drop_all, length-replicate}
 use Rattle.std.proofs.lemmas.Bool.Decides.{nat_tests}
 use Rattle.std.specs.Ordering.{nat_cmp}
@@ -8,7 +8,8 @@ use Rattle.std.specs.FinMap.{find}
 use Rattle.extents.specs.declared.extent.Extent.{Extent}
 use Rattle.spool_types.specs.Limits.{longest_send}
 use Rattle.spool_types.specs.Sent.{piece_of, placed_to}
-use Rattle.spool_types.specs.State.{Job, job_of, job_at}
+use Rattle.spool_types.specs.Phases.{has_ended}
+use Rattle.spool_types.specs.State.{State, Job, job_of, job_at}
 use Rattle.spool_types.specs.declared.rows.JobRow.{JobRow as JobRowOf}
 use Rattle.spool_types.specs.declared.listing.Row.{Row}
 use Rattle.spool_types.specs.declared.listing.Row.TheVariants.{Job as JobRow, Piece}
@@ -18,6 +19,7 @@ use Rattle.event_codec.specs.RowSpelling.{row_spelling}
 use Rattle.job_table.specs.Contents.{Contents, Noted, move_room, places_of}
 use Rattle.job_table.specs.Documents.{document_len}
 use Rattle.job_table.specs.Listing.{pieces}
+use Rattle.job_table.specs.Over.{is_over, is_over_by}
 use Rattle.documents.specs.Documents.{joined}
 use Rattle.documents.specs.Placed.{placed_pieces}
 use Rattle.documents.proofs.Moved.{spells_pieces}
@@ -80,6 +82,14 @@ row_len found row at len is there own = own ∙ ap document_len (some_same (job_
 -- the job whose document is due
 pub due_row : {D : Type 0} (v : DiskView D) (table : Contents) (job : ℕ) (f : Filling D) (due : IsDue v table job f) (r : Job) → job_at table.state job ≡ Some r → due.row ≡ r
 due_row v table job f due r there = some_same due.row r (sym due.there ∙ there)
+
+-- a job with bytes of a document isn't over
+pub lives_here : (s : State) (j : ℕ) (r : Job) → job_at s j ≡ Some r → 0 < document_len r → is_over s j ≡ false
+lives_here s j r there some = ap (is_over_by s.highest j) there ∙ by_ended (has_ended r.phase) some
+  where
+    by_ended : (b : Bool) → 0 < cond b 0 r.size → b ≡ false
+    by_ended true some = absurd (omega (arith, some))
+    by_ended false some = refl
 
 all_left : (n : ℕ) → n - 0 ≡ n
 all_left n = omega arith

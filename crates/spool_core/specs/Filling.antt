@@ -246,6 +246,7 @@ pub record IsFilledOver {D T : Type 0} (v : DiskView D) (table : Contents) (old 
   pub listed : OnOk r (HasListing v table old new)
   pub durable : OnOk r (IsSynced v new.disk)
   pub alive : OnOk r (new.dead ≡ false)
+  pub counted : OnOk r (v.failures new.disk ≡ v.failures old.disk)
   pub held : OnErr r ((new.base ≡ old.base) × (new.end ≡ old.end) × (new.epoch ≡ old.epoch) × (new.gate ≡ old.gate) × (new.version ≡ old.version))
   pub dead : OnErr r (new.dead ≡ true)
   pub cause : OnErr r (v.failures old.disk < v.failures new.disk)

@@ -1,7 +1,9 @@
 //! The tests of the tables and spools of `job_table` and `spool_core`: whole runs, cut by a device that fails, listings
-//! that are loaded, and spools of an older version. Their events and rows are spelled in hexadecimal.
+//! that are loaded, the calls of a checkpoint, and spools of an older version. Their events and rows are spelled in hexadecimal.
 #![tactic(auto)]
 
+#[cfg(test)]
+mod checkpoints;
 #[cfg(test)]
 mod indexes;
 #[cfg(test)]

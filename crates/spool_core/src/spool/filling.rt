@@ -86,9 +86,10 @@ fn add_listing<D: Disk>(
     listings_are_loaded();
     // The highest number is one that a row can tell.
     let _highest = table.highest();
+    let queues = table.queues();
     let start = put_head(&mut filler.block, table.head());
     end_record(areas, filler, start)?;
-    add_queues(areas, filler, table.queues())?;
+    add_queues(areas, filler, queues)?;
     add_jobs(areas, table, filler)
 }
 

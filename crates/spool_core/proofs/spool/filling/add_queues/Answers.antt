@@ -133,7 +133,7 @@ returns-in_err-end_record-clause-on g c =
     let end = filling_at c.end_record.new.areas c.end_record.new.filler in
     let e = c.in_err-end_record.field-0.0 in
     err_on v f end e _ c.from_residual.result c.from_residual.ensures.1
-    (then_on v lawful f now inv.on done inv.adds end (Err e) (put_on v c.loop-queue.areas c.loop-queue.filler.gate (Queue q) block put start may is spare end (Err e) c.in_err-end_record.ensures.on))
+    (then_on v lawful f now inv.on done inv.adds end (Err e) (put_on v c.loop-queue.areas c.loop-queue.filler.gate (Queue q) block put start is end (Err e) c.in_err-end_record.ensures.on))
 
 pub loop-queue-preserved : goal.loop-queue-preserved
 loop-queue-preserved g c =
@@ -155,10 +155,10 @@ loop-queue-preserved g c =
     let end = filling_at c.end_record.new.areas c.end_record.new.filler in
     let ordered = subst IsOrderedQueue (sym c.queue-item.is) (all_at IsOrderedQueue qs i q c.loop-queue-test.true c.requires.ordered) in
     record {
-      on = then_on v lawful f now inv.on done inv.adds end (Ok tt) (put_on v c.loop-queue.areas c.loop-queue.filler.gate (Queue q) block put start may is spare end (Ok tt) c.in_ok-end_record.ensures.on);
+      on = then_on v lawful f now inv.on done inv.adds end (Ok tt) (put_on v c.loop-queue.areas c.loop-queue.filler.gate (Queue q) block put start is end (Ok tt) c.in_ok-end_record.ensures.on);
       adds = subst (λ (rows : List Row). AddsRows v rows f end) (sym (queues_next qs i q c.loop-queue-test.true c.queue-item.is))
           (then_adds v lawful f now inv.on done inv.adds end (Queue q ∷ [])
-          (put_adds v c.loop-queue.areas c.loop-queue.filler.gate (Queue q) block put start may is spare end
+          (put_adds v c.loop-queue.areas c.loop-queue.filler.gate (Queue q) block put start is end
           (c.in_ok-end_record.ensures.added (Queue q) (put_back (Queue q) block put start is) (c.put_queue-start.ensures.spellable ordered))));
       spare = omega (arith, inv.spare, is.spare, c.end_record.ensures.spare);
     }
