@@ -14,7 +14,7 @@ from dataclasses import replace
 
 import journal
 from journal import (CANCELED, COMPLETED, LOST, NO_START, REOPEN, SIGNAL, Head, Job, Piece, Queue, abandon, aborted, cancel,
-                     clock, close, held, hold, image, incoming, release, send, set_accept, set_stop, stage, start, until, waiting)
+                     clock, close, held, hold, image, incoming, purge, release, send, set_accept, set_stop, stage, start, until, waiting)
 from stories import (FIRST, GREATEST, GREATEST_NUMBER, HALL, LAB, Q, SIZE, Spool, Story, closed_job, of_lab, of_q, run, same)
 
 
@@ -57,6 +57,7 @@ def each_command_is_its_event(folder):
         (b"send 4 1\n!\n", "ok bytes 1", [send(4, b"!")]),
         ("close 4 f.x", "ok type a/a stages 2", [close(4, ["f"], media="a/a")]),
         ("clock 50", "ok", [clock(50)]),
+        ("purge 3", "ok", [purge(3)]),
     )
     spool.says(*[(command, reply) for command, reply, _ in story], words=words)
     same("the journal", journal.current(spool.content())[0], [event for _, _, events in story for event in events])
@@ -65,8 +66,7 @@ def each_command_is_its_event(folder):
     done = replace(job, media="a/a", filters=("f",), attempts=2, pages=9, size=5, phase=COMPLETED)
     # The fourth was to start by a moment that is over, and the clock that goes back has it canceled.
     late = of_lab(4, options="collate=false", media="a/a", filters=("f",), size=1, phase=CANCELED, by=99)
-    same("the rows", spool.listing(), [Head(4, 100), told, done, of_lab(2, media=octets, phase=aborted("no-filter")),
-                                       of_lab(3, phase=CANCELED), late])
+    same("the rows", spool.listing(), [Head(4, 100), told, done, of_lab(2, media=octets, phase=aborted("no-filter")), late])
 
 
 def a_65th_queue(folder):
@@ -555,6 +555,22 @@ def a_completed_job_is_not_started_again(folder):
         story.takes(REOPEN)
     again = Story(folder, *story.spool().listing())
     again.refuses(start(1), stage(1, 1, 1, 0), abandon(1))
+
+
+def jobs_are_purged(folder):
+    # Incoming, waiting, processing, completed, canceled, aborted.
+    story = Story(folder, LAB.event(), Q.event(), of_lab(1).event(), of_lab(2).event(), close(2), of_q(3).event(), close(3), start(3))
+    story.takes(stage(3, 1, 1, 0), of_q(4).event(), close(4), start(4), of_lab(5).event(), cancel(5), of_lab(6).event(), close(6, None))
+    story.refuses(purge(1), purge(2), purge(4), purge(7), purge(GREATEST_NUMBER))
+    for job in (6, 3, 5):
+        story.takes(purge(job))
+        story.refuses(purge(job), cancel(job), send(job, b"!"), close(job), start(job), of_lab(job).event())
+    story.takes(REOPEN, cancel(1), cancel(2), purge(1), purge(2))
+    # The highest number stays, also over a checkpoint.
+    again = Story(folder, *story.spool().listing())
+    for table in (story, again):
+        table.refuses(*(of_lab(job).event() for job in range(1, 7)), *(purge(job) for job in (1, 2, 3, 5, 6)))
+        table.takes(of_lab(7).event())
 
 
 def three_thousand_events(folder):

@@ -16,7 +16,7 @@ from dataclasses import replace
 
 import journal
 from journal import (CANCELED, COMPLETED, REOPEN, Head, Job, Piece, Queue, aborted, cancel, clock, close, held, hold, image,
-                     incoming, processing, send, stage, start, until, waiting)
+                     incoming, processing, purge, send, stage, start, until, waiting)
 from stories import (CREATE, FIRST, FIRST_ROWS, GREATEST, GREATEST_NUMBER, LAB, Q, QUEUE, QUEUES, SIZE, Spool, Story, of_lab,
                      of_q, run, same, spelled)
 
@@ -296,8 +296,11 @@ def events_of_each_version(folder):
     same("its bytes", timed.event()[-8:].hex(), "00000000000007d0")
     for version in journal.VERSIONS:
         story = Story(folder, *FIRST, version=version)
-        story.refuses(timed.event()[:-1], timed.event() + b"\0", of_q(2, by=4_000_000_000_001).event(), of_q(1, by=9).event(), b"\x10\0\0\0\1")
+        story.refuses(timed.event()[:-1], timed.event() + b"\0", of_q(2, by=4_000_000_000_001).event(), of_q(1, by=9).event(),
+                      purge(1), purge(1)[:-1], purge(1) + b"\0", purge(0), b"\x12\0\0\0\1")
     Story(folder, *FIRST, version=1).refuses(timed.event())
+    Story(folder, *FIRST, cancel(1), version=1).refuses(purge(1))
+    Story(folder, *FIRST, cancel(1)).takes(purge(1))
     story.takes(timed.event())
     story.lists(Head(2), Q, FIRST_ROWS[2], timed)
     story.refuses(timed.event(), of_q(1).event())

@@ -231,6 +231,10 @@ def abandon(job):
 REOPEN = b"\x0F"
 
 
+def purge(job):
+    return b"\x10" + number(job, 4)
+
+
 # ---- effects
 
 def pages(page, copies):

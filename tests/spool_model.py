@@ -395,6 +395,12 @@ class Table:
         for job in self.processing():
             self.end_attempt(job, "attempt-lost")
 
+    def purge(self, fields):
+        number = fields.job()
+        fields.end()
+        demand(self.version > 1 and number in self.jobs and self.jobs[number].has_ended())
+        del self.jobs[number]
+
     def end_attempt(self, job, reason, code=None):
         """A backend ended with this code, or what it did isn't known. Other codes, and None, are the queue's policy's."""
         queue = self.queues[job.queue]
@@ -460,7 +466,7 @@ class Table:
 EVENTS = dict(enumerate([
     Table.add_queue, Table.set_info, Table.set_accept, Table.set_stop, Table.create, Table.send, Table.close, Table.set_hold,
     Table.release, Table.cancel, Table.clock, Table.start, Table.stage_end, Table.abandon, Table.reopen,
-], 1)) | {0x11: Table.create_by}
+], 1)) | {0x10: Table.purge, 0x11: Table.create_by}
 
 
 # ---- parts of payloads

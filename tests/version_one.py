@@ -7,7 +7,8 @@ each error policy, jobs in each phase, documents, the rows of a checkpoint, and 
 jobs were processing. All of it is seen again:
 
 - SHELL answers the same on a copy, and leaves what the model of tests/spool_model.py says, in version 1.
-- It takes the events of version 1, and writes the records that tests/journal.py spells; `createby` is `error 17 NeedsCheckpoint`.
+- It takes the events of version 1, and writes the records that tests/journal.py spells; `createby` and `purge` are `error 17
+  NeedsCheckpoint`.
 - Each job that hasn't ended is printed, with its document.
 - A checkpoint writes the area 0 in version 2, with the rows that the model says, and leaves the other one. Then `createby` makes a
   job, which the clock cancels. All is there in further openings, and behind a further checkpoint.
@@ -335,7 +336,7 @@ def takes_the_events_of_version_one(shell, folder, content, replies):
     words = options(spool.root, BACKEND)
     it = model.opened(content)
     for command, reply, event in EVENTS:
-        spool.answers(f"{CREATE_BY}\n{command}\n{CREATE_BY}\n".encode(), [NOT_YET, reply, NOT_YET], words)
+        spool.answers(f"{CREATE_BY}\n{command}\npurge 1\npurge 99\n".encode(), [NOT_YET, reply, NOT_YET, NOT_YET], words)
         same("whether there is room", model.tried(it, event), True)
         same(f"the file behind {command!r}", spool.content() == it.file, True)
     same("the versions", spool.versions(), [1, 1])
@@ -427,7 +428,6 @@ def some_commands(chance):
             b"info %b i l" % queue.encode(),
             b"jobs",
             b"queues",
-            b"purge 1",
         ]) + b"\n"
 
 

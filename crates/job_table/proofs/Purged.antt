@@ -38,7 +38,7 @@ module _ (law : (effects : List Effect) → KeepsOrder effects) where
       absent_all es (after_one s e) j still.absent (omega (arith, given, up)) (legal_after_one s e (keeps_each law e) legal)
 
   abbrev Keeps : List Event → Type 0
-  Keeps es = (s : State) (j : ℕ) (r : Job) → HasEndedJob s j r → IsKeptOrPurged s es j r
+  Keeps es = (s : State) (j : ℕ) (r : Job) → HasEndedJob s j r → IsKeptOrPurged s es (after_all s es) j r
 
   kept_next : (e : Event) (es : List Event) → Keeps es → Keeps (e ∷ es)
   kept_next e es rest s j r job = by_refusal (refusal_of s e) refl
@@ -50,17 +50,17 @@ module _ (law : (effects : List Effect) → KeepsOrder effects) where
       legal = legal_after_one s e (keeps_each law e) job.legal
 
       -- what becomes of it later becomes of it
-      kept_then : IsKeptOrPurged next es j r → IsKeptOrPurged s (e ∷ es) j r
+      kept_then : IsKeptOrPurged next es (after_all next es) j r → IsKeptOrPurged s (e ∷ es) (after_all next es) j r
       kept_then (inl there) = inl there
       kept_then (inr was) = inr (record { gone = was.gone; purge = later_if e (Purge j) (accepted next es) (refusal_of s e) was.purge })
 
-      stays : job_at next j ≡ Some r → IsKeptOrPurged s (e ∷ es) j r
+      stays : job_at next j ≡ Some r → IsKeptOrPurged s (e ∷ es) (after_all next es) j r
       stays there = kept_then (rest next j r (record { legal = legal; there = there; ended = job.ended }))
 
       taken_is : refusal_of s e ≡ None → next ≡ after s e
       taken_is taken = ap (unless_refused s e) taken
 
-      goes : refusal_of s e ≡ None → change_by e ≡ WithoutJob j → IsKeptOrPurged s (e ∷ es) j r
+      goes : refusal_of s e ≡ None → change_by e ≡ WithoutJob j → IsKeptOrPurged s (e ∷ es) (after_all next es) j r
       goes taken is =
           let left : next ≡ made s (WithoutJob j) = taken_is taken ∙ ap (made s) is in
           let within = at_most_highest s j r job.legal job.there in
@@ -69,7 +69,7 @@ module _ (law : (effects : List Effect) → KeepsOrder effects) where
             purge = subst (λ o. Contains (if_accepted e (accepted next es) o) (Purge j)) (sym taken) (0, omega arith, gone_by_purge e j is);
           })
 
-      by_refusal : (o : Option Refusal) → refusal_of s e ≡ o → IsKeptOrPurged s (e ∷ es) j r
+      by_refusal : (o : Option Refusal) → refusal_of s e ≡ o → IsKeptOrPurged s (e ∷ es) (after_all next es) j r
       by_refusal (Some x) refused = stays (ap (λ o. job_at (unless_refused s e o) j) refused ∙ job.there)
       by_refusal None taken = elim (unchanged s j r job e (keeps_each law e) taken) [
         | inl same ↦ stays (ap (λ (t : State). job_at t j) (taken_is taken) ∙ same)

@@ -220,3 +220,7 @@ module _ (old new : ℕ → Option Job) (j : ℕ) (t : Timetable) (is : IsTimely
     few = one_less (λ k. has_by (old k)) (λ k. has_by (new k)) j t.timed is.few kept_timed (ap has_by dismissed.absent) (dismissed.by ∙ was) n less;
     room = (let before = is.room in omega (arith, less, before));
   }
+
+pub no_more_timed : (timed : Bool) (n m : ℕ) → n + cond timed 1 0 ≡ m → n ≤ m
+no_more_timed true n m is = omega (arith, is)
+no_more_timed false n m is = omega (arith, is)

@@ -63,12 +63,14 @@
 //!   ([`listings_are_loaded`]).
 //! - *QueuesApart* ([`queues_stay_apart`]): what a table has of a queue, with its jobs' documents, comes of the events that name it
 //!   or a job of it, of the clock and of reopenings alone, and an event about it is answered alike without the others.
-//! - *EndedStaysEnded* ([`ended_jobs_stay`]), and that each state is legal ([`legal_tables_stay_legal`]).
+//! - *EndedStaysEnded* ([`ended_jobs_stay`]): a job that has ended stays as it is, or is purged (`IsKeptOrPurged`), and its number
+//!   isn't given again. And each state is legal ([`legal_tables_stay_legal`]).
 //!
 //! # Invariants
 //!
 //! 1. The rows of queues are in ascending order of name, each name once. Those of jobs are in ascending order of number,
-//!    each number once (`IsOrdered`). So a row is found by binary search, and a new row goes where the search ends.
+//!    each number once (`IsOrdered`). So a row is found by binary search, and a new row goes where the search ends. A purge
+//!    takes a row out, and leaves a gap in the numbers.
 //! 2. The state that the rows mean is legal (`IsLegal`). There are at most 64 queues, and a row's key is its own name or
 //!    number. No job has a number above the highest given. A job's queue is there, and its phase fits the rest of its row.
 //!    A queue has one processing job at most. Its reasons and its attributes are in ascending order, each once, and at most
@@ -87,7 +89,8 @@
 //! 7. The timetable has the deadline of each job that waits and is to start by a moment, and no other (`IsTimely`). No more
 //!    jobs are to start by a moment than it counts, whatever their phases. It has room for all of these to wait, and for as
 //!    many new jobs as the table has room for (`IsInLanes`). So whichever of them comes to wait, it takes no memory. An event
-//!    about a job never changes the moment by which it is to start, so a deadline comes, goes or stays (`MayRetime`).
+//!    about a job never changes the moment by which it is to start, so a deadline comes, goes or stays (`MayRetime`). A job
+//!    that is purged has none any more, and isn't counted any more (`IsDismissed`).
 //! 8. The rows of a loading are legal. Its last job stands beside them while the document is short: whole pieces of it are
 //!    there, and the job may be put in as the last row (`IsReading`). The memory for the row and for the extents of all its
 //!    pieces is asked for when the job comes. No clause says so. The lanes and the timetable are made once all rows are
@@ -99,6 +102,7 @@
 //! its entry from the lane's index and puts it where it goes now, each by binary search. So does its deadline come or go. A
 //! clock looks at the first deadline, and at one job for each that it cancels: where it cancels none, it looks at no job.
 //! Then it goes to each lane, and looks through the jobs of one only where a job of it may be started from then on.
+//! A purge looks at no lane, and the rows behind its own move up.
 //! [`Loading::into_table`] sorts each queue's waiting jobs and all deadlines once.
 //!
 //! # Faults

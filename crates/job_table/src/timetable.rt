@@ -1,6 +1,6 @@
 //! The waiting jobs that are to start by a moment, of all queues: the clock cancels those whose moment is over, and looks at
 //! no other job.
-ghost use Rattle.std.specs.Prelude.{◌≡◌, ℕ, ◌+◌, ◌<◌, ◌≤◌, ◌↔◌, ◌⊎◌, Option, Some, IfSome, IfOk, OnOk, None, length};
+ghost use Rattle.std.specs.Prelude.{◌≡◌, ℕ, ◌+◌, ◌<◌, ◌≤◌, ◌↔◌, ◌⊎◌, Option, Some, IfSome, IfOk, OnOk, None, cond, length};
 ghost use Rattle.std.specs.Option.{IsNone};
 ghost use Rattle.std.specs.List.{Contains};
 ghost use Rattle.queue_sched.specs.Deadlines.{HasEachDeadlineOnce};
@@ -84,7 +84,7 @@ impl Timetable {
     pub(crate) fn dismiss(&mut self, timed: bool)
         requires { MayDismiss self.old timed }
         ensures timely { (old new : ℕ → Option AnyJob) (j : ℕ) → IsTimely old self.old → IsDismissed old new j timed → IsTimely new self.new }
-        ensures timed { self.new.timed ≤ self.old.timed }
+        ensures timed { self.new.timed + cond timed 1 0 ≡ self.old.timed }
         ensures room { self.new.deadlines.room ≡ self.old.deadlines.room }
     {
         if timed {

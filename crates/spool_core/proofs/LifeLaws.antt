@@ -10,7 +10,7 @@ use Rattle.job_table.specs.Fold.{after_one, after_all}
 use Rattle.job_table.specs.Legal.{IsLegal}
 use Rattle.spool_core.specs.Driving.{documents_after}
 use Rattle.spool_core.specs.Image.{HasTable, documents_after_one}
-use Rattle.spool_core.specs.Lives.{Life, KeepsAcknowledged, next_table, next_documents, after_lives, documents_after_lives, history_of}
+use Rattle.spool_core.specs.Lives.{Life, KeepsAcknowledged, next_table, next_documents, after_lives, documents_after_lives, history_of, later_events}
 use Rattle.spool_core.proofs.DriveLaws.{documents_after-append}
 
 after_all-append : (s : State) (es ds : List Event) → after_all s (es ++ ds) ≡ after_all (after_all s es) ds
@@ -39,12 +39,7 @@ legal_found begins stays s image has =
     subst IsLegal (sym has.history.table)
     (stays has.history.start has.history.events (⊎_elim (λ none. subst IsLegal (sym none.1) (begins has.version)) (λ listed. listed.0.legal) has.history.stand))
 
--- what follows the acknowledged events of a life, in it and in those after it
-pub later_events : Life → List Life → List Event
-later_events l ls = take (l.left - l.acknowledged) (drop l.acknowledged l.events) ++ Reopen ∷ history_of ls
-
 history_splits : (l : Life) (ls : List Life) → KeepsAcknowledged l → history_of (l ∷ ls) ≡ take l.acknowledged l.events ++ later_events l ls
-unfolding later_events
 history_splits l ls keeps =
     let all : l.left ≡ l.acknowledged + (l.left - l.acknowledged) = omega (arith, keeps) in
     let first : take l.left l.events ≡ take l.acknowledged l.events ++ take (l.left - l.acknowledged) (drop l.acknowledged l.events) =

@@ -1,5 +1,5 @@
 -- Many lives of a spool: each begins with the opening of what a crash left of the one before.
-use Rattle.std.specs.Prelude.{ℕ, ◌≤◌, List, [], ◌∷◌, ◌++◌, take}
+use Rattle.std.specs.Prelude.{ℕ, ◌-◌, ◌≤◌, List, [], ◌∷◌, ◌++◌, take, drop}
 use Rattle.spool_types.specs.declared.event.Event.{Event}
 use Rattle.spool_types.specs.declared.event.Event.TheVariants.{Reopen}
 use Rattle.spool_types.specs.State.{State}
@@ -38,3 +38,7 @@ documents_after_lives s documents (l ∷ ls) = documents_after_lives (next_table
 abbrev pub history_of : List Life → List Event
 history_of [] = []
 history_of (l ∷ ls) = take l.left l.events ++ Reopen ∷ history_of ls
+
+-- what follows the acknowledged events of a life, in it and in those after it
+abbrev pub later_events : Life → List Life → List Event
+later_events l ls = take (l.left - l.acknowledged) (drop l.acknowledged l.events) ++ Reopen ∷ history_of ls

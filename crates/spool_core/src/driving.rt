@@ -8,7 +8,7 @@ ghost use Rattle.job_table.specs.Apart.{IsPart, own_events};
 ghost use Rattle.job_table.specs.Legal.{IsLegal};
 ghost use Rattle.job_table.specs.Step.{creation, refusal_of};
 ghost use Rattle.job_table.specs.Fold.{after_all, accepted};
-ghost use Rattle.job_table.specs.Ended.{HasEndedJob, subject};
+ghost use Rattle.job_table.specs.Ended.{HasEndedJob, IsKeptOrPurged, subject};
 ghost use Rattle.job_table.specs.Over.{HasOver, late_refusal};
 ghost use Rattle.spool_core.specs.Image.{HasTable, HasDocuments, HasBeforeOrAfterEvent, HasWholeBeforeOrAfterEvent, documents_after_one};
 ghost use Rattle.spool_core.specs.Standing.{IsFull};
@@ -143,9 +143,10 @@ pub fn drive<D: Disk>(alloc: Global, spool: &mut Spool<D>, events: Vec<Event>) -
     ensures sent { spool.old.dead ≡ false → (r : List ℕ) (documents : ℕ → List ℕ) → D.device.bytes spool.old.disk ≡ Some r → HasDocuments spool.old.state documents r →
         (c : List ℕ) → D.device.image spool.new.disk c → HasWholePrefix spool.old.state documents events.items (length result.replies.items) (reach result.ending (length result.replies.items)) c }
 
-    // A job that has ended stays as it is. A number that is over stays so, what is about it is refused, and it is not given
-    // again.
-    ensures ended { (j : ℕ) (job : Job) → HasEndedJob spool.old.state j job → job_at spool.new.state j ≡ Some job }
+    // A job that has ended stays as it is, or one of the events purged it. A number that is over stays so, what is about it is
+    // refused, and it is not given again.
+    ensures ended { (j : ℕ) (job : Job) → HasEndedJob spool.old.state j job →
+        IsKeptOrPurged spool.old.state (take (length result.replies.items) events.items) spool.new.state j job }
     ensures over { (j : ℕ) → HasOver spool.old.state j → HasOver spool.new.state j }
     ensures refused { (j : ℕ) (e : Event) → HasOver spool.old.state j → subject e ≡ Some j → refusal_of spool.new.state e ≡ Some (late_refusal (job_at spool.new.state j)) }
     ensures number { (j : ℕ) (n : NewJob) (by : Option ℕ) → HasOver spool.old.state j → n.job ≡ j → IsSome (refusal_of spool.new.state (creation n by)) }

@@ -6,14 +6,14 @@ ghost use Rattle.spool_types.specs.declared.event.Event.{Event};
 ghost use Rattle.spool_types.specs.declared.version.Version.{Version};
 ghost use Rattle.spool_types.specs.declared.event.NewJob.{NewJob};
 ghost use Rattle.job_table.specs.Attempts.{HasNoProcessing};
-ghost use Rattle.job_table.specs.Ended.{HasEndedJob, subject};
+ghost use Rattle.job_table.specs.Ended.{HasEndedJob, IsKeptOrPurged, subject};
 ghost use Rattle.job_table.specs.Over.{HasOver, late_refusal};
 ghost use Rattle.job_table.specs.Fold.{after_all};
 ghost use Rattle.job_table.specs.Legal.{IsLegal};
 ghost use Rattle.job_table.specs.Step.{creation, refusal_of};
 ghost use Rattle.spool_core.specs.Driving.{HasPrefixTable, HasWholePrefix, documents_after};
 ghost use Rattle.spool_core.specs.Image.{AreBytes, HasTable, HasDocument, HasDocuments, HasRoom, HasFault, IsMidway, IsReopenedFrom};
-ghost use Rattle.spool_core.specs.Lives.{Life, KeepsAcknowledged, after_lives, documents_after_lives, history_of, next_documents, next_table};
+ghost use Rattle.spool_core.specs.Lives.{Life, KeepsAcknowledged, after_lives, documents_after_lives, history_of, later_events, next_documents, next_table};
 ghost use Rattle.spool_areas.specs.declared.fault.OpenFault.{OpenFault};
 
 use job_table::{ended_jobs_stay, legal_tables_stay_legal, reopening};
@@ -62,10 +62,10 @@ pub fn lives_go_on()
     ensures legal { (v : Version) (lives : List Life) → IsLegal (after_lives (nothing_in v) lives) }
     ensures idle { (s : State) (l : Life) → IsLegal s → HasNoProcessing (next_table s l) }
 
-    // A job that has ended after the acknowledged events of a life stays so in all later lives, and so does a number that is
-    // over. It isn't started again, and its number isn't given again.
+    // A job that has ended after the acknowledged events of a life stays so in all later lives, or one of the events that the
+    // crashes left purged it. A number that is over stays so. It isn't started again, and its number isn't given again.
     ensures ended { (s : State) (l : Life) (lives : List Life) (j : ℕ) (job : Job) → KeepsAcknowledged l →
-        HasEndedJob (after_all s (take l.acknowledged l.events)) j job → job_at (after_lives s (l ∷ lives)) j ≡ Some job }
+        HasEndedJob (after_all s (take l.acknowledged l.events)) j job → IsKeptOrPurged (after_all s (take l.acknowledged l.events)) (later_events l lives) (after_lives s (l ∷ lives)) j job }
     ensures over { (s : State) (l : Life) (lives : List Life) (j : ℕ) → KeepsAcknowledged l →
         HasOver (after_all s (take l.acknowledged l.events)) j → HasOver (after_lives s (l ∷ lives)) j }
     ensures refused { (s : State) (l : Life) (lives : List Life) (more : List Event) (j : ℕ) (e : Event) → KeepsAcknowledged l →

@@ -54,12 +54,13 @@
 //!   the documents too: from an event's disk on what it sent isn't lost (`whole`). At the end every image has what the
 //!   acknowledged events sent (`sent`).
 //! - *ManyLives*: a spool that is driven, crashes and is opened again, any number of times, has the tables and the documents of
-//!   one list of events, and a job whose end was acknowledged has ended in all later lives ([`lives_go_on`]).
+//!   one list of events, and a job whose end was acknowledged has ended in all later lives, or was purged ([`lives_go_on`]).
 //! - *CrashSafeDrive*, at its end: every image has the table that is shown (`kept`), or after a fault that one or the one with
 //!   the event in hand (`after_fault`). [`replay`] is the same fold from the empty table on, with no disk.
-//! - *EndedStaysEnded*: a table changes by accepted events only (`answer`), and none changes a job that has ended
-//!   (`ended_jobs_stay` of `job_table`). [`drive`] says it of its events: such a job stays as it is (`ended`), and a number
-//!   that is over stays so (`over`). What is about it is refused (`refused`), and it is not given again (`number`).
+//! - *EndedStaysEnded*: a table changes by accepted events only (`answer`), and none but its purge changes a job that has ended
+//!   (`ended_jobs_stay` of `job_table`). [`drive`] says it of its events: such a job stays as it is, or one of them purged it
+//!   (`ended`), and a number that is over stays so (`over`). What is about it is refused (`refused`), and it is not given again
+//!   (`number`).
 //! - *QueuesApart* (`queues_stay_apart` of `job_table`): what [`replay`] leaves of a queue are the rows after the queue's own events,
 //!   and [`drive`] leads a queue's part of a table on to its part (`apart`).
 //! - *ExactRefusals*: each answer of `apply` comes with its cause, in the order of [`ApplyFault`] (`answer`). `open`

@@ -15,7 +15,8 @@ use super::row_changes::{
     set_stopped,
 };
 use spool_types::{
-    Event, Hold, JobId, JobRow, Moment, NewJob, NewQueue, Phase, Piece, QueueName, QueueNotes, Reply,
+    Event, Hold, JobId, JobRow, Moment, NewJob, NewQueue, Phase, Piece, QueueName, QueueNotes,
+    Reply,
 };
 
 impl Store {

@@ -5,16 +5,17 @@ use Rattle.std.proofs.Math.Logic.{⊎_elim}
 use Rattle.spool_types.specs.declared.event.Event.TheVariants.{Reopen}
 use Rattle.spool_types.specs.State.{State, job_at, nothing_in}
 use Rattle.job_table.specs.Attempts.{reopened}
+use Rattle.job_table.specs.Ended.{IsKeptOrPurged}
 use Rattle.job_table.specs.Fold.{after_all}
 use Rattle.job_table.specs.Legal.{IsLegal}
 use Rattle.job_table.specs.Over.{HasOver, late_refusal}
 use Rattle.job_table.specs.Step.{creation, refusal_of}
 use Rattle.spool_core.specs.Driving.{documents_after}
 use Rattle.spool_core.specs.Image.{HasTable, HasDocuments}
-use Rattle.spool_core.specs.Lives.{Life, next_table, history_of}
+use Rattle.spool_core.specs.Lives.{Life, next_table, history_of, later_events}
 use Rattle.spool_core.proofs.DocumentLaws.{documents_stay}
 use Rattle.spool_core.proofs.ImageLaws.{over_after}
-use Rattle.spool_core.proofs.LifeLaws.{one_history, one_history_sends, legal_found, later_events, after_acknowledged, further}
+use Rattle.spool_core.proofs.LifeLaws.{one_history, one_history_sends, legal_found, after_acknowledged, further}
 use Rattle.spool_core.proofs.laws.lives_go_on.Goals as goal
 
 pub returns-clause-opened : goal.returns-clause-opened
@@ -76,8 +77,8 @@ returns-clause-idle c s l legal =
 
 pub returns-clause-ended : goal.returns-clause-ended
 returns-clause-ended c s l lives j job keeps has =
-    ap (λ (t : State). job_at t j) (after_acknowledged s l lives keeps)
-    ∙ c.ended_jobs_stay.ensures.stays (after_all s (take l.acknowledged l.events)) j job (later_events l lives) has
+    subst (λ (t : State). IsKeptOrPurged (after_all s (take l.acknowledged l.events)) (later_events l lives) t j job) (sym (after_acknowledged s l lives keeps))
+    (c.ended_jobs_stay.ensures.stays (after_all s (take l.acknowledged l.events)) j job (later_events l lives) has)
 
 pub returns-clause-refused : goal.returns-clause-refused
 returns-clause-refused c s l lives more j e keeps has about =

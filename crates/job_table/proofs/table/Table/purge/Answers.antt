@@ -10,6 +10,7 @@ use Rattle.job_table.proofs.Held.{purged}
 use Rattle.job_table.proofs.Legal.{legal_after}
 use Rattle.job_table.proofs.Retimed.{left_dismissed, may_dismiss}
 use Rattle.job_table.proofs.Seats.{lanes_left}
+use Rattle.job_table.proofs.Timely.{no_more_timed}
 use Rattle.job_table.proofs.table.Table.purge.Goals as goal
 
 pub dismiss-requires : goal.dismiss-requires
@@ -28,5 +29,5 @@ invariant_of-self c =
       lanes = lanes_left s t c.self.inside.vacant c.self.inside.lanes.items c.self.invariant.lanes c.args.job c.purge.result.job leaves;
       timely = c.dismiss.ensures.timely (job_at s) (job_at t) c.args.job c.self.invariant.timely
           (subst (IsDismissed (job_at s) (job_at t) c.args.job) (sym c.is_timed-timed.ensures) (left_dismissed s t c.args.job c.purge.result.job leaves));
-      spare = omega (arith, c.self.invariant.timely.room, c.dismiss.ensures.timed, c.dismiss.ensures.room);
+      spare = (let fewer = no_more_timed c.is_timed-timed.result _ _ c.dismiss.ensures.timed in omega (arith, c.self.invariant.timely.room, fewer, c.dismiss.ensures.room));
     }
