@@ -4,8 +4,9 @@
 
 SHELL is the program, and crates/spool_shell/out/spool_shell (made by `rt run` in that folder) where none is given. It makes some
 real spools first: with events of each kind, listings in either area, documents, jobs that are processing, effects of children.
-Others are these as a program of version 1 would have written them. Then COUNT times (10,000) the bytes of one are changed, cut, swapped and repeated, as SEED says. Changes go by bytes, by fields and by
-whole records, so that many files hold what no spooler would write, but in the right form.
+Others are these as a program of version 1 would have written them. Then COUNT times (10,000) the bytes of one are changed, cut,
+swapped and repeated, as SEED says. Changes go by bytes, by fields and by whole records, so that many files hold what no spooler
+would write, but in the right form.
 
 The model of tests/spool_model.py, which was written from docs/PROMISES.md and the definitions that it names, says of each file
 which table it has, or its fault and the place. The shell has to tell that fault, answer nothing and leave the file as it was;
@@ -139,8 +140,10 @@ def real_spools(shell, folder):
 
 # ---- areas of version 1
 
-def without_moment(payload):
-    """An event or a row as version 1 has it: no job is to start by a moment."""
+def as_version_one_has_it(payload):
+    """An event or a row as version 1 has it, if it has it at all: no job is to start by a moment, and none is purged."""
+    if payload[:1] == b"\x10":
+        return None
     if payload[:1] == b"\x11":
         return b"\x05" + payload[1:-8]
     if payload[:1] == b"\x42":
@@ -152,7 +155,7 @@ def as_version_one(file, base):
     """The file with the area there as a program of version 1 would have written it."""
     half = len(file) // 2
     area = file[base:base + half]
-    payloads = list(map(without_moment, journal.payloads_of(area)))
+    payloads = [payload for payload in map(as_version_one_has_it, journal.payloads_of(area)) if payload]
     return file[:base] + journal.area(half, journal.epoch_of(area), payloads, version=1) + file[base + half:]
 
 
@@ -348,6 +351,7 @@ def event_added(file, chance):
         job, moment = chance.randrange(10), chance.choice([0, 500, 1_030, 5_000, model.GREATEST_MOMENT])
         event = chance.choice([
             journal.start(job), journal.start(job), journal.cancel(job), journal.release(job), journal.abandon(job), journal.hold(job),
+            journal.purge(job), journal.purge(job),
             journal.hold(job, moment), journal.clock(moment), journal.REOPEN, journal.send(job, b"more"), journal.close(job),
             journal.close(job, None), journal.set_stop("pit", chance.randrange(2)), journal.set_accept("lab", chance.randrange(2)),
             journal.stage(job, chance.randrange(1, 4), chance.randrange(1, 4), chance.choice([0, 1, 2, 3, 4, 5, 6, 7, 8, 255])),
@@ -371,6 +375,8 @@ def version_changed(file, chance):
                 payloads[at] = changed_moment(payload, kind == 0, chance)
             elif payload[:1] == b"\x11" and kind == 0:
                 payloads[at] = b"\x05" + payload[1:-8]
+        if kind == 0:
+            payloads[:] = [payload for payload in payloads if payload[:1] != b"\x10"]
 
     return rebuilt(file, chance, change, version=1 if kind == 0 else chance.choice(journal.VERSIONS))
 

@@ -4,7 +4,7 @@
 No clause can say that a call takes no memory. This runs the shell under valgrind's callgrind, once for each call of CALLS,
 which collects only from the call's begin to its end. Whoever allocates then is in what it collected. The run prints
 documents with real children, through a filter and a side channel, makes a checkpoint while a job waits with its document, lets the
-clock cancel jobs that were to start by a moment, and opens the spool again with a job in its second stage.
+clock cancel jobs that were to start by a moment, opens the spool again with a job in its second stage, and purges another one.
 
 PROGRAM is the shell as Rattle's own compiler builds it: crates/spool_shell/out/spool_shell.by-rattle, which `rt ci` makes, where
 none is given. Beside it spool_tools has to be there. That compiler puts fewer functions into their callers than LLVM does. Of
@@ -88,7 +88,7 @@ round
 clock 30
 jobs
 """
-SECOND = "jobs\ndrain 9\njobs\n"
+SECOND = "jobs\npurge 5\ndrain 9\njobs\n"
 
 
 def symbols_of(program):

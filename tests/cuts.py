@@ -92,6 +92,7 @@ clock 2000
 checkpoint
 close 3 c.x
 cancel 4
+purge 4
 drain 9
 """, """createby lab dora "Sixth" 1 99 "" 2500
 send 6 3

@@ -93,8 +93,9 @@ SECOND = [('create hall bo "Second" 2 60 ""\n', "ok job 2"), ("send 2 6\nothers\
           ("close 2 b.x\n", "ok type a/a stages 2")]
 ROUND = [("round\n", "ok started 2 finished 2")]
 TIMED = [('createby lab bo "Late" 1 50 "" 999\n', "ok job 2"), ("close 2 b.x\n", "ok type a/a stages 2")]
-HOLDS = [("hold 1 indefinite\n", "ok"), ("release 1\n", "ok"), ("clock 1000\n", "ok"), ("reject hall\n", "ok"), ("cancel 1\n", "ok")]
-NOT_YET = [('createby lab bo "Late" 1 50 "" 999\n', "error 17 NeedsCheckpoint")]
+HOLDS = [("hold 1 indefinite\n", "ok"), ("release 1\n", "ok"), ("clock 1000\n", "ok"), ("reject hall\n", "ok"), ("cancel 1\n", "ok"),
+         ("purge 1\n", "ok")]
+NOT_YET = [('createby lab bo "Late" 1 50 "" 999\n', "error 17 NeedsCheckpoint"), ("purge 1\n", "error 17 NeedsCheckpoint")]
 
 # The scenes: what was served before, and the commands in which calls fail, each with its reply.
 SCENES = {

@@ -10,7 +10,8 @@ A spool's file has two areas of the same length. An area is a header and records
     record   gate, length of the payload in 4 bytes, payload
 
 A gate is open where it is A5. The payload is an event or a row of a listing. The version is 2, or 1 in an area that an older
-program wrote: there a job has no moment by which it is to start, its row has no place for one, and no event brings one.
+program wrote: there a job has no moment by which it is to start, its row has no place for one, and no event brings one, or takes
+a job away.
 """
 import io
 from dataclasses import dataclass

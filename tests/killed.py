@@ -10,9 +10,10 @@ has to make or open the spool there, with what was answered.
 
 Several lives follow in the last of these folders, in half of the runs on a spool of version 1, which a checkpoint makes a newer
 one. A life gets one command at a time, and is killed after some reply, inside the text of a command, or with a command under
-way. One command in five is a checkpoint, and some jobs are to start by a moment, behind which a clock cancels them. The next
-life's `jobs` has to list exactly what was answered, and beside it at most the command that was under way. The documents of the
-jobs that haven't ended have to be on the disk, and the version has to be that of the table, which this script reads by itself.
+way. One command in five is a checkpoint, some jobs are to start by a moment, behind which a clock cancels them, and some that
+have ended are purged. The next life's `jobs` has to list exactly what was answered, and beside it at most the command that was
+under way. The documents of the jobs that haven't ended have to be on the disk, and the version has to be that of the table,
+which this script reads by itself.
 
 What has to be listed is told by a table of this script's own. The last line is `50 of 50`, with status 0, or the first
 difference, with status 1.
@@ -56,6 +57,7 @@ class Job:
         self.title = title
         self.by = by
         self.document = ""
+        # Its state and reason, or nothing once it was purged.
         self.shown = "4 job-incoming"
 
 
@@ -71,13 +73,15 @@ class Table:
     def listing(self):
         """What `jobs` answers."""
         lines = [
-            f'job {n} lab {job.shown} "ann" {len(job.document)} 0 "{job.title}"' for n, job in enumerate(self.jobs, 1)
+            f'job {n} lab {job.shown} "ann" {len(job.document)} 0 "{job.title}"'
+            for n, job in enumerate(self.jobs, 1)
+            if job.shown
         ]
         return lines + [f"ok {len(lines)}"]
 
     def documents(self):
         """The documents of the jobs that haven't ended."""
-        return {n: job.document for n, job in enumerate(self.jobs, 1) if not job.shown.startswith("7")}
+        return {n: job.document for n, job in enumerate(self.jobs, 1) if job.shown and not job.shown.startswith("7")}
 
     def after(self, command):
         """The table after a command, and the command's reply."""
@@ -96,7 +100,7 @@ class Table:
         if name == "queue":
             self.queues.append(words[0])
             return "ok"
-        if name == "createby" and self.version == 1:
+        if name in ("createby", "purge") and self.version == 1:
             return "error 17 NeedsCheckpoint"
         if name in ("create", "createby"):
             self.jobs.append(Job(*words))
@@ -108,7 +112,7 @@ class Table:
         if name == "close":
             job.shown = "3 none"
             return f"ok type {TYPE} stages 1"
-        job.shown = "7 canceled"
+        job.shown = "" if name == "purge" else "7 canceled"
         return "ok"
 
     def tell(self, moment):
@@ -135,7 +139,7 @@ def text_of(name, *words):
         return f"close {words[0]} page.txt\n"
     if name == "checkpoint":
         return "checkpoint\n"
-    return f"cancel {words[0]}\n"
+    return f"{name} {words[0]}\n"
 
 
 def next_command(table, chance):
@@ -155,6 +159,8 @@ def next_command(table, chance):
         return chance.choice([("send", number, document), ("close", number), ("cancel", number)])
     if shown == "3 none":
         return ("cancel", number)
+    if shown == "7 canceled" and chance.random() < 0.5:
+        return ("purge", number)
     return new_job(table, chance)
 
 

@@ -5,7 +5,7 @@ It runs SHELL, or else crates/spool_shell/out/spool_shell (made by `rt run` in t
 one folder. A word of digits is the seed.
 
 Each life gets commands at random: new jobs for four queues, one of each error policy, some of them to be started by a moment,
-rounds and drains with children of the system, cancels, clocks and checkpoints. The spool is one of version 1 at first, or of
+rounds and drains with children of the system, cancels, purges, clocks and checkpoints. The spool is one of version 1 at first, or of
 the newest one, as the seed says. A life is killed at a random moment, whatever is under way, and the next one opens what is left. Some jobs have two stages, a filter and a backend. A backend ends as its job and its attempt say: well, with a fault,
 or with a wish to be tried again.
 
@@ -16,7 +16,8 @@ syncs before it does anything else. So this script sees, when the children of a 
 - None was begun before the start of its attempt was in the spool's file: the copy has it.
 - No job whose end was answered, or was listed, begins again or is listed in another way.
 - No job begins an attempt behind a clock that was answered, if it waited and was to start by an earlier moment.
-- Every job that was answered is listed in all later lives, and no cancel that was answered is lost.
+- Every job that was answered is listed in all later lives, until it is purged, and no cancel that was answered is lost.
+- No job whose purge was answered is listed again.
 
 A kill leaves what the system holds, so it shows nothing of a power cut. The last line is `200 of 200`, with status 0, or the
 first difference, with status 1. The folder stays then, and is named. It takes some minutes.
@@ -181,6 +182,8 @@ class Story:
         self.chance = chance
         self.answered = 0  # the highest number that was answered
         self.canceled = set()
+        self.purged = set()  # those of which a purge was answered
+        self.purging = set()  # these, and those of which one was asked
         self.ended = {}  # with the count of begun stages when its end was seen
         self.shown = {}  # of those that were listed as ended, how
         self.moment = 0
@@ -196,13 +199,15 @@ class Story:
         shown = {int(line.split()[1]): tuple(line.split()[3:5]) for line in lines[:-1]}
         listed = {number: words[0] for number, words in shown.items()}
         for number in range(1, self.answered + 1):
-            if number not in listed:
+            if number not in listed and number not in self.purging:
                 raise Difference(f"job {number} was answered and isn't listed")
-        for number in self.canceled:
+        for number in self.purged & set(listed):
+            raise Difference(f"job {number} was purged and is in state {listed[number]}")
+        for number in self.canceled & set(listed):
             if listed[number] != "7":
                 raise Difference(f"job {number} was canceled and is in state {listed[number]}")
         for number, before in self.shown.items():
-            if shown[number] != before:
+            if shown.get(number, before) != before:
                 raise Difference(f"job {number} had ended as {before} and is listed as {shown[number]}")
         for number, state in listed.items():
             if state in "789":
@@ -235,9 +240,11 @@ class Story:
             return self.makes_a_job(life)
         if chance < 0.65:
             return bool(life.asks(self.chance.choice(("round\n", "round\n", "drain 3\n"))))
-        if chance < 0.75 and listed:
+        if chance < 0.73 and listed:
             return self.cancels(life, self.chance.choice(list(listed)))
-        if chance < 0.85:
+        if chance < 0.78 and listed:
+            return self.purges(life, self.chance.choice(list(listed)))
+        if chance < 0.86:
             return self.tells_the_time(life) and bool(life.asks("enable stops\n"))
         if chance < 0.92:
             return bool(life.asks("checkpoint\n"))
@@ -286,6 +293,18 @@ class Story:
             self.sees_end(number)
         return bool(replies)
 
+    def purges(self, life, number):
+        """One that isn't answered may have been done. Then the next one finds no job."""
+        was_asked = number in self.purging
+        self.purging.add(number)
+        replies = life.asks(f"purge {number}\n")
+        if replies == ["ok"] or was_asked and replies == ["error 5 NoJob"]:
+            self.purged.add(number)
+            self.sees_end(number)
+        elif replies:
+            self.purging.discard(number)
+        return bool(replies)
+
     def looks(self):
         """At what the children of the life have begun."""
         begun = self.folder.begun()
@@ -320,11 +339,12 @@ def main():
             story.live()
     except Difference as difference:
         sys.exit(f"life {turn + 1} of `lives.py {seed}` in {folder.path}: {difference}")
-    if story.looked < LEAST or not story.canceled or not story.late:
-        told = f"{len(story.canceled)} jobs, {story.late} of them for being late"
+    if story.looked < LEAST or not story.canceled or not story.late or not story.purged:
+        told = f"{len(story.canceled)} jobs, {story.late} of them for being late, and purged {len(story.purged)}"
         sys.exit(f"`lives.py {seed}` began {story.looked} stages and canceled {told}, which shows too little")
     shutil.rmtree(folder.path)
     print(f"{story.looked} stages of {story.answered} jobs, {len(story.ended)} of them ended, {story.late} for being late")
+    print(f"{len(story.purged)} of them were purged")
     print(f"{LIVES} of {LIVES}")
 
 

@@ -2,11 +2,11 @@
 """Stops a script at each call of its disk, and fails each call alone: stops.py [--scripts PROGRAM] [--shell PROGRAM]
 
 The script has two queues, four jobs with documents and options, of which one is to start by a moment and another one misses its
-own, a round, a checkpoint and a drain. It is served by crates/spool_scripts, over a disk and children in memory, once for each call
+own and is purged, a round, a checkpoint and a drain. It is served by crates/spool_scripts, over a disk and children in memory, once for each call
 of the disk: the disk fails from that call on, or at that call alone. Then the spool is opened again. It has the table after a prefix
 of the accepted events, which holds each one that was acknowledged, changed by a reopening, and its documents: jobs that can start
-are then ordered with them, and no stage that was ordered before is ordered again. Another form of it goes without moments, on a
-spool of version 1, which the checkpoint makes a newer one.
+are then ordered with them, and no stage that was ordered before is ordered again. Another form of it goes without moments and
+purges, on a spool of version 1, which the checkpoint makes a newer one.
 
 What the table after a prefix is listed as is told by the shell, on a file that tests/journal.py writes. An event takes four calls,
 of which the last is the sync behind its gate: where that one fails, the event is there and wasn't acknowledged. A document that is
@@ -23,7 +23,7 @@ import sys
 import tempfile
 from dataclasses import dataclass, replace
 
-from journal import NEWEST, Job, Queue, clock, close, image, send, stage, start
+from journal import NEWEST, Job, Queue, clock, close, image, purge, send, stage, start
 
 CRATES = os.path.join(os.path.dirname(os.path.abspath(__file__)), "..", "crates")
 SIZE = 4_096
@@ -97,17 +97,18 @@ STORY = (
     ('createby lab cyd "" 1 50 "" 1999', "ok job 4", [LATE.event()]),
     ("close 4 p", f"ok type {T} stages 1", [close(4, media=T)]),
     ("clock 2000", "ok", [clock(2_000)]),
+    ("purge 4", "ok", [purge(4)]),
     ("round", "ok started 2 finished 2",
      [start(2), start(1), READ, FILTER, LAB_FIRST, stage(2, 1, 1, 0), stage(1, 1, 1, 0)]),
     ("checkpoint", "ok", [CHECKPOINT]),
     ("drain 3", "ok rounds 2", [start(3), BACKEND, READ, LAB_THIRD, stage(2, 1, 2, 1), stage(3, 1, 1, 0)]),
 )
-# The same without moments, which version 1 takes.
+# The same without moments and without the purge, which version 1 takes.
 OLD_STORY = (
     *STORY[:5],
     ("create hall bob Two 2 80 \"nocollate note='a b'\"", "ok job 2", [replace(SECOND, by=None).event()]),
     *STORY[6:11],
-    *STORY[14:],
+    *STORY[15:],
 )
 STORIES = {NEWEST: STORY, 1: OLD_STORY}
 AFTER = "jobs\nqueues\nround\njobs\n"

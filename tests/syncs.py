@@ -78,7 +78,7 @@ def demand(holds, text):
 
 
 class Command:
-    """A command, its reply, whether it is an event, and how its job is listed from then on."""
+    """A command, its reply, whether it is an event, and how its job is listed from then on: with no row it is listed no more."""
 
     def __init__(self, text, reply, event=False, job=None):
         self.text = text + "\n"
@@ -117,6 +117,7 @@ def script(turn):
         event(f'createby {lab} ann "Third" 1 50 "" 999', f"ok job {third}", third, "4 job-incoming", 0, "Third"),
         event(f"close {third} page.txt", f"ok type {TYPE} stages 1", third, "3 none", 0, "Third"),
         event(f"clock {1000 + turn}", "ok", third, "7 canceled", 0, "Third"),
+        Command(f"purge {second}", "ok", event=True, job=(second, None)),
         event(f"reject {lab}"),
         event(f"accept {lab}"),
         event(f"disable {lab}"),
@@ -126,8 +127,9 @@ def script(turn):
 
 def listed(commands):
     """What `jobs` answers after these commands."""
-    rows = dict(command.job for command in commands if command.job)
-    return "\n".join([rows[number] for number in sorted(rows)] + [f"ok {len(rows)}"])
+    last = dict(command.job for command in commands if command.job)
+    rows = [last[number] for number in sorted(last) if last[number]]
+    return "\n".join(rows + [f"ok {len(rows)}"])
 
 
 def with_listings(before, commands):

@@ -11,7 +11,7 @@ jobs were processing. All of it is seen again:
   NeedsCheckpoint`.
 - Each job that hasn't ended is printed, with its document.
 - A checkpoint writes the area 0 in version 2, with the rows that the model says, and leaves the other one. Then `createby` makes a
-  job, which the clock cancels. All is there in further openings, and behind a further checkpoint.
+  job, which the clock cancels and `purge` takes away. All is there in further openings, and behind a further checkpoint.
 
 With `--old OLD`, a program of version 1, commands at random are given to both on copies of the spool: the replies and the files are
 the same. And OLD refuses the newer spool: `spool: damaged 0`, the place of the header that it doesn't know.
@@ -398,6 +398,9 @@ def goes_over(shell, folder, content, replies):
         same("the other jobs", [line.split()[:3] for line in found[:-2]], [line.split()[:3] for line in jobs[:-1]])
         same("the job that is late", found[-2:], ['job 19 aim 7 canceled "ann" 0 0 "By then"', "ok 19"])
         spool.says(("checkpoint", "ok"))
+    spool.says(("purge 19", "ok"))
+    left = spool.serve(b"jobs\n")[0]
+    same("the jobs without it", [line.split()[:3] for line in left[:-1]], [line.split()[:3] for line in jobs[:-1]])
     return newer, spool.content()
 
 
