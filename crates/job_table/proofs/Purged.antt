@@ -1,12 +1,12 @@
 -- A job that has ended is there as it was after all events, or was purged.
-use Rattle.std.proofs.Common.{◌≡◌, inl, inr, ◌⊎◌, ℕ, zero, suc, ◌≤◌, ◌<◌, List, [], ◌∷◌, length, Some, None, Option, refl, sym, ap, subst, ◌∙◌, arith}
+use Rattle.std.proofs.Common.{◌≡◌, inl, inr, ℕ, suc, ◌≤◌, List, [], ◌∷◌, Some, None, Option, refl, sym, ap, subst, ◌∙◌, arith}
 use Rattle.std.specs.List.{Contains}
 use Rattle.spool_types.specs.declared.effect.Effect.{Effect}
 use Rattle.spool_types.specs.declared.event.Event.{Event}
 use Rattle.spool_types.specs.declared.event.Event.TheVariants.{Purge}
 use Rattle.spool_types.specs.declared.refusal.Refusal.{Refusal}
 use Rattle.spool_types.specs.State.{State, Job, job_at}
-use Rattle.job_table.specs.Ended.{HasEndedJob, WasPurged, IsKeptOrPurged}
+use Rattle.job_table.specs.Ended.{HasEndedJob, IsKeptOrPurged}
 use Rattle.job_table.specs.Fold.{after_all, after_one, accepted, if_accepted, unless_refused}
 use Rattle.job_table.specs.Legal.{IsLegal}
 use Rattle.job_table.specs.Shapes.{WithoutJob, made}

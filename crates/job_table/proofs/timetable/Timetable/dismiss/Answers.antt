@@ -1,5 +1,5 @@
 -- a job fewer, and no deadline
-use Rattle.std.proofs.Common.{refl, arith}
+use Rattle.std.proofs.Common.{arith}
 use Rattle.job_table.proofs.Timely.{dismissed_free, dismissed_timed}
 use Rattle.job_table.proofs.timetable.Timetable.dismiss.Goals as goal
 
