@@ -6,8 +6,8 @@ It runs crates/spool_shell/out/spool_shell (made by `rt run` in that folder) wit
 
 - the time of an event, and its ratio to the floor: two writes and two syncs an event by a plain program (floor.c);
 - the same of the longest sends, each of 65,536 bytes, sixteen a document;
-- the time of a checkpoint as the table grows, and its ratio to the floor: a checkpoint appends each row as an event is
-  appended. Beside it stands the time in which the same bytes are written and synced at once.
+- the time of a checkpoint as the table grows, and its ratio to the floor of as many events as there are rows: a checkpoint
+  syncs three times, however many there are. Beside it stands the time in which the same bytes are written and synced at once.
 
 Times depend on the machine and its disk; only the ratios are of interest, and no test reads them.
 """

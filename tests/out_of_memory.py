@@ -87,8 +87,10 @@ CAPACITIES = {
     ("mime_costs", "walk_lines"): ["MOST_LINES"],
     ("row_effects", "make_room"): ["MOST_KEPT"],
     ("spool_core", "drive_all"): ["1"],
-    # 64 KiB, for as long as a checkpoint is prepared.
-    ("spool_core", "listing_frames"): ["LONGEST_SEND"],
+    # 576 KiB, for as long as a checkpoint lasts.
+    ("spool_core", "prepare"): ["BLOCK_ROOM"],
+    # In room that is there.
+    ("spool_core", "put_zeros"): ["block.len() + count"],
     ("spool_host", "reserve"): ["1"],
 }
 
@@ -127,6 +129,7 @@ CONSTANTS = {
     ("mime_rules", "GREATEST"): 1,
     ("side_channel", "SESSION_READS"): 1,
     ("spool_areas", "LAST_EPOCH"): 1,
+    ("spool_core", "BLOCK_ROOM"): 1,
     ("spool_host", "DEFAULT_SIZE"): 1,
     ("spool_host", "GREATEST_SIZE"): 1,
     ("spool_host", "MOST_BLOCKS"): 1,

@@ -107,16 +107,36 @@ module _ {D : Type 0} (v : DiskView D) (a b : Current D) (gate : ℕ) (block : L
     (moment : (x : Change D) (rows : List (List ℕ)) → x.other ≡ other_base a → x.len ≡ area_len a → Fills v x a.disk gate block rows → LeavesOnly v x.start b.disk (HasVersionAndPayloads x.base x.version x.payloads)) where
   pub step_on : {T : Type 0} (t : T) (next : ℕ) (left : List ℕ) → gate ≤ next → length left < block_len → b.dead ≡ false → v.failures b.disk ≡ v.failures a.disk → IsFillingOn v (filling a gate block) (filling b next left) (Ok t)
   step_on t next left behind few alive counted = record {
-    base = same.0; end = same.1; epoch = same.2; version = same.4; gate = same.3; changes = changes;
+    base = same.0;
+    end = same.1;
+    epoch = same.2;
+    version = same.4;
+    gate = same.3;
+    changes = changes;
     leaves = λ x rows is fills. moment x rows is.other is.len fills;
-    behind = behind; few = few; alive = alive; counted = counted; dead = tt; cause = tt;
+    behind = behind;
+    few = few;
+    alive = alive;
+    counted = counted;
+    dead = tt;
+    cause = tt;
   }
 
   pub step_failed : {T : Type 0} (e : AreaFault) (next : ℕ) (left : List ℕ) → b.dead ≡ true → v.failures a.disk < v.failures b.disk → IsFillingOn {T = T} v (filling a gate block) (filling b next left) (Err e)
   step_failed e next left dead cause = record {
-    base = same.0; end = same.1; epoch = same.2; version = same.4; gate = same.3; changes = changes;
+    base = same.0;
+    end = same.1;
+    epoch = same.2;
+    version = same.4;
+    gate = same.3;
+    changes = changes;
     leaves = λ x rows is fills. moment x rows is.other is.len fills;
-    behind = tt; few = tt; alive = tt; counted = tt; dead = dead; cause = cause;
+    behind = tt;
+    few = tt;
+    alive = tt;
+    counted = tt;
+    dead = dead;
+    cause = cause;
   }
 
 -- ## One step after another

@@ -128,9 +128,6 @@ module _ {D : Type 0} (v : DiskView D) (a : Current D) (ends : a.end ≡ a.base 
     pub alive_planned : a.dead ≡ false
     alive_planned = all_passed.0
 
-    pub first_is : first ≡ other_base a + header_len
-    first_is = all_passed.3
-
     -- rows for which there is a plan have room
     pub listing_fits : holds_listing (half (v.size a.disk)) s ≡ true
     listing_fits = sym (room_is listed_lengths) ∙ all_passed.2

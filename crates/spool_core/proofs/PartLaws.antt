@@ -75,10 +75,6 @@ pub record IsPartAdded {D : Type 0} (v : DiskView D) (document : List Extent) (r
   pub room : (j : ℕ) → (¬ (row.id ≡ j)) → move_room noted j ≡ move_room before j
   pub room_left : document_len row - done ≤ move_room noted row.id * longest_send
 
--- how long the document of the row that was found is
-pub row_len : (found : JobRowOf) (row : Job) (at : Option Job) (len : ℕ) → Some (job_of found) ≡ at → at ≡ Some row → len ≡ document_len (job_of found) → len ≡ document_len row
-row_len found row at len is there own = own ∙ ap document_len (some_same (job_of found) row (is ∙ there))
-
 -- the job whose document is due
 pub due_row : {D : Type 0} (v : DiskView D) (table : Contents) (job : ℕ) (f : Filling D) (due : IsDue v table job f) (r : Job) → job_at table.state job ≡ Some r → due.row ≡ r
 due_row v table job f due r there = some_same due.row r (sym due.there ∙ there)

@@ -84,11 +84,13 @@
 //! whether the event is on it: the table stays as it was, and the spool is dead, since what it would append next might
 //! follow an event that it doesn't know.
 //!
-//! `checkpoint` first takes all its memory: for new places of the documents, and for the frames of the table's rows, with
-//! zeros in the stead of the documents' bytes. Then it reads these into the frames, notes where each will lie, and hands all
-//! frames to the areas, which put them into the other one and then change over. So all rows are in memory meanwhile, with
-//! every document. Until the header there is opened a crash leaves the events that led to the table, and from then on its
-//! rows, with room for a reopening behind them. Once it is open the table has its documents in the new places.
+//! `checkpoint` first takes all its memory: for new places of the documents, and for one block of rows. It adds up how long all
+//! records are, and looks whether they fit. Then it fills the other area: it spells the table's rows into the block, one behind
+//! the other, reads the documents' bytes into their pieces, notes where each will lie, and has the block written each time that
+//! it is long enough. A sync stands behind the last row alone: until the header there is opened no image counts what lies in
+//! that area, so a crash leaves the events that led to the table, and from then on its rows, with room for a reopening behind
+//! them. Meanwhile the documents are read from the current area, which stays. Once the header is open the table has its
+//! documents in the new places.
 //!
 //! `open` first makes the table and writes nothing: it syncs, so that a crash leaves what it reads. It takes each row as the
 //! next one of a listing (`Loading` of `job_table`), and from the first event on commits each to the table that was listed,

@@ -213,7 +213,13 @@ fn add_piece<D: Disk>(
     ensures noted { OnOk result (IsPieceNoted job count (next_place (filling_at areas.old filler.old)) table.old.moves table.new.moves) }
 {
     let start = put_piece(&mut filler.block, job, count);
-    match read_piece(areas, table, job, at, &mut filler.block[start + PIECE_HEAD..]) {
+    match read_piece(
+        areas,
+        table,
+        job,
+        at,
+        &mut filler.block[start + PIECE_HEAD..],
+    ) {
         Ok(()) => {}
         Err(_) => return Err(AreaFault::Disk),
     }

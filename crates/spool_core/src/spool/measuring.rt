@@ -34,11 +34,7 @@ pub(super) fn listing_len(table: &Table, block: &mut Vec<u8>) -> Result<u64, All
 }
 
 // That sum, with the records of queues.
-fn queues_len(
-    before: u64,
-    queues: &[QueueRow],
-    block: &mut Vec<u8>,
-) -> Result<u64, AllocError>
+fn queues_len(before: u64, queues: &[QueueRow], block: &mut Vec<u8>) -> Result<u64, AllocError>
     ensures sum { IfOk result (λ sum. IsSumMore (map (λ q. RowOf.Queue q) queues.now) before sum) }
     ensures spare { vec_capacity block.old ≤ vec_capacity block.new }
 {
