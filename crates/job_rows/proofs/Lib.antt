@@ -1,3 +1,0 @@
-pub mod Rising
-pub mod Holding
-pub mod Ending

@@ -1,4 +1,0 @@
-pub mod Places
-pub mod Rows
-pub mod Slots
-pub mod Kept
