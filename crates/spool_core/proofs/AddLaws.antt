@@ -1,7 +1,7 @@
 -- Rows that are added one after another.
 use Rattle.spool_types.specs.declared.version.Version.TheVariants.{Two}
 use Rattle.std.proofs.Common.{◌≡◌, ⊎_elim, ℕ, ◌+◌, ◌-◌, ◌<◌, ◌≤◌, ◌^◌, Bool, true, false, List, [], ◌∷◌, ◌++◌, length, take, drop, map, get_or, Option, None, Some, Ok, Err, Result, refl, sym, subst, ap, ◌∙◌, arith, append_assoc, length-append}
-use Rattle.std.specs.Prelude.{◌≢◌, ◌⊎◌, OnOk, OnErr, IsErrOf, IsErrAnd, IsTrue, vec_len, vec_capacity}
+use Rattle.std.specs.Prelude.{◌≢◌, ◌⊎◌, IsErrOf, IsErrAnd, IsTrue, vec_len, vec_capacity}
 use Rattle.std.proofs.lemmas.Result.{err_from_is_err_and}
 use Rattle.std.proofs.lemmas.List.{map-append, append-nil, take_at, drop_at}
 use Rattle.std.specs.List.{AllByRecursion}
@@ -16,8 +16,6 @@ use Rattle.gate_journal.proofs.Places.{records-append}
 use Rattle.spool_areas.specs.Checkpoint.{area_len, other_base, other_of}
 use Rattle.spool_areas.specs.Current.{Current}
 use Rattle.spool_areas.specs.Filling.{Change, Fills, block_len}
-use Rattle.spool_areas.specs.Header.{header_len}
-use Rattle.spool_areas.specs.Seen.{IsArea}
 use Rattle.spool_areas.specs.Payloads.{HasVersionAndPayloads}
 use Rattle.spool_areas.specs.declared.fault.AreaFault.{AreaFault}
 use Rattle.spool_areas.specs.declared.fault.AreaFault.TheVariants as areas
@@ -29,7 +27,7 @@ use Rattle.job_table.specs.Over.{is_over}
 use Rattle.spool_types.specs.State.{State}
 use Rattle.documents.specs.Documents.{LieIn}
 use Rattle.spool_core.specs.Seen.{DocumentsLieIn}
-use Rattle.spool_core.specs.Filling.{block_room, Filling, filling, next_place, records_len, free_head, IsPut, IsChangeOf, MayFill, IsFillingOn, AddsRows, TellsBut, IsReadOn}
+use Rattle.spool_core.specs.Filling.{block_room, Filling, filling, records_len, free_head, IsPut, IsChangeOf, MayFill, IsFillingOn, AddsRows, TellsBut, IsReadOn}
 use Rattle.spool_core.proofs.ImageLaws.{area_on}
 use Rattle.spool_types.specs.declared.rows.QueueRow.{QueueRow}
 use Rattle.spool_types.specs.declared.listing.Row.TheVariants.{Queue}

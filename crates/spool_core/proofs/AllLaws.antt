@@ -1,7 +1,7 @@
 -- The rows of all documents, job by job.
 use Rattle.spool_types.specs.declared.version.Version.TheVariants.{Two}
-use Rattle.std.proofs.Common.{◌≡◌, ◌≢◌, ℕ, ◌+◌, ◌*◌, ◌^◌, ◌<◌, ◌≤◌, List, [], ◌∷◌, ◌++◌, length, take, drop, map, get_or, Option, Some, IsSome, Ok, false, replicate, unwrap_or, refl, sym, subst, ap, ◌∙◌, arith, append_assoc, length-append}
-use Rattle.std.proofs.lemmas.List.{map-append, append-nil, drop_more, take_more, take_all, drop_all, take-append-drop, length-replicate}
+use Rattle.std.proofs.Common.{◌≡◌, ◌≢◌, ℕ, ◌+◌, ◌*◌, ◌<◌, ◌≤◌, List, [], ◌∷◌, ◌++◌, length, take, drop, map, get_or, Some, IsSome, Ok, replicate, unwrap_or, refl, sym, subst, ap, ◌∙◌, arith, append_assoc, length-append}
+use Rattle.std.proofs.lemmas.List.{append-nil, drop_more, take_more, take_all, take-append-drop, length-replicate}
 use Rattle.std.proofs.lemmas.List.Concat.{flat_map-append}
 use Rattle.std.specs.FinMap as finite
 use Rattle.std.specs.Ordering.{nat_cmp}
@@ -26,7 +26,6 @@ use Rattle.spool_core.specs.Filling.{Filling, next_place, records_len, rows_of, 
 use Rattle.spool_core.specs.Seen.{DocumentsLieIn}
 use Rattle.spool_core.specs.Standing.{len_found}
 use Rattle.spool_core.proofs.AddLaws.{records_more, may_more, may_first, may_as, tells_on, then_adds, none_adds}
-use Rattle.spool_core.proofs.ListingLaws.{all_at}
 use Rattle.spool_core.proofs.Numbers.{AreApart, AreFound, apart_behind, all_behind, all_by}
 use Rattle.spool_core.proofs.PartLaws.{alike_itself, alike_records, alike_then}
 

@@ -1,6 +1,6 @@
 -- What a checkpoint answers, and what it leaves.
 use Rattle.spool_types.specs.declared.version.Version.TheVariants.{Two}
-use Rattle.std.proofs.Common.{◌≡◌, inl, inr, ⊎_elim, ℕ, ◌+◌, ◌-◌, ◌^◌, ◌<◌, ◌≤◌, Bool, true, false, ◌&&◌, ◌==◌, List, [], ◌∷◌, ◌++◌, Ok, Err, Result, length, map, refl, sym, subst, ap, ◌∙◌, arith, length-append}
+use Rattle.std.proofs.Common.{◌≡◌, inl, inr, ⊎_elim, ℕ, ◌+◌, ◌-◌, ◌≤◌, Bool, true, false, ◌&&◌, ◌==◌, List, [], ◌∷◌, ◌++◌, Ok, Err, Result, length, map, refl, sym, subst, ap, ◌∙◌, arith, length-append}
 use Rattle.std.specs.Prelude.{if◌then◌else◌, nat_le, IsErrOf}
 use Rattle.std.proofs.lemmas.Bool.{and_parts, leb-true}
 use Rattle.std.proofs.lemmas.Bool.Decides.{nat_tests}
@@ -19,7 +19,7 @@ use Rattle.spool_areas.specs.Current.{Current}
 use Rattle.spool_areas.specs.Checkpoint.{last_epoch, area_len, other_base, has_room, plan_of}
 use Rattle.spool_areas.specs.Seen.{IsArea}
 use Rattle.spool_areas.proofs.Plans.{two_of}
-use Rattle.job_table.specs.Listing.{head_of, listing}
+use Rattle.job_table.specs.Listing.{head_of}
 use Rattle.event_codec.specs.RowSpelling.{row_spelling}
 use Rattle.spool_core.specs.Seen.{standing_at}
 use Rattle.spool_core.specs.Checkpointing.{blank, listed_payloads, holds_listing, MayList, IsCheckpoint, fault_for}

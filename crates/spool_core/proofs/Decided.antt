@@ -1,5 +1,5 @@
 -- Which row may come next is decided by the rows so far, and so is whether a job is processing.
-use Rattle.std.proofs.Common.{◌≡◌, ◌⊎◌, ◌<◌, ◌≤◌, ◌+◌, ◌-◌, inl, inr, ℕ, Bool, true, false, cond, List, [], ◌∷◌, ◌++◌, Option, None, Some, IsSome, length, map, min, refl, sym, ap, subst, ◌∙◌, append_assoc, arith}
+use Rattle.std.proofs.Common.{◌≡◌, ◌⊎◌, ◌<◌, ◌≤◌, ◌+◌, ◌-◌, inl, inr, ℕ, Bool, true, false, cond, List, [], ◌∷◌, ◌++◌, Option, None, Some, IsSome, length, min, refl, sym, ap, subst, ◌∙◌, append_assoc, arith}
 use Rattle.std.specs.Prelude.{T}
 use Rattle.std.specs.List.{AllByRecursion}
 use Rattle.std.proofs.lemmas.Bool.{cases_eq, cases_lt}
@@ -26,7 +26,7 @@ use Rattle.row_effects.specs.Reasons.{word_of}
 use Rattle.row_effects.specs.Attributes.{name_of}
 use Rattle.job_table.specs.Attempts.{HasNoProcessing}
 use Rattle.job_table.specs.Legal.{Fits, IsUntyped, IsStartable, IsStarted}
-use Rattle.job_table.specs.Loading.{Part, Progress, IsWhole, IsAbove, IsNextHead, IsNewQueue, IsNextQueue, IsNewJob, IsNextJob, IsNextPiece, IsPieceOf, IsPlaced}
+use Rattle.job_table.specs.Loading.{Part, Progress, IsWhole, IsAbove, IsNextHead, IsNewQueue, IsNextQueue, IsNewJob, IsNextJob, IsPieceOf, IsPlaced}
 use Rattle.job_table.proofs.Above.{above_front, found_there}
 use Rattle.job_table.proofs.Changes.{some_same}
 

@@ -1,7 +1,7 @@
 -- Each image has a table or a fault.
 use Rattle.std.proofs.Common.{◌≡◌, ◌⊎◌, ◌<◌, ◌≤◌, ◌+◌, ◌-◌, ◌^◌, inl, inr, ⊎_elim, ℕ, zero, suc, Bool, true, false, List, [], ◌∷◌, ◌++◌, Option, None, Some, Result, Ok, Err, length, get_or, take, drop, refl, sym, ap, subst, ◌∙◌, arith}
 use Rattle.std.specs.Prelude.{⊤, if◌then◌else◌, ◌&&◌, not, ◌==◌, nat_lt, slice_range}
-use Rattle.std.specs.Int.{w32, to_be_bytes, from_be_bytes}
+use Rattle.std.specs.Int.{w32, to_be_bytes}
 use Rattle.std.proofs.lemmas.Bool.{cases_lt}
 use Rattle.std.proofs.lemmas.Bool.Decides.{Decides-ltb}
 use Rattle.std.proofs.lemmas.List.{length-drop, length-take-le}
@@ -19,13 +19,12 @@ use Rattle.event_codec.specs.RowReading.{row_reading}
 use Rattle.event_codec.proofs.FieldLaws.{IsBytes, IsBytes-take, IsBytes-drop, wide32}
 use Rattle.event_codec.proofs.EventLaws.{reading_takes, reading_again}
 use Rattle.event_codec.proofs.RowLaws.{is_found_row, row_reading_again}
-use Rattle.gate_journal.specs.Entries.{HasEntries, HasFirst}
-use Rattle.gate_journal.specs.Found.{length_at, entry_at, GoesOn}
+use Rattle.gate_journal.specs.Entries.{HasFirst}
+use Rattle.gate_journal.specs.Found.{length_at, entry_at}
 use Rattle.gate_journal.specs.Appends.{kept_room}
 use Rattle.gate_journal.specs.declared.entry.Found.{Found}
 use Rattle.gate_journal.specs.declared.entry.Found.TheVariants.{Entry, End, Damaged as Torn}
 use Rattle.gate_journal.proofs.Reading.{goes_on}
-use Rattle.job_table.specs.Attempts.{HasNoProcessing}
 use Rattle.job_table.specs.Fold.{after_all}
 use Rattle.job_table.specs.Loading.{Progress, IsWhole, IsPlaced, begin_loading, loaded}
 use Rattle.job_table.specs.Step.{refusal_of}

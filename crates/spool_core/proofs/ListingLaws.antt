@@ -1,14 +1,12 @@
 -- The rows of a table's listing.
-use Rattle.spool_types.specs.declared.version.Version.TheVariants.{Two}
-use Rattle.std.proofs.Common.{◌≡◌, ⊎_elim, ℕ, zero, suc, ◌+◌, ◌-◌, ◌*◌, ◌/◌, ◌%◌, ◌^◌, ◌<◌, ◌≤◌, true, List, [], ◌∷◌, ◌++◌, length, get_or, take, drop, map, min, replicate, refl, sym, subst, ap, ◌∙◌, arith, append_assoc, length-drop}
+use Rattle.std.proofs.Common.{◌≡◌, ⊎_elim, ℕ, zero, suc, ◌+◌, ◌-◌, ◌*◌, ◌/◌, ◌%◌, ◌<◌, ◌≤◌, true, List, [], ◌∷◌, ◌++◌, length, get_or, take, drop, map, min, refl, sym, subst, ap, ◌∙◌, arith, length-drop}
 use Rattle.std.specs.Prelude.{Result, Ok, Err, IfOk, OnOk, OnErr}
 use Rattle.std.specs.List.{flat_map, list_all, AllByRecursion}
 use Rattle.std.specs.Ordering.{nat_cmp, is_lt}
 use Rattle.std.specs.Cmp.Lexicographic.{slice_cmp}
 use Rattle.std.proofs.lemmas.Bool.{and_parts, cases_lt}
-use Rattle.std.proofs.lemmas.Grind.{common_steps}
 use Rattle.std.proofs.lemmas.List.Concat.{flat_map-append}
-use Rattle.std.proofs.lemmas.List.{map-append, append-nil, take_more, drop_more, take-append-drop, take_all, take-replicate, drop-replicate, length-replicate}
+use Rattle.std.proofs.lemmas.List.{map-append, append-nil, take_more, drop_more, take-append-drop, take_all}
 use Rattle.std.proofs.lemmas.Nat.{div-mul-add, div-add-mod'}
 use Rattle.std.proofs.Math.Nat.{mod-lt}
 use Rattle.spool_types.specs.Limits.{longest_send}
@@ -17,7 +15,7 @@ use Rattle.spool_types.specs.declared.phase.Phase.{Phase}
 use Rattle.spool_types.specs.declared.phase.Phase.TheVariants.{Incoming, Waiting, Processing, Completed, Canceled, Aborted}
 use Rattle.spool_types.specs.declared.rows.QueueRow.{QueueRow}
 use Rattle.spool_types.specs.declared.listing.Row.{Row}
-use Rattle.spool_types.specs.declared.listing.Row.TheVariants.{Queue, Job as JobRow, Piece}
+use Rattle.spool_types.specs.declared.listing.Row.TheVariants.{Queue, Job as JobRow}
 use Rattle.row_effects.specs.Fold.{IsInOrder}
 use Rattle.row_effects.specs.Keys.{is_ascending}
 use Rattle.row_effects.specs.Reasons.{word_of}
@@ -25,7 +23,7 @@ use Rattle.row_effects.specs.Attributes.{name_of}
 use Rattle.job_table.specs.Legal.{Fits}
 use Rattle.job_table.specs.Listing.{parts, pieces, job_rows}
 use Rattle.job_table.specs.Loading.{Progress, ArePlaced, loaded, loaded_all}
-use Rattle.event_codec.specs.RowSpelling.{Ascend, IsOrderedQueue, IsPhaseOf, IsLegalRow, IsRowSpellable, row_spelling}
+use Rattle.event_codec.specs.RowSpelling.{Ascend, IsOrderedQueue, IsPhaseOf, IsLegalRow}
 use Rattle.spool_core.specs.Checkpointing.{MayBeListed}
 use Rattle.spool_core.specs.Filling.{rows_of}
 

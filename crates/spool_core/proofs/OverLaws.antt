@@ -1,17 +1,16 @@
 -- A listing that is put into the other area, and what it leaves.
 use Rattle.spool_types.specs.declared.version.Version.TheVariants.{Two}
-use Rattle.std.proofs.Common.{◌≡◌, ◌⊎◌, inl, inr, true, false, ℕ, ◌+◌, ◌-◌, ◌<◌, ◌≤◌, List, [], ◌++◌, Some, Ok, Err, Result, length, map, refl, sym, subst, ap, ◌∙◌, arith}
+use Rattle.std.proofs.Common.{◌≡◌, ◌⊎◌, inl, inr, true, false, ℕ, ◌+◌, ◌-◌, ◌<◌, ◌≤◌, List, [], Some, Ok, Err, Result, length, map, refl, sym, subst, ap, ◌∙◌, arith}
 use Rattle.std.specs.Prelude.{◌≢◌, ◌↔◌, OnOk, OnErr, IsErrAnd, IsErrOf, IsTrue}
 use Rattle.std.proofs.lemmas.Result.{err_from_is_err_and}
 use Rattle.std.proofs.lemmas.List.{append-nil}
 use Rattle.spool_types.specs.declared.listing.Row.{Row}
 use Rattle.spool_disk.specs.Disk.{DiskView, IsLawful, IsSynced, LeavesOnly, ChangesOnly, Blames}
 use Rattle.spool_disk.proofs.Moments.{then_changes}
-use Rattle.gate_journal.specs.Entries.{records}
 use Rattle.gate_journal.specs.Appends.{kept_room}
-use Rattle.spool_areas.specs.Checkpoint.{area_len, other_base, other_of, plan_of, ChangesOver, IsChanged}
+use Rattle.spool_areas.specs.Checkpoint.{area_len, other_base, other_of, ChangesOver}
 use Rattle.spool_areas.specs.Current.{Current, KeepsPayloads}
-use Rattle.spool_areas.specs.Filling.{Change, Fills, change_at, block_len}
+use Rattle.spool_areas.specs.Filling.{Change, Fills, change_at}
 use Rattle.spool_areas.specs.Header.{newest_version}
 use Rattle.spool_areas.specs.Payloads.{HasVersionAndPayloads}
 use Rattle.spool_areas.specs.Seen.{IsArea}
@@ -19,7 +18,7 @@ use Rattle.spool_areas.specs.declared.fault.AreaFault.{AreaFault}
 use Rattle.spool_areas.specs.declared.fault.AreaFault.TheVariants as areas
 use Rattle.event_codec.specs.RowSpelling.{row_spelling}
 use Rattle.job_table.specs.Contents.{Contents}
-use Rattle.spool_core.specs.Filling.{Filling, filling, next_place, records_len, IsChangeOf, MayFill, IsFillingOn, AddsRows, IsListing, IsListingAdded, HasListing, LeavesListing, LeavesOld, IsFilledOver}
+use Rattle.spool_core.specs.Filling.{Filling, filling, records_len, IsChangeOf, MayFill, IsFillingOn, IsListing, IsListingAdded, LeavesListing, LeavesOld, IsFilledOver}
 use Rattle.spool_core.proofs.AddLaws.{change_on, fault_disk, lives_on, may_as, may_more, tells_all, tells_by}
 use Rattle.spool_core.proofs.ImageLaws.{area_on}
 

@@ -1,6 +1,6 @@
 -- The rows of a document, piece by piece.
 use Rattle.spool_types.specs.declared.version.Version.TheVariants.{Two}
-use Rattle.std.proofs.Common.{◌≡◌, ℕ, suc, ◌+◌, ◌-◌, ◌*◌, ◌==◌, if◌then◌else◌, Bool, true, cond, ◌<◌, ◌≤◌, List, [], ◌∷◌, ◌++◌, length, take, drop, map, min, Option, Some, IsSome, Ok, false, replicate, refl, sym, subst, ap, ◌∙◌, arith, append_assoc, length-append, length-drop}
+use Rattle.std.proofs.Common.{◌≡◌, ℕ, ◌+◌, ◌-◌, ◌*◌, ◌==◌, if◌then◌else◌, Bool, true, cond, ◌<◌, ◌≤◌, List, [], ◌∷◌, ◌++◌, length, take, drop, map, min, Option, Some, IsSome, Ok, false, replicate, refl, sym, subst, ap, ◌∙◌, arith, append_assoc, length-append, length-drop}
 use Rattle.std.proofs.lemmas.List.{map-append, append-nil, take-replicate, drop-replicate, drop-drop, drop_all, length-replicate}
 use Rattle.std.proofs.lemmas.Bool.Decides.{nat_tests}
 use Rattle.std.specs.Ordering.{nat_cmp}
@@ -9,8 +9,7 @@ use Rattle.extents.specs.declared.extent.Extent.{Extent}
 use Rattle.spool_types.specs.Limits.{longest_send}
 use Rattle.spool_types.specs.Sent.{piece_of, placed_to}
 use Rattle.spool_types.specs.Phases.{has_ended}
-use Rattle.spool_types.specs.State.{State, Job, job_of, job_at}
-use Rattle.spool_types.specs.declared.rows.JobRow.{JobRow as JobRowOf}
+use Rattle.spool_types.specs.State.{State, Job, job_at}
 use Rattle.spool_types.specs.declared.listing.Row.{Row}
 use Rattle.spool_types.specs.declared.listing.Row.TheVariants.{Job as JobRow, Piece}
 use Rattle.spool_disk.specs.Disk.{DiskView, IsLawful}

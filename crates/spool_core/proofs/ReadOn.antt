@@ -1,5 +1,5 @@
 -- What is read of a document.
-use Rattle.std.proofs.Common.{◌≡◌, ◌⊎◌, inl, inr, ⊎_elim, ◌+◌, ◌-◌, ◌≤◌, ℕ, Bool, List, [], length, take, drop, Some, false, true, refl, sym, ap, ◌∙◌, arith}
+use Rattle.std.proofs.Common.{◌≡◌, ◌⊎◌, inl, inr, ⊎_elim, ◌+◌, ◌≤◌, ℕ, Bool, List, [], length, Some, false, true, refl, sym, ap, ◌∙◌, arith}
 use Rattle.spool_disk.specs.Disk.{DiskView, IsLawful}
 use Rattle.extents.specs.declared.extent.Extent.{Extent}
 use Rattle.extents.specs.Extents.{size_of}

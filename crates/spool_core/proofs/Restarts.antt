@@ -1,5 +1,5 @@
 -- What an opening leaves where a job was processing.
-use Rattle.std.proofs.Common.{◌≡◌, ℕ, List, Some, Err, arith, inl, inr, refl, sym, subst, ◌∙◌, ◌⊎◌}
+use Rattle.std.proofs.Common.{◌≡◌, ℕ, List, Some, Err, arith, inl, refl, sym, subst, ◌∙◌}
 use Rattle.std.specs.Prelude.{IsSome, IsErrOf}
 use Rattle.job_table.specs.Attempts.{HasNoProcessing}
 use Rattle.spool_types.specs.State.{State}

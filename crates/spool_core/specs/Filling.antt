@@ -1,5 +1,5 @@
 -- Filling the other area with the rows of a listing, and noting where the documents will lie.
-use Rattle.std.specs.Prelude.{◌≡◌, ◌<◌, ◌≤◌, ℕ, ◌+◌, ◌-◌, ◌*◌, ◌^◌, ◌⊎◌, List, [], ◌∷◌, ◌++◌, length, map, take, drop, true, false, if◌then◌else◌, ◌==◌, Option, Some, IsSome, Result, OnOk, OnErr, vec_capacity}
+use Rattle.std.specs.Prelude.{◌≡◌, ◌<◌, ◌≤◌, ℕ, ◌+◌, ◌-◌, ◌*◌, ◌^◌, ◌⊎◌, List, [], ◌∷◌, ◌++◌, length, map, take, drop, true, false, if◌then◌else◌, ◌==◌, Some, IsSome, Result, OnOk, OnErr, vec_capacity}
 use Rattle.std.specs.Ordering.{nat_cmp}
 use Rattle.std.specs.FinMap.{find}
 use Rattle.std.specs.FinMap as finite

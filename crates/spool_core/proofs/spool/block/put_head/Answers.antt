@@ -1,4 +1,4 @@
-use Rattle.std.proofs.Common.{◌∙◌, sym, arith}
+use Rattle.std.proofs.Common.{arith}
 use Rattle.spool_types.specs.declared.listing.Row.TheVariants.{Head}
 use Rattle.spool_core.proofs.FillLaws.{is_put}
 use Rattle.spool_core.proofs.spool.block.put_head.Goals as goal

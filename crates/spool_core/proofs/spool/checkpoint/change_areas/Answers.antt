@@ -1,4 +1,4 @@
-use Rattle.std.proofs.Common.{◌≡◌, ◌∙◌, ◌+◌, ◌≤◌, List, ℕ, length, map, sym, subst, ap, refl, arith, Ok, Err}
+use Rattle.std.proofs.Common.{◌≡◌, ◌∙◌, ◌+◌, length, map, sym, subst, ap, refl, arith, Ok, Err}
 use Rattle.std.specs.Prelude.{IsSome}
 use Rattle.spool_types.specs.State.{State, job_at}
 use Rattle.spool_disk.specs.Disk.{LeavesOnly}

@@ -1,4 +1,4 @@
-use Rattle.std.proofs.Common.{◌≡◌, ◌∙◌, ◌+◌, ◌-◌, ◌<◌, ◌≤◌, ◌∷◌, ◌*◌, [], ℕ, List, length, map, min, replicate, false, cond, Ok, Err, Some, refl, sym, subst, ap, arith}
+use Rattle.std.proofs.Common.{◌≡◌, ◌∙◌, ◌+◌, ◌-◌, ◌<◌, ◌≤◌, ◌∷◌, ◌*◌, [], ℕ, List, length, map, min, replicate, cond, Ok, Err, refl, sym, subst, ap, arith}
 use Rattle.extents.specs.declared.extent.Extent.{Extent}
 use Rattle.spool_types.specs.Limits.{longest_send}
 use Rattle.spool_types.specs.Phases.{has_ended}
@@ -7,8 +7,8 @@ use Rattle.spool_types.specs.declared.listing.Row.TheVariants.{Job as JobRow, Pi
 use Rattle.job_table.specs.Contents.{move_room, places_at, places_of}
 use Rattle.job_table.specs.Documents.{document_len}
 use Rattle.job_table.specs.Listing.{pieces}
-use Rattle.job_table.specs.Over.{is_over, is_over_by}
-use Rattle.documents.specs.Documents.{joined, LieIn}
+use Rattle.job_table.specs.Over.{is_over_by}
+use Rattle.documents.specs.Documents.{LieIn}
 use Rattle.spool_core.specs.Filling.{filling_at, MayFill, TellsBut, IsPieceAdded, IsPieceNoted}
 use Rattle.spool_core.specs.Standing.{len_found}
 use Rattle.spool_core.proofs.AddLaws.{end_room, end_short, end_spare, end_whole, err_on, may_first, put_adds, put_back, put_on, then_on}

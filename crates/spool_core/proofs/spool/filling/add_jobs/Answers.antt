@@ -3,7 +3,7 @@ use Rattle.std.proofs.lemmas.List.{length-map, get_or-map}
 use Rattle.std.specs.FinMap as finite
 use Rattle.extents.specs.declared.extent.Extent.{Extent}
 use Rattle.spool_types.specs.State.{State, job_of}
-use Rattle.job_table.specs.Contents.{places_at, places_of}
+use Rattle.job_table.specs.Contents.{places_of}
 use Rattle.spool_core.specs.Checkpointing.{blank_rows}
 use Rattle.std.specs.List.{flat_map}
 use Rattle.spool_core.specs.Filling.{filling_at, IsDocumentAdded}

@@ -1,4 +1,4 @@
-use Rattle.std.proofs.Common.{◌≡◌, ◌∙◌, ◌≤◌, ◌∷◌, ◌++◌, ◌+◌, [], ℕ, List, Ok, Err, map, refl, sym, subst, ap, arith}
+use Rattle.std.proofs.Common.{◌≤◌, ◌∷◌, ◌++◌, ◌+◌, [], ℕ, List, Ok, Err, map, refl, sym, subst, ap, arith}
 use Rattle.std.specs.FinMap as finite
 use Rattle.std.specs.List.{flat_map, AllByRecursion}
 use Rattle.spool_types.specs.Limits.{greatest_number}

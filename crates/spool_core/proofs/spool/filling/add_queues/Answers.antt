@@ -1,4 +1,4 @@
-use Rattle.std.proofs.Common.{◌≡◌, ◌≤◌, ◌∷◌, [], ◌++◌, List, map, take, sym, subst, arith, Err, Ok, vec_capacity}
+use Rattle.std.proofs.Common.{◌≤◌, ◌∷◌, [], List, map, take, sym, subst, arith, Err, Ok, vec_capacity}
 use Rattle.std.proofs.lemmas.List.{take_all}
 use Rattle.spool_types.specs.declared.rows.QueueRow.{QueueRow}
 use Rattle.spool_types.specs.declared.listing.Row.{Row}

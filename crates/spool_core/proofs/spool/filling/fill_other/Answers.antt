@@ -1,4 +1,4 @@
-use Rattle.std.proofs.Common.{◌≡◌, ◌∙◌, ◌+◌, ◌-◌, ◌≤◌, inr, ℕ, List, [], ap, length, refl, sym, subst, arith}
+use Rattle.std.proofs.Common.{◌≡◌, ◌+◌, ◌-◌, inr, ℕ, [], ap, length, refl, subst, arith}
 use Rattle.job_table.specs.Listing.{listing}
 use Rattle.spool_areas.specs.Checkpoint.{plan_of, area_len, other_base, other_of}
 use Rattle.spool_core.specs.Checkpointing.{blank}

@@ -1,4 +1,4 @@
-use Rattle.std.proofs.Common.{◌≡◌, ◌∙◌, sym, subst, ap}
+use Rattle.std.proofs.Common.{◌∙◌, sym, subst, ap}
 use Rattle.spool_types.specs.State.{Job, job_of}
 use Rattle.spool_types.specs.declared.listing.Row.TheVariants.{Job as JobRow}
 use Rattle.spool_types.specs.declared.version.Version.TheVariants.{Two}

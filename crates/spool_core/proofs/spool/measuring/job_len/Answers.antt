@@ -1,4 +1,4 @@
-use Rattle.std.proofs.Common.{◌≡◌, ◌∙◌, ◌*◌, ◌/◌, ◌+◌, ◌++◌, ◌-◌, ◌^◌, min, List, ℕ, ap, length, arith}
+use Rattle.std.proofs.Common.{◌≡◌, ◌∙◌, ◌*◌, ◌/◌, ◌+◌, ◌++◌, min, List, ℕ, ap, length}
 use Rattle.spool_types.specs.declared.listing.Row.TheVariants.{Job}
 use Rattle.spool_types.specs.declared.version.Version.TheVariants.{Two}
 use Rattle.event_codec.specs.RowSpelling.{row_spelling}

@@ -1,4 +1,4 @@
-use Rattle.std.proofs.Common.{◌≡◌, ◌∙◌, ◌++◌, List, map, take, sym, subst, ap, arith}
+use Rattle.std.proofs.Common.{◌∙◌, ◌++◌, List, map, take, sym, subst, ap, arith}
 use Rattle.std.specs.List.{flat_map}
 use Rattle.spool_types.specs.State.{Job, job_of}
 use Rattle.spool_types.specs.declared.listing.Row.{Row}
