@@ -1,4 +1,10 @@
 //! What is found on a spool's disk, without a change of it.
+ghost use Rattle.std.specs.Prelude.{◌≡◌, ◌+◌, ◌<◌, List, ℕ, Some, IfOk, map};
+ghost use Rattle.spool_types.specs.State.{job_of};
+ghost use Rattle.spool_disk.specs.Disk.{ChangesNothing};
+ghost use Rattle.spool_areas.specs.Header.{half};
+ghost use Rattle.spool_admin.specs.Found.{AreCounted, HasArea, HasCounts};
+
 use job_table::Table;
 use spool_areas::{Areas, Opened};
 use spool_core::{OpenFault, Spool};
@@ -54,6 +60,13 @@ struct Place {
 
 /// Reads a spool's disk whole. It writes nothing: an attempt that is under way there stays so.
 pub fn find<D: Disk + Drop>(alloc: Global, disk: D) -> Result<Found<D>, OpenFault>
+    ensures still { IfOk result (λ found. ChangesNothing D.device disk found.disk) }
+    ensures counts { IfOk result (λ found. (r : List ℕ) → D.device.bytes disk ≡ Some r → HasCounts found.account.queues found.account.jobs r) }
+    ensures area { IfOk result (λ found. (r : List ℕ) → D.device.bytes disk ≡ Some r →
+        HasArea found.base found.account.version found.account.epoch found.account.used found.account.free r) }
+    ensures size { IfOk result (λ found. (found.account.size ≡ D.device.size disk) × (found.account.area ≡ half (D.device.size disk))) }
+    ensures within { IfOk result (λ found. found.base + found.account.used < D.device.size found.disk) }
+    ensures short { IfOk result (λ found. found.account.used < found.account.size) }
 {
     let (disk, queues, jobs) = count_rows(alloc, disk)?;
     let (disk, place) = find_area(alloc, disk)?;
@@ -80,6 +93,8 @@ fn count_rows<D: Disk + Drop>(
     alloc: Global,
     disk: D,
 ) -> Result<(D, usize, JobCounts), OpenFault>
+    ensures still { IfOk result (λ counted. ChangesNothing D.device disk counted.0) }
+    ensures counts { IfOk result (λ counted. (r : List ℕ) → D.device.bytes disk ≡ Some r → HasCounts counted.1 counted.2 r) }
 {
     let spool = match Spool::load(alloc, disk) {
         Ok(spool) => spool,
@@ -92,6 +107,7 @@ fn count_rows<D: Disk + Drop>(
 }
 
 fn count_jobs(rows: &[JobRow]) -> JobCounts
+    ensures { AreCounted (map job_of rows.now) result }
 {
     JobCounts {
         all: rows.len(),
@@ -104,6 +120,11 @@ fn count_jobs(rows: &[JobRow]) -> JobCounts
 
 // Finds the current area of a disk.
 fn find_area<D: Disk + Drop>(alloc: Global, disk: D) -> Result<(D, Place), OpenFault>
+    ensures still { IfOk result (λ found. ChangesNothing D.device disk found.0) }
+    ensures area { IfOk result (λ found. (r : List ℕ) → D.device.bytes disk ≡ Some r →
+        HasArea found.1.base found.1.version found.1.epoch found.1.used found.1.free r) }
+    ensures within { IfOk result (λ found. found.1.base + found.1.used < D.device.size disk) }
+    ensures short { IfOk result (λ found. found.1.used < half (D.device.size disk)) }
 {
     let Opened {
         areas,

@@ -21,25 +21,31 @@ pub fn grow<R: Files<File = File> + Clock + AllocGlobal>(
         return Err(AdminFault::Smaller);
     }
     let next = folder.next_device(rt, size)?;
-    if let Err(fault) = list(rt.alloc(), old, next) {
-        let _ = folder.remove_unfinished(rt);
-        return Err(fault);
+    match list(rt.alloc(), old, next) {
+        Ok(next) => drop(next),
+        Err(fault) => {
+            let _ = folder.remove_unfinished(rt);
+            return Err(fault);
+        }
     }
     Ok(folder.replace_device(rt)?)
 }
 
-/// Lists what a spool's disk holds in the second area of another disk, which has only zeros.
+/// Lists what a spool's disk holds in the second area of another disk, which has only zeros, and gives that disk back, synced.
 pub fn list<S: Disk + Drop, T: Disk + Drop>(
     alloc: Global,
     old: Found<S>,
     mut next: T,
-) -> Result<(), AdminFault>
+) -> Result<T, AdminFault>
 {
     let Found {
         mut disk,
         base,
         account,
     } = old;
+    if next.len() < account.size {
+        return Err(AdminFault::Smaller);
+    }
     // With the closed gate behind the records.
     if copy(&mut disk, base, account.used + 1, &mut next).is_err() {
         return Err(AdminFault::from(OpenFault::Disk));
@@ -48,5 +54,6 @@ pub fn list<S: Disk + Drop, T: Disk + Drop>(
         Ok(spool) => spool,
         Err(OpenError { fault, .. }) => return Err(AdminFault::from(fault)),
     };
-    Ok(spool.checkpoint()?)
+    spool.checkpoint()?;
+    Ok(spool.into_disk())
 }

@@ -1,13 +1,10 @@
 //! The words of the command line.
 use clap::builder::ValueParser;
 use clap::error::ErrorKind;
-use clap::{Arg, Command};
+use clap::{Arg, ArgMatches, Command};
 use spool_host::{GREATEST_SIZE, LEAST_SIZE, WordsFault, words_fault};
 use std::alloc::{AllocError, Global};
 use std::convert::AsStr;
-
-// What may be asked for.
-const TASKS: &[&str] = &["look", "grow"];
 
 /// What the words ask for.
 #[derive(Clone, Copy)]
@@ -28,13 +25,24 @@ pub fn read_words<'a, S: AsStr>(alloc: Global, words: &'a [S]) -> Result<Asked<'
         Ok(matches) => matches,
         Err(error) => return Err(words_fault(error)),
     };
-    let task = matches.get_str("task");
-    let dir = matches.get_str("dir");
-    match (task, dir, matches.get_one::<u64>("bytes")) {
-        (Some("look"), Some(dir), None) => Ok(Asked::Look { dir }),
-        (Some("grow"), Some(dir), Some(size)) => Ok(Asked::Grow { dir, size }),
-        _ => Err(wrong_count(&mut command)),
+    match asked(&matches) {
+        Some(asked) => Ok(asked),
+        None => Err(no_task(&mut command)),
     }
+}
+
+// What is asked for by the values that were found, if they are those of a task.
+fn asked<'a>(matches: &ArgMatches<'a>) -> Option<Asked<'a>> {
+    let task = matches.get_str("task")?;
+    let dir = matches.get_str("dir")?;
+    if task == "grow" {
+        let size = matches.get_one::<u64>("bytes")?;
+        return Some(Asked::Grow { dir, size });
+    }
+    if task == "look" && matches.get_str("bytes").is_none() {
+        return Some(Asked::Look { dir });
+    }
+    None
 }
 
 // The program's command, as clap knows it.
@@ -43,8 +51,8 @@ fn admin_command<'a>(alloc: Global) -> Result<Command<'a>, AllocError>
     let task = Arg::new(alloc, "task")
         .value_name("TASK")
         .required(true)
-        .value_parser(ValueParser::Names(TASKS))
-        .help("Show how full the spool is, or make its file larger");
+        .value_parser(ValueParser::NonEmptyString)
+        .help("`look` shows how full the spool is, and `grow` makes its file larger");
     let dir = Arg::new(alloc, "dir")
         .value_name("DIR")
         .required(true)
@@ -53,7 +61,7 @@ fn admin_command<'a>(alloc: Global) -> Result<Command<'a>, AllocError>
     let bytes = Arg::new(alloc, "bytes")
         .value_name("BYTES")
         .value_parser(ValueParser::Unsigned(LEAST_SIZE, GREATEST_SIZE))
-        .help("The length of the larger file, for `grow` alone");
+        .help("The length of the larger file. It goes with `grow` alone");
     Command::new(alloc, "spool_admin")
         .about("Looks at a print spool, or makes it larger, while no spooler runs")
         .arg(task)?
@@ -61,9 +69,9 @@ fn admin_command<'a>(alloc: Global) -> Result<Command<'a>, AllocError>
         .arg(bytes)
 }
 
-// The fault of a length that is missing or too much.
-fn wrong_count(command: &mut Command<'_>) -> WordsFault {
-    match command.error(ErrorKind::WrongNumberOfValues, "`grow` wants BYTES, and `look` takes none") {
+// The fault of values that are those of no task, in the form of clap's own.
+fn no_task(command: &mut Command<'_>) -> WordsFault {
+    match command.error(ErrorKind::ValueValidation, "neither `look DIR` nor `grow DIR BYTES` is asked for") {
         Ok(error) => WordsFault::Refused(error),
         Err(_) => WordsFault::Memory,
     }
