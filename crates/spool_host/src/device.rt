@@ -31,9 +31,9 @@ use crate::named_disk::NamedDisk;
 use spool_core::make;
 use spool_disk::FileDisk;
 use std::alloc::AllocError;
-use std::fs::{File, Files, OpenOptions, TryLockError};
+use std::fs::{File, Files, Metadata, OpenFile, OpenOptions, TryLockError};
 use std::io::{ErrorKind, Write};
-use std::os::unix::fs::OpenOptionsExt;
+use std::os::unix::fs::{MetadataExt, OpenOptionsExt, fchown};
 use std::path::Path;
 use std::time::{Clock, Duration};
 use std::{fs, io, thread};
@@ -85,6 +85,74 @@ impl<'a> SpoolFolder<'a> {
         // At every start: a program that was killed before this left a name that a power cut may still take away, and
         // with it all jobs that this one acknowledges.
         self.folder.sync_all()?;
+        self.disk(rt, file)
+    }
+
+    /// The spool's file, which is there. Nothing is made.
+    pub fn device_there<'r, R: Files<File = File> + Clock + AllocGlobal>(
+        &self,
+        rt: &'r R,
+    ) -> Result<NamedDisk<'r, R>, ShellFault>
+        ensures { IfErr result IsOfFolder }
+    {
+        let path = self.path.join(rt.alloc(), NAME)?;
+        let file = open_device(rt, path.as_path())?;
+        self.disk(rt, file)
+    }
+
+    /// A file of `size` zeros that is to take the place of the spool's file, with its owner and its mode. Until
+    /// [`replace_device`](SpoolFolder::replace_device) it has the name of an unfinished file. What an earlier try left there
+    /// goes first. A spool's file that has another name too is no file to replace.
+    pub fn next_device<R: Files<File = File> + Clock + AllocGlobal>(
+        &self,
+        rt: &R,
+        size: u64,
+    ) -> Result<FileDisk, ShellFault>
+        ensures { IfErr result IsOfFolder }
+    {
+        let path = self.path.join(rt.alloc(), NAME)?;
+        let named = fs::symlink_metadata(rt, path.as_path())?;
+        if !named.is_file() || named.nlink() != 1 {
+            return Err(ShellFault::Disk(DiskCause::NoFile));
+        }
+        let unfinished = self.path.join(rt.alloc(), UNFINISHED)?;
+        remove_if_there(rt, unfinished.as_path())?;
+        let made = begin_next(rt, unfinished.as_path(), &named, size);
+        if made.is_err() {
+            let _ = fs::remove_file(rt, unfinished.as_path());
+        }
+        made
+    }
+
+    /// Gives the unfinished file, which is whole and synced, the spool's name. The old file is gone then.
+    pub fn replace_device<R: Files<File = File> + AllocGlobal>(
+        &self,
+        rt: &R,
+    ) -> Result<(), ShellFault>
+        ensures { IfErr result IsOfFolder }
+    {
+        let unfinished = self.path.join(rt.alloc(), UNFINISHED)?;
+        let path = self.path.join(rt.alloc(), NAME)?;
+        fs::rename(rt, unfinished.as_path(), path.as_path())?;
+        Ok(self.folder.sync_all()?)
+    }
+
+    /// Removes the unfinished file, if there is one.
+    pub fn remove_unfinished<R: Files + AllocGlobal>(&self, rt: &R) -> Result<(), ShellFault>
+        ensures { IfErr result IsOfFolder }
+    {
+        let unfinished = self.path.join(rt.alloc(), UNFINISHED)?;
+        Ok(remove_if_there(rt, unfinished.as_path())?)
+    }
+
+    // The file as the spool's disk.
+    fn disk<'r, R: Files<File = File> + AllocGlobal>(
+        &self,
+        rt: &'r R,
+        file: File,
+    ) -> Result<NamedDisk<'r, R>, ShellFault>
+        ensures { IfErr result IsOfFolder }
+    {
         let path = self.named(rt, NAME)?;
         let unfinished = self.named(rt, UNFINISHED)?;
         let folder = self.folder.try_clone()?;
@@ -174,6 +242,23 @@ fn finish_device<R: Files<File = File> + Clock>(
     make_spool(&file)?;
     fs::rename(rt, unfinished, path)?;
     Ok(file)
+}
+
+// Makes a file of zeros, with the owner and the mode of the one that it is to replace.
+fn begin_next<R: Files<File = File> + Clock>(
+    rt: &R,
+    unfinished: Path<'_>,
+    replaced: &Metadata,
+    size: u64,
+) -> Result<FileDisk, ShellFault>
+    ensures { IfErr result IsOfFolder }
+{
+    let mut file = locked(rt, new_file(rt, unfinished)?)?;
+    fchown(&file, Some(replaced.uid()), Some(replaced.gid()))?;
+    file.set_permissions(replaced.permissions())?;
+    write_zeros(&mut file, size)?;
+    file.sync_all()?;
+    Ok(FileDisk::new(file)?)
 }
 
 // Makes a spool in this file.

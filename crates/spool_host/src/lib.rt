@@ -112,4 +112,4 @@ pub use named_disk::NamedDisk;
 pub use running::run;
 pub use serving::{memory_device, open_engine, place_in, serve};
 pub use warnings::WarningLines;
-pub use words::{ShellWords, WordsFault, read_words};
+pub use words::{GREATEST_SIZE, LEAST_SIZE, ShellWords, WordsFault, read_words, words_fault};

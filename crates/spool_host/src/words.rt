@@ -17,10 +17,10 @@ use std::convert::AsStr;
 // The length of a spool that is made, in bytes, where the words don't say it.
 const DEFAULT_SIZE: u64 = 4_194_304;
 
-// The least and the greatest length, in bytes.
-const LEAST_SIZE: u64 = 4_096;
+/// The least and the greatest length, in bytes.
+pub const LEAST_SIZE: u64 = 4_096;
 
-const GREATEST_SIZE: u64 = 1_073_741_824;
+pub const GREATEST_SIZE: u64 = 1_073_741_824;
 
 // How many bytes the folder's name may have.
 const LONGEST_ROOT: usize = 64;
@@ -179,8 +179,8 @@ fn parse<'a, S: AsStr>(
     }
 }
 
-// What clap's fault is to this program.
-fn words_fault(error: Error) -> WordsFault
+/// What clap's fault is to a program of a spool.
+pub fn words_fault(error: Error) -> WordsFault
     ensures { RefusesOnly (kind_of error ≡ OutOfMemory) result }
 {
     if error.kind() == ErrorKind::OutOfMemory {

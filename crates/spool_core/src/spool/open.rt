@@ -84,8 +84,9 @@ impl<D: Disk> Spool<D> {
         }
     }
 
-    // Syncs a disk, and makes the table anew from the rows and events of its current area. It writes nothing.
-    fn load(alloc: Global, disk: D) -> Result<Spool<D>, OpenError<D>>
+    /// The same without the policy: it syncs the disk and makes the table anew from the rows and events of its current area, and
+    /// each attempt that was under way is still so. It writes nothing.
+    pub fn load(alloc: Global, disk: D) -> Result<Spool<D>, OpenError<D>>
         // The table and the room are those of the bytes, and a fault of the bytes is theirs.
         ensures opened { IfOk result (λ spool. (r : List ℕ) → D.device.bytes disk ≡ Some r → HasTable spool.state r) }
         ensures room { IfOk result (λ spool. (r : List ℕ) → D.device.bytes disk ≡ Some r → HasRoom spool.room r) }

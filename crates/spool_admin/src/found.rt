@@ -1,0 +1,157 @@
+//! What is found on a spool's disk, without a change of it.
+ghost use Rattle.std.specs.Prelude.{◌≡◌, ◌+◌, ◌<◌, List, ℕ, Some, IfOk, map};
+ghost use Rattle.spool_types.specs.State.{job_of};
+ghost use Rattle.spool_disk.specs.Disk.{ChangesNothing};
+ghost use Rattle.spool_areas.specs.Header.{half};
+ghost use Rattle.spool_admin.specs.Found.{AreCounted, HasArea, HasCounts};
+
+use job_table::Table;
+use spool_areas::{Areas, Opened};
+use spool_core::{OpenFault, Spool};
+use spool_disk::Disk;
+use spool_types::JobRow;
+use std::alloc::Global;
+
+/// How many jobs there are.
+#[derive(Clone, Copy)]
+pub struct JobCounts {
+    pub all: usize,
+    /// Their documents are coming.
+    pub incoming: usize,
+    /// Closed, held ones too.
+    pub waiting: usize,
+    pub processing: usize,
+    pub ended: usize,
+}
+
+/// What there is on a disk.
+#[derive(Clone, Copy)]
+pub struct Account {
+    /// Those of the current area.
+    pub version: u8,
+    pub epoch: u64,
+    /// How many bytes the disk and an area have.
+    pub size: u64,
+    pub area: u64,
+    /// How many bytes of the current area lie before its closed gate, and how many from there on.
+    pub used: u64,
+    pub free: u64,
+    pub queues: usize,
+    pub jobs: JobCounts,
+}
+
+/// A disk, where its current area begins, and what there is on it.
+#[derive(Drop)]
+pub struct Found<D> {
+    pub disk: D,
+    pub base: u64,
+    pub account: Account,
+}
+
+// Where the current area of a disk lies, and what its header says.
+#[derive(Clone, Copy)]
+struct Place {
+    base: u64,
+    version: u8,
+    epoch: u64,
+    used: u64,
+    free: u64,
+}
+
+/// Reads a spool's disk whole. It writes nothing: an attempt that is under way there stays so.
+pub fn find<D: Disk + Drop>(alloc: Global, disk: D) -> Result<Found<D>, OpenFault>
+    ensures still { IfOk result (λ found. ChangesNothing D.device disk found.disk) }
+    ensures counts { IfOk result (λ found. (r : List ℕ) → D.device.bytes disk ≡ Some r → HasCounts found.account.queues found.account.jobs r) }
+    ensures area { IfOk result (λ found. (r : List ℕ) → D.device.bytes disk ≡ Some r →
+        HasArea found.base found.account.version found.account.epoch found.account.used found.account.free r) }
+    ensures size { IfOk result (λ found. (found.account.size ≡ D.device.size disk) × (found.account.area ≡ half (D.device.size disk))) }
+    ensures within { IfOk result (λ found. found.base + found.account.used < D.device.size found.disk) }
+    ensures short { IfOk result (λ found. found.account.used < found.account.size) }
+{
+    let (disk, queues, jobs) = count_rows(alloc, disk)?;
+    let (disk, place) = find_area(alloc, disk)?;
+    let size = disk.len();
+    let account = Account {
+        version: place.version,
+        epoch: place.epoch,
+        size,
+        area: size / 2,
+        used: place.used,
+        free: place.free,
+        queues,
+        jobs,
+    };
+    Ok(Found {
+        disk,
+        base: place.base,
+        account,
+    })
+}
+
+// How many queues and jobs the spool on a disk has.
+fn count_rows<D: Disk + Drop>(
+    alloc: Global,
+    disk: D,
+) -> Result<(D, usize, JobCounts), OpenFault>
+    ensures still { IfOk result (λ counted. ChangesNothing D.device disk counted.0) }
+    ensures counts { IfOk result (λ counted. (r : List ℕ) → D.device.bytes disk ≡ Some r → HasCounts counted.1 counted.2 r) }
+{
+    let spool = match Spool::load(alloc, disk) {
+        Ok(spool) => spool,
+        Err(error) => return Err(error.fault),
+    };
+    let table: &Table = spool.table();
+    let queues = table.queues().len();
+    let jobs = count_jobs(table.jobs());
+    Ok((spool.into_disk(), queues, jobs))
+}
+
+fn count_jobs(rows: &[JobRow]) -> JobCounts
+    ensures { AreCounted (map job_of rows.now) result }
+{
+    JobCounts {
+        all: rows.len(),
+        incoming: rows.iter().filter(|row| row.job.phase.is_incoming()).count(),
+        waiting: rows.iter().filter(|row| row.job.phase.is_waiting()).count(),
+        processing: rows.iter().filter(|row| row.job.phase.is_processing()).count(),
+        ended: rows.iter().filter(|row| row.job.phase.has_ended()).count(),
+    }
+}
+
+// Finds the current area of a disk.
+fn find_area<D: Disk + Drop>(alloc: Global, disk: D) -> Result<(D, Place), OpenFault>
+    ensures still { IfOk result (λ found. ChangesNothing D.device disk found.0) }
+    ensures area { IfOk result (λ found. (r : List ℕ) → D.device.bytes disk ≡ Some r →
+        HasArea found.1.base found.1.version found.1.epoch found.1.used found.1.free r) }
+    ensures within { IfOk result (λ found. found.1.base + found.1.used < D.device.size disk) }
+    ensures short { IfOk result (λ found. found.1.used < half (D.device.size disk)) }
+{
+    let Opened {
+        areas,
+        gate,
+        room,
+        damage,
+        ..
+    } = match Areas::open(alloc, disk) {
+        Ok(opened) => opened,
+        Err(error) => return Err(error.fault),
+    };
+    if let Some(place) = damage {
+        return Err(OpenFault::Damaged(place));
+    }
+    let version = areas.version();
+    let mut disk = areas.into_disk();
+    let base = gate + room - disk.len() / 2;
+    let mut epoch = [0; 8];
+    if disk.read(base + 2, &mut epoch).is_err() {
+        return Err(OpenFault::Disk);
+    }
+    let place = Place {
+        base,
+        version,
+        epoch: u64::from_be_bytes(epoch),
+        used: gate - base,
+        free: room,
+    };
+    Ok((disk, place))
+}

@@ -1,0 +1,59 @@
+//! Making a spool's file larger.
+use crate::copying::copy;
+use crate::fault::AdminFault;
+use crate::found::{Found, find};
+use spool_core::{OpenError, OpenFault, Spool};
+use spool_disk::Disk;
+use spool_host::SpoolFolder;
+use std::alloc::Global;
+use std::fs::{File, Files};
+use std::time::Clock;
+
+/// Gives the spool of a folder a file of `size` bytes. After a fault the old file is there, as it was.
+pub fn grow<R: Files<File = File> + Clock + AllocGlobal>(
+    rt: &R,
+    dir: &str,
+    size: u64,
+) -> Result<(), AdminFault> {
+    let folder = SpoolFolder::own(rt, dir)?;
+    let old = find(rt.alloc(), folder.device_there(rt)?)?;
+    if size < old.account.size {
+        return Err(AdminFault::Smaller);
+    }
+    let next = folder.next_device(rt, size)?;
+    match list(rt.alloc(), old, next) {
+        Ok(next) => drop(next),
+        Err(fault) => {
+            let _ = folder.remove_unfinished(rt);
+            return Err(fault);
+        }
+    }
+    Ok(folder.replace_device(rt)?)
+}
+
+/// Lists what a spool's disk holds in the second area of another disk, which has only zeros, and gives that disk back, synced.
+pub fn list<S: Disk + Drop, T: Disk + Drop>(
+    alloc: Global,
+    old: Found<S>,
+    mut next: T,
+) -> Result<T, AdminFault>
+{
+    let Found {
+        mut disk,
+        base,
+        account,
+    } = old;
+    if next.len() < account.size {
+        return Err(AdminFault::Smaller);
+    }
+    // With the closed gate behind the records.
+    if copy(&mut disk, base, account.used + 1, &mut next).is_err() {
+        return Err(AdminFault::from(OpenFault::Disk));
+    }
+    let mut spool = match Spool::open(alloc, next) {
+        Ok(spool) => spool,
+        Err(OpenError { fault, .. }) => return Err(AdminFault::from(fault)),
+    };
+    spool.checkpoint()?;
+    Ok(spool.into_disk())
+}

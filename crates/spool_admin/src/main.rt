@@ -1,0 +1,76 @@
+//! The program of a spool's keeper: it shows how full a spool is, and makes a spool's file larger.
+//!
+//! Words: `look DIR` or `grow DIR BYTES` ([`words`]). The spool lies in the file `DIR/spool.disk`. No other program may have the
+//! folder meanwhile.
+//!
+//! # look
+//!
+//! It prints the version and the epoch, how many bytes the file and one of its areas have, how many bytes of the current area
+//! are used and free, and how many queues and jobs there are, a line each ([`look`]). It writes nothing: a job that is processing
+//! on the disk stays so.
+//!
+//! # grow
+//!
+//! A spool's file keeps its length, and so a spool whose table doesn't fit is full for good. This makes a file of BYTES bytes beside
+//! the old one, with the same table and documents, and gives it the old one's name ([`grow`]). The old file is never written to.
+//!
+//! 1. The old spool is read whole ([`found`]). A fault is told as at an opening.
+//! 2. A file of zeros is made under the name of an unfinished one.
+//! 3. The bytes of the current area, up to the closed gate behind its records, are copied to the new file's begin ([`copying`]).
+//!    They don't say where the area lies, so the new file is a spool with the same records then.
+//! 4. It is opened as any spool, which gives up each attempt that was under way, and a checkpoint lists the table in the other area:
+//!    in the newest version, with as much room as a table may have.
+//! 5. It is synced by then. It gets the old file's name, and the folder is synced.
+//!
+//! So whatever moment the program is killed at, or the power is cut, the name leads to the old spool or to the new one, whole. What
+//! it leaves unfinished goes at the next `grow`.
+//!
+//! # Promises
+//!
+//! - [`read_words`] gives what clap finds in the words (`asked`).
+//! - [`found::find`] changes nothing on the disk (`still`), and tells the room and the epoch of its bytes, and counts the queues and
+//!   the jobs of their table (`room`, `epoch`, `counts`).
+//! - [`copying::copy`] leaves exactly the copied bytes at the target's begin, and nothing else is changed (`copied`, `still`).
+//!
+//! That the steps of `grow` are one, whatever cuts them, is shown by tests: a file of the system tells nothing of its bytes.
+//!
+//! # Faults
+//!
+//! Status 0, 1 and 2, and the lines on standard error, are those of `spool_host`. Besides its faults there are `smaller`, where BYTES
+//! is less than the file has; `full`, where the table doesn't fit into half of BYTES; and `epoch-end`, where the spool has the greatest
+//! epoch. After a fault the old spool is there, as it was.
+#![tactic(auto)]
+
+mod copying;
+mod fault;
+mod found;
+mod grow;
+mod look;
+mod words;
+
+use crate::fault::{AdminFault, tell_admin_end};
+use crate::grow::grow;
+use crate::look::look;
+use crate::words::{Asked, read_words};
+use spool_host::{given_words, no_words, tell_words_fault};
+use std::process::ExitCode;
+
+fn main(rt: HostRuntime) -> ExitCode {
+    let given = match given_words(&rt) {
+        Ok(given) => given,
+        Err(error) => return no_words(&rt, &error),
+    };
+    let asked = match read_words(rt.alloc(), given.as_slice()) {
+        Ok(asked) => asked,
+        Err(fault) => return tell_words_fault(&rt, &fault),
+    };
+    tell_admin_end(&rt, done(&rt, asked))
+}
+
+// Does what the words ask for.
+fn done(rt: &HostRuntime, asked: Asked<'_>) -> Result<(), AdminFault> {
+    match asked {
+        Asked::Look { dir } => Ok(look(rt, dir, &mut rt.stdout())?),
+        Asked::Grow { dir, size } => grow(rt, dir, size),
+    }
+}

@@ -1,0 +1,352 @@
+#!/usr/bin/env python3
+"""Looks at spools, and makes them larger: grow.py [ADMIN [SHELL]]
+
+ADMIN is the program, and crates/spool_admin/out/spool_admin (made by `rt run` in that folder) where none is given; SHELL is
+crates/spool_shell/out/spool_shell likewise. The spools are files that tests/journal.py spells: of both versions, in either area, with
+queues, documents and jobs of each phase, one of them processing.
+
+- `look` prints what tests/spool_model.py finds in the file, and changes neither its bytes nor its times.
+- `grow` leaves a file of BYTES bytes, with the owner's mode, in which the next epoch has exactly the rows of the table after an
+  opening, with all documents. The shell serves it, and a spool that was full takes events again.
+- What it refuses it names, and the old file is as it was: a spool that is damaged or isn't there, one that a shell owns, BYTES that are
+  too few, a file with a second name, words that say nothing.
+- Under strace (Debian's package `strace`) it is killed at each of its system calls, and each fails once. The name leads to the old
+  spool or to the new one, whole, and the next `grow` goes well and leaves nothing else. From the calls it is seen what a power cut may
+  leave: the old file is never written to, the new one has no unsynced byte when it gets the name, and the folder is synced at the end.
+
+The last line is `N of N`, with status 0, or the first difference, with status 1: its folder stays then, and is named. Without
+strace, or where it may not trace, what wants it is left out.
+"""
+import os
+import shutil
+import stat
+import subprocess
+import sys
+import tempfile
+from dataclasses import replace
+
+import journal
+import spool_model as model
+import traces
+from journal import cancel, close, hold, image, send, start
+from stories import LAB, Q, Difference, of_lab, of_q, same, spelled
+
+HERE = os.path.dirname(os.path.abspath(__file__))
+
+
+def program(at, name):
+    built = os.path.join(HERE, "..", "crates", name, "out", name)
+    return os.path.abspath(sys.argv[at] if len(sys.argv) > at else built)
+
+
+ADMIN = program(1, "spool_admin")
+SHELL = program(2, "spool_shell")
+SECONDS = 60
+SIZE = 8_192
+LARGER = 20_001
+NAME = "spool.disk"
+UNFINISHED = "spool.disk.new"
+OWNED = "spool: disk\nspool: cause: owned\n"
+
+# The calls that may be killed at, and those of them that fail, with an error.
+ERRORS = {"open": "EIO", "openat": "EIO", "flock": "ENOLCK", "statx": "EIO", "fstat": "EIO", "lstat": "EIO", "newfstatat": "EIO",
+          "read": "EIO", "pread64": "EIO", "write": "ENOSPC", "pwrite64": "EIO", "fsync": "EIO", "fdatasync": "EIO", "fchown": "EPERM",
+          "fchmod": "EPERM", "rename": "EIO", "renameat": "EIO", "renameat2": "EIO", "unlink": "EIO", "unlinkat": "EIO", "close": "EIO"}
+KILLED = (*ERRORS, "mmap", "munmap", "brk", "exit_group", "lseek", "fcntl")
+
+# Queues, and jobs of each phase: their documents are coming, they wait, are held, are processing, or have ended.
+EVENTS = (Q.event(), LAB.event(), of_q(1).event(), send(1, b"first"), send(1, b" and last"), close(1),
+          of_q(2, title="Coming").event(), send(2, b"half of it"), of_lab(3).event(), send(3, b"held " * 60), close(3), hold(3),
+          of_lab(4).event(), close(4), cancel(4), of_lab(5).event(), send(5, b"printing"), close(5), start(5))
+
+
+def image_of(version=journal.NEWEST, size=SIZE, epoch=1):
+    return image(size, [spelled(event, version) for event in EVENTS], epoch=epoch, version=version)
+
+
+def in_second_area(file, epoch=7):
+    """The same spool with its areas changed over, and an older one in the other area."""
+    first, second = journal.halves(file)
+    rest = file[2 * len(first):]
+    return journal.area(len(first), epoch - 1, [spelled(Q.event())]) + journal.header(epoch, version=first[1]) + first[journal.HEADER:] + rest
+
+
+class Place:
+    """A folder with a spool of these bytes."""
+
+    def __init__(self, folder, content=None):
+        self.root = tempfile.mkdtemp(dir=folder)
+        self.file = os.path.join(self.root, NAME)
+        if content is not None:
+            self.write(content)
+
+    def write(self, content):
+        with open(self.file, "wb") as file:
+            file.write(content)
+
+    def content(self):
+        with open(self.file, "rb") as file:
+            return file.read()
+
+    def admin(self, *words, before=()):
+        done = subprocess.run([*before, ADMIN, *words], capture_output=True, text=True, timeout=SECONDS)
+        return done.returncode, done.stdout, done.stderr
+
+    def grow(self, size=LARGER):
+        same("the end of `grow`", self.admin("grow", self.root, str(size)), (0, "", ""))
+
+    def refuses(self, fault, *words):
+        """The file, and its folder, are as they were."""
+        before, names = self.content(), os.listdir(self.root)
+        same("the end", self.admin(*(words or ("grow", self.root, str(LARGER)))), (1, "", fault))
+        same("the file is as it was", self.content() == before, True)
+        same("the names", os.listdir(self.root), names)
+
+    def serve(self, *commands):
+        script = "".join(f"{command}\n" for command in commands)
+        done = subprocess.run([SHELL, "--root", self.root], input=script, capture_output=True, text=True, timeout=SECONDS)
+        same("the shell's end", (done.returncode, done.stderr), (0, ""))
+        return done.stdout.splitlines()
+
+
+def is_grown(old, new, size=LARGER):
+    """The new bytes list the table that an opening of the old ones gives, in the next epoch."""
+    it = model.opened(old)
+    payloads, epoch = journal.current(new)
+    return (len(new), payloads, epoch, journal.current_version(new)) == (size, it.table.listing(), it.epoch + 1, journal.NEWEST)
+
+
+def lists_grown(place, old):
+    """The shell answers as it does on the old file."""
+    table = model.opened(old).table
+    same("what the shell lists", place.serve("jobs", "queues"), [*table.jobs_reply(), *table.queues_reply()])
+
+
+# ---- looking
+
+def looked(file):
+    it = model.reading(file)
+    half = len(file) // 2
+    jobs = list(it.table.jobs.values())
+    processing = len(it.table.processing())
+    ended = sum(job.has_ended() for job in jobs)
+    coming = sum(job.spelled_phase()[0] == 0 for job in jobs)
+    rows = {"version": it.table.version, "epoch": it.epoch, "file": len(file), "area": half, "used": it.gate - it.base,
+            "free": it.base + half - it.gate, "queues": len(it.table.queues), "jobs": len(jobs), "incoming": coming,
+            "waiting": len(jobs) - processing - ended - coming, "processing": processing, "ended": ended}
+    return "".join(f"{word} {count}\n" for word, count in rows.items())
+
+
+def a_look_tells_what_there_is(folder):
+    for file in (image(SIZE), image_of(), image_of(1), in_second_area(image_of()), image_of(size=8_193), image_of(epoch=2 ** 64 - 1)):
+        place = Place(folder, file)
+        times = os.stat(place.file).st_mtime_ns, os.stat(place.file).st_ctime_ns, os.stat(place.root).st_mtime_ns
+        same("what is shown", place.admin("look", place.root), (0, looked(file), ""))
+        same("the file is as it was", place.content() == file, True)
+        same("the times", (os.stat(place.file).st_mtime_ns, os.stat(place.file).st_ctime_ns, os.stat(place.root).st_mtime_ns), times)
+
+
+def a_look_at_no_spool(folder):
+    Place(folder, bytes(SIZE)).refuses("spool: not-a-spool\n")
+    place = Place(folder, bytes(SIZE))
+    place.refuses("spool: not-a-spool\n", "look", place.root)
+    absent = Place(folder)
+    same("no file", absent.admin("look", absent.root), (1, "", "spool: disk\nspool: cause: absent\n"))
+    same("nothing is made", os.listdir(absent.root), [])
+    same("no folder", absent.admin("look", f"{absent.root}/none"), (1, "", "spool: disk\nspool: cause: absent\n"))
+
+
+# ---- growing
+
+def a_larger_file_has_the_table(folder):
+    for file in (image(SIZE), image_of(), image_of(1), in_second_area(image_of()), in_second_area(image_of(1)), image_of(size=8_193)):
+        for size in (len(file), LARGER, 1_000_000):
+            place = Place(folder, file)
+            os.chmod(place.file, 0o640)
+            place.grow(size)
+            same(f"the table in {size} bytes", is_grown(file, place.content(), size), True)
+            same("the mode", stat.S_IMODE(os.stat(place.file).st_mode), 0o640)
+            same("the names", os.listdir(place.root), [NAME])
+            lists_grown(place, file)
+
+
+def a_full_spool_takes_events_again(folder):
+    place = Place(folder, image_of(size=4_096))
+    for command in ('create q ann "More" 1 50 ""', "checkpoint"):
+        while place.serve(command)[-1].startswith("ok") and command != "checkpoint":
+            pass
+    same("it is full", place.serve('create q ann "More" 1 50 ""', "checkpoint", 'create q ann "More" 1 50 ""'), ["error full"] * 3)
+    old = place.content()
+    place.grow()
+    same("the table", is_grown(old, place.content()), True)
+    lists_grown(place, old)
+    same("it takes events", [line.split()[0] for line in place.serve('create q ann "More" 1 50 ""', "checkpoint")], ["ok", "ok"])
+
+
+def what_was_left_unfinished_goes(folder):
+    place = Place(folder, image_of())
+    with open(os.path.join(place.root, UNFINISHED), "wb") as file:
+        file.write(b"left" * 9_000)
+    place.grow()
+    same("the names", os.listdir(place.root), [NAME])
+    same("the table", is_grown(image_of(), place.content()), True)
+
+
+# ---- what is refused
+
+def what_is_refused(folder):
+    Place(folder, image_of(size=LARGER + 1)).refuses("spool: smaller\n")
+    Place(folder, image_of(epoch=2 ** 64 - 1)).refuses("spool: epoch-end\n")
+    damaged = in_second_area(image(SIZE, [spelled(Q.event()), b"\xFF"]))
+    Place(folder, damaged).refuses(f"spool: damaged {SIZE // 2 + journal.places([spelled(Q.event())])[-1]}\n")
+    place = Place(folder, image_of())
+    os.link(place.file, os.path.join(folder, "second"))
+    place.refuses("spool: disk\nspool: cause: no file\n")
+    linked = Place(folder)
+    os.symlink(place.file, linked.file)
+    linked.refuses("spool: disk\nspool: cause: no file\n")
+
+
+def a_listing_that_does_not_fit(folder):
+    """Rows are longer than the events that led to them, so even an area of the same length may be too short."""
+    events = [Q.event()]
+    while len(image(SIZE, [spelled(event) for event in events])) == SIZE and model.reading(image(SIZE, [*map(spelled, events)])).gate < SIZE // 2 - 60:
+        events.append(of_q(len(events)).event())
+    file = image(SIZE, [*map(spelled, events)])
+    needed = journal.HEADER + sum(journal.FRAME + len(row) for row in model.opened(file).table.listing()) + 7
+    same("the rows are too long for it", needed > SIZE // 2, True)
+    Place(folder, file).refuses("spool: full\n", "grow", Place(folder, file).root, str(SIZE))
+    place = Place(folder, file)
+    place.refuses("spool: full\n", "grow", place.root, str(2 * needed - 2))
+    place.grow(2 * needed)
+    same("the table", is_grown(file, place.content(), 2 * needed), True)
+
+
+def a_running_shell_keeps_it(folder):
+    place = Place(folder, image_of())
+    pipe = subprocess.PIPE
+    shell = subprocess.Popen([SHELL, "--root", place.root], stdin=pipe, stdout=pipe, stderr=pipe, text=True)
+    try:
+        shell.stdin.write("jobs\n")
+        shell.stdin.flush()
+        shell.stdout.readline()
+        place.refuses(OWNED)
+        place.refuses(OWNED, "look", place.root)
+    finally:
+        shell.communicate()
+    place.grow()
+
+
+def words_that_say_nothing(folder):
+    place = Place(folder, image_of())
+    root = place.root
+    for words in ((), ("look",), ("grow",), ("grow", root), ("look", root, "8192"), ("grow", root, "4095"), ("grow", root, "1073741825"),
+                  ("grow", root, "x"), ("shrink", root), ("look", ""), ("grow", root, "8192", "1"), ("--size", "8192", root)):
+        status, shown, told = place.admin(*words)
+        same(f"the end of {words}", (status, shown, told.startswith("error: ")), (2, "", True))
+    same("the file is as it was", place.content() == image_of(), True)
+    status, shown, told = place.admin("--help")
+    same("the help", (status, "DIR" in shown and "BYTES" in shown, told), (0, True, ""))
+
+
+# ---- kills, failures and cuts
+
+def traced(place, *inject):
+    """A `grow` under strace, and its calls."""
+    trace = os.path.join(place.root, "..", "trace")
+    strace = ["strace", "-qq", "-y", "-xx", "-s", "20", "-o", trace, "-e", "trace=" + ",".join(f"?{name}" for name in KILLED)]
+    for words in inject:
+        strace += ["-e", f"inject={words}"]
+    done = place.admin("grow", place.root, str(LARGER), before=strace)
+    counts = {}
+    with open(trace, encoding="ascii") as file:
+        lines = [line.rstrip("\n") for line in file]
+    return done, [traces.Call(line, counts) for line in lines if traces.LINE.fullmatch(line)]
+
+
+def is_old_or_new(place, what):
+    content = place.content()
+    if content != image_of() and not is_grown(image_of(), content):
+        raise Difference(f"{what}: the file is neither the old spool nor the new one")
+    known = {NAME, UNFINISHED}
+    same(f"{what}: the names", set(os.listdir(place.root)) <= known, True)
+
+
+def goes_on(place, what):
+    """The next `grow` goes well, whatever the one before left."""
+    is_old_or_new(place, what)
+    old = place.content()
+    place.grow()
+    same(f"{what}: the table", is_grown(old, place.content()), True)
+    same(f"{what}: the names", os.listdir(place.root), [NAME])
+
+
+def all_calls(folder):
+    done, calls = traced(Place(folder, image_of()))
+    same("the end of `grow`", done, (0, "", ""))
+    return calls
+
+
+def it_is_killed_at_each_call(folder):
+    for call in all_calls(folder):
+        place = Place(folder, image_of())
+        (status, _, _), _ = traced(place, f"{call.name}:signal=KILL:when={call.number}")
+        same(f"the status, killed at {call}", status in (-9, 137), True)
+        goes_on(place, f"killed at {call}")
+        shutil.rmtree(place.root)
+
+
+def each_call_fails_once(folder):
+    begun = False
+    for call in all_calls(folder):
+        begun = begun or any(place.endswith(NAME) for place in call.paths())
+        if not begun or call.name not in ERRORS:
+            continue
+        place = Place(folder, image_of())
+        (status, shown, told), _ = traced(place, f"{call.name}:error={ERRORS[call.name]}:when={call.number}")
+        same(f"the end, where {call} fails", (status in (0, 1), shown, told.startswith("spool: ") == (status == 1)), (True, "", True))
+        same(f"the new file, where {call} fails and all went well", status == 1 or is_grown(image_of(), place.content()), True)
+        goes_on(place, f"failed at {call}")
+        shutil.rmtree(place.root)
+
+
+def a_power_cut_leaves_the_old_or_the_new(folder):
+    written, named, kept = False, False, False
+    for call in all_calls(folder):
+        on = os.path.basename(call.files[0]) if call.files else ""
+        if call.name in ("write", "pwrite64"):
+            same(f"{call} is on the unfinished file", (on, named), (UNFINISHED, False))
+            written = True
+        elif call.name in ("fsync", "fdatasync") and on == UNFINISHED:
+            written = False
+        elif call.name.startswith("rename"):
+            same("all is synced before it gets its name", (written, named), (False, False))
+            named = True
+        elif call.name == "fsync" and named:
+            same("the folder is synced", on, os.path.basename(os.path.dirname(call.files[0] + "/x")))
+            kept = True
+    same("it got its name, and the folder was synced", (named, kept), (True, True))
+
+
+PLAIN = [a_look_tells_what_there_is, a_look_at_no_spool, a_larger_file_has_the_table, a_full_spool_takes_events_again,
+         what_was_left_unfinished_goes, what_is_refused, a_listing_that_does_not_fit, a_running_shell_keeps_it, words_that_say_nothing]
+TRACED = [it_is_killed_at_each_call, each_call_fails_once, a_power_cut_leaves_the_old_or_the_new]
+
+
+def main():
+    for path in (ADMIN, SHELL):
+        if not os.path.exists(path):
+            sys.exit(f"no program {path}: run `rt run` in its crate first")
+    tests = PLAIN + (TRACED if traces.may_trace() else [])
+    for test in tests:
+        folder = tempfile.mkdtemp(prefix="grow-")
+        try:
+            test(folder)
+        except (Difference, AssertionError, OSError, subprocess.TimeoutExpired) as difference:
+            print(f"{test.__name__}: {difference}, in {folder}")
+            sys.exit(1)
+        shutil.rmtree(folder)
+    print(f"{len(tests)} of {len(tests)}")
+
+
+main()
