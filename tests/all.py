@@ -6,8 +6,8 @@ that on the built programs. This runs each of them, several side by side, each i
 each as it ends: its name, its seconds, and how it ended. With names it runs these alone, as `all.py syncs killed`.
 
 The programs have to be built before: `rt ci` leaves them in the folders of their crates. So do these commands there, but for
-what calls_without_memory.py runs: `rt run` in crates/spool_scripts, crates/spool_shell and crates/spool_tools, and `rt test` in
-each crate that tests/allocations.py names. Which of them is missing is told first, with status 2.
+what calls_without_memory.py runs: `rt run` in crates/spool_scripts, crates/spool_shell, crates/spool_admin and crates/spool_tools, and
+`rt test` in each crate that tests/allocations.py names. Which of them is missing is told first, with status 2.
 
 A part that wants what isn't installed, or another user, is left out, and told as `skipped`. Each file of this folder has to
 be in one of the tables below. The last line is `all N passed`, with how much was skipped, and status 0; or `N failed`, with
@@ -54,6 +54,7 @@ SCRIPTS = {
     "office.py": [],
     "stock.py": [],
     "cups_types.py": [CUPS_TYPES],
+    "grow.py": [],
     "large.py": [],
 }
 
@@ -87,7 +88,7 @@ PARTS = [
     "version_one.txt",
 ]
 
-PROGRAMS = ["spool_scripts", "spool_shell", "spool_tools"]
+PROGRAMS = ["spool_scripts", "spool_shell", "spool_admin", "spool_tools"]
 
 
 def installed(path):
@@ -105,6 +106,7 @@ def wants():
         missing["cups_types.py"] = (True, "the types of CUPS (Debian's package cups-daemon)")
     if not shutil.which("strace"):
         missing["syncs.py"] = (True, "strace (Debian's package strace)")
+        missing["grow.py"] = (False, "kills at each call (Debian's package strace)")
         missing["children.py"] = (False, "what the system refuses (Debian's package strace)")
     elif os.geteuid():
         missing["children.py"] = (False, "a full folder (as root)")

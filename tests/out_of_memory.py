@@ -55,6 +55,8 @@ PASSED_ON = {
     ("spool_engine", "serve_end"): 1,
     ("spool_engine", "serve_whole"): 1,
     ("spool_engine", "take_piece"): 1,
+    ("spool_admin", "no_task"): 1,
+    ("spool_admin", "read_words"): 1,
     # An error of the system whose kind says so.
     ("spool_host", "from"): 1,
     ("spool_host", "long_root"): 1,

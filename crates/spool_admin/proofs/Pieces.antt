@@ -19,7 +19,7 @@ one_more done len xs t within =
     let some : length p ≡ len = length-take-le len (drop done xs) (omega (arith, within, length-drop done xs)) in
     let front : take done (a ++ d) ≡ a = take_at a d done long in
     let back : drop (done + length p) (a ++ d) ≡ drop (done + len) t =
-        ap (λ (n : ℕ). drop (done + n) (a ++ d)) some ∙ sym (drop-drop len done (a ++ d)) ∙ ap (drop len) (drop_at a d done long) ∙ drop-drop len done t in
+    ap (λ (n : ℕ). drop (done + n) (a ++ d)) some ∙ sym (drop-drop len done (a ++ d)) ∙ ap (drop len) (drop_at a d done long) ∙ drop-drop len done t in
     ap₂ (λ (x y : List ℕ). (x ++ p) ++ y) front back ∙ ap (λ (x : List ℕ). x ++ drop (done + len) t) (sym (take-add done len xs))
 
 -- the same of a disk's bytes

@@ -1,1 +1,4 @@
 pub mod Found
+pub mod Look
+pub mod Faults
+pub mod Words

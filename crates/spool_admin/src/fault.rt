@@ -1,4 +1,10 @@
 //! Why the program ends with status 1.
+ghost use Rattle.std.specs.Prelude.{◌≡◌, OnErr, OnOk};
+ghost use Rattle.std.specs.Process.{exit_status};
+ghost use Rattle.spool_host.specs.Faults.{of_opening};
+ghost use Rattle.spool_admin.specs.Faults.{of_checkpoint};
+ghost use Rattle.spool_admin.specs.declared.fault.AdminFault.TheVariants.{Shell};
+
 use spool_core::{CheckpointFault, OpenFault};
 use spool_host::{DiskCause, ShellFault, tell_end};
 use std::process::ExitCode;
@@ -22,18 +28,24 @@ pub enum AdminFault {
 }
 
 impl From<ShellFault> for AdminFault {
+    ghost from_gives = { λ fault told. told ≡ Shell fault };
+
     fn from(fault: ShellFault) -> AdminFault {
         AdminFault::Shell(fault)
     }
 }
 
 impl From<OpenFault> for AdminFault {
+    ghost from_gives = { λ fault told. told ≡ Shell (of_opening fault) };
+
     fn from(fault: OpenFault) -> AdminFault {
         AdminFault::Shell(ShellFault::from(fault))
     }
 }
 
 impl From<CheckpointFault> for AdminFault {
+    ghost from_gives = { λ fault told. told ≡ of_checkpoint fault };
+
     fn from(fault: CheckpointFault) -> AdminFault {
         match fault {
             CheckpointFault::EpochEnd => AdminFault::EpochEnd,
@@ -47,7 +59,10 @@ impl From<CheckpointFault> for AdminFault {
 }
 
 /// Tells how the program ended, on standard error and by the status.
-pub fn tell_admin_end<R: Eprint>(rt: &R, ended: Result<(), AdminFault>) -> ExitCode {
+pub fn tell_admin_end<R: Eprint>(rt: &R, ended: Result<(), AdminFault>) -> ExitCode
+    ensures ok { OnOk ended (exit_status result ≡ 0) }
+    ensures fault { OnErr ended (exit_status result ≡ 1) }
+{
     match ended {
         Ok(()) => tell_end(rt, Ok(())),
         Err(AdminFault::Shell(fault)) => tell_end(rt, Err(fault)),

@@ -89,10 +89,7 @@ pub fn find<D: Disk + Drop>(alloc: Global, disk: D) -> Result<Found<D>, OpenFaul
 }
 
 // How many queues and jobs the spool on a disk has.
-fn count_rows<D: Disk + Drop>(
-    alloc: Global,
-    disk: D,
-) -> Result<(D, usize, JobCounts), OpenFault>
+fn count_rows<D: Disk + Drop>(alloc: Global, disk: D) -> Result<(D, usize, JobCounts), OpenFault>
     ensures still { IfOk result (λ counted. ChangesNothing D.device disk counted.0) }
     ensures counts { IfOk result (λ counted. (r : List ℕ) → D.device.bytes disk ≡ Some r → HasCounts counted.1 counted.2 r) }
 {
@@ -111,9 +108,15 @@ fn count_jobs(rows: &[JobRow]) -> JobCounts
 {
     JobCounts {
         all: rows.len(),
-        incoming: rows.iter().filter(|row| row.job.phase.is_incoming()).count(),
+        incoming: rows
+            .iter()
+            .filter(|row| row.job.phase.is_incoming())
+            .count(),
         waiting: rows.iter().filter(|row| row.job.phase.is_waiting()).count(),
-        processing: rows.iter().filter(|row| row.job.phase.is_processing()).count(),
+        processing: rows
+            .iter()
+            .filter(|row| row.job.phase.is_processing())
+            .count(),
         ended: rows.iter().filter(|row| row.job.phase.has_ended()).count(),
     }
 }
@@ -136,20 +139,18 @@ fn find_area<D: Disk + Drop>(alloc: Global, disk: D) -> Result<(D, Place), OpenF
         Ok(opened) => opened,
         Err(error) => return Err(error.fault),
     };
-    if let Some(place) = damage {
-        return Err(OpenFault::Damaged(place));
+    match damage {
+        None => {}
+        Some(place) => return Err(OpenFault::Damaged(place)),
     }
+    let base = areas.base();
     let version = areas.version();
-    let mut disk = areas.into_disk();
-    let base = gate + room - disk.len() / 2;
-    let mut epoch = [0; 8];
-    if disk.read(base + 2, &mut epoch).is_err() {
-        return Err(OpenFault::Disk);
-    }
+    let epoch = areas.epoch();
+    let disk = areas.into_disk();
     let place = Place {
         base,
         version,
-        epoch: u64::from_be_bytes(epoch),
+        epoch,
         used: gate - base,
         free: room,
     };

@@ -1,4 +1,7 @@
 //! Making a spool's file larger.
+ghost use Rattle.std.specs.Prelude.{◌≡◌, ◌+◌, ◌<◌, ◌↔◌, IfOk, IsErrOf};
+ghost use Rattle.spool_disk.specs.Disk.{IsSynced};
+
 use crate::copying::copy;
 use crate::fault::AdminFault;
 use crate::found::{Found, find};
@@ -37,6 +40,11 @@ pub fn list<S: Disk + Drop, T: Disk + Drop>(
     old: Found<S>,
     mut next: T,
 ) -> Result<T, AdminFault>
+    requires within { old.base + old.account.used < S.device.size old.disk }
+    requires short { old.account.used < old.account.size }
+    ensures smaller { IsErrOf result AdminFault.Smaller ↔ (T.device.size next < old.account.size) }
+    ensures synced { IfOk result (IsSynced T.device) }
+    ensures fixed { IfOk result (λ disk. T.device.size disk ≡ T.device.size next) }
 {
     let Found {
         mut disk,

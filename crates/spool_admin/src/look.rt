@@ -1,7 +1,11 @@
 //! Showing how full a spool is.
-use crate::found::{Account, find};
+ghost use Rattle.std.specs.Prelude.{◌≡◌, IfOk, OnOk, string_bytes};
+ghost use Rattle.std.specs.Io.KnownBytes.{Appends};
+ghost use Rattle.spool_admin.specs.Look.{account_text};
+
+use crate::found::{Account, JobCounts, find};
 use spool_host::{ShellFault, SpoolFolder};
-use std::alloc::Global;
+use std::alloc::{AllocError, Global};
 use std::fs::{File, Files};
 use std::io::Write;
 use std::time::Clock;
@@ -26,32 +30,40 @@ fn print_account<W: Write>(
     account: &Account,
     writer: &mut W,
 ) -> Result<(), ShellFault>
+    ensures lines { OnOk result (Appends (W.contents writer.old) (W.contents writer.new) (account_text account.now)) }
 {
-    print_line(alloc, "version", account.version as u64, writer)?;
-    print_line(alloc, "epoch", account.epoch, writer)?;
-    print_line(alloc, "file", account.size, writer)?;
-    print_line(alloc, "area", account.area, writer)?;
-    print_line(alloc, "used", account.used, writer)?;
-    print_line(alloc, "free", account.free, writer)?;
-    print_line(alloc, "queues", account.queues as u64, writer)?;
-    print_line(alloc, "jobs", account.jobs.all as u64, writer)?;
-    print_line(alloc, "incoming", account.jobs.incoming as u64, writer)?;
-    print_line(alloc, "waiting", account.jobs.waiting as u64, writer)?;
-    print_line(alloc, "processing", account.jobs.processing as u64, writer)?;
-    print_line(alloc, "ended", account.jobs.ended as u64, writer)
-}
-
-// Prints a word and a number in a line.
-fn print_line<W: Write>(
-    alloc: Global,
-    word: &str,
-    number: u64,
-    writer: &mut W,
-) -> Result<(), ShellFault>
-{
-    let line = format!(in alloc; "{word} {number}\n")?;
-    match writer.write_all(line.as_bytes()) {
+    let text = account_text(alloc, account)?;
+    match writer.write_all(text.as_bytes()) {
         Ok(()) => Ok(()),
         Err(_) => Err(ShellFault::Write),
     }
+}
+
+fn account_text(alloc: Global, account: &Account) -> Result<String, AllocError>
+    ensures { IfOk result (λ text. string_bytes text ≡ account_text account.now) }
+{
+    let Account {
+        version,
+        epoch,
+        size,
+        area,
+        used,
+        free,
+        queues,
+        jobs,
+    } = *account;
+    let JobCounts {
+        all,
+        incoming,
+        waiting,
+        processing,
+        ended,
+    } = jobs;
+    let disk = format!(in alloc;
+        "version {version}\nepoch {epoch}\nfile {size}\narea {area}\nused {used}\nfree {free}\n"
+    )?;
+    let rows = format!(in alloc;
+        "queues {queues}\njobs {all}\nincoming {incoming}\nwaiting {waiting}\nprocessing {processing}\nended {ended}\n"
+    )?;
+    format!(in alloc; "{disk}{rows}")
 }

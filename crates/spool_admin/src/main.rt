@@ -70,7 +70,7 @@ fn main(rt: HostRuntime) -> ExitCode {
 // Does what the words ask for.
 fn done(rt: &HostRuntime, asked: Asked<'_>) -> Result<(), AdminFault> {
     match asked {
-        Asked::Look { dir } => Ok(look(rt, dir, &mut rt.stdout())?),
-        Asked::Grow { dir, size } => grow(rt, dir, size),
+        Asked::Look(dir) => Ok(look(rt, dir, &mut rt.stdout())?),
+        Asked::Grow(dir, size) => grow(rt, dir, size),
     }
 }

@@ -1,4 +1,9 @@
 //! The words of the command line.
+ghost use Rattle.std.specs.Prelude.{◌≡◌, IfOk, IfSome, codes, false, map};
+ghost use Rattle.clap.specs.Words.{app_of, found_of, matches_of, rows_of, rule_of};
+ghost use Rattle.spool_host.specs.Words.{sizes};
+ghost use Rattle.spool_admin.specs.Words.{IsAsked, admin_app, needed, placed};
+
 use clap::builder::ValueParser;
 use clap::error::ErrorKind;
 use clap::{Arg, ArgMatches, Command};
@@ -10,20 +15,21 @@ use std::convert::AsStr;
 #[derive(Clone, Copy)]
 pub enum Asked<'a> {
     /// What there is in the spool of this folder.
-    Look { dir: &'a str },
+    Look(&'a str),
     /// A file of so many bytes for it.
-    Grow { dir: &'a str, size: u64 },
+    Grow(&'a str, u64),
 }
 
 /// Reads the words of the command line, of which the first is the program's name.
 pub fn read_words<'a, S: AsStr>(alloc: Global, words: &'a [S]) -> Result<Asked<'a>, WordsFault>
+    ensures asked { IfOk result (IsAsked (matches_of admin_app (map S.text words.entry.now))) }
 {
     let Ok(mut command) = admin_command(alloc) else {
         return Err(WordsFault::Memory);
     };
-    let matches = match command.try_get_matches_from_mut(words) {
+    let matches = match parse(&mut command, words) {
         Ok(matches) => matches,
-        Err(error) => return Err(words_fault(error)),
+        Err(fault) => return Err(fault),
     };
     match asked(&matches) {
         Some(asked) => Ok(asked),
@@ -31,37 +37,53 @@ pub fn read_words<'a, S: AsStr>(alloc: Global, words: &'a [S]) -> Result<Asked<'
     }
 }
 
+// What clap finds in the words.
+fn parse<'a, S: AsStr>(
+    command: &mut Command<'a>,
+    words: &'a [S],
+) -> Result<ArgMatches<'a>, WordsFault>
+    requires { app_of command.old ≡ admin_app }
+    ensures { IfOk result (λ m. rows_of (found_of m) ≡ matches_of admin_app (map S.text words.entry.now)) }
+{
+    match command.try_get_matches_from_mut(words) {
+        Ok(matches) => Ok(matches),
+        Err(error) => Err(words_fault(error)),
+    }
+}
+
 // What is asked for by the values that were found, if they are those of a task.
-fn asked<'a>(matches: &ArgMatches<'a>) -> Option<Asked<'a>> {
+fn asked<'a>(matches: &ArgMatches<'a>) -> Option<Asked<'a>>
+    ensures { IfSome result (IsAsked (rows_of (found_of matches.now))) }
+{
     let task = matches.get_str("task")?;
     let dir = matches.get_str("dir")?;
     if task == "grow" {
         let size = matches.get_one::<u64>("bytes")?;
-        return Some(Asked::Grow { dir, size });
+        return Some(Asked::Grow(dir, size));
     }
     if task == "look" && matches.get_str("bytes").is_none() {
-        return Some(Asked::Look { dir });
+        return Some(Asked::Look(dir));
     }
     None
 }
 
 // The program's command, as clap knows it.
 fn admin_command<'a>(alloc: Global) -> Result<Command<'a>, AllocError>
+    ensures { IfOk result (λ command. app_of command ≡ admin_app) }
 {
-    let task = Arg::new(alloc, "task")
-        .value_name("TASK")
-        .required(true)
-        .value_parser(ValueParser::NonEmptyString)
-        .help("`look` shows how full the spool is, and `grow` makes its file larger");
-    let dir = Arg::new(alloc, "dir")
-        .value_name("DIR")
-        .required(true)
-        .value_parser(ValueParser::NonEmptyString)
-        .help("The folder of the spool's file, spool.disk, which no other program may have meanwhile");
-    let bytes = Arg::new(alloc, "bytes")
-        .value_name("BYTES")
-        .value_parser(ValueParser::Unsigned(LEAST_SIZE, GREATEST_SIZE))
-        .help("The length of the larger file. It goes with `grow` alone");
+    let task = word(
+        alloc,
+        "task",
+        "TASK",
+        "`look` shows how full the spool is, and `grow` makes its file larger",
+    );
+    let dir = word(
+        alloc,
+        "dir",
+        "DIR",
+        "The folder of the spool's file, spool.disk, which no other program may have meanwhile",
+    );
+    let bytes = length(alloc);
     Command::new(alloc, "spool_admin")
         .about("Looks at a print spool, or makes it larger, while no spooler runs")
         .arg(task)?
@@ -69,9 +91,35 @@ fn admin_command<'a>(alloc: Global) -> Result<Command<'a>, AllocError>
         .arg(bytes)
 }
 
+// A word that has to be there, and isn't empty.
+fn word<'a>(alloc: Global, name: &'a str, value: &'a str, help: &'a str) -> Arg<'a>
+    ensures rule { rule_of result ≡ needed name.entry.now }
+    ensures local { result.global ≡ false }
+{
+    Arg::new(alloc, name)
+        .value_name(value)
+        .required(true)
+        .value_parser(ValueParser::NonEmptyString)
+        .help(help)
+}
+
+// The length of the larger file.
+fn length<'a>(alloc: Global) -> Arg<'a>
+    ensures rule { rule_of result ≡ placed (codes "bytes") sizes }
+    ensures local { result.global ≡ false }
+{
+    Arg::new(alloc, "bytes")
+        .value_name("BYTES")
+        .value_parser(ValueParser::Unsigned(LEAST_SIZE, GREATEST_SIZE))
+        .help("The length of the larger file. It goes with `grow` alone")
+}
+
 // The fault of values that are those of no task, in the form of clap's own.
 fn no_task(command: &mut Command<'_>) -> WordsFault {
-    match command.error(ErrorKind::ValueValidation, "neither `look DIR` nor `grow DIR BYTES` is asked for") {
+    match command.error(
+        ErrorKind::ValueValidation,
+        "neither `look DIR` nor `grow DIR BYTES` is asked for",
+    ) {
         Ok(error) => WordsFault::Refused(error),
         Err(_) => WordsFault::Memory,
     }

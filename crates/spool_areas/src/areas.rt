@@ -233,6 +233,20 @@ impl<D: Disk> Areas<D> {
         self.version
     }
 
+    /// Where the current area begins.
+    pub fn base(&self) -> u64
+        ensures { result ≡ self.now.base }
+    {
+        self.base
+    }
+
+    /// The epoch of the current area.
+    pub fn epoch(&self) -> u64
+        ensures { result ≡ self.now.epoch }
+    {
+        self.epoch
+    }
+
     /// Whether a call has met a fault of the device.
     pub fn is_dead(&self) -> bool
         ensures { result ≡ self.now.dead }
