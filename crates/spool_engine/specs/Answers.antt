@@ -1,5 +1,5 @@
 -- How an event, or a checkpoint, went.
-use Rattle.std.specs.Prelude.{◌≡◌, ◌≤◌, ◌↔◌, ◌⊎◌, ℕ, List, codes, false, IsSome, Result, Ok, Err, OnOk}
+use Rattle.std.specs.Prelude.{◌≡◌, ◌≤◌, ◌↔◌, ◌⊎◌, ℕ, List, take, codes, false, IsSome, Result, Ok, Err, OnOk}
 use Rattle.spool_types.specs.declared.event.Event.{Event}
 use Rattle.spool_types.specs.declared.event.Reply.{Reply}
 use Rattle.spool_types.specs.State.{State}
@@ -44,11 +44,17 @@ pub record IsApplied {D : Type 0} (device : DiskView D) (old : Standing D) (e : 
   pub sent : OnOk answer (IsSome (device.bytes old.disk) → (documents : ℕ → List ℕ) → LeavesDocuments device documents old →
       LeavesDocuments device (documents_after_one old.state documents e) new)
 
--- the document of a job was read, or there was no memory for it, or the device failed
-abbrev pub IsDocumentRead : {D : Type 0} → DiskView D → Standing D → ℕ → Result (List ℕ) Unread → Standing D → Type 0
-IsDocumentRead device old j (Ok document) new = IsStill device old new × IsDocumentOf device old j document
-IsDocumentRead device old j (Err unread.Memory) new = new ≡ old
-IsDocumentRead device old j (Err unread.Disk) new = IsCut device old new
+-- the first bytes of a job's document
+pub record IsFrontOf {D : Type 0} (device : DiskView D) (s : Standing D) (j count : ℕ) (front : List ℕ) : Type 0 where
+  pub document : List ℕ
+  pub own : IsDocumentOf device s j document
+  pub front_is : front ≡ take count document
+
+-- they were read, or there was no memory for them, or the device failed
+abbrev pub IsFrontRead : {D : Type 0} → DiskView D → Standing D → ℕ → ℕ → Result (List ℕ) Unread → Standing D → Type 0
+IsFrontRead device old j count (Ok front) new = IsStill device old new × IsFrontOf device old j count front
+IsFrontRead device old j count (Err unread.Memory) new = new ≡ old
+IsFrontRead device old j count (Err unread.Disk) new = IsCut device old new
 
 -- the line that tells how a checkpoint went
 abbrev pub checkpoint_line : Result (Unit {0}) CheckpointFault → List ℕ

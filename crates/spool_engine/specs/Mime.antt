@@ -1,5 +1,5 @@
 -- The MIME database: by which rules documents are typed, and which filters change one type into another.
-use Rattle.std.specs.Prelude.{ℕ, List, codes, unwrap_or, refl}
+use Rattle.std.specs.Prelude.{◌≡◌, ℕ, List, codes, length, take, unwrap_or, refl}
 use Rattle.std.specs.Coded.{Coded, code_by, coded×, coded_list, coded_ℕ}
 use Rattle.mime_rules.specs.Best.{type_of}
 use Rattle.mime_rules.specs.Seen.{types_of}
@@ -24,3 +24,7 @@ unknown_type = codes "application/octet-stream"
 -- the type of a document with this name and these bytes
 abbrev pub media_of : Mime → List ℕ → List ℕ → List ℕ
 media_of mime name document = unwrap_or (type_of (record { name = name; bytes = document; locale = mime.locale }) (types_of mime.types)) unknown_type
+
+-- the first n bytes are enough to type a document of this length
+abbrev pub IsEnough : Mime → ℕ → ℕ → Type 0
+IsEnough mime len n = (name document : List ℕ) → length document ≡ len → media_of mime name (take n document) ≡ media_of mime name document

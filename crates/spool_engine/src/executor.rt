@@ -1,5 +1,5 @@
 //! The executor of commands of one event, of checkpoints, and of listings: it serves each on the spool that it finds.
-ghost use Rattle.std.specs.Prelude.{◌≡◌, ℕ, List, Some, None, Result, false, [], IfOk, IsSome};
+ghost use Rattle.std.specs.Prelude.{◌≡◌, ◌≤◌, ℕ, List, Some, None, Result, false, [], IfOk, IsSome};
 ghost use Rattle.std.specs.Option.{option_and_then, option_copied};
 ghost use Rattle.std.specs.FinMap as finite;
 ghost use Rattle.spool_types.specs.State.{job_at};
@@ -12,14 +12,15 @@ ghost use Rattle.command_lines.specs.declared.command.Command.{Command};
 ghost use Rattle.filter_args.specs.declared.place.Place.{Place as PlaceOf};
 ghost use Rattle.print_rounds.specs.Courses.{course};
 ghost use Rattle.print_rounds.specs.Finished.{HasNoneRunning};
-ghost use Rattle.spool_core.specs.Reading.{IsDocumentRead as IsReadWhole};
+ghost use Rattle.spool_core.specs.Reading.{IsFrontRead as IsReadUpTo};
+ghost use Rattle.spool_core.specs.Standing.{len_at};
 ghost use Rattle.spool_core.specs.declared.spool.apply_fault.ApplyFault.{ApplyFault};
 ghost use Rattle.spool_core.specs.declared.spool.checkpoint_fault.CheckpointFault.{CheckpointFault};
-ghost use Rattle.spool_engine.specs.Mime.{Mime as MimeDatabase};
+ghost use Rattle.spool_engine.specs.Mime.{Mime as MimeDatabase, IsEnough};
 ghost use Rattle.spool_engine.specs.Script.{closing_line, closing_of, filters_to, queue_of_job, reply_line, stages_of};
 ghost use Rattle.spool_engine.specs.Script.{next_number};
 ghost use Rattle.spool_engine.specs.EventTurns.{setting, EventTurn, IsKept};
-ghost use Rattle.spool_engine.specs.Answers.{IsApplied, IsDocumentRead, IsRelisted, Takes, answer_line, checkpoint_line};
+ghost use Rattle.spool_engine.specs.Answers.{IsApplied, IsFrontRead, IsRelisted, Takes, answer_line, checkpoint_line};
 ghost use Rattle.spool_engine.specs.Rounds.{IsRan};
 ghost use Rattle.spool_types.specs.declared.event.Event.{Event as EventOf};
 
@@ -30,9 +31,9 @@ use child_pipeline::{Children, Content, Runner};
 use command_lines::{Answer, Creation, ShownQueue, print_reply};
 use device_uri::{DeviceUri, UriFault};
 use filter_args::Place;
-use job_table::Table;
+use job_table::{Table, document_len};
 use print_rounds::{Round, RoundFault};
-use spool_core::{ApplyFault, CheckpointFault, Spool, Unread, read_whole};
+use spool_core::{ApplyFault, CheckpointFault, Spool, Unread, read_front};
 use spool_disk::Disk;
 use spool_types::{
     Closing, Event, Filters, JobId, MediaType, Moment, NewJob, NewQueue, OptionText, QueueRow,
@@ -144,7 +145,8 @@ impl<D: Disk> Executor<D> {
         }
     }
 
-    /// Closes a job, and makes the text of its reply. A document is read only where the job can be closed.
+    /// Closes a job, and makes the text of its reply. A document is read only where the job can be closed, and no further than
+    /// its type depends on it.
     pub fn close(&mut self, mime: &Mime<'_>, job: JobId, name: &str) -> Result<Vec<u8>, AllocError>
         ensures { (p : PlaceOf) → (t : EventTurn D) ×
             Takes (setting D.device mime.now p) self.old (Command.Close job name.now) t self.new ×
@@ -156,24 +158,38 @@ impl<D: Disk> Executor<D> {
         if let Some(refusal) = self.table().close_refusal(job) {
             return fault_text(self.alloc, ApplyFault::Refused(refusal));
         }
-        match self.document(job) {
-            Ok(document) => self.close_typed(mime, job, name, document.as_slice()),
+        let count = self.reach(mime, job);
+        match self.front(job, count) {
+            Ok(front) => self.close_typed(mime, job, name, front.as_slice()),
             Err(Unread::Memory) => fault_text(self.alloc, ApplyFault::Memory),
             Err(Unread::Disk) => fault_text(self.alloc, ApplyFault::Disk),
         }
     }
 
-    // The document of a job so far.
-    fn document(&mut self, job: JobId) -> Result<Content, Unread>
+    // How many of its first bytes tell the type of a job's document.
+    fn reach(&self, mime: &Mime<'_>, job: JobId) -> usize
+        requires there { IsSome (job_at self.now.state job) }
+        ensures within { result ≤ len_at self.now.state job }
+        ensures enough { IsEnough mime.now (len_at self.now.state job) result }
+    {
+        match self.table().job(job) {
+            Some(row) => mime.reach(document_len(&row.job)),
+            None => unreachable!(),
+        }
+    }
+
+    // The first bytes of a job's document so far.
+    fn front(&mut self, job: JobId, count: usize) -> Result<Content, Unread>
         requires alive { self.old.dead ≡ false }
         requires there { IsSome (job_at self.old.state job) }
         requires lasts { is_over self.old.state job ≡ false }
-        ensures { IsDocumentRead D.device self.old job result self.new }
+        requires inside { count ≤ len_at self.old.state job }
+        ensures { IsFrontRead D.device self.old job count result self.new }
     {
-        read_content(self.alloc, &mut self.spool, job)
+        read_content(self.alloc, &mut self.spool, job, count)
     }
 
-    // Closes a job that has this document, and makes the text of its reply.
+    // Closes a job by these bytes of its document, and makes the text of its reply.
     fn close_typed(
         &mut self,
         mime: &Mime<'_>,
@@ -311,13 +327,19 @@ impl<D: Disk> Executor<D> {
     }
 }
 
-// The document of a job, whole.
-fn read_content<D: Disk>(alloc: Global, spool: &mut Spool<D>, job: JobId) -> Result<Content, Unread>
+// The first bytes of a job's document.
+fn read_content<D: Disk>(
+    alloc: Global,
+    spool: &mut Spool<D>,
+    job: JobId,
+    count: usize,
+) -> Result<Content, Unread>
     requires alive { spool.old.dead ≡ false }
     requires there { IsSome (job_at spool.old.state job) }
-    ensures { IsReadWhole D.device spool.old job result spool.new }
+    requires inside { count ≤ len_at spool.old.state job }
+    ensures { IsReadUpTo D.device spool.old job count result spool.new }
 {
-    match read_whole(alloc, spool, job) {
+    match read_front(alloc, spool, job, count) {
         Ok(bytes) => Ok(Content::new(bytes)),
         Err(why) => Err(why),
     }

@@ -1,7 +1,7 @@
 //! The MIME database: what documents are read by.
-ghost use Rattle.std.specs.Prelude.{◌≡◌, IfOk};
+ghost use Rattle.std.specs.Prelude.{◌≡◌, ◌≤◌, IfOk};
 ghost use Rattle.mime_costs.specs.LeastWalk.{filters_between};
-ghost use Rattle.spool_engine.specs.Mime.{media_of, unknown_type};
+ghost use Rattle.spool_engine.specs.Mime.{media_of, unknown_type, IsEnough};
 
 use mime_costs::Convs;
 use mime_rules::Types;
@@ -45,6 +45,14 @@ impl<'a> Mime<'a> {
             Some(media) => media.clone(),
             None => unknown_type(alloc),
         }
+    }
+
+    /// How many of its first bytes tell the type of a document of this length.
+    pub fn reach(&self, len: usize) -> usize
+        ensures within { result ≤ len }
+        ensures enough { IsEnough self.now len result }
+    {
+        self.types.reach(len)
     }
 
     /// The filters that lead from one type to another, if there is a way.

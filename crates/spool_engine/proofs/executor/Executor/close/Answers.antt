@@ -1,11 +1,13 @@
 -- A job is closed by its document, if that is read, and where the spool isn't asked it is as it was.
-use Rattle.std.proofs.Common.{refl, sym, ap, ◌∙◌, subst, codes, []}
+use Rattle.std.proofs.Common.{◌≡◌, List, ℕ, take, refl, sym, ap, ◌∙◌, codes, []}
 use Rattle.spool_types.specs.declared.event.Event.TheVariants.{Close as Closes}
 use Rattle.job_table.specs.Step.{refusal_of}
 use Rattle.command_lines.specs.Replies.{refusal_line}
-use Rattle.spool_engine.specs.EventTurns.{setting, IsDocumentOf}
+use Rattle.spool_engine.specs.EventTurns.{setting}
+use Rattle.spool_engine.specs.Mime.{media_of}
+use Rattle.spool_core.specs.Standing.{len_at}
 use Rattle.spool_engine.specs.Script.{closing_of}
-use Rattle.spool_engine.proofs.CloseLaws.{dead_close, refused_close, is_there, not_over, closed_told, unread_document, unreadable_document, told_as}
+use Rattle.spool_engine.proofs.CloseLaws.{dead_close, refused_close, is_there, not_over, closed_by_front, unread_document, unreadable_document, told_as}
 use Rattle.spool_engine.proofs.executor.Executor.close.Goals as goal
 
 pub returns-then-met_fault : goal.returns-then-met_fault
@@ -26,14 +28,20 @@ returns-in-Some g c = λ p.
     (refused_close v s c.args.job c.args.name.now c.in-Some.refusal g.met.D.Disk.lawful c.if-met_fault.ensures.kept (sym c.if-met_fault.ensures.dead) is)
     c.fault_text-in-Some.ensures
 
-pub document-requires-clause-there : goal.document-requires-clause-there
-document-requires-clause-there g c =
+pub reach-count-requires : goal.reach-count-requires
+reach-count-requires g c =
     let s = c.args.self.now in
     let n = closing_of c.args.mime.now s.state [] c.args.job c.args.name.now in
     is_there s.state n (ap (λ t. refusal_of t (Closes n)) (sym c.table.ensures) ∙ sym (c.close_refusal.ensures n refl) ∙ c.in_default.is)
 
-pub document-requires-clause-lasts : goal.document-requires-clause-lasts
-document-requires-clause-lasts g c =
+pub front-requires-clause-there : goal.front-requires-clause-there
+front-requires-clause-there g c =
+    let s = c.args.self.now in
+    let n = closing_of c.args.mime.now s.state [] c.args.job c.args.name.now in
+    is_there s.state n (ap (λ t. refusal_of t (Closes n)) (sym c.table.ensures) ∙ sym (c.close_refusal.ensures n refl) ∙ c.in_default.is)
+
+pub front-requires-clause-lasts : goal.front-requires-clause-lasts
+front-requires-clause-lasts g c =
     let s = c.args.self.now in
     let n = closing_of c.args.mime.now s.state [] c.args.job c.args.name.now in
     not_over s.state n (ap (λ t. refusal_of t (Closes n)) (sym c.table.ensures) ∙ sym (c.close_refusal.ensures n refl) ∙ c.in_default.is)
@@ -42,11 +50,11 @@ pub returns-in-Ok : goal.returns-in-Ok
 returns-in-Ok g c = λ p.
     let s = c.args.self.now in
     let v = setting g.D.Disk.device c.args.mime.now p in
-    let n = closing_of v.mime s.state c.as_slice.result.now c.args.job c.args.name.now in
+    let (still, read) = c.in-Ok.ensures in
+    let n = closing_of v.mime s.state read.document c.args.job c.args.name.now in
     let none = ap (λ t. refusal_of t (Closes n)) (sym c.table.ensures) ∙ sym (c.close_refusal.ensures n refl) ∙ c.in_default.is in
-    let (still, own) = c.in-Ok.ensures in
-    closed_told (λ x. x.items) c.close_typed.result v s c.document.new.self c.close_typed.new.self c.args.job c.args.name.now c.as_slice.result.now g.met.D.Disk.lawful c.if-met_fault.ensures.kept (sym c.if-met_fault.ensures.dead) none still
-    (subst (IsDocumentOf g.D.Disk.device s c.args.job) (sym c.as_slice.ensures) own)
+    let typed = ap (λ (front : List ℕ). media_of v.mime c.args.name.now front) (c.as_slice.ensures ∙ read.front_is) ∙ c.reach-count.ensures.enough c.args.name.now read.document read.own.long in
+    closed_by_front (λ x. x.items) c.close_typed.result v s c.front.new.self c.close_typed.new.self c.args.job c.args.name.now c.as_slice.result.now read.document g.met.D.Disk.lawful c.if-met_fault.ensures.kept (sym c.if-met_fault.ensures.dead) none still read.own typed
     c.close_typed.ensures
 
 pub returns-in-Err-Memory : goal.returns-in-Err-Memory
@@ -56,8 +64,8 @@ returns-in-Err-Memory g c = λ p.
     let n = closing_of v.mime s.state [] c.args.job c.args.name.now in
     let none = ap (λ t. refusal_of t (Closes n)) (sym c.table.ensures) ∙ sym (c.close_refusal.ensures n refl) ∙ c.in_default.is in
     let same = rw c.in-Err-Memory.field-0-is at c.in-Err-Memory.ensures in
-    told_as (λ x. x.items) c.fault_text-in-Err-Memory.result v s c.document.new.self c.args.job c.args.name.now (codes "error memory\n")
-    (unread_document v s c.document.new.self c.args.job c.args.name.now g.met.D.Disk.lawful c.if-met_fault.ensures.kept (sym c.if-met_fault.ensures.dead) none same)
+    told_as (λ x. x.items) c.fault_text-in-Err-Memory.result v s c.front.new.self c.args.job c.args.name.now (codes "error memory\n")
+    (unread_document v s c.front.new.self c.args.job c.args.name.now g.met.D.Disk.lawful c.if-met_fault.ensures.kept (sym c.if-met_fault.ensures.dead) none same)
     c.fault_text-in-Err-Memory.ensures
 
 pub returns-in-Err-Disk : goal.returns-in-Err-Disk
@@ -67,6 +75,6 @@ returns-in-Err-Disk g c = λ p.
     let n = closing_of v.mime s.state [] c.args.job c.args.name.now in
     let none = ap (λ t. refusal_of t (Closes n)) (sym c.table.ensures) ∙ sym (c.close_refusal.ensures n refl) ∙ c.in_default.is in
     let cut = rw c.in-Err-Disk.field-0-is at c.in-Err-Disk.ensures in
-    told_as (λ x. x.items) c.fault_text-in-Err-Disk.result v s c.document.new.self c.args.job c.args.name.now (codes "error disk\n")
-    (unreadable_document v s c.document.new.self c.args.job c.args.name.now c.if-met_fault.ensures.kept none cut)
+    told_as (λ x. x.items) c.fault_text-in-Err-Disk.result v s c.front.new.self c.args.job c.args.name.now (codes "error disk\n")
+    (unreadable_document v s c.front.new.self c.args.job c.args.name.now c.if-met_fault.ensures.kept none cut)
     c.fault_text-in-Err-Disk.ensures

@@ -1,0 +1,9 @@
+-- A document is typed by its first bytes as it is by all of them.
+use Rattle.std.proofs.Common.{ap, subst, unwrap_or}
+use Rattle.spool_engine.specs.Mime.{Mime, IsEnough, unknown_type}
+use Rattle.spool_engine.proofs.mime.Mime.reach.Goals as goal
+
+pub returns-clause-enough : goal.returns-clause-enough
+returns-clause-enough c =
+    subst (λ (mime : Mime). IsEnough mime c.args.len c.reach.result) c.self.view_is
+    (λ name document long. ap (λ type. unwrap_or type unknown_type) (c.reach.ensures.enough (record { name = name; bytes = document; locale = c.self.inside.locale.now }) long))
