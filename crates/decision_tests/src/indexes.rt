@@ -76,7 +76,8 @@ const HELD: [Row; 10] = [
 
 // Adds a job that isn't there.
 fn add(index: &mut Index, entry: Entry) -> Result<(), Fail> {
-    index.reserve(index.len() + 1)?;
+    let count = index.len().checked_add(1).ok_or("too many jobs")?;
+    index.reserve(count)?;
     match index.entry(entry.id) {
         Some(_) => return Err("the job is there")?,
         None => index.insert(entry),
@@ -121,14 +122,20 @@ fn makes(index: &mut Index, change: Change) -> Result<bool, Fail> {
     }
 }
 
+// Whether it has these jobs in this order.
+fn lists(index: &Index, numbers: &[u32]) -> bool {
+    let mut jobs = index.jobs();
+    for number in numbers {
+        if jobs.next() != JobId::new(*number) {
+            return false;
+        }
+    }
+    jobs.next().is_none() && index.len() == numbers.len()
+}
+
 // Whether it has these jobs in this order, and this next one, or none where it is 0.
 fn has(index: &Index, numbers: &[u32], next: u32) -> bool {
-    index.len() == numbers.len()
-        && index
-            .jobs()
-            .zip(numbers)
-            .all(|(id, number)| id.get() == *number)
-        && index.next() == JobId::new(next)
+    lists(index, numbers) && index.next() == JobId::new(next)
 }
 
 // The first row that isn't so, counted from 1, or 0.

@@ -133,12 +133,16 @@ fn loaded_again(alloc: Global, table: &Table) -> Result<Table, Fail> {
 // Whether the index of the queue q is these jobs.
 fn has_turns(alloc: Global, table: &Table, turns: &[JobId]) -> Result<bool, Fail> {
     let queue = QueueName::read(alloc, "q")?;
-    match table.index(&queue) {
-        Some(index) => Ok(
-            index.len() == turns.len() && index.jobs().zip(turns).all(|(job, turn)| job == *turn),
-        ),
-        None => Ok(false),
+    let Some(index) = table.index(&queue) else {
+        return Ok(false);
+    };
+    let mut jobs = index.jobs();
+    for turn in turns {
+        if jobs.next() != Some(*turn) {
+            return Ok(false);
+        }
     }
+    Ok(jobs.next().is_none())
 }
 
 // The table after the events, and the one that is loaded from its listing.
