@@ -168,7 +168,7 @@ impl<D: Disk> Executor<D> {
 
     // How many of its first bytes tell the type of a job's document.
     fn reach(&self, mime: &Mime<'_>, job: JobId) -> usize
-        requires there { IsSome (job_at self.now.state job) }
+        requires { IsSome (job_at self.now.state job) }
         ensures within { result ≤ len_at self.now.state job }
         ensures enough { IsEnough mime.now (len_at self.now.state job) result }
     {
