@@ -5,20 +5,21 @@ use Rattle.clap.specs.Words.{Text}
 use Rattle.spool_admin.specs.declared.found.Account.{Account}
 use Rattle.spool_admin.specs.declared.found.JobCounts.{JobCounts}
 
--- a word, a blank and a number in a line
+-- a line: a word, a blank and a number
 abbrev pub line_of : Text → ℕ → List ℕ
 line_of word n = word ++ (32 ∷ (decimal n ++ (10 ∷ [])))
 
-abbrev pub disk_text : Account → List ℕ
-disk_text a =
-    line_of (codes "version") a.version ++ (line_of (codes "epoch") a.epoch ++ (line_of (codes "file") a.size ++ (line_of (codes "area") a.area
-    ++ (line_of (codes "used") a.used ++ line_of (codes "free") a.free))))
+-- the file and its current area
+abbrev pub area_text : Account → List ℕ
+area_text a =
+    line_of (codes "version") a.version ++ line_of (codes "epoch") a.epoch ++ line_of (codes "file") a.size
+    ++ line_of (codes "area") a.area ++ line_of (codes "used") a.used ++ line_of (codes "free") a.free
 
 abbrev pub jobs_text : JobCounts → List ℕ
 jobs_text j =
-    line_of (codes "jobs") j.all ++ (line_of (codes "incoming") j.incoming ++ (line_of (codes "waiting") j.waiting
-    ++ (line_of (codes "processing") j.processing ++ line_of (codes "ended") j.ended)))
+    line_of (codes "jobs") j.all ++ line_of (codes "incoming") j.incoming ++ line_of (codes "waiting") j.waiting
+    ++ line_of (codes "processing") j.processing ++ line_of (codes "ended") j.ended
 
 -- a line for each number
 abbrev pub account_text : Account → List ℕ
-account_text a = disk_text a ++ (line_of (codes "queues") a.queues ++ jobs_text a.jobs)
+account_text a = area_text a ++ line_of (codes "queues") a.queues ++ jobs_text a.jobs

@@ -1,5 +1,5 @@
 -- What the words of the command line mean, as clap reads them.
-use Rattle.std.specs.Prelude.{◌≡◌, Option, None, Some, List, codes}
+use Rattle.std.specs.Prelude.{◌≡◌, None, Some, List, codes, true}
 use Rattle.clap.specs.Words.{App, Row, Rule, Text, first_of, new_app, new_rule, one_of, with_rule}
 use Rattle.clap.specs.declared.builder.value_parser.ValueParser.{ValueParser}
 use Rattle.clap.specs.declared.builder.value_parser.ValueParser.TheVariants.{NonEmptyString}

@@ -1,7 +1,7 @@
 //! Showing how full a spool is.
-ghost use Rattle.std.specs.Prelude.{◌≡◌, IfOk, OnOk, string_bytes};
+ghost use Rattle.std.specs.Prelude.{◌≡◌, ◌++◌, IfOk, OnOk, string_bytes};
 ghost use Rattle.std.specs.Io.KnownBytes.{Appends};
-ghost use Rattle.spool_admin.specs.Look.{account_text};
+ghost use Rattle.spool_admin.specs.Look.{account_text, area_text, jobs_text, line_of};
 
 use crate::found::{Account, JobCounts, find};
 use spool_host::{ShellFault, SpoolFolder};
@@ -42,28 +42,37 @@ fn print_account<W: Write>(
 fn account_text(alloc: Global, account: &Account) -> Result<String, AllocError>
     ensures { IfOk result (λ text. string_bytes text ≡ account_text account.now) }
 {
-    let Account {
-        version,
-        epoch,
-        size,
-        area,
-        used,
-        free,
-        queues,
-        jobs,
-    } = *account;
-    let JobCounts {
-        all,
-        incoming,
-        waiting,
-        processing,
-        ended,
-    } = jobs;
-    let disk = format!(in alloc;
-        "version {version}\nepoch {epoch}\nfile {size}\narea {area}\nused {used}\nfree {free}\n"
-    )?;
-    let rows = format!(in alloc;
-        "queues {queues}\njobs {all}\nincoming {incoming}\nwaiting {waiting}\nprocessing {processing}\nended {ended}\n"
-    )?;
-    format!(in alloc; "{disk}{rows}")
+    let mut text = String::new(alloc);
+    push_area(&mut text, account)?;
+    push_line(&mut text, "queues", account.queues as u64)?;
+    push_jobs(&mut text, &account.jobs)?;
+    Ok(text)
+}
+
+// The file and its current area.
+fn push_area(text: &mut String, account: &Account) -> Result<(), AllocError>
+    ensures { OnOk result (string_bytes text.new ≡ string_bytes text.old ++ area_text account.now) }
+{
+    push_line(text, "version", u64::from(account.version))?;
+    push_line(text, "epoch", account.epoch)?;
+    push_line(text, "file", account.size)?;
+    push_line(text, "area", account.area)?;
+    push_line(text, "used", account.used)?;
+    push_line(text, "free", account.free)
+}
+
+fn push_jobs(text: &mut String, jobs: &JobCounts) -> Result<(), AllocError>
+    ensures { OnOk result (string_bytes text.new ≡ string_bytes text.old ++ jobs_text jobs.now) }
+{
+    push_line(text, "jobs", jobs.all as u64)?;
+    push_line(text, "incoming", jobs.incoming as u64)?;
+    push_line(text, "waiting", jobs.waiting as u64)?;
+    push_line(text, "processing", jobs.processing as u64)?;
+    push_line(text, "ended", jobs.ended as u64)
+}
+
+fn push_line(text: &mut String, word: &str, number: u64) -> Result<(), AllocError>
+    ensures { OnOk result (string_bytes text.new ≡ string_bytes text.old ++ line_of word.now number) }
+{
+    write!(text, "{word} {number}\n")
 }

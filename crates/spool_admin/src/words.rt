@@ -31,7 +31,7 @@ pub fn read_words<'a, S: AsStr>(alloc: Global, words: &'a [S]) -> Result<Asked<'
         Ok(matches) => matches,
         Err(fault) => return Err(fault),
     };
-    match asked(&matches) {
+    match task_of(&matches) {
         Some(asked) => Ok(asked),
         None => Err(no_task(&mut command)),
     }
@@ -52,7 +52,7 @@ fn parse<'a, S: AsStr>(
 }
 
 // What is asked for by the values that were found, if they are those of a task.
-fn asked<'a>(matches: &ArgMatches<'a>) -> Option<Asked<'a>>
+fn task_of<'a>(matches: &ArgMatches<'a>) -> Option<Asked<'a>>
     ensures { IfSome result (IsAsked (rows_of (found_of matches.now))) }
 {
     let task = matches.get_str("task")?;

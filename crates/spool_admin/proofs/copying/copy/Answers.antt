@@ -1,4 +1,4 @@
-use Rattle.std.proofs.Common.{◌≡◌, ◌∙◌, ◌+◌, ◌-◌, Some, drop, ap, subst, arith}
+use Rattle.std.proofs.Common.{◌≡◌, ◌∙◌, ◌+◌, ◌-◌, Some, drop, subst, arith}
 use Rattle.spool_disk.proofs.Moments.{twice_still}
 use Rattle.spool_admin.proofs.Pieces.{copied, more_told, told_long}
 use Rattle.spool_admin.proofs.copying.copy.Goals as goal

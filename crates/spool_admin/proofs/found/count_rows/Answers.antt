@@ -1,4 +1,4 @@
-use Rattle.std.proofs.Common.{◌≡◌, ◌∙◌, List, ap, length, subst}
+use Rattle.std.proofs.Common.{◌∙◌, List, ap, length, subst}
 use Rattle.std.specs.FinMap as finite
 use Rattle.spool_types.specs.State.{Job}
 use Rattle.spool_admin.specs.Found.{AreCounted}

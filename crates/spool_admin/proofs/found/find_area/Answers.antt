@@ -1,4 +1,4 @@
-use Rattle.std.proofs.Common.{◌≡◌, ◌∙◌, ◌+◌, ◌≤◌, ap, arith, subst, sym}
+use Rattle.std.proofs.Common.{◌∙◌, ◌+◌, ap, arith, subst, sym}
 use Rattle.spool_areas.specs.Header.{epoch_of, half, header_at, header_len, version_of}
 use Rattle.spool_areas.specs.Payloads.{HasPayloads}
 use Rattle.spool_areas.specs.Extents.{payloads_at}
