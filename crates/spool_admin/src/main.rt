@@ -28,9 +28,11 @@
 //! # Promises
 //!
 //! - [`read_words`] gives what clap finds in the words (`asked`).
-//! - [`found::find`] changes nothing on the disk (`still`), and tells the room and the epoch of its bytes, and counts the queues and
-//!   the jobs of their table (`room`, `epoch`, `counts`).
+//! - [`found::find`] changes nothing on the disk (`still`), tells the current area of its bytes (`area`), and counts the queues and
+//!   the jobs of their table (`counts`).
 //! - [`copying::copy`] leaves exactly the copied bytes at the target's begin, and nothing else is changed (`copied`, `still`).
+//! - [`grow::list`] gives the new disk back synced (`synced`), and answers `Smaller` exactly where it is shorter (`smaller`).
+//! - [`fault::tell_admin_end`] is status 0 after `Ok` and 1 after a fault (`ok`, `fault`).
 //!
 //! That the steps of `grow` are one, whatever cuts them, is shown by tests: a file of the system tells nothing of its bytes.
 //!
