@@ -2,7 +2,7 @@
 
 use crate::spelled::{QUEUE, events, push_event};
 use crate::spools::{Device, OPENING, closed, made, open};
-use spool_core::{CheckpointFault, Spool, drive};
+use spool_core::{CheckpointFault, Ending, Spool, drive};
 use spool_types::Event;
 use std::alloc::Global;
 use std::test::*;
@@ -35,6 +35,9 @@ fn checkpoints(
     spool: &mut Spool<Device>,
 ) -> Result<(usize, [Result<(), CheckpointFault>; 2]), Fail> {
     let driven = drive(alloc, spool, many(alloc)?);
+    if driven.ending == Ending::Memory {
+        return Err("memory")?;
+    }
     let answered = driven.replies.len();
     let first = spool.checkpoint();
     Ok((answered, [first, spool.checkpoint()]))
