@@ -1,5 +1,5 @@
 -- Slots that come and go at the end, those that a sweep leaves, and the first number above one.
-use Rattle.std.proofs.Common.{Vec, Global, vec_len, vec_capacity, append-nil, ◌≡◌, ℕ, zero, suc, ◌+◌, ◌-◌, ◌<◌, ◌≤◌, ◌==◌, Bool, true, false, cond, IsTrue, List, [], ◌∷◌, ◌++◌, length, get_or, drop, map, filter, Some, None, Option, IsSome, is_some, true≢false, refl, sym, ap, subst, ◌∙◌, arith}
+use Rattle.std.proofs.Common.{Vec, Global, vec_len, vec_capacity, append-nil, ◌≡◌, ℕ, zero, suc, ◌+◌, ◌-◌, ◌<◌, ◌≤◌, ◌==◌, Bool, true, false, cond, IsTrue, List, [], ◌∷◌, ◌++◌, length, get_or, drop, map, filter, Some, None, Option, IsSome, is_some, true≢false, refl, sym, ap, subst, ◌∙◌, arith, add-one}
 use Rattle.std.specs.Prelude.{T, IfSome, All, nat_lt, slice_get}
 use Rattle.std.specs.declared.cmp.Ordering.TheVariants.{Less}
 use Rattle.std.specs.Ordering.{nat_cmp}
@@ -19,7 +19,7 @@ use Rattle.job_rows.specs.Places.{IsGap}
 use Rattle.job_rows.specs.Rows.{first_above, place_in, HasNumber}
 use Rattle.job_rows.specs.Slots.{number_of, slot_entry, row_of, held, numbers, first_number, gone_count, EndsHeld, IsParted}
 use Rattle.job_rows.proofs.Rising.{t_from, true_from, first_of, second_of, both_from, less_from, sorted_insert}
-use Rattle.job_rows.proofs.Holding.{eq_yes, less_is, rising, held_at, number_at, seat, seat_below, length_held}
+use Rattle.job_rows.proofs.Holding.{eq_yes, is_less, less_is, rising, held_at, number_at, seat, seat_below, length_held}
 
 -- ## A slot more, or less, at the end
 
@@ -242,3 +242,34 @@ trimmed_more old between new n kept split shorter same = record {
   len = omega (arith, kept.len);
   capacity = same ∙ kept.capacity;
 }
+
+-- ## The number behind one that is there
+
+first_all : (n : ℕ) (ns : List ℕ) → AllByRecursion (λ m. nat_cmp n m ≡ Less) ns → first_above n ns ≡ slice_get ns 0
+first_all n [] all = refl
+first_all n (m ∷ ns) all = ap (λ b. cond b (Some m) (first_above n ns)) (lt-ltb n m (is_less n m all.0))
+
+all_there : (n : ℕ) (ns : List ℕ) → AllByRecursion (λ m. nat_cmp n m ≡ Less) ns → (at number : ℕ) → slice_get ns at ≡ Some number → n ≤ number
+all_there n [] all at number is = absurd (cc)
+all_there n (m ∷ ns) all zero number is = let same : m ≡ number = cc in subst (λ k. n ≤ k) same (let less = is_less n m all.0 in omega arith)
+all_there n (m ∷ ns) all (suc at) number is = all_there n ns all.1 at number is
+
+behind_in : (ns : List ℕ) → IsStrictlySortedBy nat_cmp ns → (at number : ℕ) → slice_get ns at ≡ Some number → first_above number ns ≡ slice_get ns (suc at)
+unfolding IsStrictlySortedBy
+behind_in [] up at number is = absurd (cc)
+behind_in (n ∷ ns) up zero number is =
+    let same : n ≡ number = cc in
+    subst (λ k. first_above k (n ∷ ns) ≡ slice_get ns 0) same
+    (ap (λ b. cond b (Some n) (first_above n ns)) (le-ltb n n (omega arith)) ∙ first_all n ns up.0)
+behind_in (n ∷ ns) up (suc at) number is =
+    ap (λ b. cond b (Some n) (first_above number ns)) (le-ltb number n (all_there n ns up.0 at number is))
+    ∙ behind_in ns up.1 at number is
+
+pub first_behind : (ss : List Slot) → IsTrue (is_sorted nat_cmp (map slot_entry ss)) → (at number : ℕ) → slice_get (numbers ss) at ≡ Some number → first_above number (numbers ss) ≡ slice_get (numbers ss) (at + 1)
+first_behind ss sorted at number is = rw add-one (behind_in (numbers ss) (t_ascending ss (t_from _ sorted)) at number is)
+
+-- the least number
+pub first_is : (ss : List Slot) → first_number ss ≡ slice_get (numbers ss) 0
+first_is [] = refl
+first_is (Held n r ∷ ss) = refl
+first_is (Gone n ∷ ss) = first_is ss

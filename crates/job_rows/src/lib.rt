@@ -10,8 +10,8 @@
 //!   exactly where there is no such number (`HasNumber`). [`Rows::row_mut`] lends it, and what is left there stands under the
 //!   number (`LendsRow`). [`Rows::remove`] takes the row and its number away, and nothing else (`without_row`).
 //! - The numbers ascend, each once ([`Rows::len`] tells it).
-//! - [`Rows::iter`] gives all rows in order. [`Rows::next_above`] names the least number above a given one (`first_above`). So
-//!   a caller goes from row to row, and changes them or takes them away on its way.
+//! - [`Rows::iter`] gives all rows in order. [`Rows::first`] names the least number, and [`Rows::next_above`] the least one above
+//!   a given one (`first_above`). So a caller goes from row to row, and changes them or takes them away on its way.
 //! - *NoHiddenAllocation*: only [`Rows::reserve`] takes memory, and only where room is missing. A removal leaves no less room
 //!   than there was.
 //!

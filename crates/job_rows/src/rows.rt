@@ -1,5 +1,5 @@
 //! The rows themselves.
-ghost use Rattle.std.specs.Prelude.{◌≡◌, ◌↔◌, ◌+◌, ◌-◌, ◌^◌, ◌<◌, ◌≤◌, ◌++◌, ◌∷◌, [], length, nat_eq, All, IsSome, IsOk, OnOk, OnErr, IfSome, IfNone, option_copied, slice_get};
+ghost use Rattle.std.specs.Prelude.{◌≡◌, ◌↔◌, ℕ, ◌+◌, ◌-◌, ◌^◌, ◌<◌, ◌≤◌, ◌++◌, ◌∷◌, [], length, nat_eq, All, Some, IsSome, IsOk, OnOk, OnErr, IfSome, IfNone, option_copied, slice_get};
 ghost use Rattle.std.specs.Borrow.{sem};
 ghost use Rattle.std.specs.List.Sorted.{IsStrictlyIncreasing};
 ghost use Rattle.job_rows.specs.Lent.{LendsRow};
@@ -134,6 +134,13 @@ impl Rows {
         self.slots.last()?.row()
     }
 
+    /// The least number, if there is any.
+    pub fn first(&self) -> Option<JobId>
+        ensures { result ≡ slice_get self.now.numbers 0 }
+    {
+        first_number(&self.slots)
+    }
+
     /// The rows, in ascending order of number.
     pub fn iter(&self) -> Iter<'_>
         ensures rows { result ≡ self.now.items }
@@ -147,6 +154,9 @@ impl Rows {
     /// The least number that is above this one, if there is any. So a caller goes from row to row while it changes them.
     pub fn next_above(&self, number: u32) -> Option<JobId>
         ensures value { result ≡ first_above number self.now.numbers }
+
+        // Above a number that is there it is the one behind it.
+        ensures behind { (at : ℕ) → slice_get self.now.numbers at ≡ Some number → result ≡ slice_get self.now.numbers (at + 1) }
         ensures above { IfSome result (λ id. number < id) }
         ensures there { IfSome result (HasNumber self.now.numbers) }
     {
