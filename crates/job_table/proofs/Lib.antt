@@ -1,5 +1,6 @@
 pub mod Rows
 pub mod Tables
+mod Numbered
 pub mod Rooms
 pub mod Steps
 pub mod Accepted

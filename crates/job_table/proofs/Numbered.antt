@@ -1,0 +1,106 @@
+-- Rows under their own numbers: where one stands, and what a change of the rows does to the numbers.
+use Rattle.std.proofs.Common.{◌≡◌, ℕ, zero, suc, ◌+◌, ◌<◌, ◌≤◌, ◌==◌, Bool, true, false, cond, IsTrue, List, [], ◌∷◌, ◌++◌, length, get_or, set, map, Option, None, Some, IsSome, refl, sym, ap, subst, ◌∙◌, arith, rules}
+use Rattle.std.specs.Prelude.{IfSome, IfNone, All}
+use Rattle.std.specs.Borrow.{Bor}
+use Rattle.std.specs.Option.{option_copied, option_map}
+use Rattle.std.specs.List.{remove}
+use Rattle.std.specs.Ordering.{nat_cmp, is_eq}
+use Rattle.std.specs.FinMap as finite
+use Rattle.std.proofs.Math.Seq.{map-set_same}
+use Rattle.std.proofs.lemmas.List.{get_or-map, length-map, map_push}
+use Rattle.spool_types.specs.declared.rows.JobRow.{JobRow}
+use Rattle.spool_types.specs.State.{Job, job_of}
+use Rattle.job_rows.specs.Places.{IsPlace}
+use Rattle.job_rows.specs.Rows.{Listed, place_in, HasNumber, HasRow, LacksNumber}
+use Rattle.job_table.specs.Rows.{job_entry}
+use Rattle.job_table.proofs.Changes.{same_number}
+use Rattle.job_table.proofs.Tables.{IsJobPlace, IsJobGap, get_job, get_no_job, find_job, jobs_of}
+
+abbrev pub numbers_of : List JobRow → List ℕ
+numbers_of rs = map (λ (r : JobRow). r.job.id) rs
+
+-- the rows with this one at the place
+abbrev pub with_at : Listed → ℕ → JobRow → Listed
+with_at rows at row = record rows { items = set rows.items at row }
+
+-- ## What a change does to the numbers
+
+pub numbers_set : (rs : List JobRow) (at : ℕ) (row d : JobRow) → (get_or rs at d).job.id ≡ row.job.id → numbers_of (set rs at row) ≡ numbers_of rs
+numbers_set rs at row d same = map-set_same (λ (r : JobRow). r.job.id) rs at row d (sym same)
+
+pub numbers_push : (rs : List JobRow) (row : JobRow) → numbers_of (rs ++ row ∷ []) ≡ numbers_of rs ++ row.job.id ∷ []
+numbers_push rs row = map_push (λ (r : JobRow). r.job.id) rs row
+
+pub numbers_remove : (rs : List JobRow) (at : ℕ) → numbers_of (remove rs at) ≡ remove (numbers_of rs) at
+numbers_remove [] zero = refl
+numbers_remove [] (suc at) = refl
+numbers_remove (r ∷ rs) zero = refl
+numbers_remove (r ∷ rs) (suc at) = ap (λ ns. r.job.id ∷ ns) (numbers_remove rs at)
+
+-- ## The place of a number is that of its row
+
+same_there : (j k : ℕ) → (j == k) ≡ true → j ≡ k
+same_there j k e = grind (arith, rules)
+
+other_there : (j k : ℕ) → (j == k) ≡ false → is_eq (nat_cmp k j) ≡ false
+other_there j k other = either (is_eq (nat_cmp k j)) refl
+  where
+    equal : k ≡ j → ⊥
+    equal same = grind (arith, rules)
+
+    either : (b : Bool) → is_eq (nat_cmp k j) ≡ b → b ≡ false
+    either true e = absurd (equal (same_number j k e))
+    either false e = refl
+
+found_numbered : (rs : List JobRow) (j : ℕ) (r : Job) → finite.find nat_cmp j (map job_entry rs) ≡ Some r → HasNumber (numbers_of rs) j
+found_numbered [] j r there = absurd (cc)
+found_numbered (x ∷ rs) j r there = either (x.job.id == j) refl (λ later. found_numbered rs j r later)
+  where
+    either : (b : Bool) → (x.job.id == j) ≡ b → (finite.find nat_cmp j (map job_entry rs) ≡ Some r → HasNumber (numbers_of rs) j) → cond b 0 (suc (place_in (numbers_of rs) j)) < suc (length (numbers_of rs))
+    either true here later = omega arith
+    either false other later =
+        let rest = later (ap (λ b. cond b (Some (job_of x)) (finite.find nat_cmp j (map job_entry rs))) (sym (other_there x.job.id j other)) ∙ there) in
+        omega (arith, rest)
+
+module _ (rows : Listed) (own : rows.numbers ≡ numbers_of rows.items) (sorted : IsTrue (finite.is_sorted nat_cmp (map job_entry rows.items))) where
+  as_many : length rows.numbers ≡ length rows.items
+  as_many = ap length own ∙ length-map rows.items (λ (r : JobRow). r.job.id)
+
+  -- a job that is there has its number
+  pub has_number : (j : ℕ) (r : Job) → finite.get (jobs_of rows.items) j ≡ Some r → HasNumber rows.numbers j
+  has_number j r there = subst (λ ns. HasNumber ns j) (sym own) (found_numbered rows.items j r (find_job rows.items sorted j ∙ there))
+
+  pub needs_number : (j : ℕ) → IsSome (finite.get (jobs_of rows.items) j) → HasNumber rows.numbers j
+  needs_number j there = either (finite.get (jobs_of rows.items) j) refl there
+    where
+      either : (o : Option Job) → finite.get (jobs_of rows.items) j ≡ o → IsSome o → HasNumber rows.numbers j
+      either None is some = absurd (cc)
+      either (Some r) is some = has_number j r is
+
+  number_at : (at : ℕ) (d : JobRow) → at < length rows.items → get_or rows.numbers at 0 ≡ (get_or rows.items at d).job.id
+  number_at at d lt = ap (λ ns. get_or ns at 0) own ∙ get_or-map (λ (r : JobRow). r.job.id) rows.items at d 0 lt
+
+  -- the row that was found stands at the place of its number
+  pub row_place : (j : ℕ) (row : JobRow) → HasRow rows j row → IsJobPlace rows.items j (place_in rows.numbers j)
+  row_place j row found =
+      let within : place_in rows.numbers j < length rows.items = subst (λ n. place_in rows.numbers j < n) as_many found.place.in_range in
+      record {
+        in_range = within;
+        same = λ d. ap (λ n. nat_cmp n j) (sym (number_at (place_in rows.numbers j) d within)) ∙ found.place.same 0;
+      }
+
+  pub row_there : (j : ℕ) (row : JobRow) → HasRow rows j row → finite.get (jobs_of rows.items) j ≡ Some (job_of row)
+  row_there j row found = get_job rows.items sorted j (place_in rows.numbers j) row (row_place j row found) ∙ ap (λ r. Some (job_of r)) found.is
+
+  -- where the number is lacking there is no job
+  pub no_row : (j : ℕ) → LacksNumber rows.numbers j → finite.get (jobs_of rows.items) j ≡ None
+  no_row j lacks = get_no_job rows.items sorted j lacks.0 (record {
+    in_range = subst (λ n. lacks.0 ≤ n) as_many lacks.1.in_range;
+    before = λ i d lt. ap (λ n. nat_cmp n j) (sym (number_at i d (omega (arith, lt, lacks.1.in_range, as_many)))) ∙ lacks.1.before i 0 lt;
+    behind = λ i d le lt. ap (λ n. nat_cmp n j) (sym (number_at i d lt)) ∙ lacks.1.behind i 0 le (omega (arith, lt, as_many));
+  })
+
+  -- what a look under the number finds
+  pub looked_at : (j : ℕ) (o : Option (Bor JobRow)) → IfSome o (λ row. HasRow rows j row.now) → IfNone o (LacksNumber rows.numbers j) → option_map job_of (option_copied o) ≡ finite.get (jobs_of rows.items) j
+  looked_at j None found lacks = sym (no_row j lacks)
+  looked_at j (Some row) found lacks = sym (row_there j row.now found)
