@@ -4,10 +4,12 @@ use Rattle.std.specs.Prelude.{IfSome, IfNone, All}
 use Rattle.std.specs.Borrow.{Bor}
 use Rattle.std.specs.Option.{option_copied, option_map}
 use Rattle.std.specs.List.{remove}
+use Rattle.std.specs.declared.cmp.Ordering.TheVariants.{Less}
 use Rattle.std.specs.Ordering.{nat_cmp, is_eq}
+use Rattle.std.specs.Cmp.{nat_cmp_total, nat_cmp_is, tied_itself}
 use Rattle.std.specs.FinMap as finite
 use Rattle.std.proofs.Math.Seq.{map-set_same}
-use Rattle.std.proofs.lemmas.List.{get_or-map, length-map, map_push}
+use Rattle.std.proofs.lemmas.List.{get_or_default, get_or-map, length-map, map_push}
 use Rattle.spool_types.specs.declared.rows.JobRow.{JobRow}
 use Rattle.spool_types.specs.State.{Job, job_of}
 use Rattle.job_rows.specs.Places.{IsPlace}
@@ -37,7 +39,43 @@ numbers_remove [] (suc at) = refl
 numbers_remove (r ∷ rs) zero = refl
 numbers_remove (r ∷ rs) (suc at) = ap (λ ns. r.job.id ∷ ns) (numbers_remove rs at)
 
+-- the rows with one more at the end
+pub numbers_pushed : (old new : Listed) (row : JobRow) → old.numbers ≡ numbers_of old.items → new.numbers ≡ old.numbers ++ row.job.id ∷ [] → new.items ≡ old.items ++ row ∷ [] → new.numbers ≡ numbers_of new.items
+numbers_pushed old new row own numbers items =
+    numbers
+    ∙ ap (λ ns. ns ++ row.job.id ∷ []) own
+    ∙ sym (numbers_push old.items row)
+    ∙ ap (λ rs. numbers_of rs) (sym items)
+
+-- and with one less
+pub numbers_removed : (old new : Listed) (at : ℕ) → old.numbers ≡ numbers_of old.items → new.numbers ≡ remove old.numbers at → new.items ≡ remove old.items at → new.numbers ≡ numbers_of new.items
+numbers_removed old new at own numbers items =
+    numbers
+    ∙ ap (λ ns. remove ns at) own
+    ∙ sym (numbers_remove old.items at)
+    ∙ ap (λ rs. numbers_of rs) (sym items)
+
 -- ## The place of a number is that of its row
+
+-- each row stands at the place of its number
+pub own_place : (rs : List JobRow) (i : ℕ) (d : JobRow) → i < length rs → IsJobPlace rs (get_or rs i d).job.id i
+own_place rs i d lt = record {
+  in_range = lt;
+  same = λ e. ap (λ (r : JobRow). nat_cmp r.job.id (get_or rs i d).job.id) (get_or_default rs i e d lt) ∙ tied_itself nat_cmp_total (get_or rs i d).job.id;
+}
+
+-- a number above those of all rows goes last
+pub end_gap : (rs : List JobRow) (k : ℕ) → ((i : ℕ) (d : JobRow) → i < length rs → (get_or rs i d).job.id < k) → IsJobGap rs k (length rs)
+end_gap rs k below = record {
+  in_range = omega arith;
+  before = λ i d lt. sym (nat_cmp_is (get_or rs i d).job.id k Less (below i d lt));
+  behind = λ i d le lt. absurd (omega arith);
+}
+
+pub each_below : (rs : List JobRow) (k : ℕ) → ((i : ℕ) (d : JobRow) → i < length rs → (get_or rs i d).job.id < k) → All (λ n. n < k) (numbers_of rs)
+each_below [] k below i d lt = absurd (omega arith)
+each_below (r ∷ rs) k below zero d lt = below 0 r (omega arith)
+each_below (r ∷ rs) k below (suc i) d lt = each_below rs k (λ j e l. below (suc j) e (omega arith)) i d (omega arith)
 
 same_there : (j k : ℕ) → (j == k) ≡ true → j ≡ k
 same_there j k e = grind (arith, rules)

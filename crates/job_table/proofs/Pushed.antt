@@ -1,6 +1,8 @@
 -- What a row that goes last does to the state that the rows mean.
-use Rattle.std.proofs.Common.{◌≡◌, ℕ, Bool, true, false, cond, List, [], ◌∷◌, ◌++◌, length, map, unwrap_or, Option, Some, refl, sym, ap, subst, ◌∙◌, Vec, Global}
+use Rattle.std.proofs.Common.{◌≡◌, ℕ, ◌<◌, get_or, Bool, true, false, cond, List, [], ◌∷◌, ◌++◌, length, map, unwrap_or, Option, Some, refl, sym, ap, subst, ◌∙◌, Vec, Global}
+use Rattle.std.specs.Prelude.{All}
 use Rattle.std.specs.List.{insert}
+use Rattle.std.proofs.lemmas.Cmp.{ranked}
 use Rattle.std.specs.declared.cmp.Ordering.TheVariants.{Less}
 use Rattle.std.specs.Ordering.{nat_cmp, is_eq}
 use Rattle.extents.specs.declared.extent.Extent.{Extent}
@@ -17,9 +19,9 @@ use Rattle.job_table.specs.Loading.{IsAbove, with_queue, with_job}
 use Rattle.job_table.specs.Rows.{HoldsDocument, place_entry}
 use Rattle.job_table.specs.Seen.{contents_of, IsOrdered}
 use Rattle.job_table.specs.declared.store.Store.TheInside.{Inside}
-use Rattle.job_table.proofs.Above.{insert_last, last_gap, absent_above}
+use Rattle.job_table.proofs.Above.{insert_last, above_each, last_gap, absent_above}
 use Rattle.job_table.proofs.Changes.{same_number}
-use Rattle.job_table.proofs.Numbered.{numbers_of, numbers_push}
+use Rattle.job_table.proofs.Numbered.{each_below, numbers_pushed}
 use Rattle.job_table.proofs.Rooms.{holds_insert}
 use Rattle.job_table.proofs.Tables.{IsQueueGap, IsJobGap, insert_queue, sorted_insert_queue, keys_queues, insert_job, sorted_insert_job, keys_jobs}
 
@@ -49,6 +51,9 @@ found_last (z ∷ zs) y above j = found_step z y zs j above.0 (found_last zs y a
 above_entries : (k : ℕ) (ys : List JobRow) → IsAbove nat_cmp k (map (λ (r : JobRow). r.job.id) ys) → IsAbove nat_cmp k (map (λ (e : ℕ × List Extent). e.0) (map place_entry ys))
 above_entries k [] above = tt
 above_entries k (y ∷ ys) above = (above.0, above_entries k ys above.1)
+
+pub all_above : (k : ℕ) (ys : List JobRow) → IsAbove nat_cmp k (map (λ (r : JobRow). r.job.id) ys) → All (λ n. n < k) (map (λ (r : JobRow). r.job.id) ys)
+all_above k ys above = each_below ys k (λ i d lt. ranked (get_or ys i d).job.id k Less (sym (above_each nat_cmp nat_cmp_total (λ (r : JobRow). r.job.id) job_of k ys above i d lt)))
 
 module _ (a : Inside) (ordered : IsOrdered a) where
   module _ (row : QueueRow) (vs : Vec QueueRow Global) (above : IsAbove (slice_cmp nat_cmp) row.name (finite.keys (contents_of a).state.queues)) (items : vs.items ≡ a.queues.items ++ row ∷ []) where
@@ -85,7 +90,7 @@ module _ (a : Inside) (ordered : IsOrdered a) where
     push_job_ordered numbers holds legal = record {
       queues = ordered.queues;
       jobs = rw job_last (sorted_insert_job a.jobs.items ordered.jobs row (length a.jobs.items) job_gap);
-      own = numbers ∙ ap (λ ns. ns ++ row.job.id ∷ []) ordered.own ∙ sym (numbers_push a.jobs.items row) ∙ ap (λ rs. numbers_of rs) (sym items);
+      own = numbers_pushed a.jobs vs row ordered.own numbers items;
       highest = ordered.highest;
       documents = rw job_last (holds_insert a.jobs.items (length a.jobs.items) row job_gap.in_range holds ordered.documents);
       legal = subst IsLegal (sym push_job_state) legal;

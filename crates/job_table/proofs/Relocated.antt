@@ -23,9 +23,9 @@ use Rattle.job_table.specs.Seen.{contents_of, IsOrdered}
 use Rattle.job_table.specs.declared.new_places.NewDocument.{NewDocument}
 use Rattle.job_table.specs.declared.store.Store.TheInside.{Inside}
 use Rattle.job_table.proofs.Changes.{apart, some_same, same_number}
-use Rattle.job_table.proofs.Numbered.{numbers_of}
+use Rattle.job_table.proofs.Numbered.{numbers_of, own_place}
 use Rattle.job_table.proofs.Rows as rows
-use Rattle.job_table.proofs.Tables.{IsJobPlace, get_job, find_job}
+use Rattle.job_table.proofs.Tables.{get_job, find_job}
 
 beside_rest : {K Y : Type 0} (P : K → Y → Type 0) (k : K) (ks : List K) (y : Y) (ys : List Y) → AreBeside P (k ∷ ks) (y ∷ ys) → AreBeside P ks ys
 beside_rest P k ks y ys are = record { count = omega (arith, are.count); each = λ i l z lt. are.each (suc i) l z (omega arith) }
@@ -152,14 +152,8 @@ blank_found (x ∷ rs) j r there =
     (λ later. blank_found rs j r later)
 
 module _ (a : Inside) (ordered : IsOrdered a) (noted : Noted) (has : HasMoves (contents_of a).state noted) where
-  own_place : (i : ℕ) (d : JobRow) → i < length a.jobs.items → IsJobPlace a.jobs.items (get_or a.jobs.items i d).job.id i
-  own_place i d lt = record {
-    in_range = lt;
-    same = λ e. ap (λ (r : JobRow). nat_cmp r.job.id (get_or a.jobs.items i d).job.id) (get_or_default a.jobs.items i e d lt) ∙ tied_itself nat_cmp_total (get_or a.jobs.items i d).job.id;
-  }
-
   job_here : (i : ℕ) (d : JobRow) → i < length a.jobs.items → job_at (contents_of a).state (get_or a.jobs.items i d).job.id ≡ Some (job_of (get_or a.jobs.items i d))
-  job_here i d lt = get_job a.jobs.items ordered.jobs (get_or a.jobs.items i d).job.id i d (own_place i d lt)
+  job_here i d lt = get_job a.jobs.items ordered.jobs (get_or a.jobs.items i d).job.id i d (own_place a.jobs.items i d lt)
 
   pub each_new : (i : ℕ) (d : JobRow) → i < length a.jobs.items → HasNew noted.places (get_or a.jobs.items i d)
   each_new i d lt lives = (has (get_or a.jobs.items i d).job.id (job_of (get_or a.jobs.items i d)) (job_here i d lt) lives).0
