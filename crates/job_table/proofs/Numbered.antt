@@ -1,6 +1,6 @@
 -- Rows under their own numbers: where one stands, and what a change of the rows does to the numbers.
-use Rattle.std.proofs.Common.{◌≡◌, ℕ, zero, suc, ◌+◌, ◌<◌, ◌≤◌, ◌==◌, Bool, true, false, cond, IsTrue, List, [], ◌∷◌, ◌++◌, length, get_or, set, map, Option, None, Some, IsSome, refl, sym, ap, subst, ◌∙◌, arith, rules}
-use Rattle.std.specs.Prelude.{IfSome, IfNone, All}
+use Rattle.std.proofs.Common.{◌≡◌, ℕ, zero, suc, ◌+◌, ◌-◌, ◌<◌, ◌≤◌, ◌==◌, Bool, true, false, cond, IsTrue, List, [], ◌∷◌, ◌++◌, length, get_or, set, map, Option, None, Some, IsSome, refl, sym, ap, subst, ◌∙◌, arith, rules}
+use Rattle.std.specs.Prelude.{IfSome, IfNone, All, slice_get}
 use Rattle.std.specs.Borrow.{Bor}
 use Rattle.std.specs.Option.{option_copied, option_map}
 use Rattle.std.specs.List.{remove}
@@ -9,13 +9,17 @@ use Rattle.std.specs.Ordering.{nat_cmp, is_eq}
 use Rattle.std.specs.Cmp.{nat_cmp_total, nat_cmp_is, tied_itself}
 use Rattle.std.specs.FinMap as finite
 use Rattle.std.proofs.Math.Seq.{map-set_same}
+use Rattle.std.proofs.lemmas.Cmp.{ranked}
 use Rattle.std.proofs.lemmas.List.{get_or_default, get_or-map, length-map, map_push}
+use Rattle.std.proofs.lemmas.Option.{slice_get_within, get_or_from_slice_get}
+use Rattle.spool_types.specs.Limits.{greatest_number}
 use Rattle.spool_types.specs.declared.rows.JobRow.{JobRow}
 use Rattle.spool_types.specs.State.{Job, job_of}
 use Rattle.job_rows.specs.Places.{IsPlace}
 use Rattle.job_rows.specs.Rows.{Listed, place_in, HasNumber, HasRow, LacksNumber}
 use Rattle.job_table.specs.Rows.{job_entry}
 use Rattle.job_table.proofs.Changes.{same_number}
+use Rattle.job_table.proofs.Rows.{t_from, true_from, second_of, rise}
 use Rattle.job_table.proofs.Tables.{IsJobPlace, IsJobGap, get_job, get_no_job, find_job, jobs_of}
 
 abbrev pub numbers_of : List JobRow → List ℕ
@@ -90,6 +94,12 @@ other_there j k other = either (is_eq (nat_cmp k j)) refl
     either true e = absurd (equal (same_number j k e))
     either false e = refl
 
+same_yes : (j k : ℕ) → j ≡ k → (j == k) ≡ true
+same_yes j k same = grind (arith, rules)
+
+lower_no : (j k : ℕ) → nat_cmp j k ≡ Less → (j == k) ≡ false
+lower_no j k less = let lt : j < k = ranked j k Less (sym less) in grind (arith, rules)
+
 found_numbered : (rs : List JobRow) (j : ℕ) (r : Job) → finite.find nat_cmp j (map job_entry rs) ≡ Some r → HasNumber (numbers_of rs) j
 found_numbered [] j r there = absurd (cc)
 found_numbered (x ∷ rs) j r there = either (x.job.id == j) refl (λ later. found_numbered rs j r later)
@@ -101,7 +111,7 @@ found_numbered (x ∷ rs) j r there = either (x.job.id == j) refl (λ later. fou
         omega (arith, rest)
 
 module _ (rows : Listed) (own : rows.numbers ≡ numbers_of rows.items) (sorted : IsTrue (finite.is_sorted nat_cmp (map job_entry rows.items))) where
-  as_many : length rows.numbers ≡ length rows.items
+  pub as_many : length rows.numbers ≡ length rows.items
   as_many = ap length own ∙ length-map rows.items (λ (r : JobRow). r.job.id)
 
   -- a job that is there has its number
@@ -142,3 +152,53 @@ module _ (rows : Listed) (own : rows.numbers ≡ numbers_of rows.items) (sorted 
   pub looked_at : (j : ℕ) (o : Option (Bor JobRow)) → IfSome o (λ row. HasRow rows j row.now) → IfNone o (LacksNumber rows.numbers j) → option_map job_of (option_copied o) ≡ finite.get (jobs_of rows.items) j
   looked_at j None found lacks = sym (no_row j lacks)
   looked_at j (Some row) found lacks = sym (row_there j row.now found)
+
+-- ## From number to number
+
+-- no more numbers than these are left from this one on
+abbrev pub numbers_left : Option ℕ → ℕ
+numbers_left None = 0
+numbers_left (Some n) = greatest_number + 2 - n
+
+pub fewer_left : (n : ℕ) (next : Option ℕ) → n ≤ greatest_number → IfSome next (λ m. n < m) → numbers_left next < greatest_number + 2 - n
+fewer_left n None most above = omega arith
+fewer_left n (Some m) most above = omega arith
+
+place_is : (rs : List JobRow) → IsTrue (finite.is_sorted nat_cmp (map job_entry rs)) → (at n : ℕ) → slice_get (numbers_of rs) at ≡ Some n → place_in (numbers_of rs) n ≡ at
+place_is [] sorted at n is = absurd (cc)
+place_is (r ∷ rs) sorted zero n is = ap (λ b. cond b 0 (suc (place_in (numbers_of rs) n))) (let same : r.job.id ≡ n = cc in same_yes r.job.id n same)
+place_is (r ∷ rs) sorted (suc at) n is =
+    let within : at < length rs = subst (λ k. at < k) (length-map rs (λ (x : JobRow). x.job.id)) (slice_get_within (numbers_of rs) at n is) in
+    let own : (get_or rs at r).job.id ≡ n = sym (get_or-map (λ (x : JobRow). x.job.id) rs at r 0 within) ∙ get_or_from_slice_get (numbers_of rs) at n 0 is in
+    let less = rise nat_cmp nat_cmp_total (λ (x : JobRow). x.job.id) job_of (r ∷ rs) (t_from _ sorted) 0 (suc at) r (omega arith) (omega arith) in
+    ap (λ b. cond b 0 (suc (place_in (numbers_of rs) n))) (lower_no r.job.id n (subst (λ k. nat_cmp r.job.id k ≡ Less) own less))
+    ∙ ap suc (place_is rs (true_from _ (second_of _ _ (t_from _ sorted))) at n is)
+
+-- the place of a number that was reached
+pub place_reached : (rows : Listed) → rows.numbers ≡ numbers_of rows.items → IsTrue (finite.is_sorted nat_cmp (map job_entry rows.items)) → (at n : ℕ) → slice_get rows.numbers at ≡ Some n → place_in rows.numbers n ≡ at
+place_reached rows own sorted at n is = ap (λ ns. place_in ns n) own ∙ place_is rows.items sorted at n (ap (λ ns. slice_get ns at) (sym own) ∙ is)
+
+-- the rows that were reached: they have the numbers of the first ones, and some of them were written anew
+module _ (first : Listed) (own : first.numbers ≡ numbers_of first.items) (sorted : IsTrue (finite.is_sorted nat_cmp (map job_entry first.items))) where
+  pub within_reach : (at n : ℕ) → slice_get first.numbers at ≡ Some n → HasNumber first.numbers n
+  within_reach at n is = subst (λ p. p < length first.numbers) (sym (place_reached first own sorted at n is)) (slice_get_within first.numbers at n is)
+
+  pub record IsReached (rows : Listed) (at n : ℕ) (row : JobRow) : Type 0 where
+    pub place : place_in rows.numbers n ≡ at
+    pub within : at < length first.items
+    pub is : get_or rows.items at row ≡ row
+
+  pub reached_row : (rows : Listed) → rows ≡ record first { items = rows.items } → (at n : ℕ) → slice_get first.numbers at ≡ Some n → (row : JobRow) → HasRow rows n row → IsReached rows at n row
+  reached_row rows same at n is row found =
+      let place : place_in rows.numbers n ≡ at = ap (λ (r : Listed). place_in r.numbers n) same ∙ place_reached first own sorted at n is in
+      record {
+        place = place;
+        within = subst (λ k. at < k) (as_many first own sorted) (slice_get_within first.numbers at n is);
+        is = ap (λ p. get_or rows.items p row) (sym place) ∙ found.is;
+      }
+
+-- no number is left where none was reached
+pub none_reached : (ns : List ℕ) (at : ℕ) → slice_get ns at ≡ None → length ns ≤ at
+none_reached [] at none = omega arith
+none_reached (n ∷ ns) zero none = absurd (cc)
+none_reached (n ∷ ns) (suc at) none = let rest = none_reached ns at none in omega (arith, rest)
