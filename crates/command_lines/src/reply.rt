@@ -30,7 +30,7 @@ pub enum Answer<'a> {
     },
     /// The jobs in ascending order of number, shown as they are at the moment now.
     Jobs {
-        rows: &'a [JobRow],
+        rows: &'a Rows,
         now: Moment,
     },
     /// The queues in ascending order of name.
@@ -128,11 +128,11 @@ fn refused(alloc: Global, refusal: Refusal) -> Result<Vec<u8>, AllocError>
     Ok(format!(in alloc; "error {number} {name}\n")?.into_bytes())
 }
 
-fn jobs(alloc: Global, rows: &[JobRow], now: Moment) -> Result<Vec<u8>, AllocError>
-    ensures { IfOk result (λ text. text.items ≡ jobs_text now (map job_of rows.now)) }
+fn jobs(alloc: Global, rows: &Rows, now: Moment) -> Result<Vec<u8>, AllocError>
+    ensures { IfOk result (λ text. text.items ≡ jobs_text now (map job_of rows.now.items)) }
 {
     let mut text = Vec::new(alloc);
-    for row in rows {
+    for row in rows.iter() {
         push_job(&mut text, &row.job, &now)?;
     }
     push_count(&mut text, rows.len())?;

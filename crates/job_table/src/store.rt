@@ -137,10 +137,11 @@ impl Store {
         &self.queues
     }
 
-    /// All jobs, in ascending order of number.
+    /// All jobs, in ascending order of number, each under its own.
     pub fn jobs(&self) -> &Rows
         ensures rows { map job_of result.now.items ≡ finite.values self.now.state.jobs }
         ensures numbers { result.now.numbers ≡ finite.keys self.now.state.jobs }
+        ensures each { result.now.numbers ≡ map (λ row. row.job.id) result.now.items }
         ensures entries { map job_entry result.now.items ≡ finite.entries self.now.state.jobs }
         ensures found { (row : Job) → Contains (finite.values self.now.state.jobs) row → job_at self.now.state row.id ≡ Some row }
         ensures legal { IsLegal self.now.state }

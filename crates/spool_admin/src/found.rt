@@ -103,8 +103,8 @@ fn count_rows<D: Disk + Drop>(alloc: Global, disk: D) -> Result<(D, usize, JobCo
     Ok((spool.into_disk(), queues, jobs))
 }
 
-fn count_jobs(rows: &[JobRow]) -> JobCounts
-    ensures { AreCounted (map job_of rows.now) result }
+fn count_jobs(rows: &Rows) -> JobCounts
+    ensures { AreCounted (map job_of rows.now.items) result }
 {
     JobCounts {
         all: rows.len(),

@@ -9,4 +9,4 @@ use Rattle.job_table.proofs.table.build.deadlines_of.Goals as goal
 pub returns : goal.returns
 returns c =
     items_from_collect _ c.collect.ensures.ran
-    (YieldsList-from_filter_map _ (λ (row : JobRow). deadline_of row.job) (YieldsList-from_first (λ x. x.now) (λ rest. rest) c.args.rows.now.items c.iter.ensures.rows) c.filter_map.ensures.closure (λ x r q k. search (rules, tests)))
+    (YieldsList-from_filter_map _ (λ (row : JobRow). deadline_of row.job) (YieldsList-from_first (λ x. x.now) (λ rest. rest) c.args.rows.now.items cc) c.filter_map.ensures.closure (λ x r q k. search (rules, tests)))

@@ -9,5 +9,5 @@ use Rattle.job_table.proofs.table.build.timed_count.Goals as goal
 pub returns : goal.returns
 returns c =
     count_from_yields_List c.filter.result _ c.count.ensures.ran
-    (YieldsList-from_filter _ (λ (row : JobRow). is_some row.job.by) (YieldsList-from_first (λ x. x.now) (λ rest. rest) c.args.rows.now.items c.iter.ensures.rows) c.filter.ensures.closure (λ x r q k. search (rules, tests)))
+    (YieldsList-from_filter _ (λ (row : JobRow). is_some row.job.by) (YieldsList-from_first (λ x. x.now) (λ rest. rest) c.args.rows.now.items cc) c.filter.ensures.closure (λ x r q k. search (rules, tests)))
     ∙ length-filter (λ (row : JobRow). is_some row.job.by) c.args.rows.now.items
