@@ -4,8 +4,9 @@ ghost use Rattle.std.specs.Fmt.{decimal};
 ghost use Rattle.spool_types.specs.State.{job_of};
 ghost use Rattle.command_lines.specs.Replies.{answer_text, quoted, job_line, job_head, job_sizes, jobs_text, queue_head, queue_rules, reasons_word, queue_text, shown_text, refusal_line, created_line, sent_line, closed_line, rounded_line, drained_line};
 
+use job_rows::Rows;
 use line_words::{is_backslash, is_quote};
-use spool_types::{Job, JobId, JobRow, MediaType, Moment, QueueRow, Reason, Refusal};
+use spool_types::{Job, JobId, MediaType, Moment, QueueRow, Reason, Refusal};
 use std::alloc::{AllocError, Global};
 use std::io::Write;
 

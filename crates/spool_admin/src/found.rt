@@ -5,11 +5,11 @@ ghost use Rattle.spool_disk.specs.Disk.{ChangesNothing};
 ghost use Rattle.spool_areas.specs.Header.{half};
 ghost use Rattle.spool_admin.specs.Found.{AreCounted, HasArea, HasCounts};
 
+use job_rows::Rows;
 use job_table::Table;
 use spool_areas::{Areas, Opened};
 use spool_core::{OpenFault, Spool};
 use spool_disk::Disk;
-use spool_types::JobRow;
 use std::alloc::Global;
 
 /// How many jobs there are.

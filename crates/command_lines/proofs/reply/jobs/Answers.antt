@@ -1,14 +1,25 @@
-use Rattle.std.proofs.Common.{◌+◌, [], take, sym, ◌∙◌}
+use Rattle.std.proofs.Common.{◌≡◌, ◌++◌, ◌∷◌, [], ℕ, List, None, length, map, refl, sym, ap, ◌∙◌}
+use Rattle.std.specs.Borrow.{Bor}
+use Rattle.std.specs.List.{flat_map}
+use Rattle.std.proofs.lemmas.Grind.{flat_map-append}
+use Rattle.std.proofs.lemmas.Iterator.Consumers.{YieldsList-from_first, YieldsList-end}
+use Rattle.std.proofs.lemmas.List.{append-nil, map_push}
+use Rattle.std.proofs.lemmas.List.Concat.{flat_map-cons}
+use Rattle.spool_types.specs.State.{Job, job_of}
 use Rattle.spool_types.specs.declared.rows.JobRow.{JobRow}
-use Rattle.spool_types.specs.State.{job_of}
 use Rattle.command_lines.specs.Replies.{job_line}
-use Rattle.command_lines.proofs.Pieces.{next_piece, pieces_seen}
 use Rattle.command_lines.proofs.reply.jobs.Goals as goal
+
+-- the line of one job more
+next_line : (line : Job → List ℕ) (xs : List (Bor JobRow)) (x : Bor JobRow) → flat_map line (map job_of (map (λ row. row.now) (xs ++ x ∷ []))) ≡ flat_map line (map job_of (map (λ row. row.now) xs)) ++ line (job_of x.now)
+next_line line xs x =
+    ap (λ (rs : List JobRow). flat_map line (map job_of rs)) (map_push (λ row. row.now) xs x)
+    ∙ ap (flat_map line) (map_push job_of (map (λ row. row.now) xs) x.now)
+    ∙ flat_map-append line (map job_of (map (λ row. row.now) xs)) (job_of x.now ∷ [])
+    ∙ ap (λ (rest : List ℕ). flat_map line (map job_of (map (λ row. row.now) xs)) ++ rest) (flat_map-cons line (job_of x.now) [] ∙ append-nil (line (job_of x.now)))
 
 pub loop-row-preserved : goal.loop-row-preserved
 loop-row-preserved c =
-    let line = job_line c.args.now in
-    let rows = c.args.rows.now in
-    let i = c.loop-row.row-index in
-    next_piece (λ (r : JobRow). line (job_of r)) rows i c.row-item.result [] c.loop-row.text.items c.push_job.new.text.items c.row-item.is c.loop-row-test.true (c.loop-row.invariant ∙ pieces_seen line job_of (take i rows)) c.in_ok-push_job.ensures
-    ∙ sym (pieces_seen line job_of (take (i + 1) rows))
+    c.in_ok-push_job.ensures
+    ∙ ap (λ (text : List ℕ). text ++ job_line c.args.now (job_of c.in-Some.row.now)) c.loop-row.invariant
+    ∙ sym (next_line (job_line c.args.now) c.loop-row.yielded c.in-Some.row)
