@@ -81,9 +81,6 @@ each_below [] k below i d lt = absurd (omega arith)
 each_below (r ∷ rs) k below zero d lt = below 0 r (omega arith)
 each_below (r ∷ rs) k below (suc i) d lt = each_below rs k (λ j e l. below (suc j) e (omega arith)) i d (omega arith)
 
-same_there : (j k : ℕ) → (j == k) ≡ true → j ≡ k
-same_there j k e = grind (arith, rules)
-
 other_there : (j k : ℕ) → (j == k) ≡ false → is_eq (nat_cmp k j) ≡ false
 other_there j k other = either (is_eq (nat_cmp k j)) refl
   where
@@ -159,10 +156,6 @@ module _ (rows : Listed) (own : rows.numbers ≡ numbers_of rows.items) (sorted 
 abbrev pub numbers_left : Option ℕ → ℕ
 numbers_left None = 0
 numbers_left (Some n) = greatest_number + 2 - n
-
-pub fewer_left : (n : ℕ) (next : Option ℕ) → n ≤ greatest_number → IfSome next (λ m. n < m) → numbers_left next < greatest_number + 2 - n
-fewer_left n None most above = omega arith
-fewer_left n (Some m) most above = omega arith
 
 place_is : (rs : List JobRow) → IsTrue (finite.is_sorted nat_cmp (map job_entry rs)) → (at n : ℕ) → slice_get (numbers_of rs) at ≡ Some n → place_in (numbers_of rs) n ≡ at
 place_is [] sorted at n is = absurd (cc)

@@ -12,10 +12,6 @@ abbrev pub jobs_left : Option ℕ → ℕ
 jobs_left None = 0
 jobs_left (Some n) = greatest_number + 2 - n
 
-pub fewer_jobs : (n : ℕ) (next : Option ℕ) → n ≤ greatest_number → IfSome next (λ m. n < m) → jobs_left next < greatest_number + 2 - n
-fewer_jobs n None most above = omega arith
-fewer_jobs n (Some m) most above = omega arith
-
 -- the row of a number that was reached
 pub record IsRowAt (rows : List JobRow) (at n : ℕ) : Type 0 where
   pub row : JobRow
