@@ -15,7 +15,6 @@ use Rattle.std.proofs.lemmas.Option.{slice_get_within, get_or_from_slice_get}
 use Rattle.spool_types.specs.Limits.{greatest_number}
 use Rattle.spool_types.specs.declared.rows.JobRow.{JobRow}
 use Rattle.spool_types.specs.State.{Job, job_of}
-use Rattle.job_rows.specs.Places.{IsPlace}
 use Rattle.job_rows.specs.Rows.{Listed, place_in, HasNumber, HasRow, LacksNumber}
 use Rattle.job_table.specs.Rows.{job_entry}
 use Rattle.job_table.proofs.Changes.{same_number}

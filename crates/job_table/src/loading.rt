@@ -301,8 +301,7 @@ fn is_alone(store: &Store, job: &Job) -> bool
 fn is_busy(rows: &Rows, queue: &QueueName) -> bool
     ensures { result ≡ is_busy (map job_of rows.now.items) queue.now }
 {
-    rows.iter()
-        .any(|row| row.job.queue == *queue && row.job.phase.is_processing())
+    rows.iter().any(|row| row.job.queue == *queue && row.job.phase.is_processing())
 }
 
 // Whether the phase fits the rest of the row.

@@ -13,8 +13,8 @@ ghost use Rattle.job_table.specs.Versions.{raised};
 ghost use Rattle.extents.specs.Extents.{size_of};
 ghost use Rattle.spool_types.specs.Phases.{has_ended};
 
-use lookup::queue_place;
 use job_rows::Rows;
+use lookup::queue_place;
 use row_effects::Spare;
 use spool_types::{JobId, JobRow, Moment, QueueName, QueueRow, Version};
 use std::alloc::Global;

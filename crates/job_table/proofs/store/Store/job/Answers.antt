@@ -1,17 +1,16 @@
 -- the row that was read is the one that the map has
-use Rattle.std.proofs.Common.{◌≡◌, [], true, None, Some, Option, get_or, unwrap_or, sym, ap, subst, ◌∙◌, arith}
-use Rattle.std.specs.Prelude.{IfSome, vec_len, vec_capacity}
+use Rattle.std.proofs.Common.{◌≡◌, [], true, None, Some, Option, ap, ◌∙◌}
+use Rattle.std.specs.Prelude.{IfSome}
 use Rattle.std.specs.Borrow.{Bor}
 use Rattle.std.specs.FinMap as finite
 use Rattle.extents.specs.Extents.{size_of}
 use Rattle.spool_types.specs.Phases.{has_ended}
-use Rattle.spool_types.specs.State.{job_of}
 use Rattle.spool_types.specs.declared.rows.JobRow.{JobRow}
 use Rattle.job_rows.specs.Rows.{HasRow}
 use Rattle.job_table.specs.Contents.{places_at}
 use Rattle.job_table.specs.Documents.{document_len}
 use Rattle.job_table.proofs.Numbered.{looked_at}
-use Rattle.job_table.proofs.Steps.{RowSeen, row_seen}
+use Rattle.job_table.proofs.Steps.{row_seen}
 use Rattle.job_table.proofs.store.Store.job.Goals as goal
 
 pub returns-clause-row : goal.returns-clause-row

@@ -1,5 +1,5 @@
 -- the row keeps its meaning, and its document has the room
-use Rattle.std.proofs.Common.{◌+◌, ◌≤◌, Some, sym, ap, subst, ◌∙◌, arith, IsSome}
+use Rattle.std.proofs.Common.{◌+◌, ◌≤◌, sym, ap, subst, ◌∙◌, arith, IsSome}
 use Rattle.std.specs.Vec.{vec_len, vec_capacity}
 use Rattle.std.specs.FinMap as finite
 use Rattle.std.proofs.lemmas.Result.{on_ok_weaker}

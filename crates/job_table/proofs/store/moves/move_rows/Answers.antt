@@ -48,8 +48,7 @@ loop-next-preserved c =
     moved_as c.loop-next.noted noted (get_or first.items at x) new (before.left at x (omega arith) reached.within) (before.room at x (omega arith) reached.within)
     (subst (λ (r : JobRow). IsMoved c.loop-next.noted r new) same c.move_row.ensures.moved) in
     let others : (i : ℕ) (d : JobRow) → at + 1 ≤ i → i < length first.items → ¬ ((get_or first.items i d).job.id ≡ x.job.id) =
-    λ i d le lt one. ids_apart first.items c.requires.sorted at i d x (omega (arith, le)) lt (one ∙ ap (λ (r : JobRow). r.job.id) same) in
-    (
+    λ i d le lt one. ids_apart first.items c.requires.sorted at i d x (omega (arith, le)) lt (one ∙ ap (λ (r : JobRow). r.job.id) same) in (
       at + 1,
       record {
         next =
