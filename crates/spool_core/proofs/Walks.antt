@@ -1,9 +1,9 @@
 -- A walk over the jobs of a table, from number to number.
 use Rattle.std.proofs.Common.{◌≡◌, ℕ, zero, suc, ◌+◌, ◌-◌, ◌<◌, ◌≤◌, List, [], ◌∷◌, length, get_or, map, Option, None, Some, refl, sym, ap, ◌∙◌, arith}
-use Rattle.std.specs.Prelude.{IfSome, slice_get}
+use Rattle.std.specs.Prelude.{slice_get}
 use Rattle.extents.specs.Extents.{size_of}
 use Rattle.spool_types.specs.Limits.{greatest_number}
-use Rattle.spool_types.specs.State.{Job, job_at}
+use Rattle.spool_types.specs.State.{job_at}
 use Rattle.spool_types.specs.declared.rows.JobRow.{JobRow}
 use Rattle.job_table.specs.Contents.{Contents, AreSized, places_of}
 
