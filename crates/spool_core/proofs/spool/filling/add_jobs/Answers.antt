@@ -20,17 +20,16 @@ loop-next-init g c =
     let v = g.D.Disk.device in
     let lawful = g.met.D.Disk.lawful in
     let table = c.args.table.now in
-    let f = filling_at c.args.areas.now c.args.filler.now in
-    (
+    let f = filling_at c.args.areas.now c.args.filler.now in (
       0,
       record {
-      next = c.first-next.ensures ∙ ap (λ ns. slice_get ns 0) c.jobs.ensures.numbers;
-      on = none_on v lawful (flat_map blank_rows (finite.values table.state.jobs)) f c.requires.may;
-      spare = omega arith;
-      same = refl;
-      places = refl;
-      some = some_begun v lawful table f (jobs_found table.state c.jobs.ensures.legal) c.requires.moves;
-    },
+        next = c.first-next.ensures ∙ ap (λ ns. slice_get ns 0) c.jobs.ensures.numbers;
+        on = none_on v lawful (flat_map blank_rows (finite.values table.state.jobs)) f c.requires.may;
+        spare = omega arith;
+        same = refl;
+        places = refl;
+        some = some_begun v lawful table f (jobs_found table.state c.jobs.ensures.legal) c.requires.moves;
+      },
     )
 
 pub add_job-requires-clause-due : goal.add_job-requires-clause-due
@@ -84,20 +83,19 @@ loop-next-preserved g c =
     let there = next_there v lawful table at f table.moves now c.loop-next.table.moves inv.on inv.some q here is found c.loop-next.table inv.same in
     let there_too : job_at c.loop-next.table.state c.in-Some.job ≡ Some q = subst (λ k. job_at c.loop-next.table.state k ≡ Some q) x.own there in
     let same : c.add_job.new.table.state ≡ table.state = c.add_job.ensures.same ∙ inv.same in
-    let numbers = c.jobs-in-Some.ensures.numbers ∙ ap (λ (s : State). finite.keys s.jobs) same in
-    (
+    let numbers = c.jobs-in-Some.ensures.numbers ∙ ap (λ (s : State). finite.keys s.jobs) same in (
       at + 1,
       record {
-      next =
-          c.next_above-next.ensures.behind at (ap (λ ns. slice_get ns at) numbers ∙ reached ∙ ap Some (sym c.get.ensures.value))
-          ∙ ap (λ ns. slice_get ns (at + 1)) numbers;
-      on = then_on v lawful f now inv.on inv.some.rows inv.some.adds end (Ok tt) c.in_ok-add_job.ensures.on;
-      spare = omega (arith, inv.spare, c.add_job.ensures.spare);
-      same = same;
-      places = c.add_job.ensures.places ∙ inv.places;
-      some = some_next v lawful table at f table.moves now c.loop-next.table.moves inv.on inv.some q here is found (jobs_apart table.state c.jobs.ensures.legal) end c.add_job.new.table.moves
-          (subst (λ (xs : List Extent). IsDocumentAdded v xs q now end) (ap (λ ps. places_of ps c.in-Some.job) inv.places ∙ ap (λ k. places_of table.places k) (sym x.own)) (c.in_ok-add_job.ensures.added q there_too))
-          (c.in_ok-add_job.ensures.noted q there_too);
+        next =
+            c.next_above-next.ensures.behind at (ap (λ ns. slice_get ns at) numbers ∙ reached ∙ ap Some (sym c.get.ensures.value))
+            ∙ ap (λ ns. slice_get ns (at + 1)) numbers;
+        on = then_on v lawful f now inv.on inv.some.rows inv.some.adds end (Ok tt) c.in_ok-add_job.ensures.on;
+        spare = omega (arith, inv.spare, c.add_job.ensures.spare);
+        same = same;
+        places = c.add_job.ensures.places ∙ inv.places;
+        some = some_next v lawful table at f table.moves now c.loop-next.table.moves inv.on inv.some q here is found (jobs_apart table.state c.jobs.ensures.legal) end c.add_job.new.table.moves
+            (subst (λ (xs : List Extent). IsDocumentAdded v xs q now end) (ap (λ ps. places_of ps c.in-Some.job) inv.places ∙ ap (λ k. places_of table.places k) (sym x.own)) (c.in_ok-add_job.ensures.added q there_too))
+            (c.in_ok-add_job.ensures.noted q there_too);
       },
     )
 
