@@ -5,11 +5,11 @@ ghost use Rattle.spool_disk.specs.Disk.{ChangesNothing};
 ghost use Rattle.spool_areas.specs.Header.{half};
 ghost use Rattle.spool_admin.specs.Found.{AreCounted, HasArea, HasCounts};
 
+use job_rows::Rows;
 use job_table::Table;
 use spool_areas::{Areas, Opened};
 use spool_core::{OpenFault, Spool};
 use spool_disk::Disk;
-use spool_types::JobRow;
 use std::alloc::Global;
 
 /// How many jobs there are.
@@ -103,8 +103,8 @@ fn count_rows<D: Disk + Drop>(alloc: Global, disk: D) -> Result<(D, usize, JobCo
     Ok((spool.into_disk(), queues, jobs))
 }
 
-fn count_jobs(rows: &[JobRow]) -> JobCounts
-    ensures { AreCounted (map job_of rows.now) result }
+fn count_jobs(rows: &Rows) -> JobCounts
+    ensures { AreCounted (map job_of rows.now.items) result }
 {
     JobCounts {
         all: rows.len(),
