@@ -1,6 +1,6 @@
 -- What the parts of a growing leave.
-use Rattle.std.proofs.Common.{◌≡◌, ℕ, Bool, true, false, List, Option, Some, refl, sym, ◌∙◌}
-use Rattle.std.specs.Prelude.{Result, Ok, Err, OnOk, IsSome, is_err, ◌⊎◌}
+use Rattle.std.proofs.Common.{◌≡◌, ℕ, false, List, Option, None, Some, refl}
+use Rattle.std.specs.Prelude.{Result, Ok, Err, OnOk, IsSome, is_err}
 use Rattle.spool_types.specs.State.{State}
 use Rattle.spool_disk.specs.Disk.{DiskView, IsLawful, LeavesOnly}
 use Rattle.spool_disk.proofs.Moments.{at_return}
@@ -9,8 +9,8 @@ use Rattle.spool_core.specs.Image.{HasDocuments}
 
 -- what is said of a value holds where there is no error
 pub from_ok : {T E : Type 0} (result : Result T E) (P : Type 0) → is_err result ≡ false → OnOk result P → P
-from_ok (Ok x) P no said = said
-from_ok (Err e) P no said = cc
+from_ok (Ok x) P fine said = said
+from_ok (Err e) P fine said = cc
 
 -- a value that is told is some
 pub is_some_of : {T : Type 0} (o : Option T) (x : T) → o ≡ Some x → IsSome o

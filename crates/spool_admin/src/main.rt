@@ -27,9 +27,10 @@
 //!
 //! # Promises
 //!
-//! - [`read_words`] gives what clap finds in the words (`asked`).
+//! - [`read_words`] gives what clap finds in the words (`asked`), and refuses none in which clap finds no fault and that are those of
+//!   a task (`taken`).
 //! - [`found::find`] changes nothing on the disk (`still`), tells the current area of its bytes (`area`), and counts the queues and
-//!   the jobs of their table (`counts`).
+//!   the jobs of their table (`counts`). A fault of the bytes is theirs (`fault`).
 //! - [`copying::copy`] leaves exactly the copied bytes at the target's begin, and nothing else is changed (`copied`, `still`).
 //! - [`grow::list`] leaves the table and the documents of the copied bytes, whatever a crash does (`grown`). It gives the new disk back
 //!   synced (`synced`), and answers `Smaller` exactly where it is shorter (`smaller`).

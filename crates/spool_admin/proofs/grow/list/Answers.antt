@@ -15,7 +15,7 @@ returns-clause-grown g c = λ r t tells starts image now.
     let lawful = g.met.T.Disk.lawful in
     let done = c.in_ok-checkpoint.ensures in
     let now' = subst (λ disk. v.image disk image) c.into_disk.ensures now in
-    let copied = from_ok c.copy.result _ (sym c.is_err.ensures ∙ c.if-is_err.false) c.copy.ensures.copied r t tells starts in
+    let copied = from_ok c.copy.result _ (sym c.is_err.ensures.value ∙ c.if-is_err.false) c.copy.ensures.copied r t tells starts in
     let told = c.in-Ok.ensures.told.1 (is_some_of _ _ copied) in
     record {
       table = c.in-Ok.spool.state;
