@@ -17,7 +17,7 @@ import tempfile
 import time
 
 from clocks import ask
-from opening import SHELL, rows, spool
+from opening import given, rows, spool
 
 COUNTS = (1_000, 10_000, 100_000, 1_000_000)
 BLOCK = 65_536
@@ -64,10 +64,8 @@ def written(folder, length):
 
 
 def main():
-    program = os.path.abspath(sys.argv[2]) if len(sys.argv) > 2 else SHELL
-    if not os.path.exists(program):
-        sys.exit("no program: run `rt run` in crates/spool_shell first")
-    with tempfile.TemporaryDirectory(dir=sys.argv[1] if len(sys.argv) > 1 else ".") as folder:
+    program, room = given()
+    with room as folder:
         for count in COUNTS:
             contents = spool(rows(count + 2))
             took, more = measured(folder, program, contents)

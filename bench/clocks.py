@@ -19,7 +19,7 @@ import sys
 import tempfile
 import time
 
-from opening import SHELL, rows, spool
+from opening import given, rows, spool
 
 here = os.path.dirname(os.path.abspath(__file__))
 COUNTS = (10, 1_000, 100_000, 1_000_000)
@@ -89,10 +89,8 @@ def floor(folder):
 
 
 def main():
-    program = os.path.abspath(sys.argv[2]) if len(sys.argv) > 2 else SHELL
-    if not os.path.exists(program):
-        sys.exit("no program: run `rt run` in crates/spool_shell first")
-    with tempfile.TemporaryDirectory(dir=sys.argv[1] if len(sys.argv) > 1 else ".") as folder:
+    program, room = given()
+    with room as folder:
         for is_timed in (False, True):
             print("each job is to start by a moment" if is_timed else "no job has a moment")
             for count in COUNTS:

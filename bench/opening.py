@@ -111,11 +111,17 @@ def opening(folder, program, payloads):
         return seconds(program, root)
 
 
-def main():
+def given():
+    """The program, and a new folder, which goes at the end of a `with`: those that the words name, or else their defaults."""
     program = os.path.abspath(sys.argv[2]) if len(sys.argv) > 2 else SHELL
     if not os.path.exists(program):
         sys.exit("no program: run `rt run` in crates/spool_shell first")
-    with tempfile.TemporaryDirectory(dir=sys.argv[1] if len(sys.argv) > 1 else ".") as folder:
+    return program, tempfile.TemporaryDirectory(dir=sys.argv[1] if len(sys.argv) > 1 else ".")
+
+
+def main():
+    program, room = given()
+    with room as folder:
         nothing = opening(folder, program, [])
         for kind in (clocks, jobs, sends, rows, timed_rows):
             print(kind.__doc__)

@@ -14,11 +14,10 @@ of interest, and no test reads them.
 import os
 import random
 import subprocess
-import sys
 import tempfile
 
 from clocks import ask, floor
-from opening import SHELL, rows, spool
+from opening import given, rows, spool
 
 COUNTS = (1_000, 100_000, 1_000_000)
 PURGED = 10_000
@@ -62,10 +61,8 @@ def orders(count):
 
 
 def main():
-    program = os.path.abspath(sys.argv[2]) if len(sys.argv) > 2 else SHELL
-    if not os.path.exists(program):
-        sys.exit("no program: run `rt run` in crates/spool_shell first")
-    with tempfile.TemporaryDirectory(dir=sys.argv[1] if len(sys.argv) > 1 else ".") as folder:
+    program, room = given()
+    with room as folder:
         for count in COUNTS:
             least = floor(folder)
             print(f"  {count:9,} jobs, the floor {1e6 * least:8.1f} us")

@@ -82,8 +82,8 @@ CAPACITIES = {
     ("filter_args", "words"): ["6"],
     # 64 KiB, for as long as a spool is opened.
     ("gate_journal", "new"): ["BLOCK_LEN"],
+    ("job_rows", "reserve"): ["1"],
     ("job_table", "reserve_extent"): ["1"],
-    ("job_table", "reserve_job"): ["1"],
     ("job_table", "reserve_queue"): ["1", "1"],
     ("mime_costs", "cost_rows"): ["MOST_LINES"],
     ("mime_costs", "walk_lines"): ["MOST_LINES"],

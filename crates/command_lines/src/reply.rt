@@ -4,8 +4,9 @@ ghost use Rattle.std.specs.Fmt.{decimal};
 ghost use Rattle.spool_types.specs.State.{job_of};
 ghost use Rattle.command_lines.specs.Replies.{answer_text, quoted, job_line, job_head, job_sizes, jobs_text, queue_head, queue_rules, reasons_word, queue_text, shown_text, refusal_line, created_line, sent_line, closed_line, rounded_line, drained_line};
 
+use job_rows::Rows;
 use line_words::{is_backslash, is_quote};
-use spool_types::{Job, JobId, JobRow, MediaType, Moment, QueueRow, Reason, Refusal};
+use spool_types::{Job, JobId, MediaType, Moment, QueueRow, Reason, Refusal};
 use std::alloc::{AllocError, Global};
 use std::io::Write;
 
@@ -30,7 +31,7 @@ pub enum Answer<'a> {
     },
     /// The jobs in ascending order of number, shown as they are at the moment now.
     Jobs {
-        rows: &'a [JobRow],
+        rows: &'a Rows,
         now: Moment,
     },
     /// The queues in ascending order of name.
@@ -128,11 +129,11 @@ fn refused(alloc: Global, refusal: Refusal) -> Result<Vec<u8>, AllocError>
     Ok(format!(in alloc; "error {number} {name}\n")?.into_bytes())
 }
 
-fn jobs(alloc: Global, rows: &[JobRow], now: Moment) -> Result<Vec<u8>, AllocError>
-    ensures { IfOk result (λ text. text.items ≡ jobs_text now (map job_of rows.now)) }
+fn jobs(alloc: Global, rows: &Rows, now: Moment) -> Result<Vec<u8>, AllocError>
+    ensures { IfOk result (λ text. text.items ≡ jobs_text now (map job_of rows.now.items)) }
 {
     let mut text = Vec::new(alloc);
-    for row in rows {
+    for row in rows.iter() {
         push_job(&mut text, &row.job, &now)?;
     }
     push_count(&mut text, rows.len())?;

@@ -15,7 +15,8 @@ use Rattle.spool_types.specs.declared.rows.JobRow.{JobRow}
 use Rattle.job_table.specs.Drafts.{IsBlank, IsDraft, AreDrafts}
 use Rattle.job_table.specs.Lanes.{standing_of, seat, IsReseated, AreBeside}
 use Rattle.job_table.specs.Legal.{IsLegal}
-use Rattle.job_table.specs.Places.{IsPlace, IsNameAt}
+use Rattle.job_rows.specs.Places.{IsPlace}
+use Rattle.job_table.specs.Places.{IsNameAt}
 use Rattle.job_table.specs.declared.lane.Standing.{Standing}
 use Rattle.job_table.specs.declared.lane.Standing.TheVariants.{Ended, Processing}
 use Rattle.job_table.specs.declared.lane.draft.Draft.{Draft}

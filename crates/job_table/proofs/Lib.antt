@@ -1,5 +1,7 @@
 pub mod Rows
 pub mod Tables
+mod Numbered
+mod Walked
 pub mod Rooms
 pub mod Steps
 pub mod Accepted

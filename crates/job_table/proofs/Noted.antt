@@ -6,7 +6,7 @@ use Rattle.std.specs.FinMap as finite
 use Rattle.extents.specs.declared.extent.Extent.{Extent}
 use Rattle.job_table.specs.Contents.{places_of}
 use Rattle.job_table.specs.Noted.{new_entry, new_spare, spare_entry}
-use Rattle.job_table.specs.Places.{IsPlace, IsGap}
+use Rattle.job_rows.specs.Places.{IsPlace, IsGap}
 use Rattle.job_table.specs.declared.new_places.NewDocument.{NewDocument}
 use Rattle.job_table.proofs.Changes.{same_itself, same_number}
 use Rattle.job_table.proofs.Rows as rows

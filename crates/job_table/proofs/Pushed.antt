@@ -1,6 +1,8 @@
 -- What a row that goes last does to the state that the rows mean.
-use Rattle.std.proofs.Common.{◌≡◌, ℕ, Bool, true, false, cond, List, [], ◌∷◌, ◌++◌, length, map, unwrap_or, Option, Some, refl, sym, ap, subst, ◌∙◌, Vec, Global}
+use Rattle.std.proofs.Common.{◌≡◌, ℕ, ◌<◌, get_or, Bool, true, false, cond, List, [], ◌∷◌, ◌++◌, length, map, unwrap_or, Option, Some, refl, sym, ap, subst, ◌∙◌, Vec, Global}
+use Rattle.std.specs.Prelude.{All}
 use Rattle.std.specs.List.{insert}
+use Rattle.std.proofs.lemmas.Cmp.{ranked}
 use Rattle.std.specs.declared.cmp.Ordering.TheVariants.{Less}
 use Rattle.std.specs.Ordering.{nat_cmp, is_eq}
 use Rattle.extents.specs.declared.extent.Extent.{Extent}
@@ -10,14 +12,16 @@ use Rattle.std.specs.FinMap as finite
 use Rattle.spool_types.specs.declared.rows.QueueRow.{QueueRow}
 use Rattle.spool_types.specs.declared.rows.JobRow.{JobRow}
 use Rattle.spool_types.specs.State.{job_of}
+use Rattle.job_rows.specs.Rows.{Listed}
 use Rattle.job_table.specs.Contents.{places_at, places_of}
 use Rattle.job_table.specs.Legal.{IsLegal}
 use Rattle.job_table.specs.Loading.{IsAbove, with_queue, with_job}
 use Rattle.job_table.specs.Rows.{HoldsDocument, place_entry}
 use Rattle.job_table.specs.Seen.{contents_of, IsOrdered}
 use Rattle.job_table.specs.declared.store.Store.TheInside.{Inside}
-use Rattle.job_table.proofs.Above.{insert_last, last_gap, absent_above}
+use Rattle.job_table.proofs.Above.{insert_last, above_each, last_gap, absent_above}
 use Rattle.job_table.proofs.Changes.{same_number}
+use Rattle.job_table.proofs.Numbered.{each_below, numbers_pushed}
 use Rattle.job_table.proofs.Rooms.{holds_insert}
 use Rattle.job_table.proofs.Tables.{IsQueueGap, IsJobGap, insert_queue, sorted_insert_queue, keys_queues, insert_job, sorted_insert_job, keys_jobs}
 
@@ -48,6 +52,9 @@ above_entries : (k : ℕ) (ys : List JobRow) → IsAbove nat_cmp k (map (λ (r :
 above_entries k [] above = tt
 above_entries k (y ∷ ys) above = (above.0, above_entries k ys above.1)
 
+pub all_above : (k : ℕ) (ys : List JobRow) → IsAbove nat_cmp k (map (λ (r : JobRow). r.job.id) ys) → All (λ n. n < k) (map (λ (r : JobRow). r.job.id) ys)
+all_above k ys above = each_below ys k (λ i d lt. ranked (get_or ys i d).job.id k Less (sym (above_each nat_cmp nat_cmp_total (λ (r : JobRow). r.job.id) job_of k ys above i d lt)))
+
 module _ (a : Inside) (ordered : IsOrdered a) where
   module _ (row : QueueRow) (vs : Vec QueueRow Global) (above : IsAbove (slice_cmp nat_cmp) row.name (finite.keys (contents_of a).state.queues)) (items : vs.items ≡ a.queues.items ++ row ∷ []) where
     queue_gap : IsQueueGap a.queues.items row.name (length a.queues.items)
@@ -63,12 +70,13 @@ module _ (a : Inside) (ordered : IsOrdered a) where
     push_queue_ordered legal = record {
       queues = rw queue_last (sorted_insert_queue a.queues.items ordered.queues row (length a.queues.items) queue_gap);
       jobs = ordered.jobs;
+      own = ordered.own;
       highest = ordered.highest;
       documents = ordered.documents;
       legal = subst IsLegal (sym push_queue_state) legal;
     }
 
-  module _ (row : JobRow) (vs : Vec JobRow Global) (above : IsAbove nat_cmp row.job.id (finite.keys (contents_of a).state.jobs)) (items : vs.items ≡ a.jobs.items ++ row ∷ []) where
+  module _ (row : JobRow) (vs : Listed) (above : IsAbove nat_cmp row.job.id (finite.keys (contents_of a).state.jobs)) (items : vs.items ≡ a.jobs.items ++ row ∷ []) where
     job_gap : IsJobGap a.jobs.items row.job.id (length a.jobs.items)
     job_gap = last_gap nat_cmp nat_cmp_total (λ r. r.job.id) job_of row.job.id a.jobs.items (subst (IsAbove nat_cmp row.job.id) (keys_jobs a.jobs.items ordered.jobs) above)
 
@@ -78,10 +86,11 @@ module _ (a : Inside) (ordered : IsOrdered a) where
     pub push_job_state : (contents_of (record a { jobs = vs })).state ≡ with_job (contents_of a).state (job_of row)
     push_job_state = rw job_last (ap (λ js. record (contents_of a).state { jobs = js }) (insert_job a.jobs.items ordered.jobs row (length a.jobs.items) job_gap))
 
-    pub push_job_ordered : HoldsDocument row → IsLegal (with_job (contents_of a).state (job_of row)) → IsOrdered (record a { jobs = vs })
-    push_job_ordered holds legal = record {
+    pub push_job_ordered : vs.numbers ≡ a.jobs.numbers ++ row.job.id ∷ [] → HoldsDocument row → IsLegal (with_job (contents_of a).state (job_of row)) → IsOrdered (record a { jobs = vs })
+    push_job_ordered numbers holds legal = record {
       queues = ordered.queues;
       jobs = rw job_last (sorted_insert_job a.jobs.items ordered.jobs row (length a.jobs.items) job_gap);
+      own = numbers_pushed a.jobs vs row ordered.own numbers items;
       highest = ordered.highest;
       documents = rw job_last (holds_insert a.jobs.items (length a.jobs.items) row job_gap.in_range holds ordered.documents);
       legal = subst IsLegal (sym push_job_state) legal;

@@ -1,5 +1,5 @@
 -- Documents at their new places.
-use Rattle.std.proofs.Common.{◌≡◌, ℕ, suc, ◌*◌, ◌<◌, ◌≤◌, Bool, true, false, cond, IsTrue, List, [], ◌∷◌, length, get_or, map, Option, Some, unwrap_or, refl, sym, ap, subst, ◌∙◌, arith, Vec, Global}
+use Rattle.std.proofs.Common.{◌≡◌, ℕ, suc, ◌*◌, ◌<◌, ◌≤◌, Bool, true, false, cond, IsTrue, List, [], ◌∷◌, length, get_or, map, Option, Some, unwrap_or, refl, sym, ap, subst, ◌∙◌, arith}
 use Rattle.std.proofs.lemmas.List.{get_or_default}
 use Rattle.std.specs.declared.cmp.Ordering.{Ordering}
 use Rattle.std.specs.declared.cmp.Ordering.TheVariants.{Less, Equal}
@@ -12,6 +12,7 @@ use Rattle.spool_types.specs.Limits.{longest_send}
 use Rattle.spool_types.specs.Phases.{has_ended}
 use Rattle.spool_types.specs.State.{State, Job, job_of, job_at}
 use Rattle.spool_types.specs.declared.rows.JobRow.{JobRow}
+use Rattle.job_rows.specs.Rows.{Listed}
 use Rattle.job_table.specs.Contents.{Noted, HasMoves, document_room, move_room, places_at, places_of}
 use Rattle.job_table.specs.Documents.{document_len}
 use Rattle.job_table.specs.Lanes.{AreBeside}
@@ -22,8 +23,9 @@ use Rattle.job_table.specs.Seen.{contents_of, IsOrdered}
 use Rattle.job_table.specs.declared.new_places.NewDocument.{NewDocument}
 use Rattle.job_table.specs.declared.store.Store.TheInside.{Inside}
 use Rattle.job_table.proofs.Changes.{apart, some_same, same_number}
+use Rattle.job_table.proofs.Numbered.{numbers_of, own_place}
 use Rattle.job_table.proofs.Rows as rows
-use Rattle.job_table.proofs.Tables.{IsJobPlace, get_job, find_job}
+use Rattle.job_table.proofs.Tables.{get_job, find_job}
 
 beside_rest : {K Y : Type 0} (P : K → Y → Type 0) (k : K) (ks : List K) (y : Y) (ys : List Y) → AreBeside P (k ∷ ks) (y ∷ ys) → AreBeside P ks ys
 beside_rest P k ks y ys are = record { count = omega (arith, are.count); each = λ i l z lt. are.each (suc i) l z (omega arith) }
@@ -150,14 +152,8 @@ blank_found (x ∷ rs) j r there =
     (λ later. blank_found rs j r later)
 
 module _ (a : Inside) (ordered : IsOrdered a) (noted : Noted) (has : HasMoves (contents_of a).state noted) where
-  own_place : (i : ℕ) (d : JobRow) → i < length a.jobs.items → IsJobPlace a.jobs.items (get_or a.jobs.items i d).job.id i
-  own_place i d lt = record {
-    in_range = lt;
-    same = λ e. ap (λ (r : JobRow). nat_cmp r.job.id (get_or a.jobs.items i d).job.id) (get_or_default a.jobs.items i e d lt) ∙ tied_itself nat_cmp_total (get_or a.jobs.items i d).job.id;
-  }
-
   job_here : (i : ℕ) (d : JobRow) → i < length a.jobs.items → job_at (contents_of a).state (get_or a.jobs.items i d).job.id ≡ Some (job_of (get_or a.jobs.items i d))
-  job_here i d lt = get_job a.jobs.items ordered.jobs (get_or a.jobs.items i d).job.id i d (own_place i d lt)
+  job_here i d lt = get_job a.jobs.items ordered.jobs (get_or a.jobs.items i d).job.id i d (own_place a.jobs.items i d lt)
 
   pub each_new : (i : ℕ) (d : JobRow) → i < length a.jobs.items → HasNew noted.places (get_or a.jobs.items i d)
   each_new i d lt lives = (has (get_or a.jobs.items i d).job.id (job_of (get_or a.jobs.items i d)) (job_here i d lt) lives).0
@@ -165,7 +161,7 @@ module _ (a : Inside) (ordered : IsOrdered a) (noted : Noted) (has : HasMoves (c
   each_whole : (i : ℕ) (d : JobRow) → i < length a.jobs.items → HasWhole noted (get_or a.jobs.items i d)
   each_whole i d lt lives = (has (get_or a.jobs.items i d).job.id (job_of (get_or a.jobs.items i d)) (job_here i d lt) lives).1
 
-  module _ (new : List JobRow) (count : length new ≡ length a.jobs.items) (each : (i : ℕ) (d : JobRow) → i < length new → IsMoved noted (get_or a.jobs.items i d) (get_or new i d)) (vs : Vec JobRow Global) (items : vs.items ≡ new) where
+  module _ (new : List JobRow) (count : length new ≡ length a.jobs.items) (each : (i : ℕ) (d : JobRow) → i < length new → IsMoved noted (get_or a.jobs.items i d) (get_or new i d)) (vs : Listed) (numbers : vs.numbers ≡ a.jobs.numbers) (items : vs.items ≡ new) where
     beside : AreBeside (IsMoved noted) a.jobs.items new
     beside = record {
       count = count;
@@ -174,6 +170,13 @@ module _ (a : Inside) (ordered : IsOrdered a) (noted : Noted) (has : HasMoves (c
 
     entries : map job_entry vs.items ≡ map job_entry a.jobs.items
     entries = ap (map job_entry) items ∙ moved_entries noted a.jobs.items new beside
+
+    numbers_kept : numbers_of a.jobs.items ≡ numbers_of vs.items
+    numbers_kept = sym (firsts a.jobs.items) ∙ ap (map (λ (e : ℕ × Job). e.0)) (sym entries) ∙ firsts vs.items
+      where
+        firsts : (rs : List JobRow) → map (λ (e : ℕ × Job). e.0) (map job_entry rs) ≡ numbers_of rs
+        firsts [] = refl
+        firsts (r ∷ rs) = ap (λ ns. r.job.id ∷ ns) (firsts rs)
 
     sorted_moved : IsTrue (finite.is_sorted nat_cmp (map job_entry vs.items))
     sorted_moved = subst (λ es. IsTrue (finite.is_sorted nat_cmp es)) (sym entries) ordered.jobs
@@ -185,6 +188,7 @@ module _ (a : Inside) (ordered : IsOrdered a) (noted : Noted) (has : HasMoves (c
     moved_ordered = record {
       queues = ordered.queues;
       jobs = sorted_moved;
+      own = numbers ∙ ordered.own ∙ numbers_kept;
       highest = ordered.highest;
       documents = subst HoldDocuments (sym items) (moved_hold noted a.jobs.items new beside each_whole ordered.documents);
       legal = subst IsLegal (sym moved_state) ordered.legal;

@@ -14,7 +14,7 @@ use Rattle.extents.specs.declared.extent.Extent.{Extent}
 use Rattle.extents.specs.Extents.{size_of}
 use Rattle.job_table.specs.Documents.{document_len}
 use Rattle.job_table.specs.Rows.{document_spare, document_entry, place_entry, job_entry, IsFreed, HoldsDocument, HoldDocuments, KeepsDocument}
-use Rattle.job_table.specs.Places.{IsPlace}
+use Rattle.job_rows.specs.Places.{IsPlace}
 use Rattle.job_table.proofs.Changes.{some_same, same_number}
 use Rattle.job_table.proofs.Rows as rows
 

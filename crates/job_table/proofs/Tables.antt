@@ -9,7 +9,7 @@ use Rattle.spool_types.specs.declared.rows.QueueRow.{QueueRow}
 use Rattle.spool_types.specs.declared.rows.JobRow.{JobRow}
 use Rattle.spool_types.specs.State.{Job, job_of, Queues, Jobs}
 use Rattle.job_table.specs.Rows.{queue_entry, job_entry}
-use Rattle.job_table.specs.Places.{IsPlace, IsGap}
+use Rattle.job_rows.specs.Places.{IsPlace, IsGap}
 use Rattle.job_table.proofs.Rows as rows
 
 abbrev pub IsQueuePlace : List QueueRow → List ℕ → ℕ → Type 0

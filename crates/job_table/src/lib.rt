@@ -69,8 +69,8 @@
 //! # Invariants
 //!
 //! 1. The rows of queues are in ascending order of name, each name once. Those of jobs are in ascending order of number,
-//!    each number once (`IsOrdered`). So a row is found by binary search, and a new row goes where the search ends. A purge
-//!    takes a row out, and leaves a gap in the numbers.
+//!    each number once, and each stands under its own number (`IsOrdered`). So a row is found by binary search. A new queue
+//!    goes where the search ends, and a new job last. A purge takes a row away, and leaves a gap in the numbers.
 //! 2. The state that the rows mean is legal (`IsLegal`). There are at most 64 queues, and a row's key is its own name or
 //!    number. No job has a number above the highest given. A job's queue is there, and its phase fits the rest of its row.
 //!    A queue has one processing job at most. Its reasons and its attributes are in ascending order, each once, and at most
@@ -102,7 +102,7 @@
 //! its entry from the lane's index and puts it where it goes now, each by binary search. So does its deadline come or go. A
 //! clock looks at the first deadline, and at one job for each that it cancels: where it cancels none, it looks at no job.
 //! Then it goes to each lane, and looks through the jobs of one only where a job of it may be started from then on.
-//! A purge looks at no lane, and the rows behind its own move up.
+//! A purge looks at no lane, and moves no other row (`job_rows`).
 //! [`Loading::into_table`] sorts each queue's waiting jobs and all deadlines once.
 //!
 //! # Faults

@@ -1,9 +1,10 @@
 //! A table that is loaded from the rows of a listing.
-ghost use Rattle.std.specs.Prelude.{◌≡◌, ℕ, ◌+◌, ◌^◌, ◌↔◌, ◌<◌, ◌≤◌, ◌&&◌, ◌==◌, [], false, not, cond, IsTrue, IfOk, IsErrOf, OnOk, OnErr, None, Some};
+ghost use Rattle.std.specs.Prelude.{◌≡◌, ℕ, map, ◌+◌, ◌^◌, ◌↔◌, ◌<◌, ◌≤◌, ◌&&◌, ◌==◌, [], false, not, cond, IsTrue, IfOk, IsErrOf, OnOk, OnErr, None, Some};
 ghost use Rattle.std.specs.Option.{option_map};
 ghost use Rattle.std.specs.FinMap as finite;
 ghost use Rattle.spool_types.specs.declared.listing.Row.{Row};
 ghost use Rattle.spool_types.specs.Busy.{is_busy};
+ghost use Rattle.spool_types.specs.State.{job_of};
 ghost use Rattle.spool_types.specs.Phases.{has_ended, is_processing};
 ghost use Rattle.row_effects.specs.Fold.{IsInOrder};
 ghost use Rattle.row_effects.specs.Keys.{is_ascending};
@@ -21,9 +22,10 @@ ghost use Rattle.spool_types.specs.Sent.{bytes_behind, piece_of};
 use crate::places::{document_len, extent_behind, piece_count};
 use crate::store::Store;
 use crate::table::Table;
+use job_rows::Rows;
 use spool_types::{
     Attribute, Head, Job, JobId, JobRow, LONGEST_DOCUMENT, LONGEST_SEND, MOST_QUEUES, Phase,
-    QueueRow, Reason, Row, Version, is_busy,
+    QueueName, QueueRow, Reason, Row, Version,
 };
 use std::alloc::{AllocError, Global};
 use std::marker::Model;
@@ -293,6 +295,13 @@ fn is_alone(store: &Store, job: &Job) -> bool
     ensures { result ≡ not (is_processing job.now.phase && is_busy (finite.values store.now.state.jobs) job.now.queue) }
 {
     !(job.phase.is_processing() && is_busy(store.jobs(), &job.queue))
+}
+
+// Whether a job of the queue is processing.
+fn is_busy(rows: &Rows, queue: &QueueName) -> bool
+    ensures { result ≡ is_busy (map job_of rows.now.items) queue.now }
+{
+    rows.iter().any(|row| row.job.queue == *queue && row.job.phase.is_processing())
 }
 
 // Whether the phase fits the rest of the row.

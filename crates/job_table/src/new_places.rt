@@ -7,11 +7,12 @@ ghost use Rattle.spool_types.specs.State.{Job};
 ghost use Rattle.job_table.specs.Contents.{no_moves, places_of, move_room};
 ghost use Rattle.job_table.specs.Documents.{document_len};
 ghost use Rattle.job_table.specs.Noted.{new_entry, new_spare, blank_entry, IsNewFor};
-ghost use Rattle.job_table.specs.Places.{IsPlace, IsGap};
+ghost use Rattle.job_rows.specs.Places.{IsPlace, IsGap};
 ghost use Rattle.job_table.specs.Rows.{job_entry};
 
 use crate::places::{document_len, piece_count};
-use spool_types::{Extent, Job, JobId, JobRow};
+use job_rows::Rows;
+use spool_types::{Extent, Job, JobId};
 use std::alloc::{AllocError, Global};
 use std::marker::Model;
 use std::mem;
@@ -57,13 +58,13 @@ impl NewPlaces {
     }
 
     /// No extents for the job of each row, with memory for as many as its document has pieces.
-    pub fn of_rows(alloc: Global, rows: &[JobRow]) -> Result<NewPlaces, AllocError>
-        requires { IsTrue (finite.is_sorted nat_cmp (map job_entry rows.now)) }
-        ensures none { IfOk result (λ noted. noted.places ≡ map blank_entry rows.now) }
-        ensures room { IfOk result (λ noted. (j : ℕ) (r : Job) → finite.find nat_cmp j (map job_entry rows.now) ≡ Some r → document_len r ≤ move_room noted j * longest_send) }
+    pub fn of_rows(alloc: Global, rows: &Rows) -> Result<NewPlaces, AllocError>
+        requires { IsTrue (finite.is_sorted nat_cmp (map job_entry rows.now.items)) }
+        ensures none { IfOk result (λ noted. noted.places ≡ map blank_entry rows.now.items) }
+        ensures room { IfOk result (λ noted. (j : ℕ) (r : Job) → finite.find nat_cmp j (map job_entry rows.now.items) ≡ Some r → document_len r ≤ move_room noted j * longest_send) }
     {
         let mut documents = Vec::with_capacity(alloc, rows.len())?;
-        for row in rows {
+        for row in rows.iter() {
             documents.push(new_document(alloc, &row.job)?)?;
         }
         Ok(NewPlaces { documents })

@@ -13,7 +13,8 @@ ghost use Rattle.job_table.specs.Versions.{raised};
 ghost use Rattle.extents.specs.Extents.{size_of};
 ghost use Rattle.spool_types.specs.Phases.{has_ended};
 
-use lookup::{job_place, queue_place};
+use job_rows::Rows;
+use lookup::queue_place;
 use row_effects::Spare;
 use spool_types::{JobId, JobRow, Moment, QueueName, QueueRow, Version};
 use std::alloc::Global;
@@ -34,8 +35,8 @@ pub use attempts::is_in_stage;
 pub(crate) struct Store {
     // In ascending order of name, each name once.
     queues: Vec<QueueRow>,
-    // In ascending order of number, each number once.
-    jobs: Vec<JobRow>,
+    // Each under its own number.
+    jobs: Rows,
     highest: u32,
     moment: Moment,
     version: Version,
@@ -68,7 +69,7 @@ impl Store {
     {
         Store {
             queues: Vec::new(alloc),
-            jobs: Vec::new(alloc),
+            jobs: Rows::new(alloc),
             highest: 0,
             moment: Moment::ZERO,
             version,
@@ -124,10 +125,7 @@ impl Store {
         ensures sized { IfSome result (λ r. size_of r.now.document.items ≡ document_len r.now.job) }
         ensures ended { IfSome result (λ r. has_ended r.now.job.phase ≡ true → r.now.document.items ≡ []) }
     {
-        match job_place(&self.jobs, id) {
-            Ok(at) => Some(&self.jobs[at]),
-            Err(_) => None,
-        }
+        self.jobs.get(id)
     }
 
     /// All queues, in ascending order of name.
@@ -139,14 +137,16 @@ impl Store {
         &self.queues
     }
 
-    /// All jobs, in ascending order of number.
-    pub fn jobs(&self) -> &[JobRow]
-        ensures rows { map job_of result.now ≡ finite.values self.now.state.jobs }
-        ensures entries { map job_entry result.now ≡ finite.entries self.now.state.jobs }
+    /// All jobs, in ascending order of number, each under its own.
+    pub fn jobs(&self) -> &Rows
+        ensures rows { map job_of result.now.items ≡ finite.values self.now.state.jobs }
+        ensures numbers { result.now.numbers ≡ finite.keys self.now.state.jobs }
+        ensures each { result.now.numbers ≡ map (λ row. row.job.id) result.now.items }
+        ensures entries { map job_entry result.now.items ≡ finite.entries self.now.state.jobs }
         ensures found { (row : Job) → Contains (finite.values self.now.state.jobs) row → job_at self.now.state row.id ≡ Some row }
         ensures legal { IsLegal self.now.state }
         ensures freed { IsFreedWhenEnded self.now }
-        ensures places { map place_entry result.now ≡ self.now.places }
+        ensures places { map place_entry result.now.items ≡ self.now.places }
         ensures own { HasOwnPlaces self.now }
         ensures sized { AreSized self.now }
     {

@@ -1,7 +1,8 @@
 //! Copying bytes of one disk to the begin of another.
-ghost use Rattle.std.specs.Prelude.{◌≡◌, ◌+◌, ◌≤◌, ◌++◌, List, ℕ, Some, OnOk, take, drop};
+ghost use Rattle.std.specs.Prelude.{◌≡◌, ◌+◌, ◌≤◌, List, ℕ, Some, OnOk, take, drop};
 ghost use Rattle.std.specs.Option.{option_map};
 ghost use Rattle.spool_disk.specs.Disk.{ChangesNothing, overwritten};
+ghost use Rattle.spool_admin.specs.Grown.{copied_over};
 
 use spool_disk::{DeviceFault, Disk};
 
@@ -18,7 +19,7 @@ pub fn copy<S: Disk, T: Disk>(
     requires inside { from + count ≤ S.device.size source.old }
     requires room { count ≤ T.device.size target.old }
     ensures copied { OnOk result ((r t : List ℕ) → S.device.bytes source.old ≡ Some r → T.device.bytes target.old ≡ Some t →
-        T.device.bytes target.new ≡ Some (take count (drop from r) ++ drop count t)) }
+        T.device.bytes target.new ≡ Some (copied_over from count r t)) }
     ensures still { ChangesNothing S.device source.old source.new }
     ensures fixed { T.device.size target.new ≡ T.device.size target.old }
 {

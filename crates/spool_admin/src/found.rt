@@ -1,15 +1,16 @@
 //! What is found on a spool's disk, without a change of it.
-ghost use Rattle.std.specs.Prelude.{◌≡◌, ◌+◌, ◌<◌, List, ℕ, Some, IfOk, map};
-ghost use Rattle.spool_types.specs.State.{job_of};
+ghost use Rattle.std.specs.Prelude.{◌≡◌, ◌+◌, ◌<◌, List, ℕ, Some, IfErr, IfOk, map};
+ghost use Rattle.spool_types.specs.State.{State, job_of};
 ghost use Rattle.spool_disk.specs.Disk.{ChangesNothing};
 ghost use Rattle.spool_areas.specs.Header.{half};
+ghost use Rattle.spool_core.specs.Image.{HasTable, IsFaultOf};
 ghost use Rattle.spool_admin.specs.Found.{AreCounted, HasArea, HasCounts};
 
+use job_rows::Rows;
 use job_table::Table;
 use spool_areas::{Areas, Opened};
 use spool_core::{OpenFault, Spool};
 use spool_disk::Disk;
-use spool_types::JobRow;
 use std::alloc::Global;
 
 /// How many jobs there are.
@@ -67,6 +68,8 @@ pub fn find<D: Disk + Drop>(alloc: Global, disk: D) -> Result<Found<D>, OpenFaul
     ensures size { IfOk result (λ found. (found.account.size ≡ D.device.size disk) × (found.account.area ≡ half (D.device.size disk))) }
     ensures within { IfOk result (λ found. found.base + found.account.used < D.device.size found.disk) }
     ensures short { IfOk result (λ found. found.account.used < found.account.size) }
+    // A fault of the bytes is theirs.
+    ensures fault { IfErr result (λ fault. (r : List ℕ) → D.device.bytes disk ≡ Some r → IsFaultOf r fault) }
 {
     let (disk, queues, jobs) = count_rows(alloc, disk)?;
     let (disk, place) = find_area(alloc, disk)?;
@@ -92,6 +95,7 @@ pub fn find<D: Disk + Drop>(alloc: Global, disk: D) -> Result<Found<D>, OpenFaul
 fn count_rows<D: Disk + Drop>(alloc: Global, disk: D) -> Result<(D, usize, JobCounts), OpenFault>
     ensures still { IfOk result (λ counted. ChangesNothing D.device disk counted.0) }
     ensures counts { IfOk result (λ counted. (r : List ℕ) → D.device.bytes disk ≡ Some r → HasCounts counted.1 counted.2 r) }
+    ensures fault { IfErr result (λ fault. (r : List ℕ) → D.device.bytes disk ≡ Some r → IsFaultOf r fault) }
 {
     let spool = match Spool::load(alloc, disk) {
         Ok(spool) => spool,
@@ -103,8 +107,8 @@ fn count_rows<D: Disk + Drop>(alloc: Global, disk: D) -> Result<(D, usize, JobCo
     Ok((spool.into_disk(), queues, jobs))
 }
 
-fn count_jobs(rows: &[JobRow]) -> JobCounts
-    ensures { AreCounted (map job_of rows.now) result }
+fn count_jobs(rows: &Rows) -> JobCounts
+    ensures { AreCounted (map job_of rows.now.items) result }
 {
     JobCounts {
         all: rows.len(),
@@ -128,6 +132,7 @@ fn find_area<D: Disk + Drop>(alloc: Global, disk: D) -> Result<(D, Place), OpenF
         HasArea found.1.base found.1.version found.1.epoch found.1.used found.1.free r) }
     ensures within { IfOk result (λ found. found.1.base + found.1.used < D.device.size disk) }
     ensures short { IfOk result (λ found. found.1.used < half (D.device.size disk)) }
+    ensures fault { IfErr result (λ fault. (r : List ℕ) (table : State) → D.device.bytes disk ≡ Some r → HasTable table r → IsFaultOf r fault) }
 {
     let Opened {
         areas,

@@ -1,6 +1,7 @@
 //! Making a spool's file larger.
-ghost use Rattle.std.specs.Prelude.{◌≡◌, ◌+◌, ◌<◌, ◌↔◌, IfOk, IsErrOf};
+ghost use Rattle.std.specs.Prelude.{◌≡◌, ◌+◌, ◌<◌, ◌↔◌, List, ℕ, Some, IfOk, IsErrOf};
 ghost use Rattle.spool_disk.specs.Disk.{IsSynced};
+ghost use Rattle.spool_admin.specs.Grown.{IsGrownFrom, copied_over};
 
 use crate::copying::copy;
 use crate::fault::AdminFault;
@@ -12,7 +13,8 @@ use std::alloc::Global;
 use std::fs::{File, Files};
 use std::time::Clock;
 
-/// Gives the spool of a folder a file of `size` bytes. After a fault the old file is there, as it was.
+/// Gives the spool of a folder a file of `size` bytes. After a fault the old spool is there, as it was, but for one of the folder's last
+/// sync: then the new one has the name already.
 pub fn grow<R: Files<File = File> + Clock + AllocGlobal>(
     rt: &R,
     dir: &str,
@@ -44,6 +46,9 @@ pub fn list<S: Disk + Drop, T: Disk + Drop>(
     requires short { old.account.used < old.account.size }
     ensures smaller { IsErrOf result AdminFault.Smaller ↔ (T.device.size next < old.account.size) }
     ensures synced { IfOk result (IsSynced T.device) }
+    // A crash leaves the table that an opening of the copied bytes gives, with their documents.
+    ensures grown { IfOk result (λ disk. (r t : List ℕ) → S.device.bytes old.disk ≡ Some r → T.device.bytes next ≡ Some t →
+        (c : List ℕ) → T.device.image disk c → IsGrownFrom (copied_over old.base (old.account.used + 1) r t) c) }
     ensures fixed { IfOk result (λ disk. T.device.size disk ≡ T.device.size next) }
 {
     let Found {

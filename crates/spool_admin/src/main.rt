@@ -22,16 +22,18 @@
 //!    in the newest version, with as much room as a table may have.
 //! 5. It is synced by then. It gets the old file's name, and the folder is synced.
 //!
-//! So whatever moment the program is killed at, or the power is cut, the name leads to the old spool or to the new one, whole. What
-//! it leaves unfinished goes at the next `grow`.
+//! So whatever moment the program is killed at, the name leads to the old spool or to the new one, whole. What it leaves unfinished
+//! goes at the next `grow`. For a power cut, no byte of the new file is unsynced once it gets the name.
 //!
 //! # Promises
 //!
-//! - [`read_words`] gives what clap finds in the words (`asked`).
+//! - [`read_words`] gives what clap finds in the words (`asked`), and refuses none in which clap finds no fault and that are those of
+//!   a task (`taken`).
 //! - [`found::find`] changes nothing on the disk (`still`), tells the current area of its bytes (`area`), and counts the queues and
-//!   the jobs of their table (`counts`).
+//!   the jobs of their table (`counts`). A fault of the bytes is theirs (`fault`).
 //! - [`copying::copy`] leaves exactly the copied bytes at the target's begin, and nothing else is changed (`copied`, `still`).
-//! - [`grow::list`] gives the new disk back synced (`synced`), and answers `Smaller` exactly where it is shorter (`smaller`).
+//! - [`grow::list`] leaves the table and the documents of the copied bytes, whatever a crash does (`grown`). It gives the new disk back
+//!   synced (`synced`), and answers `Smaller` exactly where it is shorter (`smaller`).
 //! - [`fault::tell_admin_end`] is status 0 after `Ok` and 1 after a fault (`ok`, `fault`).
 //!
 //! That the steps of `grow` are one, whatever cuts them, is shown by tests: a file of the system tells nothing of its bytes.
@@ -40,7 +42,7 @@
 //!
 //! Status 0, 1 and 2, and the lines on standard error, are those of `spool_host`. Besides its faults there are `smaller`, where BYTES
 //! is less than the file has; `full`, where the table doesn't fit into half of BYTES; and `epoch-end`, where the spool has the greatest
-//! epoch. After a fault the old spool is there, as it was.
+//! epoch. After a fault the old spool is there, as it was, but for one of the folder's last sync: then the new one has the name already.
 #![tactic(auto)]
 
 mod copying;

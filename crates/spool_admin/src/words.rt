@@ -1,8 +1,8 @@
 //! The words of the command line.
-ghost use Rattle.std.specs.Prelude.{◌≡◌, IfOk, IfSome, codes, false, map};
+ghost use Rattle.std.specs.Prelude.{◌≡◌, IfNone, IfOk, IfSome, MatchResult, codes, false, map};
 ghost use Rattle.clap.specs.Words.{app_of, found_of, matches_of, rows_of, rule_of};
-ghost use Rattle.spool_host.specs.Words.{sizes};
-ghost use Rattle.spool_admin.specs.Words.{IsAsked, admin_app, needed, placed};
+ghost use Rattle.spool_host.specs.Words.{RefusesOnly, sizes};
+ghost use Rattle.spool_admin.specs.Words.{AreFaultless, AreTaken, HasTask, IsAsked, admin_app, needed, placed};
 
 use clap::builder::ValueParser;
 use clap::error::ErrorKind;
@@ -23,6 +23,8 @@ pub enum Asked<'a> {
 /// Reads the words of the command line, of which the first is the program's name.
 pub fn read_words<'a, S: AsStr>(alloc: Global, words: &'a [S]) -> Result<Asked<'a>, WordsFault>
     ensures asked { IfOk result (IsAsked (matches_of admin_app (map S.text words.entry.now))) }
+    ensures taken { MatchResult result (λ _. AreFaultless (map S.text words.entry.now))
+        (RefusesOnly (AreTaken (map S.text words.entry.now))) }
 {
     let Ok(mut command) = admin_command(alloc) else {
         return Err(WordsFault::Memory);
@@ -43,7 +45,9 @@ fn parse<'a, S: AsStr>(
     words: &'a [S],
 ) -> Result<ArgMatches<'a>, WordsFault>
     requires { app_of command.old ≡ admin_app }
-    ensures { IfOk result (λ m. rows_of (found_of m) ≡ matches_of admin_app (map S.text words.entry.now)) }
+    ensures found { IfOk result (λ m. rows_of (found_of m) ≡ matches_of admin_app (map S.text words.entry.now)) }
+    ensures taken { MatchResult result (λ _. AreFaultless (map S.text words.entry.now))
+        (RefusesOnly (AreFaultless (map S.text words.entry.now))) }
 {
     match command.try_get_matches_from_mut(words) {
         Ok(matches) => Ok(matches),
@@ -53,7 +57,8 @@ fn parse<'a, S: AsStr>(
 
 // What is asked for by the values that were found, if they are those of a task.
 fn task_of<'a>(matches: &ArgMatches<'a>) -> Option<Asked<'a>>
-    ensures { IfSome result (IsAsked (rows_of (found_of matches.now))) }
+    ensures asked { IfSome result (IsAsked (rows_of (found_of matches.now))) }
+    ensures none { IfNone result (¬ (HasTask (rows_of (found_of matches.now)))) }
 {
     let task = matches.get_str("task")?;
     let dir = matches.get_str("dir")?;

@@ -1,10 +1,10 @@
 -- Bytes of a document, as a part of a list that is as long.
-use Rattle.std.proofs.Common.{◌≡◌, ◌≤◌, ◌+◌, ◌-◌, ◌++◌, ℕ, List, length, take, drop, replicate, Option, None, Some, false, refl, sym, ap, ◌∙◌, subst, arith}
+use Rattle.std.proofs.Common.{◌≡◌, ◌≤◌, ◌+◌, ◌-◌, ◌++◌, ℕ, List, length, take, drop, replicate, None, Some, false, sym, ap, ◌∙◌, subst, arith}
 use Rattle.std.proofs.lemmas.List.{length-append, length-replicate, take_at, drop_at}
 use Rattle.job_table.specs.Over.{is_over}
 use Rattle.spool_disk.specs.Disk.{DiskView}
 use Rattle.spool_core.specs.Image.{HasDocument}
-use Rattle.spool_core.specs.Reading.{IsDocument, IsPart}
+use Rattle.spool_core.specs.Reading.{IsPart}
 use Rattle.spool_core.specs.Standing.{Standing, len_at}
 
 module _ {D : Type 0} (v : DiskView D) (s : Standing D) (j at n : ℕ) (part : List ℕ) (held : length part ≡ n) (inside : at + n ≤ len_at s.state j) where

@@ -6,6 +6,7 @@ pub mod IdleLaws
 pub mod ReadOn
 pub mod Numbers
 pub mod AllLaws
+mod Walks
 pub mod AddLaws
 pub mod OverLaws
 pub mod FillLaws

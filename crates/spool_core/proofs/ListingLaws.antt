@@ -1,12 +1,11 @@
 -- The rows of a table's listing.
 use Rattle.std.proofs.Common.{◌≡◌, ⊎_elim, ℕ, zero, suc, ◌+◌, ◌-◌, ◌*◌, ◌/◌, ◌%◌, ◌<◌, ◌≤◌, true, List, [], ◌∷◌, ◌++◌, length, get_or, take, drop, map, min, refl, sym, subst, ap, ◌∙◌, arith, length-drop}
 use Rattle.std.specs.Prelude.{Result, Ok, Err, IfOk, OnOk, OnErr}
-use Rattle.std.specs.List.{flat_map, list_all, AllByRecursion}
+use Rattle.std.specs.List.{list_all, AllByRecursion}
 use Rattle.std.specs.Ordering.{nat_cmp, is_lt}
 use Rattle.std.specs.Cmp.Lexicographic.{slice_cmp}
 use Rattle.std.proofs.lemmas.Bool.{and_parts, cases_lt}
-use Rattle.std.proofs.lemmas.List.Concat.{flat_map-append}
-use Rattle.std.proofs.lemmas.List.{map-append, append-nil, take_more, drop_more, take-append-drop, take_all}
+use Rattle.std.proofs.lemmas.List.{map-append, take_more, drop_more, take-append-drop, take_all}
 use Rattle.std.proofs.lemmas.Nat.{div-mul-add, div-add-mod'}
 use Rattle.std.proofs.Math.Nat.{mod-lt}
 use Rattle.spool_types.specs.Limits.{longest_send}
@@ -94,17 +93,7 @@ all_at P [] i d lt all = absurd (omega (arith, lt))
 all_at P (x ∷ xs) zero d lt all = all.0
 all_at P (x ∷ xs) (suc i) d lt all = all_at P xs i d (omega (arith, lt)) all.1
 
--- an element that is mapped
-pub mapped_at : {X Y : Type 0} (f : X → Y) (xs : List X) (i : ℕ) (x : X) → i < length xs → x ≡ get_or xs i x → (i < length (map f xs)) × (f x ≡ get_or (map f xs) i (f x))
-mapped_at f [] i x lt is = absurd (omega (arith, lt))
-mapped_at f (y ∷ ys) zero x lt is = (omega arith, ap f is)
-mapped_at f (y ∷ ys) (suc i) x lt is = let rest = mapped_at f ys i x (omega (arith, lt)) is in (omega (arith, rest.0), rest.1)
-
 -- ## Rows in turn
-
-pub flat_next : {X : Type 0} (rows : X → List Row) (xs : List X) (i : ℕ) (d : X) → i < length xs → flat_map rows (take (i + 1) xs) ≡ flat_map rows (take i xs) ++ rows (get_or xs i d)
-flat_next rows xs i d lt =
-    ap (flat_map rows) (take_more xs i d lt) ∙ flat_map-append rows (take i xs) (get_or xs i d ∷ []) ∙ ap (λ (l : List Row). flat_map rows (take i xs) ++ l) (append-nil (rows (get_or xs i d)))
 
 pub queues_next : (qs : List QueueRow) (i : ℕ) (q : QueueRow) → i < length qs → q ≡ get_or qs i q → map (λ x. Queue x) (take (i + 1) qs) ≡ map (λ x. Queue x) (take i qs) ++ Queue q ∷ []
 queues_next qs i q lt is =

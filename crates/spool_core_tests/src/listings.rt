@@ -102,7 +102,7 @@ fn take_all(alloc: Global, loading: &mut Loading, table: &Table) -> Result<(), F
     for queue in table.queues() {
         take_queue(alloc, loading, queue)?;
     }
-    for row in table.jobs() {
+    for row in table.jobs().iter() {
         take_job(alloc, loading, &row.job)?;
     }
     Ok(())
@@ -179,7 +179,7 @@ fn has_its_document(table: &Table) -> bool {
         place: 1_009,
         len: 5,
     }];
-    match table.jobs().first() {
+    match table.jobs().iter().next() {
         Some(row) => row.document.as_slice() == whole.as_slice(),
         None => false,
     }

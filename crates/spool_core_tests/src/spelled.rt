@@ -76,7 +76,7 @@ fn add_rows(table: &Table, bytes: &mut Vec<u8>) -> Result<(), AllocError> {
     for queue in table.queues() {
         encode_queue_onto(queue, bytes)?;
     }
-    for row in table.jobs() {
+    for row in table.jobs().iter() {
         encode_job_onto(&row.job, bytes)?;
     }
     Ok(())

@@ -12,7 +12,7 @@ ghost use Rattle.spool_types.specs.declared.event.Event.{Event};
 ghost use Rattle.spool_types.specs.declared.rows.QueueRow.{QueueRow};
 
 use super::Store;
-use super::lookup::{job_place, queue_place};
+use super::lookup::queue_place;
 use super::row_changes::{add_pages, rule_queue_row, rule_row, start_row};
 use backend_codes::{Verdict, lost_verdict, verdict};
 use row_effects::{fold_queue, queues_stay_in_order};
@@ -29,10 +29,7 @@ impl Store {
         ensures room { HasNoMore self.old.room self.new.room }
         ensures places { KeepsPlaces self.old self.new }
     {
-        match job_place(&self.jobs, job) {
-            Ok(at) => start_row(&mut self.jobs[at]),
-            Err(_) => unreachable!(),
-        }
+        start_row(self.jobs.row_mut(job))
     }
 
     // Folds the effects of the stage, and then rules on the job. Answers the phase that the job has then.
@@ -73,10 +70,7 @@ impl Store {
         ensures places { HasSamePlaces self.old self.new }
         ensures spare { self.new.room.spare ≡ self.old.room.spare }
     {
-        match job_place(&self.jobs, job) {
-            Ok(at) => add_pages(&mut self.jobs[at], effects),
-            Err(_) => unreachable!(),
-        }
+        add_pages(self.jobs.row_mut(job), effects);
     }
 
     // The reasons, attributes and message of the job's queue.
@@ -88,10 +82,10 @@ impl Store {
         ensures places { HasSamePlaces self.old self.new }
     {
         queues_stay_in_order();
-        let Ok(at) = job_place(&self.jobs, job) else {
+        let Some(row) = self.jobs.get(job) else {
             unreachable!()
         };
-        let Ok(queue_at) = queue_place(&self.queues, &self.jobs[at].job.queue) else {
+        let Ok(queue_at) = queue_place(&self.queues, &row.job.queue) else {
             unreachable!()
         };
         fold_queue(&mut self.queues[queue_at], &mut self.spare, effects);
@@ -143,10 +137,9 @@ impl Store {
         ensures job { job_at self.now.state job ≡ Some result.0.now }
         ensures queue { queue_at self.now.state result.0.now.queue ≡ Some result.1.now }
     {
-        let Ok(at) = job_place(&self.jobs, job) else {
+        let Some(row) = self.jobs.get(job) else {
             unreachable!()
         };
-        let row = &self.jobs[at];
         let Ok(queue_at) = queue_place(&self.queues, &row.job.queue) else {
             unreachable!()
         };
@@ -165,15 +158,13 @@ impl Store {
         ensures places { KeepsPlaces self.old self.new }
     {
         let now = self.moment;
-        let Ok(at) = job_place(&self.jobs, job) else {
-            unreachable!()
-        };
-        let Ok(queue_at) = queue_place(&self.queues, &self.jobs[at].job.queue) else {
+        let row = self.jobs.row_mut(job);
+        let Ok(queue_at) = queue_place(&self.queues, &row.job.queue) else {
             unreachable!()
         };
         let interval = self.queues[queue_at].interval;
         rule_queue_row(&mut self.queues[queue_at], verdict);
-        rule_row(&mut self.jobs[at], verdict, now, interval)
+        rule_row(row, verdict, now, interval)
     }
 }
 

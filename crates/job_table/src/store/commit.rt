@@ -9,7 +9,7 @@ ghost use Rattle.spool_types.specs.Sent.{bytes_behind, sent_by};
 ghost use Rattle.spool_types.specs.State.{job_at};
 
 use super::Store;
-use super::lookup::{job_place, queue_place};
+use super::lookup::queue_place;
 use super::row_changes::{
     RowChange, add_bytes, change_row, new_job_row, new_queue_row, set_accepting, set_notes,
     set_stopped,
@@ -125,16 +125,10 @@ impl Store {
         ensures room { HasNoMore self.old.room self.new.room }
         ensures places { KeepsPlaces self.old self.new }
     {
-        let alloc = *self.jobs.allocator();
+        let alloc = *self.queues.allocator();
         let number = job.job;
-        match job_place(&self.jobs, number) {
-            Ok(_) => unreachable!(),
-            Err(at) => {
-                let row = new_job_row(alloc, job, by);
-                self.jobs.insert(at, row).unwrap();
-                self.highest = number.get();
-            }
-        }
+        self.jobs.push(new_job_row(alloc, job, by));
+        self.highest = number.get();
         Reply::Number(number)
     }
 
@@ -148,10 +142,7 @@ impl Store {
         ensures reply { Reply.Size result ≡ reply_to self.old.state (Event.Send job bytes) }
         ensures room { HasNoMore self.old.room self.new.room }
     {
-        match job_place(&self.jobs, job) {
-            Ok(place) => add_bytes(&mut self.jobs[place], bytes, at),
-            Err(_) => unreachable!(),
-        }
+        add_bytes(self.jobs.row_mut(job), bytes, at)
     }
 
     // What an event that isn't refused changes in the row of its job, where it changes nothing else.
@@ -163,10 +154,7 @@ impl Store {
         ensures room { HasNoMore self.old.room self.new.room }
         ensures places { KeepsPlaces self.old self.new }
     {
-        match job_place(&self.jobs, job) {
-            Ok(at) => change_row(&mut self.jobs[at], change),
-            Err(_) => unreachable!(),
-        }
+        change_row(self.jobs.row_mut(job), change);
         Reply::Done
     }
 
@@ -181,10 +169,7 @@ impl Store {
         // Only for jobs there may be more room.
         ensures room { HasNoMore self.old.room (record self.new.room { jobs = 0 }) }
     {
-        match job_place(&self.jobs, job) {
-            Ok(at) => self.jobs.remove(at),
-            Err(_) => unreachable!(),
-        }
+        self.jobs.remove(job)
     }
 
     /// Brings a moment.

@@ -68,6 +68,6 @@ impl Store {
         ensures state { self.new.state ≡ with_job self.old.state row.job }
         ensures places { (j : ℕ) → places_of self.new.places j ≡ places_of (place_entry row ∷ self.old.places) j }
     {
-        self.jobs.push(row).unwrap();
+        self.jobs.push(row);
     }
 }

@@ -1,15 +1,16 @@
 //! Where rows stand, by binary search.
-ghost use Rattle.std.specs.Prelude.{◌≡◌, ◌<◌, length, slice_index_or, IsSome, IsTrue, IfOk, IfErr, map};
+ghost use Rattle.std.specs.Prelude.{IsSome, IsTrue, IfOk, IfErr, map};
 ghost use Rattle.std.specs.Ordering.{nat_cmp};
 ghost use Rattle.std.specs.Cmp.Lexicographic.{slice_cmp};
 ghost use Rattle.std.specs.FinMap as finite;
 ghost use Rattle.spool_types.specs.State.{queue_at};
 ghost use Rattle.job_table.specs.Legal.{IsLegal};
-ghost use Rattle.job_table.specs.Places.{IsPlace, IsGap, IsNameAt, IsNameGap};
-ghost use Rattle.job_table.specs.Rows.{queue_entry, job_entry};
+ghost use Rattle.job_rows.specs.Places.{IsPlace, IsGap};
+ghost use Rattle.job_table.specs.Places.{IsNameAt, IsNameGap};
+ghost use Rattle.job_table.specs.Rows.{queue_entry};
 
 use super::Store;
-use spool_types::{JobId, JobRow, QueueName, QueueRow};
+use spool_types::{QueueName, QueueRow};
 
 impl Store {
     // Where the queue stands among the names, or would go.
@@ -21,20 +22,6 @@ impl Store {
     {
         queue_place(&self.queues, name)
     }
-
-    pub(crate) fn job_count(&self) -> usize
-        ensures { result ≡ length (finite.keys self.now.state.jobs) }
-    {
-        self.jobs.len()
-    }
-
-    // The number of the job at this place.
-    pub(crate) fn number(&self, at: usize) -> JobId
-        requires { at < length (finite.keys self.now.state.jobs) }
-        ensures { result ≡ slice_index_or (finite.keys self.now.state.jobs) at 0 }
-    {
-        self.jobs[at].job.id
-    }
 }
 
 // Where the queue stands, or would go.
@@ -44,13 +31,4 @@ pub(super) fn queue_place(queues: &[QueueRow], name: &QueueName) -> Result<usize
     ensures absent { IfErr result (IsGap (slice_cmp nat_cmp) (λ r. r.name) queues.now name.now) }
 {
     queues.binary_search_by(|row| row.name.as_str().cmp(name.as_str()))
-}
-
-// Where the job stands, or would go.
-pub(super) fn job_place(jobs: &[JobRow], id: JobId) -> Result<usize, usize>
-    requires { IsTrue (finite.is_sorted nat_cmp (map job_entry jobs.now)) }
-    ensures found { IfOk result (IsPlace nat_cmp (λ r. r.job.id) jobs.now id) }
-    ensures absent { IfErr result (IsGap nat_cmp (λ r. r.job.id) jobs.now id) }
-{
-    jobs.binary_search_by_key(&id, |row| row.job.id)
 }

@@ -9,6 +9,7 @@ ghost use Rattle.job_table.specs.Rows.{job_entry, HasNew, IsMoved};
 
 use super::Store;
 use crate::new_places::NewPlaces;
+use job_rows::Rows;
 use spool_types::JobRow;
 
 impl Store {
@@ -24,14 +25,18 @@ impl Store {
     }
 }
 
-fn move_rows(rows: &mut [JobRow], mut noted: NewPlaces)
-    requires sorted { IsTrue (finite.is_sorted nat_cmp (map job_entry rows.old)) }
-    requires there { (i : ℕ) (d : JobRow) → i < length rows.old → HasNew noted.places (slice_index_or rows.old i d) }
-    ensures count { length rows.new ≡ length rows.old }
-    ensures each { (i : ℕ) (d : JobRow) → i < length rows.new → IsMoved noted (slice_index_or rows.old i d) (slice_index_or rows.new i d) }
+fn move_rows(rows: &mut Rows, mut noted: NewPlaces)
+    requires sorted { IsTrue (finite.is_sorted nat_cmp (map job_entry rows.old.items)) }
+    requires own { rows.old.numbers ≡ map (λ r. r.job.id) rows.old.items }
+    requires there { (i : ℕ) (d : JobRow) → i < length rows.old.items → HasNew noted.places (slice_index_or rows.old.items i d) }
+    ensures count { length rows.new.items ≡ length rows.old.items }
+    ensures each { (i : ℕ) (d : JobRow) → i < length rows.new.items → IsMoved noted (slice_index_or rows.old.items i d) (slice_index_or rows.new.items i d) }
+    ensures rest { rows.new ≡ record rows.old { items = rows.new.items } }
 {
-    for at in 0..rows.len() {
-        move_row(&mut rows[at], &mut noted);
+    let mut next = rows.first();
+    while let Some(job) = next {
+        move_row(rows.row_mut(job), &mut noted);
+        next = rows.next_above(job.get());
     }
 }
 

@@ -6,7 +6,6 @@ ghost use Rattle.job_table.specs.Step.{refusal_of};
 ghost use Rattle.job_table.specs.Contents.{HasRoom, document_room};
 
 use super::Store;
-use super::lookup::job_place;
 use spool_types::{Event, JobId};
 use std::alloc::AllocError;
 
@@ -44,7 +43,7 @@ impl Store {
         ensures places { self.new.places ≡ self.old.places }
         ensures ready { 0 < self.old.room.jobs → IsOk result }
     {
-        self.jobs.reserve(1)
+        self.jobs.reserve()
     }
 
     // `Vec::reserve` at least doubles what it grows, so the extents of many sends are moved a few times only.
@@ -56,9 +55,6 @@ impl Store {
         ensures places { self.new.places ≡ self.old.places }
         ensures ready { 0 < document_room self.old.room job → IsOk result }
     {
-        match job_place(&self.jobs, job) {
-            Ok(at) => self.jobs[at].document.reserve(1),
-            Err(_) => unreachable!(),
-        }
+        self.jobs.row_mut(job).document.reserve(1)
     }
 }

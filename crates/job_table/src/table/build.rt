@@ -16,8 +16,9 @@ use crate::lane::{Draft, Lane, standing_of};
 use crate::new_places::NewPlaces;
 use crate::store::Store;
 use crate::timetable::{Timetable, deadline_of};
+use job_rows::Rows;
 use queue_sched::Deadline;
-use spool_types::{JobRow, Moment};
+use spool_types::Moment;
 use std::alloc::{AllocError, Global};
 
 impl Table {
@@ -47,7 +48,7 @@ fn drafts_of(alloc: Global, store: &Store) -> Result<Vec<Draft>, AllocError>
 {
     let rows = store.jobs();
     let mut drafts = empty_drafts(alloc, store.queue_count())?;
-    for row in rows {
+    for row in rows.iter() {
         let Ok(place) = store.queue_place(&row.job.queue) else {
             unreachable!()
         };
@@ -90,8 +91,8 @@ fn timetable_of(alloc: Global, store: &Store) -> Result<Timetable, AllocError>
 }
 
 // The deadlines of those that wait.
-fn deadlines_of(alloc: Global, rows: &[JobRow]) -> Result<Vec<Deadline>, AllocError>
-    ensures { IfOk result (λ deadlines. deadlines.items ≡ filter_map (λ row. deadline_of row.job) rows.now) }
+fn deadlines_of(alloc: Global, rows: &Rows) -> Result<Vec<Deadline>, AllocError>
+    ensures { IfOk result (λ deadlines. deadlines.items ≡ filter_map (λ row. deadline_of row.job) rows.now.items) }
 {
     rows.iter()
         .filter_map(|row| deadline_of(&row.job))
@@ -99,8 +100,8 @@ fn deadlines_of(alloc: Global, rows: &[JobRow]) -> Result<Vec<Deadline>, AllocEr
 }
 
 // How many jobs are to start by a moment.
-fn timed_count(rows: &[JobRow]) -> usize
-    ensures { result ≡ count_by (λ row. is_some row.job.by) rows.now }
+fn timed_count(rows: &Rows) -> usize
+    ensures { result ≡ count_by (λ row. is_some row.job.by) rows.now.items }
 {
     rows.iter().filter(|row| row.job.by.is_some()).count()
 }

@@ -133,9 +133,10 @@ fn add_jobs<D: Disk>(
     ensures added { OnOk result (AreJobsAdded D.device table.old (filling_at areas.old filler.old) (filling_at areas.new filler.new)) }
     ensures noted { OnOk result (AreJobsNoted table.old.state (next_place (filling_at areas.old filler.old)) table.old.moves table.new.moves) }
 {
-    for at in 0..table.jobs().len() {
-        let job = table.jobs()[at].job.id;
+    let mut next = table.jobs().first();
+    while let Some(job) = next {
         add_job(areas, table, job, filler)?;
+        next = table.jobs().next_above(job.get());
     }
     Ok(())
 }

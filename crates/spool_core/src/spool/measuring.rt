@@ -13,8 +13,9 @@ ghost use Rattle.spool_core.specs.Measuring.{IsSumMore};
 
 use super::block::PIECE_HEAD;
 use event_codec::{encode_job_onto, encode_queue_onto};
+use job_rows::Rows;
 use job_table::{Table, document_len};
-use spool_types::{Job, JobRow, LONGEST_SEND, QueueRow};
+use spool_types::{Job, LONGEST_SEND, QueueRow};
 use std::alloc::AllocError;
 
 // How many bytes a record's head takes.
@@ -48,12 +49,12 @@ fn queues_len(before: u64, queues: &[QueueRow], block: &mut Vec<u8>) -> Result<u
 }
 
 // That sum, with the records of jobs and of the pieces of their documents.
-fn jobs_len(before: u64, jobs: &[JobRow], block: &mut Vec<u8>) -> Result<u64, AllocError>
-    ensures sum { IfOk result (λ sum. IsSumMore (flat_map blank_rows (map job_of jobs.now)) before sum) }
+fn jobs_len(before: u64, jobs: &Rows, block: &mut Vec<u8>) -> Result<u64, AllocError>
+    ensures sum { IfOk result (λ sum. IsSumMore (flat_map blank_rows (map job_of jobs.now.items)) before sum) }
     ensures spare { vec_capacity block.old ≤ vec_capacity block.new }
 {
     let mut sum = before;
-    for row in jobs {
+    for row in jobs.iter() {
         sum = job_len(sum, &row.job, block)?;
     }
     Ok(sum)

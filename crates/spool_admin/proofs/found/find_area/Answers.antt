@@ -1,8 +1,9 @@
 use Rattle.std.proofs.Common.{◌∙◌, ◌+◌, ap, arith, subst, sym}
 use Rattle.spool_areas.specs.Header.{epoch_of, half, header_at, header_len, version_of}
 use Rattle.spool_areas.specs.Payloads.{HasPayloads}
-use Rattle.spool_areas.specs.Extents.{payloads_at}
+use Rattle.spool_areas.specs.Extents.{EndsSo, payloads_at}
 use Rattle.spool_core.proofs.FoldLaws.{follow_le}
+use Rattle.spool_admin.proofs.Damage.{untorn}
 use Rattle.spool_admin.proofs.Pieces.{told_long}
 use Rattle.spool_admin.proofs.found.find_area.Goals as goal
 
@@ -27,3 +28,9 @@ returns-clause-area g c = λ r tells.
       used_is = omega (arith, c.base-base.ensures, c.in-Ok.ensures.room.0, low, keeps.gate_at);
       free_is = omega (arith, c.base-base.ensures, c.in-Ok.ensures.room.0, c.in-Ok.ensures.room.1, c.in-Ok.ensures.lie.1, low, c.in-Ok.ensures.area.end_is, long);
     }
+
+pub returns-in-Some-clause-fault : goal.returns-in-Some-clause-fault
+returns-in-Some-clause-fault g c = λ r table tells has.
+    let base = c.in-Ok.opened.areas.base in
+    let payloads = payloads_at r c.in-Ok.opened.payloads.items in
+    absurd (untorn table r base payloads has (subst (λ damage. EndsSo base payloads r damage) c.in-Some.is (c.in-Ok.ensures.found r tells).1))

@@ -1,50 +1,71 @@
--- the row goes into its gap, as no job has a number above the highest
-use Rattle.std.proofs.Common.{◌<◌, ◌≤◌, refl, sym, ap, subst, ◌∙◌, arith}
+-- the row goes last, as no job has a number above the highest
+use Rattle.std.proofs.Common.{◌≡◌, ◌<◌, ◌≤◌, ◌++◌, ◌∷◌, [], length, sym, ap, subst, ◌∙◌, arith}
+use Rattle.std.specs.Prelude.{All}
+use Rattle.std.specs.List.{insert}
 use Rattle.spool_types.specs.Limits.{greatest_number}
+use Rattle.spool_types.specs.declared.rows.JobRow.{JobRow}
+use Rattle.job_rows.specs.Rows.{Listed}
 use Rattle.job_table.specs.Contents.{Contents, places_at}
 use Rattle.job_table.specs.Seen.{contents_of}
 use Rattle.job_table.specs.Step.{creation, after, refusal_of}
+use Rattle.job_table.proofs.Above.{insert_last}
 use Rattle.job_table.proofs.Accepted.{accepted_create}
 use Rattle.job_table.proofs.Legal.{keeps_creation, legal_after}
-use Rattle.job_table.proofs.Tables.{some_job, there_and_not}
-use Rattle.job_table.proofs.Rooms.{room_seen, fits}
-use Rattle.job_table.proofs.Steps.{reply_creation, create_state, create_ordered, create_room, create_places}
+use Rattle.job_table.proofs.Numbered.{each_below, end_gap, numbers_pushed}
+use Rattle.job_table.proofs.Rooms.{room_seen}
+use Rattle.job_table.proofs.Steps.{reply_creation, below_new, create_state, create_ordered, create_room, create_places}
 use Rattle.job_table.proofs.store.Store.create.Goals as goal
 
-pub unreachable-requires : goal.unreachable-requires
-unreachable-requires c =
-    let there = some_job c.self.inside.jobs.items c.self.invariant.jobs c.args.job.job c.in-Ok.field-0 (rw c.deref.ensures.value at c.in-Ok.ensures.found) in
-    there_and_not _ _ _ there.1 (c.self.invariant.legal.numbers c.args.job.job
-    (accepted_create (contents_of c.self.inside).state c.args.job c.args.by (ap (λ v. refusal_of v.state (creation c.args.job c.args.by)) c.self.view_is ∙ c.requires.accepted))) refl
+-- at the end the row stands where the search would put it
+at_end : (old new : Listed) (row : JobRow) → new.items ≡ old.items ++ row ∷ [] → new.items ≡ insert old.items (length old.items) row
+at_end old new row items = items ∙ sym (insert_last old.items row)
+
+pub push-requires-clause-room : goal.push-requires-clause-room
+push-requires-clause-room c = subst (λ v. 0 < v.room.jobs) (sym c.self.view_is) c.requires.room
+
+pub push-requires-clause-above : goal.push-requires-clause-above
+push-requires-clause-above c =
+    let number = ap (λ j. j.id) c.new_job_row.ensures.row in
+    let new = accepted_create (contents_of c.self.inside).state c.args.job c.args.by (ap (λ v. refusal_of v.state (creation c.args.job c.args.by)) c.self.view_is ∙ c.requires.accepted) in
+    subst (λ k. All (λ n. n < k) c.self.inside.jobs.numbers) (sym number)
+    (subst (All (λ n. n < c.args.job.job)) (sym c.self.invariant.own) (each_below c.self.inside.jobs.items c.args.job.job (below_new c.self.inside c.self.invariant c.args.job.job new)))
 
 pub invariant_of-self : goal.invariant_of-self
 invariant_of-self c =
-    rw c.get-self-inside.ensures.value (create_ordered c.self.inside c.self.invariant c.args.job c.args.by c.new_job_row-row.result c.new_job_row-row.ensures.row c.insert.new.self c.in-Err.at
-    (rw c.deref.ensures.value at c.in-Err.ensures.absent) (rw c.unwrap.ensures at c.insert.ensures.items)
+    let new = accepted_create (contents_of c.self.inside).state c.args.job c.args.by (ap (λ v. refusal_of v.state (creation c.args.job c.args.by)) c.self.view_is ∙ c.requires.accepted) in
+    rw c.get-self-inside.ensures.value (create_ordered c.self.inside c.self.invariant c.args.job c.args.by c.new_job_row.result c.new_job_row.ensures.row c.push.new.self (length c.self.inside.jobs.items)
+    (end_gap c.self.inside.jobs.items c.args.job.job (below_new c.self.inside c.self.invariant c.args.job.job new))
+    (at_end c.self.inside.jobs c.push.new.self c.new_job_row.result c.push.ensures.items)
+    (numbers_pushed c.self.inside.jobs c.push.new.self c.new_job_row.result c.self.invariant.own c.push.ensures.numbers c.push.ensures.items)
     (subst (λ n. n ≤ greatest_number) c.get-self-inside.ensures.value c.get-self-inside.ensures.at_most)
-    c.new_job_row-row.ensures.room c.new_job_row-row.ensures.places
+    c.new_job_row.ensures.room c.new_job_row.ensures.places
     (legal_after (contents_of c.self.inside).state (creation c.args.job c.args.by) (keeps_creation c.args.job c.args.by) (ap (λ v. refusal_of v.state (creation c.args.job c.args.by)) c.self.view_is ∙ c.requires.accepted) c.self.invariant.legal))
 
 pub returns-clause-state : goal.returns-clause-state
 returns-clause-state c =
-    rw c.get-self-inside.ensures.value (create_state c.self.inside c.self.invariant c.args.job c.args.by c.new_job_row-row.result c.new_job_row-row.ensures.row c.insert.new.self c.in-Err.at
-    (rw c.deref.ensures.value at c.in-Err.ensures.absent) (rw c.unwrap.ensures at c.insert.ensures.items))
+    let new = accepted_create (contents_of c.self.inside).state c.args.job c.args.by (ap (λ v. refusal_of v.state (creation c.args.job c.args.by)) c.self.view_is ∙ c.requires.accepted) in
+    rw c.get-self-inside.ensures.value (create_state c.self.inside c.self.invariant c.args.job c.args.by c.new_job_row.result c.new_job_row.ensures.row c.push.new.self (length c.self.inside.jobs.items)
+    (end_gap c.self.inside.jobs.items c.args.job.job (below_new c.self.inside c.self.invariant c.args.job.job new))
+    (at_end c.self.inside.jobs c.push.new.self c.new_job_row.result c.push.ensures.items))
     ∙ ap (λ v. after v.state (creation c.args.job c.args.by)) c.self.view_is
 
 pub returns-clause-reply : goal.returns-clause-reply
 returns-clause-reply c = sym (reply_creation c.args.self.now.state c.args.job c.args.by)
 
 pub returns-clause-room : goal.returns-clause-room
-returns-clause-room c = room_seen c.self.view_is
-    (create_room c.self.inside c.self.invariant c.args.job c.args.by c.new_job_row-row.result c.new_job_row-row.ensures.row c.insert.new.self c.in-Err.at
-    (rw c.deref.ensures.value at c.in-Err.ensures.absent) (rw c.unwrap.ensures at c.insert.ensures.items)
-    (c.insert.ensures.in_place (fits c.self.inside.jobs (subst (λ v. 0 < v.room.jobs) (sym c.self.view_is) c.requires.room))).1.0
-    (omega (arith, rw c.unwrap.ensures at c.insert.ensures.len)) c.new_job_row-row.ensures.room)
+returns-clause-room c =
+    let new = accepted_create (contents_of c.self.inside).state c.args.job c.args.by (ap (λ v. refusal_of v.state (creation c.args.job c.args.by)) c.self.view_is ∙ c.requires.accepted) in
+    room_seen c.self.view_is
+    (create_room c.self.inside c.self.invariant c.args.job c.args.by c.new_job_row.result c.new_job_row.ensures.row c.push.new.self (length c.self.inside.jobs.items)
+    (end_gap c.self.inside.jobs.items c.args.job.job (below_new c.self.inside c.self.invariant c.args.job.job new))
+    (at_end c.self.inside.jobs c.push.new.self c.new_job_row.result c.push.ensures.items)
+    (omega (arith, c.push.ensures.room)) c.new_job_row.ensures.room)
 
 pub returns-clause-places : goal.returns-clause-places
 returns-clause-places c = λ j lives.
-    create_places c.self.inside c.self.invariant c.args.job c.args.by c.new_job_row-row.result c.new_job_row-row.ensures.row c.insert.new.self c.in-Err.at
-    (rw c.deref.ensures.value at c.in-Err.ensures.absent) (rw c.unwrap.ensures at c.insert.ensures.items) c.self.invariant.legal
-    (accepted_create (contents_of c.self.inside).state c.args.job c.args.by (ap (λ v. refusal_of v.state (creation c.args.job c.args.by)) c.self.view_is ∙ c.requires.accepted))
-    c.new_job_row-row.ensures.places j
+    let new = accepted_create (contents_of c.self.inside).state c.args.job c.args.by (ap (λ v. refusal_of v.state (creation c.args.job c.args.by)) c.self.view_is ∙ c.requires.accepted) in
+    create_places c.self.inside c.self.invariant c.args.job c.args.by c.new_job_row.result c.new_job_row.ensures.row c.push.new.self (length c.self.inside.jobs.items)
+    (end_gap c.self.inside.jobs.items c.args.job.job (below_new c.self.inside c.self.invariant c.args.job.job new))
+    (at_end c.self.inside.jobs c.push.new.self c.new_job_row.result c.push.ensures.items) c.self.invariant.legal new
+    c.new_job_row.ensures.places j
     ∙ ap (λ (v : Contents). places_at v j) c.self.view_is

@@ -1,42 +1,40 @@
 -- the row that was read is the one that the map has
-use Rattle.std.proofs.Common.{◌≡◌, [], true, Some, get_or, unwrap_or, sym, ap, subst, ◌∙◌, arith}
+use Rattle.std.proofs.Common.{◌≡◌, [], true, None, Some, Option, ap, ◌∙◌}
+use Rattle.std.specs.Prelude.{IfSome}
+use Rattle.std.specs.Borrow.{Bor}
 use Rattle.std.specs.FinMap as finite
 use Rattle.extents.specs.Extents.{size_of}
 use Rattle.spool_types.specs.Phases.{has_ended}
-use Rattle.spool_types.specs.State.{job_of}
 use Rattle.spool_types.specs.declared.rows.JobRow.{JobRow}
+use Rattle.job_rows.specs.Rows.{HasRow}
 use Rattle.job_table.specs.Contents.{places_at}
 use Rattle.job_table.specs.Documents.{document_len}
-use Rattle.job_table.proofs.Pieces.{nothing_of}
-use Rattle.job_table.proofs.Rooms.{holds_at}
-use Rattle.job_table.proofs.Steps.{document_place_at}
-use Rattle.job_table.proofs.Tables.{get_job, get_no_job}
+use Rattle.job_table.proofs.Numbered.{looked_at}
+use Rattle.job_table.proofs.Steps.{row_seen}
 use Rattle.job_table.proofs.store.Store.job.Goals as goal
 
-pub returns-in-Ok-clause-row : goal.returns-in-Ok-clause-row
-returns-in-Ok-clause-row c =
-    ap (λ r. Some (job_of r)) c.index.ensures
-    ∙ sym (get_job c.self.inside.jobs.items c.self.invariant.jobs c.args.id c.in-Ok.at c.index.result.now (rw c.deref.ensures.value at c.in-Ok.ensures.found))
+pub returns-clause-row : goal.returns-clause-row
+returns-clause-row c =
+    looked_at c.self.inside.jobs c.self.invariant.own c.self.invariant.jobs c.args.id c.get.result c.get.ensures.found c.get.ensures.absent
     ∙ ap (λ v. finite.get v.state.jobs c.args.id) c.self.view_is
 
-pub returns-in-Err-clause-row : goal.returns-in-Err-clause-row
-returns-in-Err-clause-row c =
-    sym (get_no_job c.self.inside.jobs.items c.self.invariant.jobs c.args.id _ (rw c.deref.ensures.value at c.in-Err.ensures.absent))
-    ∙ ap (λ v. finite.get v.state.jobs c.args.id) c.self.view_is
+pub returns-clause-places : goal.returns-clause-places
+returns-clause-places c = each c.get.result c.get.ensures.found
+  where
+    each : (o : Option (Bor JobRow)) → IfSome o (λ row. HasRow c.self.inside.jobs c.args.id row.now) → IfSome o (λ r. r.now.document.items ≡ places_at c.args.self.now c.args.id)
+    each None found = tt
+    each (Some r) found = (row_seen c.self.inside c.self.invariant c.args.id r.now found).places ∙ ap (λ v. places_at v c.args.id) c.self.view_is
 
-pub returns-in-Ok-clause-places : goal.returns-in-Ok-clause-places
-returns-in-Ok-clause-places c =
-    ap (λ (r : JobRow). r.document.items) c.index.ensures
-    ∙ sym (ap (λ o. unwrap_or o []) (document_place_at c.self.inside.jobs.items c.self.invariant.jobs c.args.id c.in-Ok.at c.index.result.now (rw c.deref.ensures.value at c.in-Ok.ensures.found)))
-    ∙ ap (λ v. places_at v c.args.id) c.self.view_is
+pub returns-clause-sized : goal.returns-clause-sized
+returns-clause-sized c = each c.get.result c.get.ensures.found
+  where
+    each : (o : Option (Bor JobRow)) → IfSome o (λ row. HasRow c.self.inside.jobs c.args.id row.now) → IfSome o (λ r. size_of r.now.document.items ≡ document_len r.now.job)
+    each None found = tt
+    each (Some r) found = (row_seen c.self.inside c.self.invariant c.args.id r.now found).sized
 
-pub returns-in-Ok-clause-sized : goal.returns-in-Ok-clause-sized
-returns-in-Ok-clause-sized c = subst (λ (r : JobRow). size_of r.document.items ≡ document_len (job_of r)) (sym c.index.ensures)
-    (holds_at c.self.inside.jobs.items c.in-Ok.at c.index.result.now (rw c.deref.ensures.value at c.in-Ok.ensures.found).in_range c.self.invariant.documents).sized
-
-pub returns-in-Ok-clause-ended : goal.returns-in-Ok-clause-ended
-returns-in-Ok-clause-ended c =
-    let row : JobRow = get_or c.self.inside.jobs.items c.in-Ok.at c.index.result.now in
-    let holds = holds_at c.self.inside.jobs.items c.in-Ok.at c.index.result.now (rw c.deref.ensures.value at c.in-Ok.ensures.found).in_range c.self.invariant.documents in
-    subst (λ (r : JobRow). has_ended r.job.phase ≡ true → r.document.items ≡ []) (sym c.index.ensures)
-    (λ over. let none = holds.freed over in nothing_of row.document.items (omega (arith, none, row.document.ok.0, row.document.ok.1)))
+pub returns-clause-ended : goal.returns-clause-ended
+returns-clause-ended c = each c.get.result c.get.ensures.found
+  where
+    each : (o : Option (Bor JobRow)) → IfSome o (λ row. HasRow c.self.inside.jobs c.args.id row.now) → IfSome o (λ r. has_ended r.now.job.phase ≡ true → r.now.document.items ≡ [])
+    each None found = tt
+    each (Some r) found = (row_seen c.self.inside c.self.invariant c.args.id r.now found).ended

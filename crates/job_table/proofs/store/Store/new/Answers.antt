@@ -15,6 +15,7 @@ pub invariant_of-result-2 : goal.invariant_of-result-2
 invariant_of-result-2 c = record {
   queues = rw c.new.ensures.items refl;
   jobs = rw c.new-2.ensures.items refl;
+  own = rw (c.new-2.ensures.items, c.new-2.ensures.numbers) refl;
   highest = omega arith;
   documents = rw c.new-2.ensures.items tt;
   legal = subst IsLegal (sym (returns-clause-state c)) (legal_nothing c.args.version);

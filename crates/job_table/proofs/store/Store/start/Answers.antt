@@ -15,67 +15,64 @@ use Rattle.job_table.proofs.Rules.{few_attempts, waiting_alive}
 use Rattle.job_table.proofs.Steps.{change_state, change_ordered, change_room, change_places}
 use Rattle.job_table.proofs.Changes.{changed_there}
 use Rattle.job_table.proofs.Rooms.{room_seen}
-use Rattle.job_table.proofs.Tables.{get_job, get_no_job, there_and_not}
+use Rattle.job_rows.specs.Rows.{place_in}
+use Rattle.job_table.proofs.Numbered.{has_number, row_place, row_there}
 use Rattle.job_table.proofs.store.Store.start.Goals as goal
 
-pub unreachable-requires : goal.unreachable-requires
-unreachable-requires c =
+pub row_mut-requires : goal.row_mut-requires
+row_mut-requires c =
     let there = job_there c.args.self.now.state (Start c.args.job) c.args.job _ refl c.requires in
-    there_and_not _ _ _ there.1
-    (get_no_job c.self.inside.jobs.items c.self.invariant.jobs c.args.job c.in-Err.field-0 (rw c.deref.ensures.value at c.in-Err.ensures.absent))
-    (sym (ap (λ v. finite.get v.state.jobs c.args.job) c.self.view_is))
+    has_number c.self.inside.jobs c.self.invariant.own c.self.invariant.jobs c.args.job there.0
+    (ap (λ v. finite.get v.state.jobs c.args.job) c.self.view_is ∙ there.1)
 
 pub start_row-requires-clause-more : goal.start_row-requires-clause-more
 start_row-requires-clause-more c =
-    let there : job_at (contents_of c.self.inside).state c.args.job ≡ Some (job_of c.index_mut.result.now) =
-    get_job c.self.inside.jobs.items c.self.invariant.jobs c.args.job c.in-Ok.at c.index_mut.result.now (rw c.deref.ensures.value at c.in-Ok.ensures.found)
-    ∙ ap (λ r. Some (job_of r)) (sym c.index_mut.ensures.value) in
-    few_attempts (contents_of c.self.inside).state.queues c.args.job (job_of c.index_mut.result.now)
-    (job_must (contents_of c.self.inside).state (Start c.args.job) c.args.job (λ r. is_waiting r.phase) _ _ (job_of c.index_mut.result.now) refl there (ap (λ v. refusal_of v.state (Start c.args.job)) c.self.view_is ∙ c.requires))
-    (c.self.invariant.legal.jobs c.args.job (job_of c.index_mut.result.now) there)
+    let there : job_at (contents_of c.self.inside).state c.args.job ≡ Some (job_of c.row_mut.result.now) =
+    row_there c.self.inside.jobs c.self.invariant.own c.self.invariant.jobs c.args.job c.row_mut.result.now c.row_mut.ensures.found in
+    few_attempts (contents_of c.self.inside).state.queues c.args.job (job_of c.row_mut.result.now)
+    (job_must (contents_of c.self.inside).state (Start c.args.job) c.args.job (λ r. is_waiting r.phase) _ _ (job_of c.row_mut.result.now) refl there (ap (λ v. refusal_of v.state (Start c.args.job)) c.self.view_is ∙ c.requires))
+    (c.self.invariant.legal.jobs c.args.job (job_of c.row_mut.result.now) there)
 
 pub start_row-requires-clause-live : goal.start_row-requires-clause-live
 start_row-requires-clause-live c =
-    let there : job_at (contents_of c.self.inside).state c.args.job ≡ Some (job_of c.index_mut.result.now) =
-    get_job c.self.inside.jobs.items c.self.invariant.jobs c.args.job c.in-Ok.at c.index_mut.result.now (rw c.deref.ensures.value at c.in-Ok.ensures.found)
-    ∙ ap (λ r. Some (job_of r)) (sym c.index_mut.ensures.value) in
-    waiting_alive c.index_mut.result.now.job.phase
-    (job_must (contents_of c.self.inside).state (Start c.args.job) c.args.job (λ r. is_waiting r.phase) _ _ (job_of c.index_mut.result.now) refl there (ap (λ v. refusal_of v.state (Start c.args.job)) c.self.view_is ∙ c.requires))
+    let there : job_at (contents_of c.self.inside).state c.args.job ≡ Some (job_of c.row_mut.result.now) =
+    row_there c.self.inside.jobs c.self.invariant.own c.self.invariant.jobs c.args.job c.row_mut.result.now c.row_mut.ensures.found in
+    waiting_alive c.row_mut.result.now.job.phase
+    (job_must (contents_of c.self.inside).state (Start c.args.job) c.args.job (λ r. is_waiting r.phase) _ _ (job_of c.row_mut.result.now) refl there (ap (λ v. refusal_of v.state (Start c.args.job)) c.self.view_is ∙ c.requires))
 
 pub invariant_of-self : goal.invariant_of-self
-invariant_of-self c = change_ordered c.self.inside c.self.invariant c.args.job c.in-Ok.at c.index_mut.result.now c.start_row.new.row c.index_mut.ensures.value
-    (rw c.deref.ensures.value at c.in-Ok.ensures.found) started (λ x. refl)
+invariant_of-self c = change_ordered c.self.inside c.self.invariant c.args.job (place_in c.self.inside.jobs.numbers c.args.job) c.row_mut.result.now c.start_row.new.row (sym c.row_mut.ensures.found.is)
+    (row_place c.self.inside.jobs c.self.invariant.own c.self.invariant.jobs c.args.job c.row_mut.result.now c.row_mut.ensures.found) started (λ x. refl)
     c.start_row.ensures.row c.start_row.ensures.memory
     (legal_after (contents_of c.self.inside).state (Start c.args.job) tt (ap (λ v. refusal_of v.state (Start c.args.job)) c.self.view_is ∙ c.requires) c.self.invariant.legal)
 
 pub returns-clause-state : goal.returns-clause-state
 returns-clause-state c =
-    change_state c.self.inside c.self.invariant c.args.job c.in-Ok.at c.index_mut.result.now c.start_row.new.row c.index_mut.ensures.value
-    (rw c.deref.ensures.value at c.in-Ok.ensures.found) started (λ x. refl)
+    change_state c.self.inside c.self.invariant c.args.job (place_in c.self.inside.jobs.numbers c.args.job) c.row_mut.result.now c.start_row.new.row (sym c.row_mut.ensures.found.is)
+    (row_place c.self.inside.jobs c.self.invariant.own c.self.invariant.jobs c.args.job c.row_mut.result.now c.row_mut.ensures.found) started (λ x. refl)
     c.start_row.ensures.row c.start_row.ensures.memory
     ∙ ap (λ v. after v.state (Start c.args.job)) c.self.view_is
 
 pub returns-clause-room : goal.returns-clause-room
 returns-clause-room c = room_seen c.self.view_is
-    (change_room c.self.inside c.self.invariant c.args.job c.in-Ok.at c.index_mut.result.now c.start_row.new.row c.index_mut.ensures.value
-    (rw c.deref.ensures.value at c.in-Ok.ensures.found) started (λ x. refl)
+    (change_room c.self.inside c.self.invariant c.args.job (place_in c.self.inside.jobs.numbers c.args.job) c.row_mut.result.now c.start_row.new.row (sym c.row_mut.ensures.found.is)
+    (row_place c.self.inside.jobs c.self.invariant.own c.self.invariant.jobs c.args.job c.row_mut.result.now c.row_mut.ensures.found) started (λ x. refl)
     c.start_row.ensures.row c.start_row.ensures.memory)
 
 pub returns-clause-reply : goal.returns-clause-reply
 returns-clause-reply c =
-    let there : job_at c.args.self.now.state c.args.job ≡ Some (job_of c.index_mut.result.now) =
+    let there : job_at c.args.self.now.state c.args.job ≡ Some (job_of c.row_mut.result.now) =
     ap (λ v. finite.get v.state.jobs c.args.job) (sym c.self.view_is)
-    ∙ get_job c.self.inside.jobs.items c.self.invariant.jobs c.args.job c.in-Ok.at c.index_mut.result.now (rw c.deref.ensures.value at c.in-Ok.ensures.found)
-    ∙ ap (λ r. Some (job_of r)) (sym c.index_mut.ensures.value) in
+    ∙ row_there c.self.inside.jobs c.self.invariant.own c.self.invariant.jobs c.args.job c.row_mut.result.now c.row_mut.ensures.found in
     ap Phase (
     c.start_row.ensures.phase
     ∙ ap (λ (x : Job). x.phase) c.start_row.ensures.row
-    ∙ sym (ap phase_found (changed_there c.args.self.now.state c.args.job started (job_of c.index_mut.result.now) there)))
+    ∙ sym (ap phase_found (changed_there c.args.self.now.state c.args.job started (job_of c.row_mut.result.now) there)))
 
 pub returns-clause-places : goal.returns-clause-places
 returns-clause-places c = λ j lives.
-    change_places c.self.inside c.self.invariant c.args.job c.in-Ok.at c.index_mut.result.now c.start_row.new.row c.index_mut.ensures.value
-    (rw c.deref.ensures.value at c.in-Ok.ensures.found) started (λ x. refl)
+    change_places c.self.inside c.self.invariant c.args.job (place_in c.self.inside.jobs.numbers c.args.job) c.row_mut.result.now c.start_row.new.row (sym c.row_mut.ensures.found.is)
+    (row_place c.self.inside.jobs c.self.invariant.own c.self.invariant.jobs c.args.job c.row_mut.result.now c.row_mut.ensures.found) started (λ x. refl)
     c.start_row.ensures.row c.start_row.ensures.memory
     (λ lives. ap (λ d. d.items) c.start_row.ensures.document) j lives
     ∙ ap (λ (v : Contents). places_at v j) c.self.view_is

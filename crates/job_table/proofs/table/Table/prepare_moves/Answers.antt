@@ -12,8 +12,8 @@ of_rows-requires c = subst (λ es. IsTrue (finite.is_sorted nat_cmp es)) (sym c.
 pub returns-clause-none : goal.returns-clause-none
 returns-clause-none c = λ j r there.
     ap (finite.find nat_cmp j) c.in_ok-new_places.ensures.none
-    ∙ blank_found c.jobs.result.now j r (entry_found c.self.inside.store.state c.jobs.result.now c.jobs.ensures.entries j r there)
+    ∙ blank_found c.jobs.result.now.items j r (entry_found c.self.inside.store.state c.jobs.result.now.items c.jobs.ensures.entries j r there)
 
 pub returns-clause-room : goal.returns-clause-room
 returns-clause-room c = λ j r there.
-    c.in_ok-new_places.ensures.room j r (entry_found c.self.inside.store.state c.jobs.result.now c.jobs.ensures.entries j r there)
+    c.in_ok-new_places.ensures.room j r (entry_found c.self.inside.store.state c.jobs.result.now.items c.jobs.ensures.entries j r there)

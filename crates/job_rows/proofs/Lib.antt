@@ -1,0 +1,4 @@
+pub mod Rising
+pub mod Holding
+pub mod Ending
+pub mod Found

@@ -1,0 +1,10 @@
+use Rattle.std.proofs.Common.{◌≡◌, length}
+use Rattle.job_rows.specs.Slots.{first_number}
+use Rattle.job_rows.proofs.rows.first_number.Given as goal
+
+-- only gone slots were passed over
+abbrev pub invariant-loop-slot : goal.invariant-loop-slot
+invariant-loop-slot l = first_number l.left ≡ first_number l.slots
+
+abbrev pub decreases-loop-slot : goal.decreases-loop-slot
+decreases-loop-slot l = length l.left

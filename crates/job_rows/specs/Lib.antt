@@ -1,0 +1,5 @@
+pub mod Places
+pub mod Rows
+pub mod Slots
+pub mod Kept
+pub mod Lent
