@@ -37,7 +37,7 @@ PASSED_ON = {
     # Counts of jobs that are held past the greatest usize: no memory holds so many.
     ("job_table", "reserve"): 2,
     ("print_rounds", "launch"): 1,
-    ("print_rounds", "round"): 1,
+    ("print_rounds", "pass"): 1,
     ("print_rounds", "start"): 1,
     ("print_rounds", "end_stage"): 1,
     ("spool_areas", "collect"): 1,
@@ -53,6 +53,7 @@ PASSED_ON = {
     ("spool_engine", "answer"): 1,
     ("spool_engine", "close_typed"): 1,
     ("spool_engine", "serve_end"): 1,
+    ("spool_engine", "serve_next"): 1,
     ("spool_engine", "serve_whole"): 1,
     ("spool_engine", "take_piece"): 1,
     ("spool_admin", "no_task"): 1,

@@ -7,8 +7,8 @@ DATA = os.path.join(os.path.dirname(os.path.realpath(__file__)), "..", "crates",
 # What the built program has no word for.
 MADE_UP = ("children", "fuse", "lang", "limits")
 
-# The line behind which a served engine runs again: the built program serves its input in one run.
-RUN = b"# run\n"
+# The lines behind which a served engine runs again, the second with a tick before: the built program serves its input in one run.
+CUTS = {b"# run\n", b"# tick\n"}
 
 # Sends that have a whole line; greater counts and numbers are no commands.
 SEND = re.compile(rb'[ \t]*("?)send\1[ \t]+("?)([0-9]+)\2[ \t]+("?)([0-9]+)\4[ \t]*')
@@ -41,7 +41,7 @@ def names():
     if not scripts:
         raise SystemExit(f"no script in {DATA}")
     made_up = {name for name in scripts if any(f"{name}.{ending}" in files for ending in MADE_UP)}
-    return [name for name in scripts if name not in made_up and RUN not in lines_of(stored_file(name, "script"))]
+    return [name for name in scripts if name not in made_up and CUTS.isdisjoint(lines_of(stored_file(name, "script")))]
 
 
 def header(version):

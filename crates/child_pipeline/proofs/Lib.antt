@@ -1,3 +1,4 @@
 pub mod SlotLaws
 pub mod PutLaws
+pub mod TicketLaws
 pub mod NextLaws

@@ -3,9 +3,10 @@ use Rattle.std.proofs.Common.{◌≡◌, ℕ, Bool, true, false, cond, Option, S
 use Rattle.std.specs.Option.{is_some, IsSome}
 use Rattle.std.specs.Prelude.{unwrap_or, Result}
 use Rattle.std.specs.Ordering.{nat_cmp, eq_by_cmp}
-use Rattle.std.specs.Cmp.{nat_cmp_total, eq_by_cmp_equiv}
+use Rattle.std.specs.Cmp.{nat_cmp_total, eq_by_cmp_equiv, unsigned_tied}
+use Rattle.std.proofs.lemmas.Bool.{eqb-true}
 use Rattle.std.specs.FinMap as finite
-use Rattle.child_pipeline.specs.Slots.{Slots, slot_in, put_progress, with_progress, begun, IsReporting, IsTicketless, IsEnded, is_ready, is_ended, IsFinish}
+use Rattle.child_pipeline.specs.Slots.{Slots, slot_in, put_progress, with_progress, begun, IsReporting, IsTicketless, IsEnded, IsRunning, is_ready, is_ended, IsFinish}
 use Rattle.child_pipeline.specs.Finishes.{kept}
 use Rattle.child_pipeline.specs.Told.{Told, finish_in, Finishes}
 use Rattle.child_pipeline.specs.declared.order.Finish.{Finish}
@@ -54,3 +55,21 @@ ended_if (Some slot) reports rests = by_progress slot.progress reports rests
 pub finish_kept : (told : Option Told) (n : ℕ) (result : Result Finish ChildFault) (f : Finish) (told' : Option Told) → f ≡ kept (finish_in result) → Finishes told n result told' → IsFinish told n f told'
 finish_kept None n result f told' is finishes = finishes
 finish_kept (Some t) n result f told' is finishes = λ running. (is ∙ ap kept (finishes running).answer, (finishes running).told)
+
+-- A slot that is put where it stands changes nothing.
+pub insert_same : (m : Slots) (j : ℕ) (x : Slot ℕ) → finite.get m j ≡ Some x → finite.insert m j x ≡ m
+insert_same m j x there = finite.same_map nat_cmp_total finite.nat_cmp-IsAntisymmetric _ _ (λ q. finite.get-insert nat_cmp_total m j x q ∙ by_key q (eq_by_cmp nat_cmp q j) refl)
+  where
+    by_key : (q : ℕ) (b : Bool) → eq_by_cmp nat_cmp q j ≡ b → cond b (Some x) (finite.get m q) ≡ finite.get m q
+    by_key q true is = sym there ∙ ap (finite.get m) (sym (eqb-true q j (sym (unsigned_tied q j) ∙ is)))
+    by_key q false is = refl
+
+-- so a child that is running is put back
+pub put_back : (m : Slots) (j : ℕ) (p : Progress ℕ) → IsRunning (finite.get m j) → p ≡ (slot_in m j).progress → put_progress m j p ≡ m
+put_back m j p runs is = by_slot (finite.get m j) refl runs
+  where
+    by_slot : (o : Option (Slot ℕ)) → finite.get m j ≡ o → IsRunning o → put_progress m j p ≡ m
+    by_slot None there runs = absurd runs
+    by_slot (Some slot) there runs =
+        let own : slot_in m j ≡ slot = ap (λ o. unwrap_or o (begun 0 0)) there in
+        insert_same m j (with_progress (slot_in m j) p) (there ∙ ap Some (sym (ap (λ q. with_progress (slot_in m j) q) is ∙ own)))

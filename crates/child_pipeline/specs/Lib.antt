@@ -4,3 +4,4 @@ pub mod Told
 pub mod Memory
 pub mod Slots
 pub mod Kept
+pub mod Tickets

@@ -21,7 +21,11 @@
 //!   of the stage before in the same attempt (`right_input`). Outputs are moved, never copied.
 //! - *EachFinishedOnce*: what children tell (`Told`) counts the children that run. `start_stage` starts one child at most
 //!   (`StartsStage`), and none where it answers out of memory. `finish_stage` finishes the child of a slot that runs one,
-//!   and else none (`FinishesStage`), whatever it answers. A slot with a ticket can't be freed.
+//!   and else none (`FinishesStage`), whatever it answers. A slot with a ticket can't be freed. So the children that are told
+//!   to be running stay those whose tickets the slots have, each in one slot, and each that was started runs or has been
+//!   finished once (`tickets_stay`).
+//! - A look waits for nobody. It has the children's next answer, and changes no slot and nothing else that is told
+//!   (`Looks`, [`Runner::has_ended`]).
 //! - The event of a stage has its exit, and the effects of the first 1,048,576 bytes of standard error (`end_of`). A child
 //!   that gave more than 16,777,216 bytes of output, or of whose end nothing is known, is Lost.
 //!
@@ -42,7 +46,7 @@ mod runner;
 mod texts;
 
 pub use children::Children;
-pub use laws::right_input;
+pub use laws::{right_input, tickets_stay};
 pub use memory::{MemChildren, MemTicket};
 pub use none::{NoChildren, NoTicket};
 pub use order::{ChildFault, Finish, Input, Order, Placed, Program};

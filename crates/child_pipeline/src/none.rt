@@ -1,6 +1,6 @@
 //! Children of which none can be started.
-ghost use Rattle.std.specs.Prelude.{None, IsErr};
-ghost use Rattle.child_pipeline.specs.Told.{Starts};
+ghost use Rattle.std.specs.Prelude.{◌≡◌, true, None, IsErr};
+ghost use Rattle.child_pipeline.specs.Told.{Starts, Looks};
 ghost use Rattle.child_pipeline.specs.declared.none.NoTicket.{NoTicket as NoTicketValue};
 
 use crate::children::Children;
@@ -31,5 +31,19 @@ impl Children for NoChildren {
 
     fn finish(&mut self, _ticket: NoTicket) -> Result<Finish, ChildFault> {
         Err(ChildFault)
+    }
+
+    fn has_ended(&mut self, _ticket: &mut NoTicket) -> bool
+        ensures looks { Looks None result None }
+        ensures ended { result ≡ true }
+    {
+        true
+    }
+
+    // A start would find nothing that it could want.
+    fn is_ready(&mut self) -> bool
+        ensures ready { result ≡ true }
+    {
+        true
     }
 }

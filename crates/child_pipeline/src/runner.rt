@@ -5,7 +5,7 @@ ghost use Rattle.std.specs.FinMap as finite;
 ghost use Rattle.slab.specs.Slab.{Updates};
 ghost use Rattle.child_pipeline.specs.Slots.{numbered, begun_in, bound_behind, IsFirstStage, IsNextJob, IsReady, IsDue, IsReporting, IsTicketless, HasNext, StartsStage, FinishesStage, order_in, end_in, advanced_in, slot_in, input_in, put_progress, numbered_progress, is_ready, is_running, is_ended, IsRunning, IsEnded};
 ghost use Rattle.child_pipeline.specs.Finishes.{kept};
-ghost use Rattle.child_pipeline.specs.Told.{finish_in as finish_told};
+ghost use Rattle.child_pipeline.specs.Told.{finish_in as finish_told, Looks};
 
 use crate::children::Children;
 use crate::order::{ChildFault, Finish, Input, Order};
@@ -260,8 +260,8 @@ impl<C: Children> Runner<C> {
     }
 
     #[tactic(auto, using(crate::proofs::PutLaws::put_twice, crate::proofs::PutLaws::slot_put, crate::proofs::PutLaws::still_there, crate::proofs::PutLaws::insert_twice))]
-    // Waits for the child of a job's stage, and keeps its finish in the slot.
-    fn wait(&mut self, children: &mut C, job: JobId)
+    /// Waits for the child of a job's stage, and keeps its finish in the slot.
+    pub fn finish(&mut self, children: &mut C, job: JobId)
         requires { IsRunning (finite.get self.old job) }
         ensures ended { IsEnded (finite.get self.new job) }
         ensures finishes { FinishesStage (C.tells children.old) self.old job self.new (C.tells children.new) }
@@ -376,9 +376,25 @@ impl<C: Children> Runner<C> {
         ensures end { IfOk result (λ end. end ≡ end_in self.new job) }
     {
         if self.is_running(job) {
-            self.wait(children, job);
+            self.finish(children, job);
         }
         self.end(job)
+    }
+
+    #[tactic(auto, using(crate::proofs::PutLaws::put_twice, crate::proofs::PutLaws::still_there, crate::proofs::PutLaws::put_back))]
+    /// Looks whether the child of a job's stage has ended, and waits for nobody. The slots stay as they are.
+    pub fn has_ended(&mut self, children: &mut C, job: JobId) -> bool
+        requires { IsRunning (finite.get self.old job) }
+        ensures slots { self.new ≡ self.old }
+        ensures looks { Looks (C.tells children.old) result (C.tells children.new) }
+    {
+        let Progress::Running(mut ticket) = self.exchange_progress(job, Progress::Ready(None))
+        else {
+            unreachable!()
+        };
+        let ended = children.has_ended(&mut ticket);
+        self.exchange_progress(job, Progress::Running(ticket));
+        ended
     }
 
     #[tactic(auto, using(crate::proofs::PutLaws::put_twice, crate::proofs::PutLaws::slot_put, crate::proofs::PutLaws::still_there, crate::proofs::PutLaws::insert_twice))]

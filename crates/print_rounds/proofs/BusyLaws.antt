@@ -1,9 +1,8 @@
--- The processing jobs, queue by queue, are distinct.
-use Rattle.std.proofs.Common.{◌≡◌, ℕ, suc, ◌+◌, ◌<◌, take, get_or, length, add-one, Bool, true, false, cond, ◌&&◌, ◌||◌, ◌==◌, List, [], ◌∷◌, ◌++◌, map, Option, Some, None, unwrap_or, IsTrue, refl, sym, ap, subst, ◌∙◌, arith}
-use Rattle.std.specs.Prelude.{T}
+-- The processing jobs, queue by queue, are distinct, and so are those of them that are tended and those that are started.
+use Rattle.std.proofs.Common.{◌≡◌, ℕ, suc, ◌+◌, ◌<◌, take, get_or, length, add-one, Bool, true, false, cond, not, ◌&&◌, ◌||◌, ◌==◌, List, [], ◌∷◌, ◌++◌, map, Option, Some, None, unwrap_or, IsTrue, refl, sym, ap, subst, ◌∙◌, arith}
 use Rattle.std.proofs.Math.Seq.{take-suc}
 use Rattle.std.specs.Option.{option_map}
-use Rattle.std.specs.List.{find, Contains}
+use Rattle.std.specs.List.{filter, find, Contains}
 use Rattle.std.specs.Cmp.{first_so, second_so}
 use Rattle.std.specs.Cmp.Lexicographic.{slice_cmp, same_text, texts_ties}
 use Rattle.std.proofs.lemmas.Cmp.{nat_list_eq_equiv}
@@ -12,7 +11,8 @@ use Rattle.std.specs.declared.cmp.Ordering.{Ordering}
 use Rattle.std.specs.declared.cmp.Ordering.TheVariants.{Less, Equal, Greater}
 use Rattle.std.specs.FinMap as finite
 use Rattle.std.specs.FinMap.Entries.{below_all}
-use Rattle.std.proofs.lemmas.Bool.{eqb-true}
+use Rattle.std.proofs.lemmas.Bool.{eqb-true, or_from}
+use Rattle.std.proofs.lemmas.List.Elements.{filter-append}
 use Rattle.spool_types.specs.declared.rows.QueueRow.{QueueRow}
 use Rattle.spool_types.specs.Busy.{is_of}
 use Rattle.spool_types.specs.Phases.{is_processing}
@@ -22,6 +22,11 @@ use Rattle.job_table.specs.Attempts.{busy_of}
 use Rattle.print_rounds.specs.Choice.{busy_jobs, with_busy}
 use Rattle.print_rounds.specs.Finished.{AreDistinct, AllRest, HasNoneRunning}
 use Rattle.child_pipeline.specs.Slots.{Slots}
+use Rattle.print_rounds.specs.Looks.{idle_among, is_stray, runs, tended_jobs}
+use Rattle.print_rounds.specs.Passes.{chosen}
+use Rattle.print_rounds.proofs.EndLaws.{not_first, not_second}
+use Rattle.print_rounds.proofs.FreeLaws.{resting_of}
+use Rattle.print_rounds.proofs.LookLaws.{true_from}
 
 -- no child of any of them runs
 pub all_rest : (slots : Slots) → HasNoneRunning slots → (js : List ℕ) → AllRest slots js
@@ -42,10 +47,6 @@ module _ {X : Type 0} (p : X → Bool) where
   found : (xs : List X) (y : X) → find p xs ≡ Some y → Contains xs y × (p y ≡ true)
   found [] y e = absurd (cc)
   found (x ∷ xs) y e = found_first x xs y (p x) refl e (found xs y)
-
-true_from : (b : Bool) → T b → IsTrue b
-true_from true h = refl
-true_from false h = absurd h
 
 below_itself : (r : Ordering) → is_eq r ≡ true → IsTrue (is_lt r) → ⊥
 below_itself Less e below = absurd (cc)
@@ -114,11 +115,57 @@ busy_more s (n ∷ names) name = by_busy (busy_more s names name) (busy_of s n)
     by_busy rest None = rest
     by_busy rest (Some k) = ap (λ js. k ∷ js) rest
 
--- the list after one queue more, whose job is known
-pub busy_further : (s : State) (names : List (List ℕ)) (i : ℕ) (name : List ℕ) → i < length names → name ≡ get_or names i name → (o : Option ℕ) → o ≡ busy_of s name → (js : List ℕ) → js ≡ busy_jobs s (take i names) → js ++ with_busy o [] ≡ busy_jobs s (take (i + 1) names)
-busy_further s names i name lt at o is js so_far =
-    ap (λ ks. ks ++ with_busy o []) so_far
-    ∙ ap (λ p. busy_jobs s (take i names) ++ with_busy p []) is
-    ∙ sym (busy_more s (take i names) name)
-    ∙ ap (λ n. busy_jobs s (take i names ++ n ∷ [])) at
-    ∙ ap (busy_jobs s) (sym (take-suc names i name lt) ∙ ap (λ k. take k names) (sym (add-one i)))
+-- the jobs of one queue more, whose job is known
+busy_further : (s : State) (names : List (List ℕ)) (i : ℕ) (name : List ℕ) → i < length names → name ≡ get_or names i name → busy_jobs s (take (i + 1) names) ≡ busy_jobs s (take i names) ++ with_busy (busy_of s name) []
+busy_further s names i name lt at =
+    ap (busy_jobs s) (ap (λ k. take k names) (add-one i) ∙ take-suc names i name lt)
+    ∙ ap (λ n. busy_jobs s (take i names ++ n ∷ [])) (sym at)
+    ∙ busy_more s (take i names) name
+
+-- ## Those that are tended
+
+module _ (s : State) (slots : Slots) where
+  -- that of a queue, if it is
+  abbrev pub tended_of : Option ℕ → List ℕ
+  tended_of o = filter (λ j. not (is_stray s slots j)) (with_busy o [])
+
+  pub tended_further : (names : List (List ℕ)) (i : ℕ) (name : List ℕ) → i < length names → name ≡ get_or names i name → tended_jobs s slots (take (i + 1) names) ≡ tended_jobs s slots (take i names) ++ tended_of (busy_of s name)
+  tended_further names i name lt at =
+      ap (filter (λ j. not (is_stray s slots j))) (busy_further s names i name lt at)
+      ∙ filter-append (λ j. not (is_stray s slots j)) (busy_jobs s (take i names)) (with_busy (busy_of s name) [])
+
+-- what is left out of a list is left out of a part of it
+out_of : (p : ℕ → Bool) (j : ℕ) (js : List ℕ) → is_in j js ≡ false → is_in j (filter p js) ≡ false
+out_of p j [] out = refl
+out_of p j (k ∷ js) out = by_test (out_of p j js (not_second (k == j) (is_in j js) out)) (p k)
+  where
+    by_test : is_in j (filter p js) ≡ false → (b : Bool) → is_in j (cond b (k ∷ filter p js) (filter p js)) ≡ false
+    by_test rest true = or_from (k == j) (is_in j (filter p js)) (not_first (k == j) (is_in j js) out) rest
+    by_test rest false = rest
+
+pub part_distinct : (p : ℕ → Bool) (js : List ℕ) → AreDistinct js → AreDistinct (filter p js)
+part_distinct p [] distinct = tt
+part_distinct p (j ∷ js) (out, distinct) = by_test (part_distinct p js distinct) (p j)
+  where
+    by_test : AreDistinct (filter p js) → (b : Bool) → AreDistinct (cond b (j ∷ filter p js) (filter p js))
+    by_test rest true = (out_of p j js out, rest)
+    by_test rest false = rest
+
+-- ## Those that are started
+
+pub idle_distinct : (ready : Bool) (slots : Slots) (jobs : List ℕ) → AreDistinct jobs → AreDistinct (chosen ready (idle_among slots jobs))
+idle_distinct true slots jobs distinct = part_distinct (λ j. not (runs slots j)) jobs distinct
+idle_distinct false slots jobs distinct = tt
+
+idle_rests : (slots : Slots) (jobs : List ℕ) → AllRest slots (idle_among slots jobs)
+idle_rests slots [] = tt
+idle_rests slots (j ∷ jobs) = by_test (idle_rests slots jobs) (runs slots j) refl
+  where
+    by_test : AllRest slots (idle_among slots jobs) → (b : Bool) → runs slots j ≡ b → AllRest slots (cond (not b) (j ∷ idle_among slots jobs) (idle_among slots jobs))
+    by_test rest true is = rest
+    by_test rest false off = (resting_of (finite.get slots j) off, rest)
+
+-- no child of any of them runs
+pub chosen_rest : (ready : Bool) (slots : Slots) (jobs : List ℕ) → AllRest slots (chosen ready (idle_among slots jobs))
+chosen_rest true slots jobs = idle_rests slots jobs
+chosen_rest false slots jobs = tt

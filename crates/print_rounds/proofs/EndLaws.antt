@@ -182,7 +182,7 @@ none_ticketless o absent = subst IsTicketless (sym absent) tt
 pub get_gone : (m : Slots) (j : ℕ) → finite.get (finite.remove m j) j ≡ None
 get_gone m j = finite.get-remove nat_cmp_total m j j ∙ ap (λ b. cond b None (finite.get m j)) ((eq_by_cmp_equiv nat_cmp_total).refl j)
 
-reply_rests : (m : Slots) (j : ℕ) (r : Reply) → IsTicketless (finite.get (moved_by m j r) j)
+pub reply_rests : (m : Slots) (j : ℕ) (r : Reply) → IsTicketless (finite.get (moved_by m j r) j)
 reply_rests m j replies.Done = none_ticketless _ (get_gone m j)
 reply_rests m j (replies.Number n) = none_ticketless _ (get_gone m j)
 reply_rests m j (replies.Size n) = none_ticketless _ (get_gone m j)

@@ -26,7 +26,7 @@ use Rattle.print_rounds.proofs.LaunchLaws.{HasNumbers, all_started, launches_sam
 use Rattle.print_rounds.proofs.PartLaws.{starts_part}
 use Rattle.print_rounds.proofs.ReadLaws.{reads_state}
 
-left_there : (b : Bool) (o : Option (Slot ℕ)) (slot : Slot ℕ) → cond b o None ≡ Some slot → o ≡ Some slot
+pub left_there : (b : Bool) (o : Option (Slot ℕ)) (slot : Slot ℕ) → cond b o None ≡ Some slot → o ≡ Some slot
 left_there true o slot is = is
 left_there false o slot is = absurd (cc)
 

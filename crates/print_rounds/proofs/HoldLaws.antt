@@ -23,13 +23,13 @@ use Rattle.child_pipeline.specs.declared.order.Placed.{Placed}
 use Rattle.child_pipeline.specs.declared.runner.Progress.{Progress}
 use Rattle.child_pipeline.specs.declared.runner.Progress.TheVariants.{Ready, Running, Ended}
 use Rattle.child_pipeline.specs.declared.runner.Slot.{Slot}
-use Rattle.child_pipeline.specs.Slots.{Slots, slot_in, begun, IsStart, with_progress, put_progress, progress_after, order_in, end_in, is_ready, is_ended, IsTicketless, IsDue, IsCurrent, FinishesFrom}
+use Rattle.child_pipeline.specs.Slots.{Slots, slot_in, begun, IsStart, with_progress, put_progress, progress_after, order_in, end_in, is_ready, IsDue, IsCurrent, FinishesFrom}
 use Rattle.child_pipeline.specs.Told.{Told, started_by}
 use Rattle.print_rounds.specs.Choice.{slots_for, slots_in, slots_by, readiness}
 use Rattle.print_rounds.specs.Counts.{report_events}
 use Rattle.print_rounds.specs.Courses.{Answer, Course, Launching, IsLaunch, AreLaunchings, given, Ending, IsReport, IsEndingOf, AreEndings, is_silent}
 use Rattle.print_rounds.specs.Script.{current_slots, is_current}
-use Rattle.print_rounds.specs.World.{key_in, keys_in, IsEndedSlot, IsHeld}
+use Rattle.print_rounds.specs.World.{key_in, keys_in, IsBegunSlot, IsHeld}
 use Rattle.job_table.specs.Turns.{IsAmong, AreOnce}
 use Rattle.job_table.specs.Versions.{raised}
 use Rattle.print_rounds.specs.declared.outcome.Launch.{Launch}
@@ -44,55 +44,23 @@ use Rattle.print_rounds.proofs.LaunchLaws.{HasNumbers, due_own, some_of}
 use Rattle.print_rounds.proofs.PartLaws.{done_one, end_part}
 use Rattle.print_rounds.proofs.ReportLaws.{fault_state}
 
--- a stage that was started, or couldn't be, and whose end isn't told yet
-pub record HasBegun (slots : Slots) (k : Key) : Type 0 where
-  pub slot : Slot ℕ
-  pub there : finite.get slots k.job ≡ Some slot
-  pub attempt : slot.attempt ≡ k.attempt
-  pub stage : slot.stage ≡ k.stage
-  pub begun : is_ready slot.progress ≡ false
-
-begun_same : (old new : Slots) (k : Key) → finite.get new k.job ≡ finite.get old k.job → HasBegun old k → HasBegun new k
+pub begun_same : (old new : Slots) (k : Key) → finite.get new k.job ≡ finite.get old k.job → IsBegunSlot old k → IsBegunSlot new k
 begun_same old new k same has = record { slot = has.slot; there = same ∙ has.there; attempt = has.attempt; stage = has.stage; begun = has.begun }
 
--- a kept finish is one
-kept_begun : (p : Progress ℕ) → is_ended p ≡ true → is_ready p ≡ false
-kept_begun (Ready input) ended = absurd (cc)
-kept_begun (Running n) ended = absurd (cc)
-kept_begun (Ended finish) ended = refl
-
--- and without a child that runs it is kept
-begun_kept : (slot : Slot ℕ) (p : Progress ℕ) → slot.progress ≡ p → is_ready p ≡ false → IsTicketless (Some slot) → is_ended p ≡ true
-begun_kept slot (Ready input) is begun rests = absurd (cc)
-begun_kept slot (Running n) is begun rests = absurd (rests n is)
-begun_kept slot (Ended finish) is begun rests = refl
-
-pub begun_ended : (slots : Slots) (k : Key) → HasBegun slots k → IsTicketless (finite.get slots k.job) → IsEndedSlot slots k
-begun_ended slots k has rests = record {
-  slot = has.slot;
-  there = has.there;
-  attempt = has.attempt;
-  stage = has.stage;
-  ended = begun_kept has.slot has.slot.progress refl has.begun (subst IsTicketless has.there rests);
-}
-
 -- a slot that is held is current
-pub held_begun : (s : State) (slots : Slots) (k : Key) → IsHeld s slots k → HasBegun (current_slots s slots) k
-held_begun s slots k (inside, held) = record {
-  slot = held.slot;
-  there = get_current s slots k.job ∙ ap (λ o. cond (is_current (job_at s k.job) o) o None) held.there
-      ∙ ap (λ b. cond b (Some held.slot) None) (ap (λ o. is_current o (Some held.slot)) inside.there ∙ in_it inside.row.phase inside.phase);
-  attempt = held.attempt;
-  stage = held.stage;
-  begun = kept_begun held.slot.progress held.ended;
-}
+pub held_current : (s : State) (slots : Slots) (k : Key) → IsHeld s slots k → is_current (job_at s k.job) (finite.get slots k.job) ≡ true
+held_current s slots k (inside, held) = ap (λ o. is_current o (finite.get slots k.job)) inside.there ∙ ap (is_current (Some inside.row)) held.there ∙ in_it inside.row.phase inside.phase
   where
     in_it : (p : Phase) → p ≡ Processing k.attempt k.stage inside.stages → is_in_stage held.slot.attempt held.slot.stage p ≡ true
     in_it p is = ap (is_in_stage held.slot.attempt held.slot.stage) is
         ∙ ap (λ b. b && k.stage == held.slot.stage) (eq-eqb k.attempt held.slot.attempt (sym held.attempt)) ∙ eq-eqb k.stage held.slot.stage (sym held.stage)
 
+-- so it stays among the current ones
+pub held_begun : (s : State) (slots : Slots) (k : Key) → IsHeld s slots k → IsBegunSlot (current_slots s slots) k
+held_begun s slots k held = begun_same slots (current_slots s slots) k (get_current s slots k.job ∙ ap (λ b. cond b (finite.get slots k.job) None) (held_current s slots k held)) held.1
+
 -- the stage of a job that was begun isn't to be started
-begun_rests : (slots : Slots) (r : Job) (k : Key) (stages : ℕ) → r.id ≡ k.job → r.phase ≡ Processing k.attempt k.stage stages → HasBegun slots k → slots_for slots r ≡ None
+begun_rests : (slots : Slots) (r : Job) (k : Key) (stages : ℕ) → r.id ≡ k.job → r.phase ≡ Processing k.attempt k.stage stages → IsBegunSlot slots k → slots_for slots r ≡ None
 begun_rests slots r k stages id is has =
     ap (slots_in slots r) is
     ∙ ap (λ o. slots_by slots r k.stage (readiness k.attempt k.stage o)) (ap (finite.get slots) id ∙ has.there)
@@ -112,12 +80,12 @@ pub record AreBegun (s : State) (t : Told) (old : Slots) (new : Slots) (told : O
   pub orders : List Placed
   pub added : now.orders ≡ t.orders ++ orders
   pub once : AreOnce (keys_in orders)
-  pub fresh : (k : Key) → IsAmong (keys_in orders) k → ¬ (HasBegun old k)
+  pub fresh : (k : Key) → IsAmong (keys_in orders) k → ¬ (IsBegunSlot old k)
   pub inside : (k : Key) → IsAmong (keys_in orders) k → IsIn s k
-  pub begun : (k : Key) → IsAmong (keys_in orders) k → HasBegun new k
-  pub kept : (k : Key) → IsIn s k → HasBegun old k → HasBegun new k
+  pub begun : (k : Key) → IsAmong (keys_in orders) k → IsBegunSlot new k
+  pub kept : (k : Key) → IsIn s k → IsBegunSlot old k → IsBegunSlot new k
 
-none_begun : (s : State) (t : Told) (old new : Slots) (told : Option Told) → told ≡ Some t → ((k : Key) → IsIn s k → HasBegun old k → HasBegun new k) → AreBegun s t old new told
+none_begun : (s : State) (t : Told) (old new : Slots) (told : Option Told) → told ≡ Some t → ((k : Key) → IsIn s k → IsBegunSlot old k → IsBegunSlot new k) → AreBegun s t old new told
 none_begun s t old new told tells kept = record {
   now = t;
   tells = tells;
@@ -187,21 +155,21 @@ due_slot (Some slot) p due = due.1
 
 -- what was begun in the slots before is no stage that is to be started, so that it is another job's
 module _ (s : State) (old own : Slots) (r : Job) (there : job_at s r.id ≡ Some r) (due : slots_for old r ≡ Some own) where
-  other_begun : (k : Key) → IsIn s k → HasBegun old k → (b : Bool) → (k.job == r.id) ≡ b → b ≡ false
+  other_begun : (k : Key) → IsIn s k → IsBegunSlot old k → (b : Bool) → (k.job == r.id) ≡ b → b ≡ false
   other_begun k inside has false is = refl
   other_begun k inside has true is =
       let same : k.job ≡ r.id = eqb-true k.job r.id is in
       let row : inside.row ≡ r = some_of inside.row r (sym inside.there ∙ ap (job_at s) same ∙ there) in
       absurd (never_both (slots_for old r) own (begun_rests old r k inside.stages (sym same) (ap (λ (x : Job). x.phase) (sym row) ∙ inside.phase) has) due)
 
-  kept_by : (new : Slots) → SameBut r.id old new → (k : Key) → IsIn s k → HasBegun old k → HasBegun new k
+  kept_by : (new : Slots) → SameBut r.id old new → (k : Key) → IsIn s k → IsBegunSlot old k → IsBegunSlot new k
   kept_by new same k inside has = begun_same old new k (same k.job (other_begun k inside has (k.job == r.id) refl)) has
 
   module _ (place : Place) (q : QueueRow) (t : Told) (n : ℕ) (b : Bool) (new : Slots) (put : new ≡ put_progress own r.id (progress_after b n)) where
     own_in : IsIn s (key_at r.id (slot_in own r.id))
     own_in = current_in s r (slot_in own r.id) r.phase there refl (due_slot (finite.get own r.id) r.phase (due_of old r own due))
 
-    own_begun : HasBegun new (key_at r.id (slot_in own r.id))
+    own_begun : IsBegunSlot new (key_at r.id (slot_in own r.id))
     own_begun = record {
       slot = with_progress (slot_in own r.id) (progress_after b n);
       there = ap (λ m. finite.get m r.id) put ∙ get_own own r.id (with_progress (slot_in own r.id) (progress_after b n));
@@ -210,7 +178,7 @@ module _ (s : State) (old own : Slots) (r : Job) (there : job_at s r.id ≡ Some
       begun = progress_begun b n;
     }
 
-    own_fresh : ¬ (HasBegun old (key_at r.id (slot_in own r.id)))
+    own_fresh : ¬ (IsBegunSlot old (key_at r.id (slot_in own r.id)))
     own_fresh has = never_both (slots_for old r) own (begun_rests old r (key_at r.id (slot_in own r.id)) own_in.stages refl (ap (λ (x : Job). x.phase) (some_of r own_in.row (sym there ∙ own_in.there)) ∙ own_in.phase) has) due
 
     others : SameBut r.id old new
@@ -224,7 +192,7 @@ module _ (s : State) (old own : Slots) (r : Job) (there : job_at s r.id ≡ Some
       added = added;
       once = (λ among. among, tt);
       fresh = λ k among. elim among [
-        | inl same ↦ subst (λ x. ¬ (HasBegun old x)) (sym is ∙ same) own_fresh
+        | inl same ↦ subst (λ x. ¬ (IsBegunSlot old x)) (sym is ∙ same) own_fresh
         | inr none ↦ absurd none
       ];
       inside = λ k among. elim among [
@@ -232,7 +200,7 @@ module _ (s : State) (old own : Slots) (r : Job) (there : job_at s r.id ≡ Some
         | inr none ↦ absurd none
       ];
       begun = λ k among. elim among [
-        | inl same ↦ subst (HasBegun new) (sym is ∙ same) own_begun
+        | inl same ↦ subst (IsBegunSlot new) (sym is ∙ same) own_begun
         | inr none ↦ absurd none
       ];
       kept = kept_by new others;
@@ -250,7 +218,7 @@ module _ (place : Place) (s : State) (numbers : HasNumbers s) where
   same_begun t old new told tells same = none_begun s t old new told tells (λ k inside has. begun_same old new k (ap (λ m. finite.get m k.job) same) has)
 
   -- no child was started, and there is a slot for it
-  own_kept : (old new : Slots) (j : ℕ) (r : Job) (own : Slots) → job_at s j ≡ Some r → slots_for old r ≡ Some own → new ≡ own → (k : Key) → IsIn s k → HasBegun old k → HasBegun new k
+  own_kept : (old new : Slots) (j : ℕ) (r : Job) (own : Slots) → job_at s j ≡ Some r → slots_for old r ≡ Some own → new ≡ own → (k : Key) → IsIn s k → IsBegunSlot old k → IsBegunSlot new k
   own_kept old new j r own there due same k inside has =
       kept_by s old own r (ap (job_at s) (numbers j r there) ∙ there) due new (λ i other. ap (λ m. finite.get m i) same ∙ (due_own old r own due).same i other) k inside has
 
@@ -277,7 +245,7 @@ module _ (place : Place) (s : State) (numbers : HasNumbers s) where
 
 -- the table has the job in the stage, which is begun, or the stage is spent
 abbrev IsGoing : State → Slots → Key → Type 0
-IsGoing s slots k = (IsIn s k × HasBegun slots k) ⊎ IsSpent s k
+IsGoing s slots k = IsHeld s slots k ⊎ IsSpent s k
 
 -- what is so of each legal table
 pub record Laws : Type 0 where
@@ -290,12 +258,12 @@ pub record Laws : Type 0 where
   pub raised_legal : (s : State) → IsLegal s → IsLegal (raised s)
 
 -- a finish that is kept for a job
-waited_begun : (old new : Slots) (j : ℕ) (told told' : Option Told) (p : Progress ℕ) → p ≡ (slot_in old j).progress → FinishesFrom p told old j new told' → (k : Key) → HasBegun old k → HasBegun new k
+pub waited_begun : (old new : Slots) (j : ℕ) (told told' : Option Told) (p : Progress ℕ) → p ≡ (slot_in old j).progress → FinishesFrom p told old j new told' → (k : Key) → IsBegunSlot old k → IsBegunSlot new k
 waited_begun old new j told told' (Ended finish) at (same, tells) k has = begun_same old new k (ap (λ m. finite.get m k.job) same) has
 waited_begun old new j told told' (Ready input) at finishes k has = absurd finishes
 waited_begun old new j told told' (Running n) at finishes k has = by_job (k.job == j) refl
   where
-    by_job : (b : Bool) → (k.job == j) ≡ b → HasBegun new k
+    by_job : (b : Bool) → (k.job == j) ≡ b → IsBegunSlot new k
     by_job true is =
         let same : k.job ≡ j = eqb-true k.job j is in
         let own : slot_in old j ≡ has.slot = ap (λ o. unwrap_or o (begun 0 0)) (ap (finite.get old) (sym same) ∙ has.there) in
@@ -313,7 +281,7 @@ module _ {D : Type 0} (device : DiskView D) (laws : Laws) (k : Key) where
   after_event : (s t : State) (e : Event) → IsLegal s → t ≡ after_all s (e ∷ []) → IsIn s k → IsIn t k ⊎ IsSpent t k
   after_event s t e legal is inside = subst (λ u. IsIn u k ⊎ IsSpent u k) (sym is) (laws.left s k (e ∷ []) legal inside)
 
-  answered_going : (kept next : Course D) (j : ℕ) (a : Answer) → IsReport device kept j (reports.Answered a) next → IsLegal kept.spool.state → IsIn kept.spool.state k → HasBegun kept.slots k → IsGoing next.spool.state next.slots k
+  answered_going : (kept next : Course D) (j : ℕ) (a : Answer) → IsReport device kept j (reports.Answered a) next → IsLegal kept.spool.state → IsIn kept.spool.state k → IsBegunSlot kept.slots k → IsGoing next.spool.state next.slots k
   answered_going kept next j (Err fault) (is, slots, told) legal inside has =
       inl (subst (λ s. IsIn s k) (sym (fault_state device kept.spool (Stage (end_in kept.slots j)) fault next.spool is.cause)) inside, begun_same kept.slots next.slots k (ap (λ m. finite.get m k.job) slots) has)
   answered_going kept next j (Ok reply) (is, slots, told) legal inside has = by_job (k.job == j) refl
@@ -334,12 +302,12 @@ module _ {D : Type 0} (device : DiskView D) (laws : Laws) (k : Key) where
         | inr gone ↦ inr gone
       ]
 
-  report_going : (kept next : Course D) (j : ℕ) (r : Report) → IsReport device kept j r next → IsLegal kept.spool.state → IsIn kept.spool.state k → HasBegun kept.slots k → IsGoing next.spool.state next.slots k
+  report_going : (kept next : Course D) (j : ℕ) (r : Report) → IsReport device kept j r next → IsLegal kept.spool.state → IsIn kept.spool.state k → IsBegunSlot kept.slots k → IsGoing next.spool.state next.slots k
   report_going kept next j reports.Silent is legal inside has = absurd is
   report_going kept next j reports.NoMemory is legal inside has = subst (λ (c : Course D). IsGoing c.spool.state c.slots k) (sym is) (inl (inside, has))
   report_going kept next j (reports.Answered a) is legal inside has = answered_going kept next j a is legal inside has
 
-  end_going : (old : Course D) (e : Ending D) (b : Bool) → IsEndingOf device old b e → IsLegal old.spool.state → IsIn old.spool.state k → HasBegun old.slots k → IsGoing e.next.spool.state e.next.slots k
+  end_going : (old : Course D) (e : Ending D) (b : Bool) → IsEndingOf device old b e → IsLegal old.spool.state → IsIn old.spool.state k → IsBegunSlot old.slots k → IsGoing e.next.spool.state e.next.slots k
   end_going old e true (silent, kept, next) legal inside has = subst (λ (c : Course D). IsGoing c.spool.state c.slots k) (sym next) (inl (inside, has))
   end_going old e false (finishes, same, report) legal inside has =
       report_going e.kept e.next e.job e.report report (subst (λ (x : Standing D). IsLegal x.state) (sym same) legal) (subst (λ (x : Standing D). IsIn x.state k) (sym same) inside)

@@ -59,14 +59,14 @@ more_of (y ∷ xs) ys x among = elim among [
   | inr later ↦ inr (more_of xs ys x later)
 ]
 
-last_of : (xs : List AnsweredOrder) (x : AnsweredOrder) → IsOneOf (xs ++ x ∷ []) x
+pub last_of : (xs : List AnsweredOrder) (x : AnsweredOrder) → IsOneOf (xs ++ x ∷ []) x
 last_of [] x = inl refl
 last_of (y ∷ xs) x = inr (last_of xs x)
 
 given_more : (xs ys : List AnsweredOrder) (k : Key) (output : List ℕ) → HasGiven xs k output → HasGiven (xs ++ ys) k output
 given_more xs ys k output has = record { from = has.from; among = more_of xs ys has.from has.among; key = has.key; finish = has.finish; ended = has.ended; exit = has.exit; short = has.short; whole = has.whole }
 
-kept_more : (xs ys : List AnsweredOrder) (j : ℕ) (slot : Slot ℕ) (p : Progress ℕ) → IsKeptFrom xs j slot p → IsKeptFrom (xs ++ ys) j slot p
+pub kept_more : (xs ys : List AnsweredOrder) (j : ℕ) (slot : Slot ℕ) (p : Progress ℕ) → IsKeptFrom xs j slot p → IsKeptFrom (xs ++ ys) j slot p
 kept_more xs ys j slot (Ready None) first = first
 kept_more xs ys j slot (Ready (Some output)) (n, stage, has) = (n, stage, given_more xs ys _ output has)
 kept_more xs ys j slot (Running number) is = is
@@ -83,7 +83,7 @@ documents_both documents (p ∷ ps) qs first second = (first.0, documents_both d
 -- ## Slots
 
 module _ (xs : List AnsweredOrder) where
-  kept_but : (j : ℕ) (old new : Slots) → SameBut j old new → AreKeptFrom xs old → ((slot : Slot ℕ) → finite.get new j ≡ Some slot → IsKeptFrom xs j slot slot.progress) → AreKeptFrom xs new
+  pub kept_but : (j : ℕ) (old new : Slots) → SameBut j old new → AreKeptFrom xs old → ((slot : Slot ℕ) → finite.get new j ≡ Some slot → IsKeptFrom xs j slot slot.progress) → AreKeptFrom xs new
   kept_but j old new same kept own k slot there = by_job (k == j) refl
     where
       by_job : (b : Bool) → (k == j) ≡ b → IsKeptFrom xs k slot slot.progress
@@ -92,7 +92,7 @@ module _ (xs : List AnsweredOrder) where
           subst (λ i. IsKeptFrom xs i slot slot.progress) (sym at) (own slot (ap (finite.get new) (sym at) ∙ there))
       by_job false is = kept k slot (sym (same k is) ∙ there)
 
-  own_kept : (j : ℕ) (new : Slots) (put : Slot ℕ) → finite.get new j ≡ Some put → IsKeptFrom xs j put put.progress → (slot : Slot ℕ) → finite.get new j ≡ Some slot → IsKeptFrom xs j slot slot.progress
+  pub own_kept : (j : ℕ) (new : Slots) (put : Slot ℕ) → finite.get new j ≡ Some put → IsKeptFrom xs j put put.progress → (slot : Slot ℕ) → finite.get new j ≡ Some slot → IsKeptFrom xs j slot slot.progress
   own_kept j new put there is slot at = subst (λ (x : Slot ℕ). IsKeptFrom xs j x x.progress) (some_of put slot (sym there ∙ at)) is
 
   begun_kept : (slots : Slots) (j attempt stage : ℕ) → stage ≡ 1 → AreKeptFrom xs slots → AreKeptFrom xs (finite.insert slots j (begun attempt stage))
@@ -100,14 +100,14 @@ module _ (xs : List AnsweredOrder) where
       kept_but j slots (finite.insert slots j (begun attempt stage)) (λ k other. get_other slots j k (begun attempt stage) other) kept
       (own_kept j (finite.insert slots j (begun attempt stage)) (begun attempt stage) (get_own slots j (begun attempt stage)) first)
 
-  gone_kept : (slots : Slots) (j : ℕ) → AreKeptFrom xs slots → AreKeptFrom xs (finite.remove slots j)
+  pub gone_kept : (slots : Slots) (j : ℕ) → AreKeptFrom xs slots → AreKeptFrom xs (finite.remove slots j)
   gone_kept slots j kept = kept_but j slots (finite.remove slots j) (λ k other. get_left slots j k other) kept (λ slot there. absurd (never (finite.get (finite.remove slots j) j) slot (get_gone slots j) there))
     where
       never : (o : Option (Slot ℕ)) (slot : Slot ℕ) → o ≡ None → o ≡ Some slot → ⊥
       never o slot none some = cc
 
   -- with a slot for a stage that is to be started
-  own_slots : (slots : Slots) (r : Job) (own : Slots) → slots_for slots r ≡ Some own → AreKeptFrom xs slots → AreKeptFrom xs own
+  pub own_slots : (slots : Slots) (r : Job) (own : Slots) → slots_for slots r ≡ Some own → AreKeptFrom xs slots → AreKeptFrom xs own
   own_slots slots r own due kept = by_phase r.phase refl due
     where
       by_first : (attempt stage stages : ℕ) → r.phase ≡ Processing attempt stage stages → (b : Bool) → (stage == 1) ≡ b → cond b (Some (begun_in slots r.id r.phase)) None ≡ Some own → AreKeptFrom xs own
@@ -128,7 +128,7 @@ module _ (xs : List AnsweredOrder) where
       by_phase (Aborted reason) is e = absurd (cc)
 
 -- a stage that is due has a slot, and wasn't started
-at_due : (o : Option (Slot ℕ)) (p : Phase) → IsDue o p → (slot : Slot ℕ) × (o ≡ Some slot) × (is_ready slot.progress ≡ true)
+pub at_due : (o : Option (Slot ℕ)) (p : Phase) → IsDue o p → (slot : Slot ℕ) × (o ≡ Some slot) × (is_ready slot.progress ≡ true)
 at_due None p due = absurd due
 at_due (Some slot) p due = (slot, refl, due.0)
 
@@ -197,11 +197,11 @@ none_due xs j (Some slot) fs rests = by_progress slot.progress refl
     by_progress (Running n) is = absurd (rests n is)
     by_progress (Ended finish) is = (tt, refl)
 
-ready_rests : (o : Option (Slot ℕ)) (slot : Slot ℕ) → o ≡ Some slot → is_ready slot.progress ≡ true → IsTicketless o
+pub ready_rests : (o : Option (Slot ℕ)) (slot : Slot ℕ) → o ≡ Some slot → is_ready slot.progress ≡ true → IsTicketless o
 ready_rests o slot there ready = subst IsTicketless (sym there) (λ n runs. let not : is_ready (Running n) ≡ true = ap is_ready (sym runs) ∙ ready in absurd (cc))
 
 -- a finish that is kept and ended with 0 is what the child gave
-run_given : (xs : List AnsweredOrder) (k : Key) (end : Option Finish) → HasRun xs k end → (f : Finish) → f ≡ kept end → f.exit ≡ Code 0 → HasGiven xs k f.output
+pub run_given : (xs : List AnsweredOrder) (k : Key) (end : Option Finish) → HasRun xs k end → (f : Finish) → f ≡ kept end → f.exit ≡ Code 0 → HasGiven xs k f.output
 run_given xs k None has f is zero = let other : Lost ≡ Code 0 = sym (ap (λ (x : Finish). x.exit) is) ∙ zero in absurd (cc)
 run_given xs k (Some g) has f is zero = by_length (nat_lt longest_document (length g.output)) refl
   where
@@ -309,28 +309,28 @@ module _ (earlier : List AnsweredOrder) (place : Place) (t : Told) (fs : Finishe
   slot_kept : IsKeptFrom earlier r.id own_slot own_slot.progress
   slot_kept = subst (λ (x : Slot ℕ). IsKeptFrom earlier r.id x x.progress) same_slot (own_slots earlier old r own due old_kept r.id is_slot.0 is_slot.1)
 
-  others : SameBut r.id old new
+  pub others : SameBut r.id old new
   others k other = ap (λ m. finite.get m k) put ∙ get_other own r.id k (with_progress own_slot (progress_after b n)) other ∙ (due_own old r own due).same k other
 
-  here : (c : Bool) → b ≡ c → finite.get new r.id ≡ Some (with_progress own_slot (progress_after c n))
+  pub here : (c : Bool) → b ≡ c → finite.get new r.id ≡ Some (with_progress own_slot (progress_after c n))
   here c is = ap (λ m. finite.get m r.id) put ∙ get_own own r.id (with_progress own_slot (progress_after b n)) ∙ ap (λ v. Some (with_progress own_slot (progress_after v n))) is
 
   put_kept : (xs : List AnsweredOrder) (c : Bool) → IsKeptFrom xs r.id (with_progress own_slot (progress_after c n)) (progress_after c n)
   put_kept xs true = stage_begins earlier r.id own_slot own_slot.progress slot_kept ready
   put_kept xs false = let (m, stage) = stage_begins earlier r.id own_slot own_slot.progress slot_kept ready in (m, stage, λ zero. absurd (cc))
 
-  new_kept : (ys : List AnsweredOrder) (c : Bool) → b ≡ c → AreKeptFrom (earlier ++ ys) new
+  pub new_kept : (ys : List AnsweredOrder) (c : Bool) → b ≡ c → AreKeptFrom (earlier ++ ys) new
   new_kept ys c is =
       kept_but (earlier ++ ys) r.id old new others (λ j x there. kept_more earlier ys j x x.progress (old_kept j x there))
       (own_kept (earlier ++ ys) r.id new (with_progress own_slot (progress_after c n)) (here c is) (put_kept (earlier ++ ys) c))
 
-  unstarted_rests : b ≡ false → IsTicketless (finite.get new r.id)
+  pub unstarted_rests : b ≡ false → IsTicketless (finite.get new r.id)
   unstarted_rests is = subst IsTicketless (sym (here false is)) (λ m runs. absurd (cc))
 
-  own_documents : (before : ℕ) (documents : ℕ → List ℕ) → ((read : List ℕ) → d ≡ Some read → read ≡ documents r.id) → HaveDocuments documents (record { order = order; before = before } ∷ [])
+  pub own_documents : (before : ℕ) (documents : ℕ → List ℕ) → ((read : List ℕ) → d ≡ Some read → read ≡ documents r.id) → HaveDocuments documents (record { order = order; before = before } ∷ [])
   own_documents before documents read = (own_document earlier r.id own_slot own_slot.progress (document_len r) d (documents r.id) slot_kept input read, tt)
 
-  right : IsRight earlier order
+  pub right : IsRight earlier order
   right = right_order place r q earlier own_slot (given d) own_slot.progress slot_kept ready
 
   -- by the answers that are to come
@@ -497,7 +497,7 @@ module _ {D : Type 0} (device : DiskView D) (xs : List AnsweredOrder) where
   phase_in (replies.Number n) = Completed
   phase_in (replies.Size n) = Completed
 
-  report_kept : (old new : Course D) (j : ℕ) (slot : Slot ℕ) (finish : Finish) (report : Report) → IsReport device old j report new → IsLegal old.spool.state → finite.get old.slots j ≡ Some slot → slot.progress ≡ Ended finish → AreKeptFrom xs old.slots → AreKeptFrom xs new.slots
+  pub report_kept : (old new : Course D) (j : ℕ) (slot : Slot ℕ) (finish : Finish) (report : Report) → IsReport device old j report new → IsLegal old.spool.state → finite.get old.slots j ≡ Some slot → slot.progress ≡ Ended finish → AreKeptFrom xs old.slots → AreKeptFrom xs new.slots
   report_kept old new j slot finish reports.Silent is legal there ended kept = absurd is
   report_kept old new j slot finish reports.NoMemory is legal there ended kept = subst (λ (c : Course D). AreKeptFrom xs c.slots) (sym is) kept
   report_kept old new j slot finish (reports.Answered (Err fault)) (is, slots, told) legal there ended kept = subst (AreKeptFrom xs) (sym slots) kept

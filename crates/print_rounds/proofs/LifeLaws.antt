@@ -1,5 +1,5 @@
 -- No stage of an attempt is started twice in a world, and the calls of an engine are the turns of a life.
-use Rattle.std.proofs.Common.{◌≡◌, ◌⊎◌, inl, inr, ◌||◌, ◌&&◌, ◌==◌, ℕ, Bool, true, false, List, [], ◌∷◌, ◌++◌, Option, None, Some, refl, sym, ap, subst, ◌∙◌, append-nil, append_assoc}
+use Rattle.std.proofs.Common.{◌≡◌, ◌⊎◌, inl, inr, ◌||◌, ◌&&◌, ◌==◌, ℕ, Bool, not, true, false, List, [], ◌∷◌, ◌++◌, Option, None, Some, refl, sym, ap, subst, ◌∙◌, append-nil, append_assoc}
 use Rattle.std.specs.Ordering.{nat_cmp}
 use Rattle.std.specs.FinMap as finite
 use Rattle.std.proofs.lemmas.List.{append_cancel_left, map-append}
@@ -15,13 +15,15 @@ use Rattle.job_table.specs.Legal.{IsLegal}
 use Rattle.job_table.specs.Stages.{Key, IsIn, IsSpent}
 use Rattle.job_table.specs.Turns.{IsAmong, AreOnce}
 use Rattle.job_table.specs.Versions.{raised}
-use Rattle.child_pipeline.specs.Slots.{Slots, is_ended}
+use Rattle.child_pipeline.specs.Slots.{Slots, is_ready}
 use Rattle.child_pipeline.specs.Told.{Told}
 use Rattle.child_pipeline.specs.declared.order.Placed.{Placed}
+use Rattle.child_pipeline.specs.declared.runner.Progress.{Progress}
+use Rattle.child_pipeline.specs.declared.runner.Progress.TheVariants.{Ready, Running, Ended}
 use Rattle.child_pipeline.specs.declared.runner.Slot.{Slot}
 use Rattle.print_rounds.specs.Courses.{Course}
-use Rattle.print_rounds.specs.Lives.{Keys, Has, Turn, IsTurnOf, AreTurns, Life, IsLife, last_table, end_of, AreLives, IsWorld, keys_of_turns, keys_of_life, keys_of, is_in_of, is_ended_of, is_held, turn_of, AreCallTurns, turns_of, life_of, last_left}
-use Rattle.print_rounds.specs.World.{IsEndedSlot, IsHeld, IsCallTurn, key_in, keys_in}
+use Rattle.print_rounds.specs.Lives.{Keys, Has, Turn, IsTurnOf, AreTurns, Life, IsLife, last_table, end_of, AreLives, IsWorld, keys_of_turns, keys_of_life, keys_of, is_in_of, is_begun_of, is_held, turn_of, AreCallTurns, turns_of, life_of, last_left}
+use Rattle.print_rounds.specs.World.{IsBegunSlot, IsHeld, IsCallTurn, key_in, keys_in}
 use Rattle.print_rounds.proofs.HoldLaws.{Laws}
 use Rattle.print_rounds.proofs.KeyLaws.{among_either, once_both}
 use Rattle.print_rounds.proofs.PrefixLaws.{after_both}
@@ -207,26 +209,31 @@ module _ (s : State) (slots : Slots) (k : Key) where
   in_from None at is = absurd (cc)
   in_from (Some r) at is = let found = in_stage k.attempt k.stage r.phase is in record { row = r; stages = found.0; there = at; phase = found.1 }
 
-  ended_from : (o : Option (Slot ℕ)) → finite.get slots k.job ≡ o → is_ended_of k o ≡ true → IsEndedSlot slots k
-  ended_from None at is = absurd (cc)
-  ended_from (Some slot) at is =
-      let first = and_parts (slot.attempt == k.attempt && slot.stage == k.stage) (is_ended slot.progress) is in
+  off : (p : Progress ℕ) → not (is_ready p) ≡ true → is_ready p ≡ false
+  off (Ready input) is = absurd (cc)
+  off (Running n) is = refl
+  off (Ended finish) is = refl
+
+  begun_from : (o : Option (Slot ℕ)) → finite.get slots k.job ≡ o → is_begun_of k o ≡ true → IsBegunSlot slots k
+  begun_from None at is = absurd (cc)
+  begun_from (Some slot) at is =
+      let first = and_parts (slot.attempt == k.attempt && slot.stage == k.stage) (not (is_ready slot.progress)) is in
       let both = and_parts (slot.attempt == k.attempt) (slot.stage == k.stage) first.0 in
-      record { slot = slot; there = at; attempt = eqb-true slot.attempt k.attempt both.0; stage = eqb-true slot.stage k.stage both.1; ended = first.1 }
+      record { slot = slot; there = at; attempt = eqb-true slot.attempt k.attempt both.0; stage = eqb-true slot.stage k.stage both.1; begun = off slot.progress first.1 }
 
   -- the test of what is held tells it
   held_from : Has (is_held s slots) k → IsHeld s slots k
   held_from is =
-      let both = and_parts (is_in_of k (job_at s k.job)) (is_ended_of k (finite.get slots k.job)) is in
-      (in_from (job_at s k.job) refl both.0, ended_from (finite.get slots k.job) refl both.1)
+      let both = and_parts (is_in_of k (job_at s k.job)) (is_begun_of k (finite.get slots k.job)) is in
+      (in_from (job_at s k.job) refl both.0, begun_from (finite.get slots k.job) refl both.1)
 
   to_held : IsHeld s slots k → Has (is_held s slots) k
   to_held (now, kept) =
-      and_from (is_in_of k (job_at s k.job)) (is_ended_of k (finite.get slots k.job))
+      and_from (is_in_of k (job_at s k.job)) (is_begun_of k (finite.get slots k.job))
       (ap (is_in_of k) now.there ∙ ap (is_in_stage k.attempt k.stage) now.phase ∙ of_stage k.attempt k.stage now.stages)
-      (ap (is_ended_of k) kept.there
-      ∙ and_from (kept.slot.attempt == k.attempt && kept.slot.stage == k.stage) (is_ended kept.slot.progress)
-      (and_from (kept.slot.attempt == k.attempt) (kept.slot.stage == k.stage) (eq-eqb _ _ kept.attempt) (eq-eqb _ _ kept.stage)) kept.ended)
+      (ap (is_begun_of k) kept.there
+      ∙ and_from (kept.slot.attempt == k.attempt && kept.slot.stage == k.stage) (not (is_ready kept.slot.progress))
+      (and_from (kept.slot.attempt == k.attempt) (kept.slot.stage == k.stage) (eq-eqb _ _ kept.attempt) (eq-eqb _ _ kept.stage)) (ap not kept.begun))
 
 -- a call is a turn
 call_turn : {D : Type 0} (t : Told) (old new : Course D) (more : List Event) (call : IsCallTurn t old more new) → IsTurnOf (turn_of old more new (keys_in call.orders))
@@ -265,11 +272,11 @@ calls_turns (c ∷ cs) t old calls =
 
 -- no slot holds anything
 none_held : (s : State) (slots : Slots) → slots ≡ finite.empty → (k : Key) → Has (is_held s slots) k → ⊥
-none_held s slots none k is = by_slot (finite.get slots k.job) (ap (λ (m : Slots). finite.get m k.job) none ∙ finite.get-empty nat_cmp k.job) (and_parts (is_in_of k (job_at s k.job)) (is_ended_of k (finite.get slots k.job)) is).1
+none_held s slots none k is = by_slot (finite.get slots k.job) (ap (λ (m : Slots). finite.get m k.job) none ∙ finite.get-empty nat_cmp k.job) (and_parts (is_in_of k (job_at s k.job)) (is_begun_of k (finite.get slots k.job)) is).1
   where
-    by_slot : (o : Option (Slot ℕ)) → o ≡ None → is_ended_of k o ≡ true → ⊥
-    by_slot None at ended = absurd (cc)
-    by_slot (Some slot) at ended = absurd (cc)
+    by_slot : (o : Option (Slot ℕ)) → o ≡ None → is_begun_of k o ≡ true → ⊥
+    by_slot None at begun = absurd (cc)
+    by_slot (Some slot) at begun = absurd (cc)
 
 -- so they are a life
 pub calls_life : {D : Type 0} (t : Told) (old : Course D) (c : List Event × Course D) (cs : List (List Event × Course D)) (calls : AreCallTurns t old (c ∷ cs))

@@ -11,8 +11,9 @@ use Rattle.job_table.specs.Step.{after, reply_to, step, refusal_of, answered}
 use Rattle.spool_core.specs.Standing.{Standing, IsAnswer}
 use Rattle.spool_core.specs.declared.spool.apply_fault.ApplyFault.{ApplyFault}
 use Rattle.spool_core.specs.declared.spool.apply_fault.ApplyFault.TheVariants as faults
+use Rattle.child_pipeline.specs.Tickets.{IsRunningAs}
 use Rattle.child_pipeline.specs.Told.{Told, is_in, after_finish}
-use Rattle.child_pipeline.specs.Slots.{slot_in, begun, put_progress, end_in, FinishesFrom, Waits, is_ready}
+use Rattle.child_pipeline.specs.Slots.{Slots, slot_in, begun, put_progress, end_in, FinishesFrom, Waits, is_ready}
 use Rattle.child_pipeline.specs.declared.runner.Progress.{Progress}
 use Rattle.child_pipeline.specs.declared.runner.Progress.TheVariants.{Ready, Running, Ended}
 use Rattle.child_pipeline.specs.declared.runner.Slot.{Slot}
@@ -34,6 +35,12 @@ done_state s e o new reply is none stepped =
     pair_of : Result (State × Reply) Refusal → State × Reply
     pair_of (Ok p) = p
     pair_of (Err r) = (s, reply)
+
+-- the child of the first job is told to be running
+head_runs : (t : Told) (slots : Slots) (j : ℕ) (js : List ℕ) → t.running ≡ running_in slots (j ∷ js) → (n : ℕ) → IsRunningAs slots j n → is_in n t.running ≡ true
+head_runs t slots j js runs n r =
+    let first : running_in slots (j ∷ js) ≡ n ∷ running_in slots js = ap (λ o. with_slot o (running_in slots js)) r.there ∙ ap (λ v. with_number v (running_in slots js)) r.runs in
+    ap (λ ns. is_in n ns) (runs ∙ first) ∙ in_head n (running_in slots js)
 
 module _ {D : Type 0} (device : DiskView D) where
   -- an event that isn't acknowledged leaves the table
@@ -118,8 +125,8 @@ module _ {D : Type 0} (device : DiskView D) where
       )
 
   -- one end of a stage, where its event was acknowledged
-  one_ended : (p : Play) (sp : Standing D) (e : Ending D) (js : List ℕ) → sp.state ≡ p.state → p.told.running ≡ running_in p.slots (e.job ∷ js) → IsEnding device (course sp p.slots (Some p.told)) e → IsTold e.report → IsOnePlayed p e
-  one_ended p sp e js state runs ends served = by_slot (finite.get p.slots e.job) refl
+  pub one_ended : (p : Play) (sp : Standing D) (e : Ending D) → sp.state ≡ p.state → ((n : ℕ) → IsRunningAs p.slots e.job n → is_in n p.told.running ≡ true) → IsEnding device (course sp p.slots (Some p.told)) e → IsTold e.report → IsOnePlayed p e
+  one_ended p sp e state runs ends served = by_slot (finite.get p.slots e.job) refl
     where
       old : Course D
       old = course sp p.slots (Some p.told)
@@ -136,8 +143,7 @@ module _ {D : Type 0} (device : DiskView D) where
       by_progress slot (Running n) there is ending =
           let at : (slot_in p.slots e.job).progress ≡ Running n = ap (λ o. (unwrap_or o (begun 0 0)).progress) there ∙ is in
           let fin : Waits (Some p.told) n p.slots e.job e.kept.slots e.kept.told = subst (λ v. FinishesFrom v (Some p.told) p.slots e.job e.kept.slots e.kept.told) at ending.0 in
-          let first : running_in p.slots (e.job ∷ js) ≡ n ∷ running_in p.slots js = ap (λ o. with_slot o (running_in p.slots js)) there ∙ ap (λ v. with_number v (running_in p.slots js)) is in
-          let (waits, tells) = waited_running p e slot n there is fin (ap (λ ns. is_in n ns) (runs ∙ first) ∙ in_head n (running_in p.slots js)) in
+          let (waits, tells) = waited_running p e slot n there is fin (runs n (record { slot = slot; there = there; runs = is })) in
           spoken (ap is_silent there ∙ ap is_ready is) (after_finish p.told n) waits tells ending.1 ending.2
       by_progress slot (Ended finish) there is ending =
           let at : (slot_in p.slots e.job).progress ≡ Ended finish = ap (λ o. (unwrap_or o (begun 0 0)).progress) there ∙ is in
@@ -172,7 +178,7 @@ module _ {D : Type 0} (device : DiskView D) where
   )
   all_ended p sp (e ∷ es) new state runs distinct ends told =
       let js : List ℕ = map (λ e. e.job) es in
-      let one = one_ended p sp e js state runs ends.0 told.0 in
+      let one = one_ended p sp e state (head_runs p.told p.slots e.job js runs) ends.0 told.0 in
       let left = one_end device p.told (course sp p.slots (Some p.told)) e js ends.0 refl runs in
       let rest : running_in e.next.slots js ≡ running_in p.slots js = running_same e.job p.slots e.next.slots left.same js distinct.0 in
       let runs_on : one.told.running ≡ running_in e.next.slots js = ap (λ (t : Told). t.running) (some_told one.told left.told (sym one.tells ∙ left.tells)) ∙ left.running ∙ sym rest in

@@ -49,7 +49,7 @@ none_asked t slots told tells none = record {
   finished = record { only = refl; orders = refl; running = none; finished = sym (add-zero t.finished) };
 }
 
-or_none : (a : Option RoundFault) → option_or a None ≡ a
+pub or_none : (a : Option RoundFault) → option_or a None ≡ a
 or_none None = refl
 or_none (Some fault) = refl
 
@@ -68,7 +68,7 @@ module _ {D : Type 0} (device : DiskView D) where
   one_alive old (Some j) (Some (Err fault)) new is begun alive = absurd begun
 
   -- where each start was acknowledged the device hasn't failed
-  starts_alive : (old : Standing D) (ts : List (Starting D)) (new : Standing D) → AreStartings device old ts new → AllBegun ts → old.dead ≡ false → new.dead ≡ false
+  pub starts_alive : (old : Standing D) (ts : List (Starting D)) (new : Standing D) → AreStartings device old ts new → AllBegun ts → old.dead ≡ false → new.dead ≡ false
   starts_alive old [] new same begun alive = ap (λ (x : Standing D). x.dead) same ∙ alive
   starts_alive old (t ∷ ts) new (start, starts) (first, others) alive = starts_alive t.next ts new starts others (one_alive old (next_of old.state t.queue) t.answer t.next start first alive)
 
@@ -90,14 +90,14 @@ module _ {D : Type 0} (device : DiskView D) where
   end_alive old e false (finishes, same, report) none alive = report_alive e.kept e.job e.report e.next report none (ap (λ (x : Standing D). x.dead) same ∙ alive)
 
   -- where no end had a fault it works on
-  ends_alive : (old : Course D) (es : List (Ending D)) (new : Course D) → AreEndings device old es new → ending_fault es ≡ None → old.spool.dead ≡ false → new.spool.dead ≡ false
+  pub ends_alive : (old : Course D) (es : List (Ending D)) (new : Course D) → AreEndings device old es new → ending_fault es ≡ None → old.spool.dead ≡ false → new.spool.dead ≡ false
   ends_alive old [] new same none alive = ap (λ (c : Course D). c.spool.dead) same ∙ alive
   ends_alive old (e ∷ es) new are none alive =
       ends_alive e.next es new are.1 (or_second (report_fault e.report) (ending_fault es) none)
       (end_alive old e (is_silent (finite.get old.slots e.job)) are.0 (or_first (report_fault e.report) (ending_fault es) none) alive)
 
   -- and where no read had one
-  reads_work : (old : Standing D) (ls : List Launching) (new : Standing D) → AreReads device old ls new → launching_fault ls ≡ None → old.dead ≡ false → new.dead ≡ false
+  pub reads_work : (old : Standing D) (ls : List Launching) (new : Standing D) → AreReads device old ls new → launching_fault ls ≡ None → old.dead ≡ false → new.dead ≡ false
   reads_work old [] new same none alive = ap (λ (x : Standing D). x.dead) same ∙ alive
   reads_work old (l ∷ ls) new (next, first, reads) none alive = reads_work next ls new reads (or_second (launch_fault l.launch) (launching_fault ls) none) (by_dead next.dead refl)
     where

@@ -2,7 +2,6 @@
 use Rattle.std.proofs.Common.{◌≡◌, ◌⊎◌, inl, inr, ℕ, false, List, [], ◌++◌, map, Some, refl, sym, ap, subst, ◌∙◌, append-nil}
 use Rattle.std.proofs.lemmas.Bool.{both_ways}
 use Rattle.spool_disk.specs.Disk.{DiskView}
-use Rattle.spool_types.specs.State.{State}
 use Rattle.job_table.specs.Fold.{after_all, AreAccepted}
 use Rattle.job_table.specs.Legal.{IsLegal}
 use Rattle.job_table.specs.Stages.{Key, IsIn, IsSpent}
@@ -18,7 +17,7 @@ use Rattle.print_rounds.specs.World.{keys_in, IsHeld, IsCallTurn}
 use Rattle.print_rounds.proofs.BusyLaws.{all_rest}
 use Rattle.print_rounds.proofs.EndLaws.{ends_finished}
 use Rattle.print_rounds.proofs.FreeLaws.{current_rests}
-use Rattle.print_rounds.proofs.HoldLaws.{HasBegun, Laws, begun_ended, held_begun, launches_begun, ends_going}
+use Rattle.print_rounds.proofs.HoldLaws.{Laws, held_begun, launches_begun, ends_going}
 use Rattle.print_rounds.proofs.KeyLaws.{accepted_both, starts_accepted, ends_accepted}
 use Rattle.print_rounds.proofs.LaunchLaws.{HasNumbers, all_started, some_of}
 use Rattle.print_rounds.proofs.PartLaws.{starts_part, ends_part}
@@ -26,14 +25,9 @@ use Rattle.print_rounds.proofs.PrefixLaws.{after_both}
 use Rattle.print_rounds.proofs.ReadLaws.{reads_state}
 use Rattle.print_rounds.proofs.VersionLaws.{raised_turn}
 
--- a stage that goes on is held where no child runs
-going_held : (s : State) (slots : Slots) (k : Key) → HasNoneRunning slots → (IsIn s k × HasBegun slots k) ⊎ IsSpent s k → IsHeld s slots k ⊎ IsSpent s k
-going_held s slots k rests (inl now) = inl (now.0, begun_ended slots k now.1 (rests k.job))
-going_held s slots k rests (inr gone) = inr gone
-
 module _ {D : Type 0} (device : DiskView D) (laws : Laws) (old : Course D) (legal : IsLegal old.spool.state) (mid : Standing D) (ts : List (Starting D)) (starts : AreStartings device old.spool ts mid) where
   -- what was held at the start goes on, or is spent
-  held_going : (k : Key) → IsHeld old.spool.state old.slots k → (IsIn mid.state k × HasBegun (current_slots old.spool.state old.slots) k) ⊎ IsSpent mid.state k
+  held_going : (k : Key) → IsHeld old.spool.state old.slots k → IsHeld mid.state (current_slots old.spool.state old.slots) k ⊎ IsSpent mid.state k
   held_going k held =
       let table = (starts_part device old.spool ts mid starts).table in
       elim (laws.left old.spool.state k (starting_events old.spool ts) legal held.0) [
@@ -68,7 +62,7 @@ module _ {D : Type 0} (device : DiskView D) (laws : Laws) (old : Course D) (lega
         (λ k among. absurd among)
         (λ k among. absurd among)
         (λ goes_on k some. elim some [
-          | inl held ↦ going_held mid.state (current_slots old.spool.state old.slots) k (current_rests old.spool.state old.slots rests) (held_going k held)
+          | inl held ↦ held_going k held
           | inr none ↦ absurd none
         ]);
     after_over = λ died. absurd (both_ways _ alive died);
@@ -79,10 +73,10 @@ module _ {D : Type 0} (device : DiskView D) (laws : Laws) (old : Course D) (lega
     numbers j r there = (legal_mid.jobs j r there).id
 
     -- what goes on before the ends does so behind them, or is spent
-    going_on : (k : Key) → (IsIn mid.state k × HasBegun runs.slots k) ⊎ IsSpent mid.state k → (IsIn new.spool.state k × HasBegun new.slots k) ⊎ IsSpent new.spool.state k
+    going_on : (k : Key) → IsHeld mid.state runs.slots k ⊎ IsSpent mid.state k → IsHeld new.spool.state new.slots k ⊎ IsSpent new.spool.state k
     going_on k going =
         let still : runs.read.state ≡ mid.state = reads_state device mid runs.launchings runs.read runs.reads in
-        ends_going device laws k (course runs.read runs.slots runs.told) runs.endings new runs.ends (subst IsLegal (sym still) legal_mid) (subst (λ s. (IsIn s k × HasBegun runs.slots k) ⊎ IsSpent s k) (sym still) going)
+        ends_going device laws k (course runs.read runs.slots runs.told) runs.endings new runs.ends (subst IsLegal (sym still) legal_mid) (subst (λ s. IsHeld s runs.slots k ⊎ IsSpent s k) (sym still) going)
 
     -- a stage of each processing job was run
     pub live_turn : old.spool.dead ≡ false → IsCallTurn t old (starting_events old.spool ts ++ ending_events runs.endings) new
@@ -113,11 +107,11 @@ module _ {D : Type 0} (device : DiskView D) (laws : Laws) (old : Course D) (lega
               ])
               (λ k among. record { first = starting_events old.spool ts; rest = ending_events runs.endings; split = refl; reached = subst (λ s. IsIn s k) first (begun.inside k among) })
               (λ goes_on k some. elim some [
-                | inl held ↦ going_held new.spool.state new.slots k rests_then (going_on k (elim (held_going k held) [
+                | inl held ↦ (going_on k (elim (held_going k held) [
                   | inl now ↦ inl (now.0, begun.kept k now.0 now.1)
                   | inr gone ↦ inr gone
                 ]))
-                | inr among ↦ going_held new.spool.state new.slots k rests_then (going_on k (inl (begun.inside k among, begun.begun k among)))
+                | inr among ↦ (going_on k (inl (begun.inside k among, begun.begun k among)))
               ]);
           after_over = λ died. absurd (both_ways _ alive died);
         }

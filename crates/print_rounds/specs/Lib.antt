@@ -4,8 +4,12 @@ pub mod Launches
 pub mod Finished
 pub mod Counts
 pub mod Script
+pub mod Looks
 pub mod Faultless
 pub mod World
 pub mod Inputs
 pub mod Rounds
+pub mod Passes
+pub mod Ticks
+pub mod HandedOn
 pub mod Lives

@@ -1,5 +1,5 @@
 -- Lives and worlds: what calls do with the stages of attempts over any number of lives of a spool.
-use Rattle.std.specs.Prelude.{◌≡◌, ◌||◌, ◌&&◌, ◌==◌, ℕ, Bool, true, false, List, [], ◌∷◌, ◌++◌, Option, None, Some, IsTrue}
+use Rattle.std.specs.Prelude.{◌≡◌, ◌||◌, ◌&&◌, ◌==◌, ℕ, Bool, not, true, false, List, [], ◌∷◌, ◌++◌, Option, None, Some, IsTrue}
 use Rattle.std.specs.FinMap as finite
 use Rattle.spool_types.specs.declared.event.Event.{Event}
 use Rattle.spool_types.specs.State.{State, Job, job_at}
@@ -8,7 +8,7 @@ use Rattle.job_table.specs.Fold.{after_all}
 use Rattle.job_table.specs.Stages.{Key}
 use Rattle.job_table.specs.Turns.{IsTurn}
 use Rattle.job_table.specs.Versions.{raised}
-use Rattle.child_pipeline.specs.Slots.{Slots, is_ended}
+use Rattle.child_pipeline.specs.Slots.{Slots, is_ready}
 use Rattle.child_pipeline.specs.Told.{Told}
 use Rattle.child_pipeline.specs.declared.runner.Slot.{Slot}
 use Rattle.print_rounds.specs.Courses.{Course}
@@ -95,13 +95,13 @@ abbrev pub is_in_of : Key → Option Job → Bool
 is_in_of k None = false
 is_in_of k (Some r) = is_in_stage k.attempt k.stage r.phase
 
-abbrev pub is_ended_of : Key → Option (Slot ℕ) → Bool
-is_ended_of k None = false
-is_ended_of k (Some slot) = slot.attempt == k.attempt && slot.stage == k.stage && is_ended slot.progress
+abbrev pub is_begun_of : Key → Option (Slot ℕ) → Bool
+is_begun_of k None = false
+is_begun_of k (Some slot) = slot.attempt == k.attempt && slot.stage == k.stage && not (is_ready slot.progress)
 
--- the stage that the table has a job in, and whose finish or NoStart a slot keeps
+-- the stage that the table has a job in, and that was begun and isn't told
 abbrev pub is_held : State → Slots → Keys
-is_held s slots k = is_in_of k (job_at s k.job) && is_ended_of k (finite.get slots k.job)
+is_held s slots k = is_in_of k (job_at s k.job) && is_begun_of k (finite.get slots k.job)
 
 -- a call as a turn
 abbrev pub turn_of : {D : Type 0} → Course D → List Event → Course D → List Key → Turn

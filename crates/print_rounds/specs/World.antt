@@ -1,11 +1,11 @@
 -- Turns of World: what calls do with the stages of attempts, so that none is started twice.
-use Rattle.std.specs.Prelude.{◌≡◌, ℕ, true, List, [], ◌++◌, map, Some}
+use Rattle.std.specs.Prelude.{◌≡◌, ℕ, true, false, List, [], ◌++◌, map, Some}
 use Rattle.std.specs.FinMap as finite
 use Rattle.spool_types.specs.declared.event.Event.{Event}
 use Rattle.spool_types.specs.State.{State}
 use Rattle.job_table.specs.Stages.{Key, IsIn}
 use Rattle.job_table.specs.Turns.{IsTurn}
-use Rattle.child_pipeline.specs.Slots.{Slots, is_ended}
+use Rattle.child_pipeline.specs.Slots.{Slots, is_ready}
 use Rattle.child_pipeline.specs.Told.{Told}
 use Rattle.child_pipeline.specs.declared.order.Placed.{Placed}
 use Rattle.child_pipeline.specs.declared.runner.Slot.{Slot}
@@ -18,17 +18,17 @@ key_in p = record { job = p.order.job; attempt = p.order.attempt; stage = p.orde
 abbrev pub keys_in : List Placed → List Key
 keys_in ps = map key_in ps
 
--- the slot keeps the finish of this stage, or that it couldn't be started
-pub record IsEndedSlot (slots : Slots) (k : Key) : Type 0 where
+-- the slot's stage was started, or couldn't be, and its end isn't told yet: its child runs, or its finish or NoStart is kept
+pub record IsBegunSlot (slots : Slots) (k : Key) : Type 0 where
   pub slot : Slot ℕ
   pub there : finite.get slots k.job ≡ Some slot
   pub attempt : slot.attempt ≡ k.attempt
   pub stage : slot.stage ≡ k.stage
-  pub ended : is_ended slot.progress ≡ true
+  pub begun : is_ready slot.progress ≡ false
 
--- the stage that the table has a job in, and whose finish or NoStart a slot keeps
+-- the stage that the table has a job in, and that was begun and isn't told
 abbrev pub IsHeld : State → Slots → Key → Type 0
-IsHeld s slots k = IsIn s k × IsEndedSlot slots k
+IsHeld s slots k = IsIn s k × IsBegunSlot slots k
 
 -- the orders that are new in a call, where the children tell them, and the turn that it was
 pub record IsCallTurn {D : Type 0} (t : Told) (old : Course D) (more : List Event) (new : Course D) : Type 0 where

@@ -1,24 +1,93 @@
-//! The jobs of which a round runs a stage.
-ghost use Rattle.std.specs.Prelude.{◌≡◌, ◌≤◌, [], length, vec_capacity};
+//! Which queues may start a job, and of which jobs a stage is run.
+ghost use Rattle.std.specs.Prelude.{◌≡◌, ◌≤◌, [], length, vec_capacity, None, Some, IfSome, IsNone};
 ghost use Rattle.std.specs.FinMap as finite;
-ghost use Rattle.print_rounds.specs.Choice.{busy_jobs};
-ghost use Rattle.print_rounds.specs.Finished.{AreDistinct};
+ghost use Rattle.spool_types.specs.State.{Job, job_at};
+ghost use Rattle.job_table.specs.Places.{IsNameAt};
+ghost use Rattle.print_rounds.specs.Finished.{AreDistinct, AllRest};
+ghost use Rattle.print_rounds.specs.Looks.{free_queues, idle_among, tended_jobs};
+ghost use Rattle.print_rounds.specs.Passes.{chosen, unblocked};
 
+use crate::slots::{has_child, is_stray};
+use child_pipeline::{Children, Runner};
 use job_table::Table;
 use spool_types::JobId;
 
-// Lists the processing jobs, in ascending order of their queues' names.
-pub(crate) fn list_busy(table: &Table, jobs: &mut Vec<JobId>)
+// Where the queue of a job stands among the queues.
+fn queue_place(table: &Table, job: JobId) -> Option<usize>
+    ensures place { IfSome result (λ at. (r : Job) × (job_at table.now.state job ≡ Some r) × IsNameAt (finite.keys table.now.state.queues) r.queue at) }
+    ensures none { IsNone result → job_at table.now.state job ≡ None }
+{
+    let row = table.job(job)?;
+    let name = row.job.queue.as_str();
+    let place = table
+        .queues()
+        .binary_search_by(|queue| queue.name.as_str().cmp(name));
+    place.ok()
+}
+
+// Marks each queue of which a child is running or, where nothing is to be started, each queue.
+pub(crate) fn mark_blocked<C: Children>(
+    ready: bool,
+    table: &Table,
+    runner: &Runner<C>,
+    blocked: &mut Vec<bool>,
+)
+    requires empty { blocked.old.items ≡ [] }
+    requires room { length (finite.keys table.now.state.queues) ≤ vec_capacity blocked.old }
+    ensures count { length blocked.new.items ≡ length (finite.keys table.now.state.queues) }
+    ensures value { unblocked blocked.new.items (finite.keys table.now.state.queues) ≡ chosen ready (free_queues table.now.state runner.now) }
+{
+    for _ in 0..table.queues().len() {
+        blocked.push_reserved(!ready);
+    }
+    let mut behind = None;
+    while let Some(job) = runner.next_job(behind) {
+        if has_child(runner, job) {
+            if let Some(place) = queue_place(table, job) {
+                blocked[place] = true;
+            }
+        }
+        behind = Some(job);
+    }
+}
+
+// Lists the processing jobs, in ascending order of their queues' names, but those of which an earlier stage's child runs.
+pub(crate) fn list_tended<C: Children>(table: &Table, runner: &Runner<C>, jobs: &mut Vec<JobId>)
     requires empty { jobs.old.items ≡ [] }
     requires room { length (finite.keys table.now.state.queues) ≤ vec_capacity jobs.old }
-    ensures value { jobs.new.items ≡ busy_jobs table.now.state (finite.keys table.now.state.queues) }
+    ensures value { jobs.new.items ≡ tended_jobs table.now.state runner.now (finite.keys table.now.state.queues) }
     ensures distinct { AreDistinct jobs.new.items }
+    ensures bound { length jobs.new.items ≤ length (finite.keys table.now.state.queues) }
 {
     // Each row is found by its number, so that no job stands twice.
     let _rows = table.jobs();
     for queue in table.queues() {
         if let Some(job) = table.processing(&queue.name) {
-            jobs.push_reserved(job);
+            if !is_stray(table, runner, job) {
+                jobs.push_reserved(job);
+            }
+        }
+    }
+}
+
+// Lists those of these jobs of which no child is running or, where nothing is to be started, none.
+pub(crate) fn list_idle<C: Children>(
+    ready: bool,
+    runner: &Runner<C>,
+    jobs: &[JobId],
+    idle: &mut Vec<JobId>,
+)
+    requires empty { idle.old.items ≡ [] }
+    requires room { length jobs.now ≤ vec_capacity idle.old }
+    requires distinct { AreDistinct jobs.now }
+    ensures value { idle.new.items ≡ chosen ready (idle_among runner.now jobs.now) }
+    ensures capacity { vec_capacity idle.new ≡ vec_capacity idle.old }
+    ensures distinct { AreDistinct idle.new.items }
+    ensures rest { AllRest runner.now idle.new.items }
+{
+    for job in jobs {
+        if ready && !has_child(runner, *job) {
+            idle.push_reserved(*job);
         }
     }
 }

@@ -1,22 +1,29 @@
 //! What is so of calls one after the other.
-ghost use Rattle.std.specs.Prelude.{◌≡◌, List, [], ◌∷◌, ◌++◌, Result, Some};
+ghost use Rattle.std.specs.Prelude.{◌≡◌, ℕ, List, [], ◌∷◌, ◌++◌, Option, Result, Some};
 ghost use Rattle.std.specs.FinMap as finite;
+ghost use Rattle.spool_types.specs.State.{State};
 ghost use Rattle.spool_types.specs.declared.event.Event.{Event};
 ghost use Rattle.job_table.specs.Attempts.{HasNoProcessing};
 ghost use Rattle.job_table.specs.Legal.{IsLegal};
 ghost use Rattle.job_table.specs.Turns.{AreOnce};
 ghost use Rattle.filter_args.specs.declared.place.Place.{Place};
+ghost use Rattle.child_pipeline.specs.Slots.{Slots};
+ghost use Rattle.child_pipeline.specs.Tickets.{HasTickets};
 ghost use Rattle.child_pipeline.specs.Told.{Told};
 ghost use Rattle.child_pipeline.specs.declared.order.Placed.{Placed};
 ghost use Rattle.print_rounds.specs.Courses.{Course};
+ghost use Rattle.print_rounds.specs.HandedOn.{AreHandedOn, AreTicks, FinishesHandOn, RunTheirStages, TickCall, TickHandsOn};
 ghost use Rattle.print_rounds.specs.Finished.{HasNoneRunning};
 ghost use Rattle.print_rounds.specs.Inputs.{AnsweredOrder, AreKeptFrom, HandsOn};
 ghost use Rattle.print_rounds.specs.Lives.{Life, IsLife, IsWorld, end_of, keys_of, keys_of_life, AreCallTurns, life_of, last_left};
 ghost use Rattle.print_rounds.specs.Rounds.{IsRoundOf};
+ghost use Rattle.print_rounds.specs.Script.{round_of};
+ghost use Rattle.print_rounds.specs.Ticks.{AreFinishings, Finishing, IsTickOf, tick_of};
 ghost use Rattle.print_rounds.specs.World.{IsCallTurn, keys_in};
 ghost use Rattle.print_rounds.specs.declared.outcome.Round.{Round as RoundOf};
 ghost use Rattle.print_rounds.specs.declared.outcome.RoundFault.{RoundFault as FaultOf};
 
+use child_pipeline::tickets_stay;
 use job_table::{legal_tables_stay_legal, spent_stages_stay_spent, versions_rise};
 use spool_disk::Disk;
 
@@ -40,6 +47,39 @@ pub fn rounds_hand_on<D: Disk>()
     legal_tables_stay_legal();
 }
 
+/// *RightInput* over ticks. A child may end in a later tick than it was started in, and in another order than the starts.
+pub fn ticks_hand_on<D: Disk>()
+    // Where the slots keep what earlier orders gave, and their children run their stages, each order of a tick is handed what it
+    // is to be, and behind the tick it is so again.
+    ensures one { (place : Place) (earlier : List AnsweredOrder) (t : Told) (old new : Course D) (result : Result RoundOf FaultOf) →
+        IsLegal old.spool.state → old.told ≡ Some t → HasTickets old.slots t → AreKeptFrom earlier old.slots → RunTheirStages t.orders old.slots →
+        (r : IsTickOf D.device place old new result) → TickHandsOn earlier t old r.steps new }
+
+    // So it is of the end, where all children are waited for.
+    ensures finishes { (earlier : List AnsweredOrder) (t : Told) (slots : Slots) (told : Option Told) (fs : List Finishing) (new : Slots) (told_then : Option Told) →
+        told ≡ Some t → HasTickets slots t → AreKeptFrom earlier slots → RunTheirStages t.orders slots →
+        AreFinishings slots told fs new told_then → FinishesHandOn earlier t slots told fs new told_then }
+
+    // Of any number of ticks, from slots without any, each order is right behind the answers of the ticks before it.
+    ensures many { (place : Place) (t : Told) (calls : List (TickCall D)) (ticks : AreTicks D.device place finite.empty (Some t) calls) →
+        t.running ≡ [] → AreHandedOn D.device place finite.empty (Some t) [] t calls ticks }
+{
+    legal_tables_stay_legal();
+    tickets_stay();
+}
+
+/// Finishing children and nothing else, as `finish_children` does, is a turn of World too: it starts no stage, has no event,
+/// and holds what was held.
+pub fn finishes_are_a_turn<D: Disk>()
+    ensures { (t : Told) (old new : Course D) (fs : List Finishing) → IsLegal old.spool.state → HasTickets old.slots t → old.told ≡ Some t →
+        AreFinishings old.slots old.told fs new.slots new.told → new.spool ≡ old.spool → IsCallTurn t old [] new }
+{
+    legal_tables_stay_legal();
+    spent_stages_stay_spent();
+    versions_rise();
+    tickets_stay();
+}
+
 /// *NoStageTwice* over many lives: in every world no stage of an attempt is started twice.
 pub fn no_stage_comes_twice()
     ensures { (lives : List Life) → IsWorld lives → AreOnce (keys_of lives) }
@@ -59,4 +99,11 @@ pub fn calls_make_a_life<D: Disk>()
         end_of (life_of t old c cs calls) ≡ (last_left c.1 cs).spool.state }
     ensures keys { (t : Told) (old : Course D) (c : List Event × Course D) (cs : List (List Event × Course D)) (calls : AreCallTurns t old (c ∷ cs)) → old.told ≡ Some t →
         (now : Told) (orders : List Placed) → (last_left c.1 cs).told ≡ Some now → now.orders ≡ t.orders ++ orders → keys_of_life (life_of t old c cs calls) ≡ keys_in orders }
+{}
+
+/// A round is the tick in which every look says yes: where no child runs and no look is to come, of which each behind the end
+/// of the list says yes, Script's tick is Script's round.
+pub fn rounds_are_ticks()
+    ensures { (place : Place) (documents : ℕ → List ℕ) (s : State) (slots : Slots) (t : Told) → IsLegal s → HasNoneRunning slots → t.looks ≡ [] →
+        tick_of place documents s slots t ≡ round_of place documents s slots t }
 {}

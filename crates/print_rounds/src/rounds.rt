@@ -5,11 +5,8 @@ ghost use Rattle.print_rounds.specs.Courses.{course};
 ghost use Rattle.print_rounds.specs.Finished.{EachFinishedOnce, HasNoneRunning};
 ghost use Rattle.print_rounds.specs.Rounds.{IsRoundBy};
 
-use crate::busy::list_busy;
 use crate::outcome::{Round, RoundFault};
-use crate::slots::free_old;
-use crate::stages::run_stages;
-use crate::starts::start_jobs;
+use crate::passes::pass;
 use child_pipeline::{Children, Runner};
 use filter_args::Place;
 use job_table::{legal_tables_stay_legal, spent_stages_stay_spent, versions_rise};
@@ -39,27 +36,10 @@ pub fn round<D: Disk, C: Children>(
     ensures finished { (t : Told) → C.tells children.old ≡ Some t → t.running ≡ [] → (js : List ℕ) × EachFinishedOnce t (C.tells children.new) js }
     ensures rest { HasNoneRunning runner.new }
 {
-    if spool.is_dead() {
-        return Err(RoundFault::Dead);
-    }
     // The table is legal, and stays so.
     let _legal = spool.table().jobs();
     legal_tables_stay_legal();
     spent_stages_stay_spent();
     versions_rise();
-    let mut jobs = match Vec::with_capacity(alloc, spool.table().queues().len()) {
-        Ok(jobs) => jobs,
-        Err(_) => return Err(RoundFault::Memory),
-    };
-    free_old(spool.table(), runner);
-    let fault = start_jobs(spool);
-    if spool.is_dead() {
-        return Round::NONE.unless(fault);
-    }
-    list_busy(spool.table(), &mut jobs);
-    let stages = run_stages(alloc, place, spool, runner, children, &jobs);
-    match fault {
-        None => stages,
-        Some(fault) => Err(fault),
-    }
+    pass(alloc, place, spool, runner, children, true)
 }

@@ -1,9 +1,9 @@
-//! The slots that a round frees before all else.
+//! Which slots stay, and which of them have a child that runs.
 ghost use Rattle.std.specs.Prelude.{◌≡◌};
 ghost use Rattle.std.specs.FinMap as finite;
 ghost use Rattle.spool_types.specs.State.{job_at};
-ghost use Rattle.print_rounds.specs.Finished.{HasNoneRunning};
-ghost use Rattle.print_rounds.specs.Script.{current_slots, is_current};
+ghost use Rattle.print_rounds.specs.Looks.{idle_slots, is_kept, is_stray, runs};
+ghost use Rattle.print_rounds.specs.Script.{is_current};
 
 use child_pipeline::{Children, Runner};
 use job_table::{Table, is_in_stage};
@@ -22,14 +22,34 @@ fn is_current<C: Children>(table: &Table, runner: &Runner<C>, job: JobId) -> boo
     is_in_stage(row.job.phase, slot.attempt, slot.stage)
 }
 
-// Frees each slot whose job isn't in its stage any more. It visits the slots alone.
-pub(crate) fn free_old<C: Children>(table: &Table, runner: &mut Runner<C>)
-    requires { HasNoneRunning runner.old }
-    ensures { runner.new ≡ current_slots table.now.state runner.old }
+// Whether the child of a job's slot is running.
+pub(crate) fn has_child<C: Children>(runner: &Runner<C>, job: JobId) -> bool
+    ensures { result ≡ runs runner.now job }
+{
+    runner.is_running(job)
+}
+
+// Whether the slot of a job is that of its stage, or has a child that is running.
+fn is_kept<C: Children>(table: &Table, runner: &Runner<C>, job: JobId) -> bool
+    ensures { result ≡ is_kept (job_at table.now.state job) (finite.get runner.now job) }
+{
+    is_current(table, runner, job) || has_child(runner, job)
+}
+
+// Whether a child is running in the slot of a job that has left the slot's stage.
+pub(crate) fn is_stray<C: Children>(table: &Table, runner: &Runner<C>, job: JobId) -> bool
+    ensures { result ≡ is_stray table.now.state runner.now job }
+{
+    has_child(runner, job) && !is_current(table, runner, job)
+}
+
+// Frees each slot whose job isn't in its stage any more, unless its child is running. It visits the slots alone.
+pub(crate) fn free_idle<C: Children>(table: &Table, runner: &mut Runner<C>)
+    ensures { runner.new ≡ idle_slots table.now.state runner.old }
 {
     let mut behind = None;
     while let Some(job) = runner.next_job(behind) {
-        if !is_current(table, runner, job) {
+        if !is_kept(table, runner, job) {
             runner.release(job);
         }
         behind = Some(job);

@@ -5,7 +5,7 @@ ghost use Rattle.job_table.specs.Attempts.{next_of};
 ghost use Rattle.job_table.specs.Step.{refusal_of};
 ghost use Rattle.print_rounds.specs.Counts.{start_fault, starting_fault};
 ghost use Rattle.print_rounds.specs.Courses.{Starting, AreStartings, IsStarting};
-ghost use Rattle.print_rounds.specs.Faultless.{AreExactStarts};
+ghost use Rattle.print_rounds.specs.Passes.{unblocked};
 
 use crate::outcome::{RoundFault, answer_fault};
 use job_table::Table;
@@ -44,16 +44,19 @@ fn start_fault(answer: &Option<Result<Reply, ApplyFault>>) -> Option<RoundFault>
     }
 }
 
-/// Starts the next job of each queue, in ascending order of name, and tells the first fault. A fault of one queue doesn't
-/// stop the others; after one of the device each further answer is `Dead`, and no device is called.
-pub fn start_jobs<D: Disk>(spool: &mut Spool<D>) -> Option<RoundFault>
-    ensures { (ts : List (Starting D)) × AreStartings D.device spool.old ts spool.new × (map (λ t. t.queue) ts ≡ finite.keys spool.old.state.queues)
-        × (result ≡ starting_fault ts) × AreExactStarts spool.old (finite.keys spool.old.state.queues) spool.new ts }
+// Starts the next job of each queue that isn't blocked, in ascending order of name, and tells the first fault. A fault of one
+// queue doesn't stop the others; after one of the device each further answer is `Dead`, and no device is called.
+pub(crate) fn start_free<D: Disk>(spool: &mut Spool<D>, blocked: &[bool]) -> Option<RoundFault>
+    requires { length blocked.now ≡ length (finite.keys spool.old.state.queues) }
+    ensures { (ts : List (Starting D)) × AreStartings D.device spool.old ts spool.new × (map (λ t. t.queue) ts ≡ unblocked blocked.now (finite.keys spool.old.state.queues))
+        × (result ≡ starting_fault ts) }
 {
     let mut fault = None;
     for at in 0..spool.table().queues().len() {
-        let answer = start_next(spool, at);
-        fault = fault.or(start_fault(&answer));
+        if !blocked[at] {
+            let answer = start_next(spool, at);
+            fault = fault.or(start_fault(&answer));
+        }
     }
     fault
 }

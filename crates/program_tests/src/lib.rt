@@ -1,6 +1,8 @@
-//! The tests of the two programs' libraries: words, faults, folders, files and runs of the spooler, and the small tools.
+//! The tests of the two programs' libraries: words, faults, folders, files, children and runs of the spooler, and the small tools.
 #![tactic(auto)]
 
+#[cfg(test)]
+mod children;
 #[cfg(test)]
 mod files;
 #[cfg(test)]

@@ -17,7 +17,7 @@ use Rattle.spool_engine.specs.Script.{Documents, Meaning, says, asks, lists, run
 use Rattle.print_rounds.specs.Rounds.{LeavesDocuments}
 use Rattle.spool_engine.specs.EventTurns.{Setting, Outcome, EventTurn, served, no_memory, full, disk, dead, unread, unreadable, unlisted, IsTaken, IsServedBy, IsOutcome, IsKept, HasTableIn}
 use Rattle.spool_engine.specs.Rounds.{Ran, AreRunBy}
-use Rattle.spool_engine.specs.Runs.{Turn, How, answered, ran, event_turn, tried_in, documents_left, HasSomeIn, IsHow, IsTurn, IsAlong, IsWholeAlong, AreTurns, last_course, last_documents}
+use Rattle.spool_engine.specs.Runs.{Turn, How, answered, ran, withheld, event_turn, tried_in, documents_left, HasSomeIn, IsHow, IsTurn, IsAlong, IsWholeAlong, AreTurns, last_course, last_documents}
 use Rattle.spool_engine.proofs.EventLaws.{OnlyNow, unmoved, unmoved_whole}
 use Rattle.spool_engine.proofs.RoundLaws.{dead_rans}
 
@@ -54,11 +54,12 @@ dead_rounds : {D : Type 0} (v : Setting D) (w : Meaning) (s : Course D) (rs : Li
 dead_rounds v (says text) s rs new reply is h = absurd h
 dead_rounds v (asks e line) s rs new reply is h = absurd h
 dead_rounds v lists s rs new reply is h = absurd h
-dead_rounds v (runs most line) s rs new reply is h = ap (λ x. x.spool) (dead_rans v s rs new is h.each)
+dead_rounds v (runs most line) s rs new reply is h = dead_rans v s rs new is h.each
 
 -- a dead spool stays as it is
 pub dead_still : {D : Type 0} (v : Setting D) (s : Course D) (t : Turn D) (how : How D) → s.spool.dead ≡ true → IsHow v s t how → t.next.spool ≡ s.spool
 dead_still v s t (answered outcome) is h = dead_outcome v s.spool (event_turn t outcome) outcome is h.0
+dead_still v s t withheld is h = ap (λ (c : Course _). c.spool) h.same
 dead_still v s t (ran rs) is h = dead_rounds v (meaning v.mime s.spool.state t.document t.command) s rs t.next t.text is h
 
 pub dead_last : {D : Type 0} (v : Setting D) (s : Course D) (ts : List (Turn D)) → s.spool.dead ≡ true → AreTurns v s ts → (last_course s ts).spool ≡ s.spool

@@ -20,27 +20,31 @@ use Rattle.device_uri.specs.Devices.{is_device_uri}
 use Rattle.filter_args.specs.declared.place.Place.{Place}
 use Rattle.spool_disk.specs.Disk.{DiskView}
 use Rattle.spool_core.specs.Standing.{Standing}
+use Rattle.child_pipeline.specs.Slots.{Slots}
+use Rattle.child_pipeline.specs.Tickets.{HasTickets}
 use Rattle.child_pipeline.specs.Told.{Told}
 use Rattle.print_rounds.specs.Courses.{Course, AreHanded}
-use Rattle.print_rounds.specs.Finished.{EachFinishedOnce}
+use Rattle.print_rounds.specs.Finished.{EachFinishedOnce, HasNoneRunning}
 use Rattle.print_rounds.specs.Counts.{counts_of as counts_told, result_of}
 use Rattle.print_rounds.specs.Rounds.{IsRoundOf, fault_in}
-use Rattle.print_rounds.specs.Script.{Play, round_of}
+use Rattle.print_rounds.specs.Script.{Play, play_from, plays, round_of, waited}
+use Rattle.print_rounds.specs.Ticks.{running_jobs}
 use Rattle.print_rounds.specs.declared.outcome.Round.{Round}
 use Rattle.print_rounds.specs.declared.outcome.RoundFault.{RoundFault}
 use Rattle.spool_engine.specs.Mime.{Mime}
-use Rattle.spool_engine.specs.Script.{Meaning, says, asks, lists, runs, meaning, meaning_with, document_for, creating, job_options, reply_line, Documents, Asked, Scene, scene_after, counts_of, is_idle, unless, rounds_of, last_scene, step_line, step_state, reply_by, after_by, events_by, reply_of, after_command, events_of_command, script_text, script_events, script_scene}
+use Rattle.spool_engine.specs.Script.{Meaning, says, asks, lists, runs, meaning, meaning_in, meaning_with, withheld_line, withholds, document_for, creating, job_options, reply_line, Documents, Asked, Scene, scene_after, settled, counts_of, is_idle, unless, rounds_of, last_scene, step_line, step_state, reply_by, after_by, events_by, reply_of, after_command, events_of_command, script_text, script_events, script_scene}
 use Rattle.spool_engine.specs.EventTurns.{Setting, Outcome, served, IsTaken, IsServedBy, IsOutcome, is_checkpoint}
-use Rattle.spool_engine.specs.Rounds.{Ran, IsRoundWith, IsRan, AreRan, AreAll, IsRest, is_last, results_of, counts_in, with_counts, line_told, AreRunBy}
-use Rattle.spool_engine.specs.Runs.{Turn, How, answered, ran, event_turn, read_in, read_by, asked_of, IsHow, IsHeld, IsWell, AllServed, AreTurns, last_course, texts_of, commands_in, Lead, IsScript, IsScene, IsExact, HasNoRounds, KeepVersion, is_round, scene_with}
+use Rattle.spool_engine.specs.Rounds.{Ran, IsRoundWith, IsRan, IsSettled, AreRan, AreAll, IsRest, is_last, results_of, counts_in, with_counts, line_told, AreRunBy}
+use Rattle.spool_engine.specs.Runs.{Turn, How, answered, ran, withheld, event_turn, read_in, read_by, asked_of, IsHow, IsHeld, IsWithheld, IsWell, AllServed, AreTurns, last_course, texts_of, commands_in, Lead, IsScript, IsScene, IsExact, HasNoRounds, KeepVersion, is_round, scene_with}
 use Rattle.spool_engine.proofs.EventLaws.{step_folds}
+use Rattle.spool_engine.proofs.SettleLaws.{FinishLaw, no_tickets, told_same, waited_state, waits_all}
 use Rattle.print_rounds.proofs.PrefixLaws.{after_both}
 
--- the children tell what is of the scene, and none of them is running
+-- the children tell what is of the scene, and the slots have the tickets of those that run
 pub record IsTelling {D : Type 0} (s : Course D) (x : Scene) : Type 0 where
   pub slots : s.slots ≡ x.slots
   pub told : s.told ≡ Some x.told
-  pub rest : x.told.running ≡ []
+  pub tickets : HasTickets x.slots x.told
 
 -- ## A command that is no round
 
@@ -105,15 +109,15 @@ same_counts : (a b c d : ℕ) → a ≡ c → b ≡ d → round_with a b ≡ rou
 same_counts a b c d e f = ap (λ n. round_with n b) e ∙ ap (round_with c) f
 
 -- what a round is to a play
-record IsPlayed {D : Type 0} (p : Play) (s new : Course D) (round : Round) : Type 0 where
+record IsPlayed {D : Type 0} (p : Play) (before : State) (new : Course D) (round : Round) : Type 0 where
   counts : round ≡ counts_of p
   state : new.spool.state ≡ p.state
   telling : IsTelling new (scene_after p)
-  table : new.spool.state ≡ after_all s.spool.state p.events
+  table : new.spool.state ≡ after_all before p.events
 
 made_played : {D : Type 0} (v : Setting D) (s : Course D) (r : Ran D) (round : Round) (t : Told) (documents : Documents) (made : IsRoundOf v.device v.place s r.next r.result) → r.result ≡ Ok round → s.told ≡ Some t → t.running ≡ [] → AreHanded documents made.steps.launchings
-    → (js : List ℕ) × EachFinishedOnce t r.next.told js → IsPlayed (round_of v.place documents s.spool.state s.slots t) s r.next round
-made_played v s r round t documents made ok told rest handed (js, once) =
+    → (js : List ℕ) × EachFinishedOnce t r.next.told js → HasNoneRunning r.next.slots → IsPlayed (round_of v.place documents s.spool.state s.slots t) s.spool.state r.next round
+made_played v s r round t documents made ok told rest handed (js, once) rests =
     let (none, is) = faultless (counts_told made.steps.launchings made.steps.endings) (fault_in made.steps) round (sym ok ∙ made.answer) in
     let exact = made.exact none t documents told rest handed in
     let p = round_of v.place documents s.spool.state s.slots t in
@@ -121,28 +125,58 @@ made_played v s r round t documents made ok told rest handed (js, once) =
     record {
       counts = is ∙ same_counts _ _ p.started p.ended exact.started exact.ended;
       state = exact.state;
-      telling = record { slots = exact.slots; told = exact.told; rest = ap (λ x. x.running) last ∙ once.finished.running };
+      telling = record { slots = exact.slots; told = exact.told; tickets = no_tickets p.slots p.told (subst HasNoneRunning exact.slots rests) (ap (λ x. x.running) last ∙ once.finished.running) };
       table = made.table ∙ ap (after_all s.spool.state) exact.events;
     }
 
--- what was read in a round are these documents
-abbrev pub GoesFor : {D : Type 0} → Setting D → Course D → Ran D → Documents → Type 0
-GoesFor v s r documents = (made : IsRoundOf v.device v.place s r.next r.result) → AreHanded r.documents made.steps.launchings → AreHanded documents made.steps.launchings
+-- the scene of children that were waited for
+record IsQuietScene {D : Type 0} (s : Course D) (x : Scene) : Type 0 where
+  state : s.spool.state ≡ x.state
+  telling : IsTelling s x
+  rest : x.told.running ≡ []
 
-round_played : {D : Type 0} (v : Setting D) (s : Course D) (r : Ran D) (round : Round) (t : Told) (documents : Documents) (b : Bool) → s.spool.dead ≡ b → IsRan v s r → GoesFor v s r documents → r.result ≡ Ok round → s.told ≡ Some t → t.running ≡ []
-    → IsPlayed (round_of v.place documents s.spool.state s.slots t) s r.next round
-round_played v s r round t documents true is h goes ok told rest = absurd (let e = (subst (λ b. IsRoundWith v.device v.place s b r) is h.round).0.0 in cc)
-round_played v s r round t documents false is h goes ok told rest = ⊎_elim
+quiet_scene : {D : Type 0} (finish : FinishLaw) (s c : Course D) (x : Scene) → IsSettled s c → s.spool.state ≡ x.state → IsTelling s x → IsQuietScene c (settled x)
+quiet_scene finish s c x is e tell =
+    let p = play_from x.state x.slots x.told in
+    let (fs, steps, jobs) = is.steps in
+    let like = waits_all finish fs p s.slots s.told c.slots c.told (record { slots_are = tell.slots; told_is = tell.told; tickets = tell.tickets }) steps in
+    let same : plays waited p (map (λ f. f.job) fs) ≡ plays waited p (running_jobs x.slots) = ap (plays waited p) (jobs ∙ ap running_jobs tell.slots) in
+    let off = is.finished x.told tell.told (subst (λ m. HasTickets m x.told) (sym tell.slots) tell.tickets) in
+    let told : c.told ≡ Some (settled x).told = like.told_is ∙ ap (λ (q : Play). Some q.told) same in
+    record {
+      state = ap (λ y. y.state) is.spool ∙ e ∙ sym (waited_state p (running_jobs x.slots));
+      telling = record { slots = like.slots_are ∙ ap (λ (q : Play). q.slots) same; told = told; tickets = subst (λ (q : Play). HasTickets q.slots q.told) same like.tickets };
+      rest = ap (λ (u : Told). u.running) (told_same (settled x).told off.now (sym told ∙ off.tells)) ∙ off.none;
+    }
+
+-- what was read in a round are these documents
+abbrev pub GoesFor : {D : Type 0} → Setting D → Ran D → Documents → Type 0
+GoesFor v r documents = (made : IsRoundOf v.device v.place r.settled r.next r.result) → AreHanded r.documents made.steps.launchings → AreHanded documents made.steps.launchings
+
+round_from : {D : Type 0} (v : Setting D) (s : Course D) (r : Ran D) (round : Round) (y : Scene) (documents : Documents) (b : Bool) → r.settled.spool.dead ≡ b → IsRan v s r → GoesFor v r documents → r.result ≡ Ok round → IsQuietScene r.settled y
+    → IsPlayed (round_of v.place documents r.settled.spool.state r.settled.slots y.told) r.settled.spool.state r.next round
+round_from v s r round y documents true is h goes ok quiet = absurd (let e = (subst (λ b. IsRoundWith v.device v.place r.settled b r) is h.round).0.0 in cc)
+round_from v s r round y documents false is h goes ok quiet = ⊎_elim
     (λ unbegun. absurd (let e = unbegun.0.0 in cc))
-    (λ made. made_played v s r round t documents made.0 ok told rest (goes made.0 made.2) (h.finished t told rest))
-    (subst (λ b. IsRoundWith v.device v.place s b r) is h.round)
+    (λ made. made_played v r.settled r round y.told documents made.0 ok quiet.telling.told quiet.rest (goes made.0 made.2) (h.finished y.told quiet.telling.told quiet.rest) h.rest)
+    (subst (λ b. IsRoundWith v.device v.place r.settled b r) is h.round)
+
+round_played : {D : Type 0} (finish : FinishLaw) (v : Setting D) (s : Course D) (r : Ran D) (round : Round) (x : Scene) (documents : Documents) → s.spool.state ≡ x.state → IsTelling s x → IsRan v s r → GoesFor v r documents → r.result ≡ Ok round
+    → IsPlayed (round_of v.place documents (settled x).state (settled x).slots (settled x).told) s.spool.state r.next round
+round_played {D} finish v s r round x documents e tell h goes ok =
+    let y = settled x in
+    let quiet = quiet_scene finish s r.settled x h.settles e tell in
+    let here = round_from v s r round y documents r.settled.spool.dead refl h goes ok quiet in
+    let at = subst (λ m. IsPlayed (round_of v.place documents r.settled.spool.state m y.told) r.settled.spool.state r.next round) quiet.telling.slots here in
+    let on = subst (λ u. IsPlayed (round_of v.place documents u y.slots y.told) r.settled.spool.state r.next round) quiet.state at in
+    subst (λ (z : Standing D). IsPlayed (round_of v.place documents y.state y.slots y.told) z.state r.next round) h.settles.spool on
 
 -- ## Several rounds
 
 -- what was read in each of these rounds
-abbrev pub AreFor : {D : Type 0} → Setting D → (ℕ → Documents) → Course D → List (Ran D) → Type 0
-AreFor v documents s [] = Unit {0}
-AreFor v documents s (r ∷ rs) = GoesFor v s r (documents 0) × AreFor v (λ k. documents (suc k)) r.next rs
+abbrev pub AreFor : {D : Type 0} → Setting D → (ℕ → Documents) → List (Ran D) → Type 0
+AreFor v documents [] = Unit {0}
+AreFor v documents (r ∷ rs) = GoesFor v r (documents 0) × AreFor v (λ k. documents (suc k)) rs
 
 record ArePlayed {D : Type 0} (ps : List Play) (x : Scene) (s new : Course D) (results : List (Result Round RoundFault)) : Type 0 where
   counts : counts_in results ≡ Ok (map counts_of ps)
@@ -159,7 +193,7 @@ abbrev PlayRest : {D : Type 0} (v : Setting D) (documents : ℕ → Documents) (
 PlayRest v documents n s new rs = (y : Scene) → s.spool.state ≡ y.state → IsTelling s y → AreRan v s rs new → AreAll n (results_of rs) → IsOk (counts_in (results_of rs)) → ArePlayed (rounds_of v.place documents n y) y s new (results_of rs)
 
 -- the first, and those behind it
-both_played : {D : Type 0} (p : Play) (ps : List Play) (x : Scene) (s mid new : Course D) (round : Round) (results : List (Result Round RoundFault)) → IsPlayed p s mid round → ArePlayed ps (scene_after p) mid new results → ArePlayed (p ∷ ps) x s new (Ok round ∷ results)
+both_played : {D : Type 0} (p : Play) (ps : List Play) (x : Scene) (s mid new : Course D) (round : Round) (results : List (Result Round RoundFault)) → IsPlayed p s.spool.state mid round → ArePlayed ps (scene_after p) mid new results → ArePlayed (p ∷ ps) x s new (Ok round ∷ results)
 both_played p ps x s mid new round results one more = record {
   counts = ap (with_counts (Ok round)) more.counts ∙ ap (λ (c : Round). Ok (c ∷ map counts_of ps)) one.counts;
   state = more.state;
@@ -171,7 +205,7 @@ none_more : {D : Type 0} (p : Play) (new : Course D) → new.spool.state ≡ p.s
 none_more p new state telling = record { counts = refl; state = state; telling = telling; table = refl }
 
 -- by whether the first was idle
-rest_played : {D : Type 0} (v : Setting D) (documents : ℕ → Documents) (n : ℕ) (x : Scene) (s : Course D) (r : Ran D) (rs : List (Ran D)) (new : Course D) (round : Round) (p : Play) (b : Bool) → is_idle (counts_of p) ≡ b → IsPlayed p s r.next round → AreRan v r.next rs new → IsRest b (results_of rs) (AreAll n (results_of rs)) → IsOk (counts_in (results_of rs)) → PlayRest v documents n r.next new rs
+rest_played : {D : Type 0} (v : Setting D) (documents : ℕ → Documents) (n : ℕ) (x : Scene) (s : Course D) (r : Ran D) (rs : List (Ran D)) (new : Course D) (round : Round) (p : Play) (b : Bool) → is_idle (counts_of p) ≡ b → IsPlayed p s.spool.state r.next round → AreRan v r.next rs new → IsRest b (results_of rs) (AreAll n (results_of rs)) → IsOk (counts_in (results_of rs)) → PlayRest v documents n r.next new rs
     → ArePlayed (p ∷ unless (is_idle (counts_of p)) (rounds_of v.place documents n (scene_after p))) x s new (Ok round ∷ results_of rs)
 rest_played v documents n x s r [] new round p true idle one more all ok rest =
     subst (λ b. ArePlayed (p ∷ unless b (rounds_of v.place documents n (scene_after p))) x s new (Ok round ∷ [])) (sym idle)
@@ -182,45 +216,45 @@ rest_played v documents n x s r rs new round p false idle one more all ok rest =
     (both_played p (rounds_of v.place documents n (scene_after p)) x s r.next new round (results_of rs) one (rest (scene_after p) one.state one.telling more all ok))
 
 -- by how the first went
-first_played : {D : Type 0} (v : Setting D) (documents : ℕ → Documents) (n : ℕ) (x : Scene) (s : Course D) (r : Ran D) (rs : List (Ran D)) (new : Course D) (q : Result Round RoundFault) → r.result ≡ q → s.spool.state ≡ x.state → IsTelling s x → IsRan v s r → GoesFor v s r (documents 0) → AreRan v r.next rs new → IsRest (is_last q) (results_of rs) (AreAll n (results_of rs)) → IsOk (with_counts q (counts_in (results_of rs))) → PlayRest v (λ k. documents (suc k)) n r.next new rs
+first_played : {D : Type 0} (finish : FinishLaw) (v : Setting D) (documents : ℕ → Documents) (n : ℕ) (x : Scene) (s : Course D) (r : Ran D) (rs : List (Ran D)) (new : Course D) (q : Result Round RoundFault) → r.result ≡ q → s.spool.state ≡ x.state → IsTelling s x → IsRan v s r → GoesFor v r (documents 0) → AreRan v r.next rs new → IsRest (is_last q) (results_of rs) (AreAll n (results_of rs)) → IsOk (with_counts q (counts_in (results_of rs))) → PlayRest v (λ k. documents (suc k)) n r.next new rs
     → ArePlayed (rounds_of v.place documents (suc n) x) x s new (q ∷ results_of rs)
-first_played v documents n x s r rs new (Err f) is e tell h goes more all ok rest = absurd (let bad : false ≡ true = ok in cc)
-first_played v documents n x s r rs new (Ok round) is e tell h goes more all ok rest =
-    let here = round_played v s r round x.told (documents 0) s.spool.dead refl h goes is tell.told tell.rest in
-    let one = subst (λ y. IsPlayed (round_of v.place (documents 0) x.state y x.told) s r.next round) tell.slots (subst (λ y. IsPlayed (round_of v.place (documents 0) y s.slots x.told) s r.next round) e here) in
-    let p = round_of v.place (documents 0) x.state x.slots x.told in
+first_played finish v documents n x s r rs new (Err f) is e tell h goes more all ok rest = absurd (let bad : false ≡ true = ok in cc)
+first_played finish v documents n x s r rs new (Ok round) is e tell h goes more all ok rest =
+    let y = settled x in
+    let p = round_of v.place (documents 0) y.state y.slots y.told in
+    let one : IsPlayed p s.spool.state r.next round = round_played finish v s r round x (documents 0) e tell h goes is in
     rest_played v (λ k. documents (suc k)) n x s r rs new round p (is_idle (counts_of p)) refl one more
     (subst (λ c. IsRest (is_idle c) (results_of rs) (AreAll n (results_of rs))) one.counts all)
     (ok_rest round (counts_in (results_of rs)) ok)
     rest
 
-rounds_played : {D : Type 0} (v : Setting D) (documents : ℕ → Documents) (n : ℕ) (x : Scene) (s new : Course D) (rs : List (Ran D)) → s.spool.state ≡ x.state → IsTelling s x → AreRan v s rs new → AreFor v documents s rs → AreAll n (results_of rs) → IsOk (counts_in (results_of rs)) → ArePlayed (rounds_of v.place documents n x) x s new (results_of rs)
-rounds_played v documents zero x s new [] e tell h goes all ok = record {
+rounds_played : {D : Type 0} (finish : FinishLaw) (v : Setting D) (documents : ℕ → Documents) (n : ℕ) (x : Scene) (s new : Course D) (rs : List (Ran D)) → s.spool.state ≡ x.state → IsTelling s x → AreRan v s rs new → AreFor v documents rs → AreAll n (results_of rs) → IsOk (counts_in (results_of rs)) → ArePlayed (rounds_of v.place documents n x) x s new (results_of rs)
+rounds_played finish v documents zero x s new [] e tell h goes all ok = record {
   counts = refl;
   state = ap (λ y. y.spool.state) h ∙ e;
   telling = subst (λ y. IsTelling y x) (sym h) tell;
   table = ap (λ y. y.spool.state) h;
 }
-rounds_played v documents zero x s new (r ∷ rs) e tell h goes all ok = absurd (omega (arith, ap length all))
-rounds_played v documents (suc n) x s new [] e tell h goes all ok = absurd all
-rounds_played v documents (suc n) x s new (r ∷ rs) e tell h goes all ok =
-    first_played v documents n x s r rs new r.result refl e tell h.0 goes.0 h.1 all ok (λ y f k more rest fine. rounds_played v (λ k. documents (suc k)) n y r.next new rs f k more goes.1 rest fine)
+rounds_played finish v documents zero x s new (r ∷ rs) e tell h goes all ok = absurd (omega (arith, ap length all))
+rounds_played finish v documents (suc n) x s new [] e tell h goes all ok = absurd all
+rounds_played finish v documents (suc n) x s new (r ∷ rs) e tell h goes all ok =
+    first_played finish v documents n x s r rs new r.result refl e tell h.0 goes.0 h.1 all ok (λ y f k more rest fine. rounds_played finish v (λ k. documents (suc k)) n y r.next new rs f k more goes.1 rest fine)
 
 -- ## Turns
 
-ran_exact : {D : Type 0} (v : Setting D) (documents : ℕ → Documents) (w : Meaning) (s new : Course D) (x : Scene) (rs : List (Ran D)) (text : List ℕ) → s.spool.state ≡ x.state → IsTelling s x → AreFor v documents s rs → AreRunBy v w s rs new text → IsOk (counts_in (results_of rs)) → IsSaid v.place documents x w text new.spool.state × IsTelling new (after_by v.place documents x w)
-ran_exact v documents (says said) s new x rs text e tell goes h ok = absurd h
-ran_exact v documents (asks event line) s new x rs text e tell goes h ok = absurd h
-ran_exact v documents lists s new x rs text e tell goes h ok = absurd h
-ran_exact v documents (runs most line) s new x rs text e tell goes h ok =
-    let all = rounds_played v documents most x s new rs e tell h.each goes h.all ok in
+ran_exact : {D : Type 0} (finish : FinishLaw) (v : Setting D) (documents : ℕ → Documents) (w : Meaning) (s new : Course D) (x : Scene) (rs : List (Ran D)) (text : List ℕ) → s.spool.state ≡ x.state → IsTelling s x → AreFor v documents rs → AreRunBy v w s rs new text → IsOk (counts_in (results_of rs)) → IsSaid v.place documents x w text new.spool.state × IsTelling new (after_by v.place documents x w)
+ran_exact finish v documents (says said) s new x rs text e tell goes h ok = absurd h
+ran_exact finish v documents (asks event line) s new x rs text e tell goes h ok = absurd h
+ran_exact finish v documents lists s new x rs text e tell goes h ok = absurd h
+ran_exact finish v documents (runs most line) s new x rs text e tell goes h ok =
+    let all = rounds_played finish v documents most x s new rs e tell h.each goes h.all ok in
     let played = flat_map (λ (p : Play). p.events) (rounds_of v.place documents most x) in
     (record { text = h.text ∙ ap (line_told line) all.counts; state = all.state; table = λ keeps. all.table ∙ ap (λ y. after_all y played) e }, all.telling)
 
 held_telling : {D : Type 0} (v : DiskView D) (place : Place) (documents : ℕ → Documents) (w : Meaning) (s new : Course D) (x : Scene) (reply : List ℕ) → IsHeld s new → IsServedBy v s.spool w reply new.spool → IsTelling s x → IsTelling new (after_by place documents x w)
-held_telling v place documents (says text) s new x reply held h tell = record { slots = held.slots ∙ tell.slots; told = held.told ∙ tell.told; rest = tell.rest }
-held_telling v place documents (asks e line) s new x reply held h tell = record { slots = held.slots ∙ tell.slots; told = held.told ∙ tell.told; rest = tell.rest }
-held_telling v place documents lists s new x reply held h tell = record { slots = held.slots ∙ tell.slots; told = held.told ∙ tell.told; rest = tell.rest }
+held_telling v place documents (says text) s new x reply held h tell = record { slots = held.slots ∙ tell.slots; told = held.told ∙ tell.told; tickets = tell.tickets }
+held_telling v place documents (asks e line) s new x reply held h tell = record { slots = held.slots ∙ tell.slots; told = held.told ∙ tell.told; tickets = tell.tickets }
+held_telling v place documents lists s new x reply held h tell = record { slots = held.slots ∙ tell.slots; told = held.told ∙ tell.told; tickets = tell.tickets }
 held_telling v place documents (runs most line) s new x reply held h tell = absurd h
 
 -- only `round` and `drain` are told by rounds
@@ -285,8 +319,9 @@ closes_or_same commands.Malformed = inr (λ m s document other. refl)
 abbrev pub IsFor : {D : Type 0} → Setting D → Course D → Turn D → (ℕ → Documents) → How D → Type 0
 IsFor v s t documents (answered o) =
     IsServedBy v.device s.spool (meaning v.mime s.spool.state t.document t.command) t.text t.next.spool
-    → IsServedBy v.device s.spool (meaning_with v.mime s.spool.state (documents 0) t.command) t.text t.next.spool
-IsFor v s t documents (ran rs) = AreFor v documents s rs
+    → IsServedBy v.device s.spool (meaning v.mime s.spool.state (document_for (documents 0) t.command) t.command) t.text t.next.spool
+IsFor v s t documents (ran rs) = AreFor v documents rs
+IsFor v s t documents withheld = Unit {0}
 
 -- a command and the documents that were read for it
 abbrev pub asked_as : Command → (ℕ → Documents) → Asked
@@ -294,18 +329,44 @@ asked_as c documents = record { command = c; documents = documents }
 
 -- what a turn is to a scene
 pub record IsTurnSaid {D : Type 0} (v : Setting D) (s : Course D) (x : Scene) (t : Turn D) (documents : ℕ → Documents) : Type 0 where
-  pub said : IsSaid v.place documents x (meaning_with v.mime x.state (documents 0) t.command) t.text t.next.spool.state
+  pub said : IsSaid v.place documents x (meaning_with v.mime x (documents 0) t.command) t.text t.next.spool.state
+  pub slots : t.next.slots ≡ (after_command v.mime v.place x (asked_as t.command documents)).slots
   pub telling : IsTelling s x → IsTelling t.next (after_command v.mime v.place x (asked_as t.command documents))
 
-answered_exact : {D : Type 0} (v : Setting D) (s : Course D) (x : Scene) (t : Turn D) (documents : ℕ → Documents) (o : Outcome) → o ≡ served → s.spool.state ≡ x.state → IsFor v s t documents (answered o) → IsHow v s t (answered o) → IsTurnSaid v s x t documents
-answered_exact v s x t documents o well e goes how =
-    let h : IsServedBy v.device s.spool (meaning v.mime s.spool.state t.document t.command) t.text t.next.spool = subst (λ p. IsOutcome v s.spool (event_turn t p) p) well how.0 in
-    let w = meaning_with v.mime x.state (documents 0) t.command in
-    let k : IsServedBy v.device s.spool w t.text t.next.spool = subst (λ y. IsServedBy v.device s.spool (meaning_with v.mime y (documents 0) t.command) t.text t.next.spool) e (goes h) in
+-- where nothing is withheld a command means what it does on its table
+pub plain_meaning : (m : Mime) (x : Scene) (slots : Slots) (document : List ℕ) (c : Command) → slots ≡ x.slots → withholds slots c ≡ false → meaning m x.state document c ≡ meaning_in m x document c
+plain_meaning m x slots document c same free = sym (ap (λ b. cond b (says withheld_line) (meaning m x.state document c)) (ap (λ z. withholds z c) (sym same) ∙ free))
+
+pub withheld_meaning : (m : Mime) (x : Scene) (slots : Slots) (document : List ℕ) (c : Command) → slots ≡ x.slots → withholds slots c ≡ true → says withheld_line ≡ meaning_in m x document c
+withheld_meaning m x slots document c same held = sym (ap (λ b. cond b (says withheld_line) (meaning m x.state document c)) (ap (λ z. withholds z c) (sym same) ∙ held))
+
+held_slots : {D : Type 0} (v : DiskView D) (place : Place) (documents : ℕ → Documents) (w : Meaning) (s : Standing D) (x : Scene) (new : Standing D) (reply : List ℕ) → IsServedBy v s w reply new → (after_by place documents x w).slots ≡ x.slots
+held_slots v place documents (says text) s x new reply h = refl
+held_slots v place documents (asks e line) s x new reply h = refl
+held_slots v place documents lists s x new reply h = refl
+held_slots v place documents (runs most line) s x new reply h = absurd h
+
+-- the slots and what the children tell stay
+held_said : {D : Type 0} (v : Setting D) (s : Course D) (x : Scene) (t : Turn D) (documents : ℕ → Documents) → s.spool.state ≡ x.state → s.slots ≡ x.slots → IsHeld s t.next → IsServedBy v.device s.spool (meaning_with v.mime x (documents 0) t.command) t.text t.next.spool → IsTurnSaid v s x t documents
+held_said v s x t documents e f held h =
+    let w = meaning_with v.mime x (documents 0) t.command in
     record {
-      said = served_exact v.device v.place documents s.spool t.next.spool x w t.text e k;
-      telling = held_telling v.device v.place documents w s t.next x t.text how.1 k;
+      said = served_exact v.device v.place documents s.spool t.next.spool x w t.text e h;
+      slots = held.slots ∙ f ∙ sym (held_slots v.device v.place documents w s.spool x t.next.spool t.text h);
+      telling = held_telling v.device v.place documents w s t.next x t.text held h;
     }
+
+answered_exact : {D : Type 0} (v : Setting D) (s : Course D) (x : Scene) (t : Turn D) (documents : ℕ → Documents) (o : Outcome) → o ≡ served → s.spool.state ≡ x.state → s.slots ≡ x.slots → IsFor v s t documents (answered o) → IsHow v s t (answered o) → IsTurnSaid v s x t documents
+answered_exact v s x t documents o well e f goes how =
+    let d = document_for (documents 0) t.command in
+    let h : IsServedBy v.device s.spool (meaning v.mime s.spool.state t.document t.command) t.text t.next.spool = subst (λ p. IsOutcome v s.spool (event_turn t p) p) well how.0 in
+    let k : IsServedBy v.device s.spool (meaning v.mime x.state d t.command) t.text t.next.spool = subst (λ y. IsServedBy v.device s.spool (meaning v.mime y d t.command) t.text t.next.spool) e (goes h) in
+    held_said v s x t documents e f how.1 (subst (λ w. IsServedBy v.device s.spool w t.text t.next.spool) (plain_meaning v.mime x s.slots d t.command f how.2) k)
+
+withheld_exact : {D : Type 0} (v : Setting D) (s : Course D) (x : Scene) (t : Turn D) (documents : ℕ → Documents) → s.spool.state ≡ x.state → s.slots ≡ x.slots → IsWithheld s t → IsTurnSaid v s x t documents
+withheld_exact {D} v s x t documents e f how =
+    held_said v s x t documents e f (record { slots = ap (λ (c : Course D). c.slots) how.same; told = ap (λ (c : Course D). c.told) how.same })
+    (subst (λ w. IsServedBy v.device s.spool w t.text t.next.spool) (withheld_meaning v.mime x s.slots (document_for (documents 0) t.command) t.command f how.is) (how.text, ap (λ (c : Course D). c.spool) how.same))
 
 -- rounds are told whatever document is read
 runs_same : {D : Type 0} (v : Setting D) (s : Course D) (rs : List (Ran D)) (new : Course D) (text : List ℕ) (state : State) (document other : List ℕ) (c : Command) → AreRunBy v (meaning v.mime state document c) s rs new text → AreRunBy v (meaning v.mime state other c) s rs new text
@@ -314,19 +375,42 @@ runs_same v s rs new text state document other c h = ⊎_elim
     (λ same. subst (λ w. AreRunBy v w s rs new text) (same v.mime state document other) h)
     (closes_or_same c)
 
-ran_turn : {D : Type 0} (v : Setting D) (s : Course D) (x : Scene) (t : Turn D) (documents : ℕ → Documents) (rs : List (Ran D)) → IsOk (counts_in (results_of rs)) → s.spool.state ≡ x.state → AreFor v documents s rs → AreRunBy v (meaning v.mime s.spool.state t.document t.command) s rs t.next t.text → IsTelling s x → IsTurnSaid v s x t documents
-ran_turn v s x t documents rs well e goes how tell =
-    let w = meaning_with v.mime x.state (documents 0) t.command in
-    let how' = runs_same v s rs t.next t.text s.spool.state t.document (document_for (documents 0) t.command) t.command how in
-    let (said, telling) = ran_exact v documents w s t.next x rs t.text e tell goes (subst (λ y. AreRunBy v (meaning_with v.mime y (documents 0) t.command) s rs t.next t.text) e how') well in
-    record { said = said; telling = λ _. telling }
+-- and none of them is withheld
+pub runs_free : {D : Type 0} (v : Setting D) (s : Course D) (rs : List (Ran D)) (new : Course D) (text : List ℕ) (state : State) (slots : Slots) (document : List ℕ) (c : Command) → AreRunBy v (meaning v.mime state document c) s rs new text → withholds slots c ≡ false
+runs_free v s rs new text state slots document (commands.Apply e) h = absurd h
+runs_free v s rs new text state slots document (commands.Queue q) h = refl
+runs_free v s rs new text state slots document (commands.Create c) h = refl
+runs_free v s rs new text state slots document (commands.Close job name) h = refl
+runs_free v s rs new text state slots document commands.OversizedSend h = refl
+runs_free v s rs new text state slots document commands.Jobs h = refl
+runs_free v s rs new text state slots document commands.Queues h = refl
+runs_free v s rs new text state slots document commands.Round h = refl
+runs_free v s rs new text state slots document (commands.Drain most) h = refl
+runs_free v s rs new text state slots document commands.Checkpoint h = refl
+runs_free v s rs new text state slots document commands.Malformed h = refl
 
-pub turn_exact : {D : Type 0} (v : Setting D) (s : Course D) (x : Scene) (t : Turn D) (documents : ℕ → Documents) (how : How D) → IsWell how → s.spool.state ≡ x.state → IsTelling s x ⊎ (is_round t.command ≡ false) → IsFor v s t documents how → IsHow v s t how → IsTurnSaid v s x t documents
-turn_exact v s x t documents (answered o) well e may goes how = answered_exact v s x t documents o well e goes how
-turn_exact v s x t documents (ran rs) well e may goes how = ⊎_elim
-    (λ tell. ran_turn v s x t documents rs well e goes how tell)
+ran_turn : {D : Type 0} (finish : FinishLaw) (v : Setting D) (s : Course D) (x : Scene) (t : Turn D) (documents : ℕ → Documents) (rs : List (Ran D)) → IsOk (counts_in (results_of rs)) → s.spool.state ≡ x.state → AreFor v documents rs → AreRunBy v (meaning v.mime s.spool.state t.document t.command) s rs t.next t.text → IsTelling s x → IsTurnSaid v s x t documents
+ran_turn finish v s x t documents rs well e goes how tell =
+    let w = meaning_with v.mime x (documents 0) t.command in
+    let d = document_for (documents 0) t.command in
+    let same : AreRunBy v (meaning v.mime s.spool.state d t.command) s rs t.next t.text = runs_same v s rs t.next t.text s.spool.state t.document d t.command how in
+    let here : AreRunBy v (meaning v.mime x.state d t.command) s rs t.next t.text = subst (λ y. AreRunBy v (meaning v.mime y d t.command) s rs t.next t.text) e same in
+    let free : withholds s.slots t.command ≡ false = runs_free v s rs t.next t.text s.spool.state s.slots t.document t.command how in
+    let (said, telling) = ran_exact finish v documents w s t.next x rs t.text e tell goes (subst (λ u. AreRunBy v u s rs t.next t.text) (plain_meaning v.mime x s.slots d t.command tell.slots free) here) well in
+    record { said = said; slots = telling.slots; telling = λ _. telling }
+
+pub turn_exact : {D : Type 0} (finish : FinishLaw) (v : Setting D) (s : Course D) (x : Scene) (t : Turn D) (documents : ℕ → Documents) (how : How D) → IsWell how → s.spool.state ≡ x.state → s.slots ≡ x.slots → IsTelling s x ⊎ (is_round t.command ≡ false) → IsFor v s t documents how → IsHow v s t how → IsTurnSaid v s x t documents
+turn_exact finish v s x t documents (answered o) well e f may goes how = answered_exact v s x t documents o well e f goes how
+turn_exact finish v s x t documents withheld well e f may goes how = withheld_exact v s x t documents e f how
+turn_exact finish v s x t documents (ran rs) well e f may goes how = ⊎_elim
+    (λ tell. ran_turn finish v s x t documents rs well e goes how tell)
     (λ plain. absurd (runs_none v s rs t.next t.text s.spool.state t.document t.command plain how))
     may
+
+-- only `checkpoint` lists the table, in any scene
+lists_none_in : (m : Mime) (x : Scene) (document : List ℕ) (c : Command) (b : Bool) → is_checkpoint c ≡ false → is_listing (cond b (says withheld_line) (meaning m x.state document c)) ≡ false
+lists_none_in m x document c true is = refl
+lists_none_in m x document c false is = lists_none m x.state document c is
 
 -- no event raises the version
 abbrev pub VersionLaw : Type 0
@@ -356,9 +440,9 @@ then_said v s x t ts documents asked one more =
       text = ap (λ l. l ++ texts_of ts) one.said.text ∙ ap (λ l. reply_of v.mime v.place x a ++ l) more.text;
       state = more.state;
       table = λ law keeps.
-          let here : (x.state.version ≡ Two) ⊎ (is_listing (meaning_with v.mime x.state (documents 0) t.command) ≡ false) = ⊎_elim
+          let here : (x.state.version ≡ Two) ⊎ (is_listing (meaning_with v.mime x (documents 0) t.command) ≡ false) = ⊎_elim
           (λ newest. inl newest)
-          (λ none. inr (lists_none v.mime x.state (document_for (documents 0) t.command) t.command none.0))
+          (λ none. inr (lists_none_in v.mime x (document_for (documents 0) t.command) t.command (withholds x.slots t.command) none.0))
           keeps in
           let same : next.state ≡ after_all x.state events = sym one.said.state ∙ one.said.table here in
           let then : KeepVersion next.state (commands_asked asked) = ⊎_elim (λ newest. inl (ap (λ (z : State). z.version) same ∙ law x.state events ∙ newest)) (λ none. inr none.1) keeps in
@@ -368,23 +452,24 @@ then_said v s x t ts documents asked one more =
 
 -- ## With what was read
 
-rounds_read : {D : Type 0} (v : Setting D) (s : Course D) (rs : List (Ran D)) → AreFor v (read_in rs) s rs
-rounds_read v s [] = tt
-rounds_read v s (r ∷ rs) = (λ made h. h, rounds_read v r.next rs)
+rounds_read : {D : Type 0} (v : Setting D) (rs : List (Ran D)) → AreFor v (read_in rs) rs
+rounds_read v [] = tt
+rounds_read v (r ∷ rs) = (λ made h. h, rounds_read v rs)
 
-turn_read : {D : Type 0} (v : Setting D) (s : Course D) (t : Turn D) (how : How D) → IsFor v s t (read_by t.document how) how
+pub turn_read : {D : Type 0} (v : Setting D) (s : Course D) (t : Turn D) (how : How D) → IsFor v s t (read_by t.document how) how
 turn_read v s t (answered o) = λ h. ⊎_elim
-    (λ closes. subst (λ c. IsServedBy v.device s.spool (meaning_with v.mime s.spool.state (λ j. t.document) c) t.text t.next.spool) (sym closes.2) (subst (λ c. IsServedBy v.device s.spool (meaning v.mime s.spool.state t.document c) t.text t.next.spool) closes.2 h))
+    (λ closes. subst (λ c. IsServedBy v.device s.spool (meaning v.mime s.spool.state (document_for (λ j. t.document) c) c) t.text t.next.spool) (sym closes.2) (subst (λ c. IsServedBy v.device s.spool (meaning v.mime s.spool.state t.document c) t.text t.next.spool) closes.2 h))
     (λ same. subst (λ w. IsServedBy v.device s.spool w t.text t.next.spool) (same v.mime s.spool.state t.document (document_for (λ j. t.document) t.command)) h)
     (closes_or_same t.command)
-turn_read v s t (ran rs) = rounds_read v s rs
+turn_read v s t withheld = tt
+turn_read v s t (ran rs) = rounds_read v rs
 
-turns_exact : {D : Type 0} (v : Setting D) (s : Course D) (x : Scene) (ts : List (Turn D)) → AreTurns v s ts → AllServed ts → s.spool.state ≡ x.state → IsTelling s x ⊎ HasNoRounds (commands_in ts) → AreSaid v s x ts (asked_of ts)
-turns_exact v s x [] h k e may = none_said v s x e
-turns_exact v s x (t ∷ ts) h k e may =
+turns_exact : {D : Type 0} (finish : FinishLaw) (v : Setting D) (s : Course D) (x : Scene) (ts : List (Turn D)) → AreTurns v s ts → AllServed ts → s.spool.state ≡ x.state → s.slots ≡ x.slots → IsTelling s x ⊎ HasNoRounds (commands_in ts) → AreSaid v s x ts (asked_of ts)
+turns_exact finish v s x [] h k e f may = none_said v s x e
+turns_exact finish v s x (t ∷ ts) h k e f may =
     let documents = read_by t.document t.how in
-    let one = turn_exact v s x t documents t.how k.0 e (⊎_elim (λ tell. inl tell) (λ plain. inr plain.0) may) (turn_read v s t t.how) h.0.how in
-    let more = turns_exact v t.next (after_command v.mime v.place x (asked_as t.command documents)) ts h.1 k.1 one.said.state (⊎_elim (λ tell. inl (one.telling tell)) (λ plain. inr plain.1) may) in
+    let one = turn_exact finish v s x t documents t.how k.0 e f (⊎_elim (λ tell. inl tell) (λ plain. inr plain.0) may) (turn_read v s t t.how) h.0.how in
+    let more = turns_exact finish v t.next (after_command v.mime v.place x (asked_as t.command documents)) ts h.1 k.1 one.said.state one.slots (⊎_elim (λ tell. inl (one.telling tell)) (λ plain. inr plain.1) may) in
     then_said v s x t ts documents (asked_of ts) one more
 
 -- ## A run
@@ -401,17 +486,17 @@ scene_told s x e tell = record { state = e; slots = tell.slots; told = tell.told
 
 -- by what its turns are to the scenes that it may begin with
 pub exact_of : {D : Type 0} (law : VersionLaw) (v : Setting D) (s s' : Course D) (text : List ℕ) (ts : List (Turn D)) (asked : Scene → List Asked) (a d : Option (List ℕ)) → last_course s ts ≡ s' → commands_in ts ≡ commands_of text → Appends a d (texts_of ts)
-    → ((x : Scene) → s.spool.state ≡ x.state → IsTelling s x ⊎ HasNoRounds (commands_in ts) → AreSaid v s x ts (asked x)) → IsExact v s text asked s' a d
+    → ((x : Scene) → s.spool.state ≡ x.state → s.slots ≡ x.slots → IsTelling s x ⊎ HasNoRounds (commands_in ts) → AreSaid v s x ts (asked x)) → IsExact v s text asked s' a d
 exact_of law v s s' text ts asked a d last all wrote said = record {
-  plain = λ none t. script_of law v s s' (scene_with s t) ts (asked (scene_with s t)) a d last wrote (said (scene_with s t) refl (inr (subst HasNoRounds (sym all) none)));
-  telling = λ t told rest.
+  plain = λ none t. script_of law v s s' (scene_with s t) ts (asked (scene_with s t)) a d last wrote (said (scene_with s t) refl refl (inr (subst HasNoRounds (sym all) none)));
+  telling = λ t told has.
       let x = scene_with s t in
-      let tell : IsTelling s x = record { slots = refl; told = told; rest = rest } in
-      let are = said x refl (inl tell) in (
+      let tell : IsTelling s x = record { slots = refl; told = told; tickets = has } in
+      let are = said x refl refl (inl tell) in (
         script_of law v s s' x ts (asked x) a d last wrote are,
         subst (λ y. IsScene y (script_scene v.mime v.place x (asked x))) last (scene_told (last_course s ts) (script_scene v.mime v.place x (asked x)) are.state (are.telling tell)),
       );
 }
 
-pub run_exact : {D : Type 0} (law : VersionLaw) (v : Setting D) (s s' : Course D) (text : List ℕ) (ts : List (Turn D)) (a d : Option (List ℕ)) → Lead v s ts s' → commands_in ts ≡ commands_of text → Appends a d (texts_of ts) → AllServed ts → IsExact v s text (λ x. asked_of ts) s' a d
-run_exact law v s s' text ts a d lead all wrote every = exact_of law v s s' text ts (λ x. asked_of ts) a d lead.last all wrote (λ x e may. turns_exact v s x ts lead.legal every e may)
+pub run_exact : {D : Type 0} (law : VersionLaw) (finish : FinishLaw) (v : Setting D) (s s' : Course D) (text : List ℕ) (ts : List (Turn D)) (a d : Option (List ℕ)) → Lead v s ts s' → commands_in ts ≡ commands_of text → Appends a d (texts_of ts) → AllServed ts → IsExact v s text (λ x. asked_of ts) s' a d
+run_exact law finish v s s' text ts a d lead all wrote every = exact_of law v s s' text ts (λ x. asked_of ts) a d lead.last all wrote (λ x e f may. turns_exact finish v s x ts lead.legal every e f may)

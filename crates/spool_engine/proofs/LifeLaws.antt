@@ -14,10 +14,11 @@ use Rattle.child_pipeline.specs.declared.order.Placed.{Placed}
 use Rattle.print_rounds.specs.Courses.{Course}
 use Rattle.print_rounds.specs.Lives.{Life, IsLife, IsWorld, AreLives, end_of, keys_of, keys_of_life, AreCallTurns, life_of, last_left}
 use Rattle.print_rounds.specs.World.{keys_in}
-use Rattle.spool_engine.specs.Calls.{Call, round_call, run_call, left_by, IsCall, AreCalls, last_by}
+use Rattle.spool_engine.specs.Calls.{Call, left_by, AreCalls, last_by}
 use Rattle.spool_engine.specs.EventTurns.{Setting, setting}
 use Rattle.spool_engine.specs.Lives.{EngineLife, last_of, IsEngineLife, AreEngineLives, IsEngineWorld, keys_told}
-use Rattle.spool_engine.proofs.WorldLaws.{Laws, IsQuietCall, round_turn, turns_turn, legal_then}
+use Rattle.spool_engine.proofs.SettleLaws.{empty_rests, no_tickets}
+use Rattle.spool_engine.proofs.WorldLaws.{Laws, IsTold, call_turn, legal_then}
 
 -- calls that are turns, and leave this course
 abbrev IsTurnedTo : {D : Type 0} → Told → Course D → Course D → Type 0
@@ -39,27 +40,23 @@ pub record LifeLaws (D : Type 0) : Type 0 where
   pub once : (lives : List Life) → IsWorld lives → AreOnce (keys_of lives)
 
 module _ {D : Type 0} (laws : LifeLaws D) where
-  call_turn : (v : Setting D) (t : Told) → t.running ≡ [] → (s : Course D) (c : Call D) → IsLegal s.spool.state → s.told ≡ Some t → IsCall v s c → IsQuietCall t s (left_by s c)
-  call_turn v t quiet s (round_call r) legal tells is = let one = round_turn laws.turns t quiet v s r legal tells is in (one.0, one.1, one.2)
-  call_turn v t quiet s (run_call turns) legal tells is = let one = turns_turn laws.turns v turns t quiet s legal tells is in (one.0, one.1, one.2)
-
-  engine_turns : (v : Setting D) (cs : List (Call D)) (t : Told) → t.running ≡ [] → (s : Course D) → IsLegal s.spool.state → s.told ≡ Some t → AreCalls v s cs → IsTurnedTo t s (last_by s cs)
-  engine_turns v [] t quiet s legal tells are = ([], tt, refl)
-  engine_turns v (c ∷ cs) t quiet s legal tells (first, others) =
-      let one = call_turn v t quiet s c legal tells first in
-      let rest = engine_turns v cs one.1.now one.2 (left_by s c) (legal_then laws.turns t s (left_by s c) one.0 one.1) one.1.tells others in
+  engine_turns : (v : Setting D) (cs : List (Call D)) (t : Told) (s : Course D) → IsLegal s.spool.state → IsTold t s → AreCalls v s cs → IsTurnedTo t s (last_by s cs)
+  engine_turns v [] t s legal tells are = ([], tt, refl)
+  engine_turns v (c ∷ cs) t s legal tells (first, others) =
+      let one = call_turn laws.turns v t s c legal tells first in
+      let rest = engine_turns v cs one.1.now (left_by s c) (legal_then laws.turns t s (left_by s c) one.0 one.1) (one.1.tells, one.2) others in
       ((one.0, left_by s c) ∷ rest.0, (one.1, rest.1), rest.2)
 
-  first_turns : (v : Setting D) (c : Call D) (cs : List (Call D)) (t : Told) → t.running ≡ [] → (s : Course D) → IsLegal s.spool.state → s.told ≡ Some t → AreCalls v s (c ∷ cs) → IsOneTurnedTo t s (last_by s (c ∷ cs))
-  first_turns v c cs t quiet s legal tells (first, others) =
-      let one = call_turn v t quiet s c legal tells first in
-      let rest = engine_turns v cs one.1.now one.2 (left_by s c) (legal_then laws.turns t s (left_by s c) one.0 one.1) one.1.tells others in
+  first_turns : (v : Setting D) (c : Call D) (cs : List (Call D)) (t : Told) (s : Course D) → IsLegal s.spool.state → IsTold t s → AreCalls v s (c ∷ cs) → IsOneTurnedTo t s (last_by s (c ∷ cs))
+  first_turns v c cs t s legal tells (first, others) =
+      let one = call_turn laws.turns v t s c legal tells first in
+      let rest = engine_turns v cs one.1.now (left_by s c) (legal_then laws.turns t s (left_by s c) one.0 one.1) (one.1.tells, one.2) others in
       ((one.0, left_by s c), rest.0, (one.1, rest.1), rest.2)
 
   -- an engine's life as one
   as_life : (device : DiskView D) (l : EngineLife D) → IsEngineLife device l → (m : Life) × IsLife m × ((m.first).table ≡ (l.start).spool.state) × (end_of m ≡ (last_of l).spool.state) × (keys_of_life m ≡ keys_in l.orders)
   as_life device l is =
-      let (c, cs, calls, last) = first_turns (setting device l.mime l.place) l.first l.later l.told is.quiet l.start is.legal is.tells is.calls in (
+      let (c, cs, calls, last) = first_turns (setting device l.mime l.place) l.first l.later l.told l.start is.legal (is.tells, no_tickets (l.start).slots l.told (empty_rests (l.start).slots is.empty) is.quiet) is.calls in (
         life_of l.told l.start c cs calls,
         laws.life l.told l.start c cs calls is.idle is.empty,
         refl,

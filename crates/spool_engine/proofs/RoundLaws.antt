@@ -16,15 +16,17 @@ use Rattle.child_pipeline.specs.Slots.{Slots}
 use Rattle.child_pipeline.specs.Told.{Told}
 use Rattle.print_rounds.specs.Courses.{Course, course}
 use Rattle.print_rounds.proofs.PrefixLaws.{after_both, none_of, some_first, some_later}
-use Rattle.print_rounds.specs.Finished.{EachFinishedOnce}
+use Rattle.print_rounds.specs.Finished.{EachFinishedOnce, HasNoneRunning}
+use Rattle.print_rounds.specs.Ticks.{IsTickBy}
 use Rattle.print_rounds.specs.Rounds.{HasSomeOf, HasSomeWhole, LeavesDocuments, IsRoundBy, tried_in}
 use Rattle.print_rounds.specs.declared.outcome.Round.{Round}
 use Rattle.print_rounds.specs.declared.outcome.RoundFault.{RoundFault}
-use Rattle.spool_engine.specs.Script.{meaning, runs}
+use Rattle.spool_engine.specs.Script.{meaning, runs, withheld_line, withholds}
 use Rattle.spool_engine.specs.EventTurns.{Setting, EventTurn, IsEventTurn, IsKept}
 use Rattle.spool_engine.specs.Answers.{Takes}
-use Rattle.spool_engine.specs.Rounds.{Ran, IsRoundWith, IsRan, AreRan, AreRun, AreRunBy}
-use Rattle.spool_engine.specs.Runs.{Turn, TakesTurn, IsHeld, HasSomeIn, answered, ran}
+use Rattle.spool_engine.specs.Rounds.{Ran, IsRoundWith, IsRan, IsSettled, AreRan, AreRun, AreRunBy}
+use Rattle.spool_engine.specs.Ticks.{IsTickWith, IsTicked}
+use Rattle.spool_engine.specs.Runs.{Turn, TakesTurn, IsHeld, HasSomeIn, answered, ran, withheld}
 use Rattle.spool_engine.proofs.EventLaws.{OnlyNow, crash_in, unmoved, unmoved_whole}
 
 -- ## Some events that send nothing
@@ -47,63 +49,123 @@ whole_later s t documents es fs c is (k, high, has) = (
 -- ## A round
 
 -- after a fault of the device nothing is done
-pub dead_ran : {D : Type 0} (v : Setting D) (s : Course D) (r : Ran D) → s.spool.dead ≡ true → IsRan v s r → r.next ≡ s
-dead_ran v s r is h = (subst (λ b. IsRoundWith v.device v.place s b r) is h.round).0.1
+pub dead_ran : {D : Type 0} (v : Setting D) (s : Course D) (r : Ran D) → s.spool.dead ≡ true → IsRan v s r → r.next.spool ≡ s.spool
+dead_ran {D} v s r is h =
+    let died : r.settled.spool.dead ≡ true = ap (λ (x : Standing D). x.dead) h.settles.spool ∙ is in
+    ap (λ x. x.spool) (subst (λ b. IsRoundWith v.device v.place r.settled b r) died h.round).0.1 ∙ h.settles.spool
 
-pub dead_rans : {D : Type 0} (v : Setting D) (s : Course D) (rs : List (Ran D)) (new : Course D) → s.spool.dead ≡ true → AreRan v s rs new → new ≡ s
-dead_rans v s [] new is h = h
+pub dead_rans : {D : Type 0} (v : Setting D) (s : Course D) (rs : List (Ran D)) (new : Course D) → s.spool.dead ≡ true → AreRan v s rs new → new.spool ≡ s.spool
+dead_rans v s [] new is h = ap (λ x. x.spool) h
 dead_rans v s (r ∷ rs) new is h =
-    let same : r.next ≡ s = dead_ran v s r is h.0 in
-    dead_rans v r.next rs new (ap (λ x. x.spool.dead) same ∙ is) h.1 ∙ same
+    let same : r.next.spool ≡ s.spool = dead_ran v s r is h.0 in
+    dead_rans v r.next rs new (ap (λ x. x.dead) same ∙ is) h.1 ∙ same
 
 -- while the device works the table is that of all the events that were tried
-tried_table : {D : Type 0} (v : Setting D) (s : Course D) (r : Ran D) → r.next.spool.dead ≡ false → IsRoundWith v.device v.place s false r → r.next.spool.state ≡ after_all s.spool.state r.tried
-tried_table v s r lives h = ⊎_elim
+tried_from : {D : Type 0} (v : Setting D) (s : Course D) (r : Ran D) → r.next.spool.dead ≡ false → IsRoundWith v.device v.place s false r → r.next.spool.state ≡ after_all s.spool.state r.tried
+tried_from v s r lives h = ⊎_elim
     (λ unbegun. ap (λ x. x.spool.state) unbegun.0.1 ∙ ap (after_all s.spool.state) (sym unbegun.1))
     (λ made. made.0.table ∙ ap (after_all s.spool.state) (sym (made.0.all_acknowledged lives) ∙ sym made.1))
     h
 
--- a round, by how it went, and what a crash leaves of it
-pub ran_of : {D : Type 0} (v : Setting D) (old new : Course D) (result : Result Round RoundFault) (b : Bool) → old.spool.dead ≡ b → OnlyNow v.device → IsKept v.device old.spool → IsKept v.device new.spool
-    → v.device.failures old.spool.disk ≤ v.device.failures new.spool.disk → (IsSome (v.device.bytes new.spool.disk) ↔ IsSome (v.device.bytes old.spool.disk))
-    → ((t : Told) → old.told ≡ Some t → t.running ≡ [] → (js : List ℕ) × EachFinishedOnce t new.told js)
-    → IsRoundBy v.device v.place old b new result → (tried : List Event) × (documents : ℕ → List ℕ) × IsRan v old (record { next = new; result = result; tried = tried; documents = documents })
-ran_of v old new result true is now kept later counted told finished h = (
+tried_table : {D : Type 0} (v : Setting D) (s : Course D) (r : Ran D) → r.next.spool.dead ≡ false → s.spool.dead ≡ false → IsRan v s r → r.next.spool.state ≡ after_all s.spool.state r.tried
+tried_table {D} v s r lives alive h =
+    let works : r.settled.spool.dead ≡ false = ap (λ (x : Standing D). x.dead) h.settles.spool ∙ alive in
+    tried_from v r.settled r lives (subst (λ b. IsRoundWith v.device v.place r.settled b r) works h.round) ∙ ap (λ (x : Standing D). after_all x.state r.tried) h.settles.spool
+
+-- a round from where no child runs, by how it went, and what a crash leaves of it
+pub ran_of : {D : Type 0} (v : Setting D) (s : Standing D) (slots slots' : Slots) (told told' : Option Told) (new : Course D) (result : Result Round RoundFault) (b : Bool) → s.dead ≡ b → IsSettled (course s slots told) (course s slots' told') → OnlyNow v.device → IsKept v.device s → IsKept v.device new.spool
+    → v.device.failures s.disk ≤ v.device.failures new.spool.disk → (IsSome (v.device.bytes new.spool.disk) ↔ IsSome (v.device.bytes s.disk))
+    → ((t : Told) → told' ≡ Some t → t.running ≡ [] → (js : List ℕ) × EachFinishedOnce t new.told js) → HasNoneRunning new.slots
+    → IsRoundBy v.device v.place (course s slots' told') b new result → (settled : Course D) × (tried : List Event) × (documents : ℕ → List ℕ) × IsRan v (course s slots told) (record { settled = settled; next = new; result = result; tried = tried; documents = documents })
+ran_of {D} v s slots slots' told told' new result true is settles now kept later counted tells finished rest h = (
+  course s slots' told',
   [],
   λ j. [],
   record {
-    round = subst (λ b. IsRoundWith v.device v.place old b (record { next = new; result = result; tried = []; documents = λ j. [] })) (sym is) (h, refl);
+    settles = settles;
+    round = subst (λ b. IsRoundWith v.device v.place (course s slots' told') b (record { settled = course s slots' told'; next = new; result = result; tried = []; documents = λ j. [] })) (sym is) (h, refl);
     finished = finished;
+    rest = rest;
+    counted = counted;
+    told = tells;
+    crash = λ alive tells. absurd cc;
+    kept = later;
+    whole = λ alive tells documents has. absurd cc;
+    lasting = λ lives tells documents has. subst (λ (x : Course D). LeavesDocuments v.device documents x.spool) (sym h.1) has;
+  },
+)
+ran_of {D} v s slots slots' told told' new result false is settles now kept later counted tells finished rest h = ⊎_elim
+    (λ unbegun. (
+      course s slots' told',
+      [],
+      λ j. [],
+      record {
+        settles = settles;
+        round = subst (λ b. IsRoundWith v.device v.place (course s slots' told') b (record { settled = course s slots' told'; next = new; result = result; tried = []; documents = λ j. [] })) (sym is) (inl (unbegun, refl));
+        finished = finished;
+        rest = rest;
+        counted = counted;
+        told = tells;
+        crash = λ alive tells. subst (λ (x : Course D). LeavesOnly v.device s.disk x.spool.disk (HasSomeOf s.state [])) (sym unbegun.1) (unmoved v.device s (HasSomeOf s.state []) now kept (none_of s.state []) alive tells);
+        kept = later;
+        whole = λ alive tells documents has. subst (λ (x : Course D). LeavesOnly v.device s.disk x.spool.disk (HasSomeWhole s.state documents [])) (sym unbegun.1)
+            (unmoved_whole v.device s documents (HasSomeWhole s.state documents []) now kept (whole_none s.state documents []) alive tells has);
+        lasting = λ lives tells documents has. subst (λ (x : Course D). LeavesDocuments v.device documents x.spool) (sym unbegun.1) has;
+      },
+    ))
+    (λ made. (
+      course s slots' told',
+      tried_in (course s slots' told') made.steps,
+      made.read.0,
+      record {
+        settles = settles;
+        round = subst (λ b. IsRoundWith v.device v.place (course s slots' told') b (record { settled = course s slots' told'; next = new; result = result; tried = tried_in (course s slots' told') made.steps; documents = made.read.0 })) (sym is) (inr (made, refl, made.read.1));
+        finished = finished;
+        rest = rest;
+        counted = counted;
+        told = tells;
+        crash = made.any_moment;
+        kept = later;
+        whole = made.any_whole;
+        lasting = made.lasting;
+      },
+    ))
+    h
+
+-- a tick, by how it went
+pub ticked_of : {D : Type 0} (v : Setting D) (old new : Course D) (result : Result Round RoundFault) (b : Bool) → old.spool.dead ≡ b → OnlyNow v.device → IsKept v.device old.spool → IsKept v.device new.spool
+    → v.device.failures old.spool.disk ≤ v.device.failures new.spool.disk → (IsSome (v.device.bytes new.spool.disk) ↔ IsSome (v.device.bytes old.spool.disk))
+    → IsTickBy v.device v.place old b new result → (tried : List Event) × IsTicked v old (record { next = new; result = result; tried = tried })
+ticked_of {D} v old new result true is now kept later counted told h = (
+  [],
+  record {
+    tick = subst (λ b. IsTickWith v.device v.place old b (record { next = new; result = result; tried = [] })) (sym is) (h, refl);
     counted = counted;
     told = told;
     crash = λ alive tells. absurd cc;
     kept = later;
     whole = λ alive tells documents has. absurd cc;
-    lasting = λ lives tells documents has. subst (λ x. LeavesDocuments v.device documents x.spool) (sym h.1) has;
+    lasting = λ lives tells documents has. subst (λ (x : Course D). LeavesDocuments v.device documents x.spool) (sym h.1) has;
   },
 )
-ran_of v old new result false is now kept later counted told finished h = ⊎_elim
+ticked_of {D} v old new result false is now kept later counted told h = ⊎_elim
     (λ unbegun. (
       [],
-      λ j. [],
       record {
-        round = subst (λ b. IsRoundWith v.device v.place old b (record { next = new; result = result; tried = []; documents = λ j. [] })) (sym is) (inl (unbegun, refl));
-        finished = finished;
+        tick = subst (λ b. IsTickWith v.device v.place old b (record { next = new; result = result; tried = [] })) (sym is) (inl (unbegun, refl));
         counted = counted;
         told = told;
-        crash = λ alive tells. subst (λ x. LeavesOnly v.device old.spool.disk x.spool.disk (HasSomeOf old.spool.state [])) (sym unbegun.1) (unmoved v.device old.spool (HasSomeOf old.spool.state []) now kept (none_of old.spool.state []) alive tells);
+        crash = λ alive tells. subst (λ (x : Course D). LeavesOnly v.device old.spool.disk x.spool.disk (HasSomeOf old.spool.state [])) (sym unbegun.1) (unmoved v.device old.spool (HasSomeOf old.spool.state []) now kept (none_of old.spool.state []) alive tells);
         kept = later;
-        whole = λ alive tells documents has. subst (λ x. LeavesOnly v.device old.spool.disk x.spool.disk (HasSomeWhole old.spool.state documents [])) (sym unbegun.1)
+        whole = λ alive tells documents has. subst (λ (x : Course D). LeavesOnly v.device old.spool.disk x.spool.disk (HasSomeWhole old.spool.state documents [])) (sym unbegun.1)
             (unmoved_whole v.device old.spool documents (HasSomeWhole old.spool.state documents []) now kept (whole_none old.spool.state documents []) alive tells has);
-        lasting = λ lives tells documents has. subst (λ x. LeavesDocuments v.device documents x.spool) (sym unbegun.1) has;
+        lasting = λ lives tells documents has. subst (λ (x : Course D). LeavesDocuments v.device documents x.spool) (sym unbegun.1) has;
       },
     ))
     (λ made. (
-      tried_in old made.steps,
-      made.read.0,
+      tried_in old made.steps.parts,
       record {
-        round = subst (λ b. IsRoundWith v.device v.place old b (record { next = new; result = result; tried = tried_in old made.steps; documents = made.read.0 })) (sym is) (inr (made, refl, made.read.1));
-        finished = finished;
+        tick = subst (λ b. IsTickWith v.device v.place old b (record { next = new; result = result; tried = tried_in old made.steps.parts })) (sym is) (inr (made, refl));
         counted = counted;
         told = told;
         crash = made.any_moment;
@@ -136,7 +198,7 @@ rounds_kept v s (r ∷ rs) new kept h = rounds_kept v r.next rs new h.0.kept h.1
 -- by whether the device works after the first
 lasting_by : {D : Type 0} (v : Setting D) (s : Course D) (r : Ran D) (rs : List (Ran D)) (new : Course D) (documents : ℕ → List ℕ) (b : Bool) → r.next.spool.dead ≡ b → IsRan v s r → AreRan v r.next rs new → new.spool.dead ≡ false → IsSome (v.device.bytes s.spool.disk)
     → LeavesDocuments v.device documents s.spool → (LeavesDocuments v.device documents r.next.spool → LeavesDocuments v.device documents new.spool) → LeavesDocuments v.device documents new.spool
-lasting_by v s r rs new documents true is h more lives tells has rest = absurd (let died = ap (λ x. x.spool.dead) (dead_rans v r.next rs new is more) ∙ is in cc)
+lasting_by v s r rs new documents true is h more lives tells has rest = absurd (let died = ap (λ x. x.dead) (dead_rans v r.next rs new is more) ∙ is in cc)
 lasting_by v s r rs new documents false is h more lives tells has rest = rest (h.lasting is tells documents has)
 
 pub rounds_lasting : {D : Type 0} (v : Setting D) (s : Course D) (rs : List (Ran D)) (new : Course D) (documents : ℕ → List ℕ) → AreRan v s rs new → new.spool.dead ≡ false → IsSome (v.device.bytes s.spool.disk) → LeavesDocuments v.device documents s.spool → LeavesDocuments v.device documents new.spool
@@ -150,13 +212,13 @@ module _ {D : Type 0} (v : Setting D) (now : OnlyNow v.device) where
       → (r.next.spool.dead ≡ false → LeavesOnly v.device r.next.spool.disk new.spool.disk (HasSomeOf r.next.spool.state (all_tried rs)))
       → LeavesOnly v.device s.spool.disk new.spool.disk (HasSomeOf s.spool.state (r.tried ++ all_tried rs))
   crash_by s r rs new true is h more alive tells rest =
-      subst (λ x. LeavesOnly v.device s.spool.disk x.spool.disk (HasSomeOf s.spool.state (r.tried ++ all_tried rs))) (sym (dead_rans v r.next rs new is more))
+      subst (λ x. LeavesOnly v.device s.spool.disk x.disk (HasSomeOf s.spool.state (r.tried ++ all_tried rs))) (sym (dead_rans v r.next rs new is more))
       (weaker_run v.device s.spool.disk r.next.spool.disk (HasSomeOf s.spool.state (r.tried ++ all_tried rs)) (HasSomeOf s.spool.state r.tried) (h.crash alive tells) (some_first s.spool.state r.tried (all_tried rs)))
   crash_by s r rs new false is h more alive tells rest =
       runs_on v.device s.spool.disk r.next.spool.disk new.spool.disk (HasSomeOf s.spool.state (r.tried ++ all_tried rs)) (HasSomeOf r.next.spool.state (all_tried rs))
       (weaker_run v.device s.spool.disk r.next.spool.disk (HasSomeOf s.spool.state (r.tried ++ all_tried rs)) (HasSomeOf s.spool.state r.tried) (h.crash alive tells) (some_first s.spool.state r.tried (all_tried rs)))
       (rest is)
-      (λ c. some_later s.spool.state r.next.spool.state r.tried (all_tried rs) c (tried_table v s r is (subst (λ b. IsRoundWith v.device v.place s b r) alive h.round)))
+      (λ c. some_later s.spool.state r.next.spool.state r.tried (all_tried rs) c (tried_table v s r is alive h))
 
   rounds_crash : (s : Course D) (rs : List (Ran D)) (new : Course D) → IsKept v.device s.spool → AreRan v s rs new → s.spool.dead ≡ false → IsSome (v.device.bytes s.spool.disk) → LeavesOnly v.device s.spool.disk new.spool.disk (HasSomeOf s.spool.state (all_tried rs))
   rounds_crash s [] new kept h alive tells =
@@ -169,13 +231,13 @@ module _ {D : Type 0} (v : Setting D) (now : OnlyNow v.device) where
       → (r.next.spool.dead ≡ false → LeavesDocuments v.device documents r.next.spool → LeavesOnly v.device r.next.spool.disk new.spool.disk (HasSomeWhole r.next.spool.state documents (all_tried rs)))
       → LeavesOnly v.device s.spool.disk new.spool.disk (HasSomeWhole s.spool.state documents (r.tried ++ all_tried rs))
   whole_by s r rs new documents true is h more alive tells has rest =
-      subst (λ x. LeavesOnly v.device s.spool.disk x.spool.disk (HasSomeWhole s.spool.state documents (r.tried ++ all_tried rs))) (sym (dead_rans v r.next rs new is more))
+      subst (λ x. LeavesOnly v.device s.spool.disk x.disk (HasSomeWhole s.spool.state documents (r.tried ++ all_tried rs))) (sym (dead_rans v r.next rs new is more))
       (weaker_run v.device s.spool.disk r.next.spool.disk (HasSomeWhole s.spool.state documents (r.tried ++ all_tried rs)) (HasSomeWhole s.spool.state documents r.tried) (h.whole alive tells documents has) (whole_first s.spool.state documents r.tried (all_tried rs)))
   whole_by s r rs new documents false is h more alive tells has rest =
       runs_on v.device s.spool.disk r.next.spool.disk new.spool.disk (HasSomeWhole s.spool.state documents (r.tried ++ all_tried rs)) (HasSomeWhole r.next.spool.state documents (all_tried rs))
       (weaker_run v.device s.spool.disk r.next.spool.disk (HasSomeWhole s.spool.state documents (r.tried ++ all_tried rs)) (HasSomeWhole s.spool.state documents r.tried) (h.whole alive tells documents has) (whole_first s.spool.state documents r.tried (all_tried rs)))
       (rest is (h.lasting is tells documents has))
-      (λ c. whole_later s.spool.state r.next.spool.state documents r.tried (all_tried rs) c (tried_table v s r is (subst (λ b. IsRoundWith v.device v.place s b r) alive h.round)))
+      (λ c. whole_later s.spool.state r.next.spool.state documents r.tried (all_tried rs) c (tried_table v s r is alive h))
 
   rounds_whole : (s : Course D) (rs : List (Ran D)) (new : Course D) (documents : ℕ → List ℕ) → IsKept v.device s.spool → AreRan v s rs new → s.spool.dead ≡ false → IsSome (v.device.bytes s.spool.disk) → LeavesDocuments v.device documents s.spool → LeavesOnly v.device s.spool.disk new.spool.disk (HasSomeWhole s.spool.state documents (all_tried rs))
   rounds_whole s [] new documents kept h alive tells has =
@@ -215,13 +277,37 @@ same_turn t c s' e f =
     ap (λ x. record { command = x; document = t.document; outcome = t.outcome; text = t.text; next = t.next }) e
     ∙ ap (λ x. record { command = c; document = t.document; outcome = t.outcome; text = t.text; next = x }) f
 
-pub held_turn : {X E D : Type 0} (bytes : X → List ℕ) (result : Result X E) (v : Setting D) (s new : Course D) (c : Command) → IsHeld s new
+-- A purge of a job whose child runs changes nothing.
+pub withheld_turn : {X E D : Type 0} (bytes : X → List ℕ) (result : Result X E) (v : Setting D) (s : Course D) (c : Command) → OnlyNow v.device → IsKept v.device s.spool → withholds s.slots c ≡ true
+    → IfOk result (λ x. bytes x ≡ withheld_line) → (t : Turn D) × TakesTurn v s c t s × IfOk result (λ x. bytes x ≡ t.text)
+withheld_turn {D} bytes result v s c now kept is told = (
+  record { command = c; document = []; how = withheld; text = withheld_line; next = s },
+  record {
+    legal = record {
+      how = record { is = is; text = refl; same = refl };
+      read = tt;
+      counted = omega arith;
+      told = (λ h. h, λ h. h);
+      crash = λ alive tells. crash_in v.device s.spool.disk s.spool.disk c s.spool.state [] (unmoved v.device s.spool (HasSomeOf s.spool.state []) now kept (none_of s.spool.state []) alive tells);
+      whole = λ alive tells documents has.
+          let turn : Turn D = record { command = c; document = []; how = withheld; text = withheld_line; next = s } in
+          unmoved_whole v.device s.spool documents (HasSomeIn v.mime s documents turn) now kept (λ image whole. inl whole) alive tells has;
+      kept = kept;
+      lasting = λ lives tells documents has. has;
+    };
+    command = refl;
+    next = refl;
+  },
+  told,
+)
+
+pub held_turn : {X E D : Type 0} (bytes : X → List ℕ) (result : Result X E) (v : Setting D) (s new : Course D) (c : Command) → IsHeld s new → withholds s.slots c ≡ false
     → (t : EventTurn D) × Takes v s.spool c t new.spool × IfOk result (λ x. bytes x ≡ t.text) → (t : Turn D) × TakesTurn v s c t new × IfOk result (λ x. bytes x ≡ t.text)
-held_turn bytes result v s new c held (t, takes, told) =
+held_turn bytes result v s new c held free (t, takes, told) =
     let one = subst (IsEventTurn v s.spool) (same_turn t c new.spool takes.command takes.next) takes.legal in (
       record { command = c; document = t.document; how = answered t.outcome; text = t.text; next = new },
       record {
-        legal = record { how = (one.outcome, held); read = one.read; counted = one.counted; told = one.told; crash = one.crash; whole = one.whole; kept = one.kept; lasting = one.lasting };
+        legal = record { how = (one.outcome, held, free); read = one.read; counted = one.counted; told = one.told; crash = one.crash; whole = one.whole; kept = one.kept; lasting = one.lasting };
         command = refl;
         next = refl;
       },
@@ -229,20 +315,20 @@ held_turn bytes result v s new c held (t, takes, told) =
     )
 
 -- the same, where what was found goes by another name
-pub event_lifted : {X E D : Type 0} (bytes : X → List ℕ) (result : Result X E) (v : Setting D) (e e' : Standing D) (slots : Slots) (told : Option Told) (s : Course D) (c : Command) → course e slots told ≡ s
+pub event_lifted : {X E D : Type 0} (bytes : X → List ℕ) (result : Result X E) (v : Setting D) (e e' : Standing D) (slots : Slots) (told : Option Told) (s : Course D) (c : Command) → course e slots told ≡ s → withholds slots c ≡ false
     → (t : EventTurn D) × Takes v e c t e' × IfOk result (λ x. bytes x ≡ t.text) → (t : Turn D) × TakesTurn v s c t (course e' slots told) × IfOk result (λ x. bytes x ≡ t.text)
-event_lifted bytes result v e e' slots told s c is h =
+event_lifted bytes result v e e' slots told s c is free h =
     subst (λ y. (t : Turn _) × TakesTurn v y c t (course e' slots told) × IfOk result (λ x. bytes x ≡ t.text)) is
-    (held_turn bytes result v (course e slots told) (course e' slots told) c (record { slots = refl; told = refl }) h)
+    (held_turn bytes result v (course e slots told) (course e' slots told) c (record { slots = refl; told = refl }) free h)
 
 -- the same, where nothing has changed
-pub said_lifted : {X E D : Type 0} (bytes : X → List ℕ) (result : Result X E) (v : Setting D) (s : Course D) (c : Command)
+pub said_lifted : {X E D : Type 0} (bytes : X → List ℕ) (result : Result X E) (v : Setting D) (s : Course D) (c : Command) → withholds s.slots c ≡ false
     → (t : EventTurn D) × Takes v s.spool c t s.spool × IfOk result (λ x. bytes x ≡ t.text) → (t : Turn D) × TakesTurn v s c t s × IfOk result (λ x. bytes x ≡ t.text)
-said_lifted bytes result v s c h = held_turn bytes result v s s c (record { slots = refl; told = refl }) h
+said_lifted bytes result v s c free h = held_turn bytes result v s s c (record { slots = refl; told = refl }) free h
 
 -- the same, where what was found goes by another name and hasn't changed
-pub listed : {X E D : Type 0} (bytes : X → List ℕ) (result : Result X E) (v : Setting D) (e : Standing D) (slots : Slots) (told : Option Told) (s : Course D) (c : Command) → course e slots told ≡ s
+pub listed : {X E D : Type 0} (bytes : X → List ℕ) (result : Result X E) (v : Setting D) (e : Standing D) (slots : Slots) (told : Option Told) (s : Course D) (c : Command) → course e slots told ≡ s → withholds slots c ≡ false
     → (t : EventTurn D) × Takes v e c t e × IfOk result (λ x. bytes x ≡ t.text) → (t : Turn D) × TakesTurn v s c t s × IfOk result (λ x. bytes x ≡ t.text)
-listed bytes result v e slots told s c is h =
+listed bytes result v e slots told s c is free h =
     subst (λ y. (t : Turn _) × TakesTurn v y c t y × IfOk result (λ x. bytes x ≡ t.text)) is
-    (said_lifted bytes result v (course e slots told) c h)
+    (said_lifted bytes result v (course e slots told) c free h)

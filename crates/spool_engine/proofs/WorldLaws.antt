@@ -1,4 +1,4 @@
--- A round, and a run, is a turn of World.
+-- A round, a tick, and a run, is a turn of World.
 use Rattle.std.proofs.Common.{◌≡◌, ◌⊎◌, inl, inr, ℕ, true, false, Bool, List, [], ◌∷◌, ◌++◌, Some, None, Option, Result, Ok, Err, refl, sym, ap, subst, ◌∙◌, append_assoc, append-nil}
 use Rattle.std.specs.List.{flat_map}
 use Rattle.std.proofs.lemmas.Bool.{both_ways}
@@ -18,18 +18,22 @@ use Rattle.spool_core.specs.declared.spool.checkpoint_fault.CheckpointFault.{Che
 use Rattle.spool_core.specs.declared.spool.checkpoint_fault.CheckpointFault.TheVariants as listing
 use Rattle.spool_disk.specs.Disk.{DiskView}
 use Rattle.command_lines.specs.declared.command.Command.{Command}
+use Rattle.child_pipeline.specs.Tickets.{HasTickets}
 use Rattle.child_pipeline.specs.Told.{Told}
 use Rattle.print_rounds.specs.Counts.{AreAcknowledged}
 use Rattle.print_rounds.specs.Courses.{Course}
 use Rattle.print_rounds.specs.Rounds.{events_in}
-use Rattle.print_rounds.specs.World.{IsEndedSlot, IsCallTurn}
+use Rattle.print_rounds.specs.World.{IsBegunSlot, IsCallTurn}
 use Rattle.print_rounds.proofs.PrefixLaws.{after_both}
 use Rattle.spool_engine.specs.EventTurns.{listed, tried_as, Setting, Outcome, served, no_memory, full, disk, dead, unread, unreadable, unlisted, IsTaken, IsLeft, IsServedBy, IsOutcome}
-use Rattle.spool_engine.specs.Rounds.{Ran, IsRoundWith, IsRan, AreRan, AreRunBy}
-use Rattle.spool_engine.specs.Runs.{tried_by, tried_in, Turn, How, answered as replied, ran, event_turn, IsHow, IsHeld as HasSlotsOf, KeepVersion, AreTurns, commands_in, last_course}
-use Rattle.spool_engine.specs.Calls.{IsQuietTurn, IsQuietRun, tried_in_turns}
+use Rattle.spool_engine.specs.Rounds.{Ran, IsRoundWith, IsRan, IsSettled, AreRan, AreRunBy}
+use Rattle.spool_engine.specs.Ticks.{Ticked, IsTickWith, IsTicked}
+use Rattle.spool_engine.specs.Runs.{tried_by, tried_in, Turn, How, answered as replied, ran, withheld, event_turn, IsHow, IsHeld as HasSlotsOf, KeepVersion, AreTurns, commands_in, last_course}
+use Rattle.spool_engine.specs.Calls.{Call, round_call, tick_call, run_call, left_by, IsCall, IsTicketTurn, IsQuietTurn, IsTicketRun, tried_in_turns}
 use Rattle.spool_engine.specs.Script.{event_in, event_of, Meaning, says, asks, lists, runs, meaning}
+use Rattle.spool_engine.specs.Mime.{Mime}
 use Rattle.spool_engine.proofs.ExactLaws.{VersionLaw, is_listing, lists_none, raised_same}
+use Rattle.spool_engine.proofs.SettleLaws.{begun_then, no_tickets}
 
 -- ## The events that were tried
 
@@ -124,16 +128,21 @@ pub record Laws (D : Type 0) : Type 0 where
 pub some_same : (x y : Told) → Some x ≡ Some y → x ≡ y
 some_same x y e = cc
 
--- A turn, and the table behind it.
+-- the children tell this, and the slots have the tickets of those that run
+abbrev pub IsTold : {D : Type 0} → Told → Course D → Type 0
+IsTold t s = (s.told ≡ Some t) × HasTickets s.slots t
+
+-- A turn, and the table behind it. Where no child ran before it none runs after it.
 pub record IsTurned {D : Type 0} (t : Told) (old : Course D) (raises : Bool) (tried : List Event) (new : Course D) : Type 0 where
-  pub turn : IsQuietTurn t old tried new
+  pub turn : IsTicketTurn t old tried new
   pub behind : IsBehind raises old.spool.state turn.0 new.spool.state
+  pub quiet : t.running ≡ [] → turn.1.now.running ≡ []
 
--- A turn of World after which no child runs.
-abbrev pub IsQuietCall : {D : Type 0} → Told → Course D → Course D → Type 0
-IsQuietCall t old new = (more : List Event) × (c : IsCallTurn t old more new) × (c.now.running ≡ [])
+-- A turn of World, after which the slots have the tickets.
+abbrev pub IsTicketCall : {D : Type 0} → Told → Course D → Course D → Type 0
+IsTicketCall t old new = (more : List Event) × (c : IsCallTurn t old more new) × HasTickets new.slots c.now
 
-module _ {D : Type 0} (laws : Laws D) (t : Told) (quiet : t.running ≡ []) where
+module _ {D : Type 0} (laws : Laws D) (t : Told) where
   behind_raised : (raises : Bool) (s : State) (events : List Event) (s' : State) → AreAccepted s events → IsBehind raises s events s' → raised s' ≡ after_all (raised s) events
   behind_raised raises s events s' taken (inl is) = ap raised is ∙ sym (laws.rises s events taken).1
   behind_raised raises s events s' taken (inr (raised_it, none, is)) = ap raised is ∙ ap (after_all (raised s)) (sym none)
@@ -143,12 +152,12 @@ module _ {D : Type 0} (laws : Laws D) (t : Told) (quiet : t.running ≡ []) wher
   behind_left raises s events s' k legal (inr (raised_it, none, is)) now = inl (subst (λ u. IsIn u k) (sym is) (in_raised s k now))
 
   -- events without a round: the slots are as they were
-  pub plain_call : (old new : Course D) (raises : Bool) (events : List Event) → IsLegal old.spool.state → old.told ≡ Some t → AreAccepted old.spool.state events → IsBehind raises old.spool.state events new.spool.state
-      → HasSlotsOf old new → (old.spool.dead ≡ true → new.spool.dead ≡ true) → (c : IsCallTurn t old events new) × (c.now.running ≡ [])
+  pub plain_call : (old new : Course D) (raises : Bool) (events : List Event) → IsLegal old.spool.state → IsTold t old → AreAccepted old.spool.state events → IsBehind raises old.spool.state events new.spool.state
+      → HasSlotsOf old new → (old.spool.dead ≡ true → new.spool.dead ≡ true) → (c : IsCallTurn t old events new) × HasTickets new.slots c.now × (t.running ≡ [] → c.now.running ≡ [])
   plain_call old new raises events legal tells taken behind held over = (
     record {
       now = t;
-      tells = held.told ∙ tells;
+      tells = held.told ∙ tells.0;
       orders = [];
       added = sym (append-nil t.orders);
       turn = record {
@@ -160,7 +169,7 @@ module _ {D : Type 0} (laws : Laws D) (t : Told) (quiet : t.running ≡ []) wher
         reached = λ k among. absurd among;
         settled = λ alive k some. elim some [
           | inl before ↦ elim (behind_left raises old.spool.state events new.spool.state k legal behind before.0) [
-            | inl still ↦ inl (still, subst (λ m. IsEndedSlot m k) (sym held.slots) before.1)
+            | inl still ↦ inl (still, subst (λ m. IsBegunSlot m k) (sym held.slots) before.1)
             | inr gone ↦ inr gone
           ]
           | inr none ↦ absurd none
@@ -168,23 +177,24 @@ module _ {D : Type 0} (laws : Laws D) (t : Told) (quiet : t.running ≡ []) wher
       };
       after_over = λ died. (refl, over died);
     },
-    quiet,
+    subst (λ m. HasTickets m t) (sym held.slots) tells.1,
+    λ quiet. quiet,
   )
 
-  plain_with : (old new : Course D) (raises : Bool) (events tried : List Event) → IsLegal old.spool.state → old.told ≡ Some t → AreAccepted old.spool.state events → IsBehind raises old.spool.state events new.spool.state
+  plain_with : (old new : Course D) (raises : Bool) (events tried : List Event) → IsLegal old.spool.state → IsTold t old → AreAccepted old.spool.state events → IsBehind raises old.spool.state events new.spool.state
       → HasSlotsOf old new → (old.spool.dead ≡ true → new.spool.dead ≡ true)
       → ((acknowledged : List Event) × AreAcknowledged new.spool.dead tried acknowledged × (events ≡ accepted old.spool.state acknowledged)) → (old.spool.dead ≡ true → tried ≡ []) → IsTurned t old raises tried new
   plain_with old new raises events tried legal tells taken behind held over acknowledged none =
       let one = plain_call old new raises events legal tells taken behind held over in
-      record { turn = (events, one.0, one.1, acknowledged, none); behind = behind }
+      record { turn = (events, one.0, one.1, acknowledged, none); behind = behind; quiet = one.2 }
 
   -- all of them were acknowledged
-  plain_turn : (old new : Course D) (raises : Bool) (events : List Event) → IsLegal old.spool.state → old.told ≡ Some t → AreAccepted old.spool.state events → IsBehind raises old.spool.state events new.spool.state
+  plain_turn : (old new : Course D) (raises : Bool) (events : List Event) → IsLegal old.spool.state → IsTold t old → AreAccepted old.spool.state events → IsBehind raises old.spool.state events new.spool.state
       → HasSlotsOf old new → (old.spool.dead ≡ true → new.spool.dead ≡ true) → (old.spool.dead ≡ true → events ≡ []) → IsTurned t old raises events new
   plain_turn old new raises events legal tells taken behind held over none =
       plain_with old new raises events events legal tells taken behind held over (events, inl refl, sym (accepted_all old.spool.state events taken)) none
 
-  still_turn : (old new : Course D) (raises : Bool) → IsLegal old.spool.state → old.told ≡ Some t → new.spool ≡ old.spool → HasSlotsOf old new → IsTurned t old raises [] new
+  still_turn : (old new : Course D) (raises : Bool) → IsLegal old.spool.state → IsTold t old → new.spool ≡ old.spool → HasSlotsOf old new → IsTurned t old raises [] new
   still_turn old new raises legal tells same held = plain_turn old new raises [] legal tells tt (inl (ap (λ (x : Standing D). x.state) same)) held (λ died. ap (λ (x : Standing D). x.dead) same ∙ died) (λ died. refl)
 
   -- ## A command of one event, or of none
@@ -198,7 +208,7 @@ module _ {D : Type 0} (laws : Laws D) (t : Told) (quiet : t.running ≡ []) wher
       state_in (Ok p) = p.0
       state_in (Err r) = s
 
-  taken_turn : (old new : Course D) (raises : Bool) (e : Event) (answer : Result (State × Reply) Refusal) → step old.spool.state e ≡ answer → IsLegal old.spool.state → old.told ≡ Some t → HasSlotsOf old new → IsTaken old.spool e answer new.spool → IsTurned t old raises (e ∷ []) new
+  taken_turn : (old new : Course D) (raises : Bool) (e : Event) (answer : Result (State × Reply) Refusal) → step old.spool.state e ≡ answer → IsLegal old.spool.state → IsTold t old → HasSlotsOf old new → IsTaken old.spool e answer new.spool → IsTurned t old raises (e ∷ []) new
   taken_turn old new raises e (Ok r) stepped legal tells held done =
       plain_turn old new raises (e ∷ []) legal tells (done.fits.accepted, tt) (inl (done_state old.spool.state e new.spool.state r.1 done.fits.accepted done.step)) held
       (λ died. absurd (both_ways _ done.fits.alive died)) (λ died. absurd (both_ways _ done.fits.alive died))
@@ -208,7 +218,7 @@ module _ {D : Type 0} (laws : Laws D) (t : Told) (quiet : t.running ≡ []) wher
 
   -- ## A checkpoint
 
-  unlisted_turn : (device : DiskView D) (old new : Course D) (raises : Bool) (fault : CheckpointFault) → IsLegal old.spool.state → old.told ≡ Some t → HasSlotsOf old new → IsCheckpoint device old.spool (Err fault) new.spool → IsTurned t old raises [] new
+  unlisted_turn : (device : DiskView D) (old new : Course D) (raises : Bool) (fault : CheckpointFault) → IsLegal old.spool.state → IsTold t old → HasSlotsOf old new → IsCheckpoint device old.spool (Err fault) new.spool → IsTurned t old raises [] new
   unlisted_turn device old new raises listing.Dead legal tells held is = still_turn old new raises legal tells is.1 held
   unlisted_turn device old new raises listing.EpochEnd legal tells held is = still_turn old new raises legal tells is.2 held
   unlisted_turn device old new raises listing.Memory legal tells held is = still_turn old new raises legal tells is.1 held
@@ -217,19 +227,19 @@ module _ {D : Type 0} (laws : Laws D) (t : Told) (quiet : t.running ≡ []) wher
 
   -- ## By its outcome
 
-  left_turn : (device : DiskView D) (old new : Course D) (raises : Bool) (c : Command) → IsLegal old.spool.state → old.told ≡ Some t → HasSlotsOf old new → IsLeft device old.spool c new.spool → IsTurned t old raises [] new
+  left_turn : (device : DiskView D) (old new : Course D) (raises : Bool) (c : Command) → IsLegal old.spool.state → IsTold t old → HasSlotsOf old new → IsLeft device old.spool c new.spool → IsTurned t old raises [] new
   left_turn device old new raises c legal tells held left = elim left [
     | inl same ↦ still_turn old new raises legal tells same held
     | inr read ↦ plain_turn old new raises [] legal tells tt (inl read.1.state) held (λ died. read.1.dead ∙ died) (λ died. refl)
   ]
 
-  served_turn : (device : DiskView D) (old new : Course D) (w : Meaning) (reply : List ℕ) → IsLegal old.spool.state → old.told ≡ Some t → HasSlotsOf old new → IsServedBy device old.spool w reply new.spool → IsTurned t old (is_listing w) (listed (event_in w)) new
+  served_turn : (device : DiskView D) (old new : Course D) (w : Meaning) (reply : List ℕ) → IsLegal old.spool.state → IsTold t old → HasSlotsOf old new → IsServedBy device old.spool w reply new.spool → IsTurned t old (is_listing w) (listed (event_in w)) new
   served_turn device old new (says text) reply legal tells held is = still_turn old new false legal tells is.1 held
   served_turn device old new (asks e line) reply legal tells held is = taken_turn old new false e (step old.spool.state e) refl legal tells held is.1
   served_turn device old new lists reply legal tells held is = plain_turn old new true [] legal tells tt (inr (refl, refl, is.1.state)) held (λ died. absurd (both_ways _ is.1.may.alive died)) (λ died. refl)
   served_turn device old new (runs most line) reply legal tells held is = absurd is
 
-  outcome_turn : (v : Setting D) (old : Course D) (turn : Turn D) (o : Outcome) → IsLegal old.spool.state → old.told ≡ Some t → HasSlotsOf old turn.next → IsOutcome v old.spool (event_turn turn o) o
+  outcome_turn : (v : Setting D) (old : Course D) (turn : Turn D) (o : Outcome) → IsLegal old.spool.state → IsTold t old → HasSlotsOf old turn.next → IsOutcome v old.spool (event_turn turn o) o
       → IsTurned t old (is_listing (meaning v.mime old.spool.state turn.document turn.command)) (tried_as (event_of v.mime old.spool.state turn.document turn.command) o) turn.next
   outcome_turn v old turn served legal tells held is = served_turn v.device old turn.next (meaning v.mime old.spool.state turn.document turn.command) turn.text legal tells held is
   outcome_turn v old turn no_memory legal tells held is = left_turn v.device old turn.next _ turn.command legal tells held is.cause.2
@@ -244,56 +254,114 @@ module _ {D : Type 0} (laws : Laws D) (t : Told) (quiet : t.running ≡ []) wher
 
   -- ## A round
 
-  same_turn : (old new : Course D) (raises : Bool) → IsLegal old.spool.state → old.told ≡ Some t → new ≡ old → IsTurned t old raises [] new
+  same_turn : (old new : Course D) (raises : Bool) → IsLegal old.spool.state → IsTold t old → new ≡ old → IsTurned t old raises [] new
   same_turn old new raises legal tells same = still_turn old new raises legal tells (ap (λ (c : Course D). c.spool) same) (record { slots = ap (λ (c : Course D). c.slots) same; told = ap (λ (c : Course D). c.told) same })
 
-  pub same_call : (old : Course D) → IsLegal old.spool.state → old.told ≡ Some t → IsQuietCall t old old
+  pub same_call : (old : Course D) → IsLegal old.spool.state → IsTold t old → IsTicketCall t old old
   same_call old legal tells =
       let one = plain_call old old false [] legal tells tt (inl refl) (record { slots = refl; told = refl }) (λ died. died) in
       ([], one.0, one.1)
 
+  -- the children that ran were waited for
+  settle_turned : (old settled : Course D) → IsLegal old.spool.state → IsTold t old → IsSettled old settled → IsTurned t old false [] settled
+  settle_turned old settled legal tells is =
+      let off = is.finished t tells.0 tells.1 in
+      let (fs, steps, jobs) = is.steps in
+      let table : settled.spool.state ≡ old.spool.state = ap (λ (x : Standing D). x.state) is.spool in
+      let behind : IsBehind false old.spool.state [] settled.spool.state = inl table in
+      record {
+        turn = (
+          [],
+          record {
+            now = off.now;
+            tells = off.tells;
+            orders = [];
+            added = off.orders ∙ sym (append-nil t.orders);
+            turn = record {
+              legal = legal;
+              accepted = (laws.rises old.spool.state [] tt).0;
+              table = behind_raised false old.spool.state [] settled.spool.state tt behind;
+              distinct = tt;
+              outside = λ k among. absurd among;
+              reached = λ k among. absurd among;
+              settled = λ alive k some. elim some [
+                | inl before ↦ inl (subst (λ u. IsIn u k) (sym table) before.0, begun_then fs old.slots old.told settled.slots settled.told k steps before.1)
+                | inr none ↦ absurd none
+              ];
+            };
+            after_over = λ died. (refl, ap (λ (x : Standing D). x.dead) is.spool ∙ died);
+          },
+          no_tickets settled.slots off.now is.rest off.none,
+          ([], inl refl, refl),
+          λ died. refl,
+        );
+        behind = behind;
+        quiet = λ quiet. off.none;
+      }
+
   -- what is told after a round, whose children have all been finished
-  pub quiet_after : (v : Setting D) (old : Course D) (r : Ran D) → IsRan v old r → old.told ≡ Some t → (now : Told) → r.next.told ≡ Some now → now.running ≡ []
-  quiet_after v old r is tells now tells' =
+  pub quiet_after : (v : Setting D) (old : Course D) (r : Ran D) → IsRan v old r → r.settled.told ≡ Some t → t.running ≡ [] → (now : Told) → r.next.told ≡ Some now → now.running ≡ []
+  quiet_after v old r is tells quiet now tells' =
       let (js, once) = is.finished t tells quiet in
       ap (λ (u : Told). u.running) (some_same now once.now (sym tells' ∙ once.tells)) ∙ once.finished.running
 
-  round_behind : (v : Setting D) (old : Course D) (r : Ran D) (raises : Bool) → IsLegal old.spool.state → old.told ≡ Some t → IsRan v old r → IsTurned t old raises r.tried r.next
-  round_behind v old r raises legal tells is = by_death old.spool.dead refl is.round
+  -- a round from where no child runs
+  made_turned : (v : Setting D) (old : Course D) (r : Ran D) → IsLegal r.settled.spool.state → IsTold t r.settled → t.running ≡ [] → IsRan v old r → IsTurned t r.settled false r.tried r.next
+  made_turned v old r legal tells quiet is = by_death r.settled.spool.dead refl is.round
     where
-      by_death : (b : Bool) → old.spool.dead ≡ b → IsRoundWith v.device v.place old b r → IsTurned t old raises r.tried r.next
-      by_death true died round = subst (λ l. IsTurned t old raises l r.next) (sym round.1) (same_turn old r.next raises legal tells round.0.1)
+      by_death : (b : Bool) → r.settled.spool.dead ≡ b → IsRoundWith v.device v.place r.settled b r → IsTurned t r.settled false r.tried r.next
+      by_death true died round = subst (λ l. IsTurned t r.settled false l r.next) (sym round.1) (same_turn r.settled r.next false legal tells round.0.1)
       by_death false lives round = elim round [
-        | inl unbegun ↦ subst (λ l. IsTurned t old raises l r.next) (sym unbegun.1) (same_turn old r.next raises legal tells unbegun.0.1)
+        | inl unbegun ↦ subst (λ l. IsTurned t r.settled false l r.next) (sym unbegun.1) (same_turn r.settled r.next false legal tells unbegun.0.1)
         | inr made ↦
-            let c = made.0.turn t tells quiet in
-            let events : List Event = events_in old made.0.steps in
+            let c = made.0.turn t tells.0 quiet in
+            let events : List Event = events_in r.settled made.0.steps in
+            let none = quiet_after v old r is tells.0 quiet c.now c.tells in
             record {
               turn = (
                 events,
                 c,
-                quiet_after v old r is tells c.now c.tells,
-                (events, subst (λ l. AreAcknowledged r.next.spool.dead l events) (sym made.1) made.0.in_hand, sym (accepted_all old.spool.state events made.0.accepted)),
+                no_tickets r.next.slots c.now is.rest none,
+                (events, subst (λ l. AreAcknowledged r.next.spool.dead l events) (sym made.1) made.0.in_hand, sym (accepted_all r.settled.spool.state events made.0.accepted)),
                 λ died. absurd (both_ways _ lives died),
               );
               behind = inl made.0.table;
+              quiet = λ q. none;
             }
       ]
 
-  pub round_turn : (v : Setting D) (old : Course D) (r : Ran D) → IsLegal old.spool.state → old.told ≡ Some t → IsRan v old r → IsQuietTurn t old r.tried r.next
-  round_turn v old r legal tells is = (round_behind v old r false legal tells is).turn
+  -- ## A tick
+
+  pub tick_turn : (v : Setting D) (old : Course D) (k : Ticked D) → IsLegal old.spool.state → IsTold t old → IsTicked v old k → IsTicketTurn t old k.tried k.next
+  tick_turn v old k legal tells is = by_death old.spool.dead refl is.tick
+    where
+      by_death : (b : Bool) → old.spool.dead ≡ b → IsTickWith v.device v.place old b k → IsTicketTurn t old k.tried k.next
+      by_death true died tick = subst (λ l. IsTicketTurn t old l k.next) (sym tick.1) (same_turn old k.next false legal tells tick.0.1).turn
+      by_death false lives tick = elim tick [
+        | inl unbegun ↦ subst (λ l. IsTicketTurn t old l k.next) (sym unbegun.1) (same_turn old k.next false legal tells unbegun.0.1).turn
+        | inr made ↦
+            let c = made.0.turn t tells.0 tells.1 in
+            let keeps = made.0.tickets t tells.0 tells.1 in
+            let events : List Event = events_in old made.0.steps.parts in (
+              events,
+              c,
+              subst (HasTickets k.next.slots) (some_same keeps.now c.now (sym keeps.tells ∙ c.tells)) keeps.tickets,
+              (events, subst (λ l. AreAcknowledged k.next.spool.dead l events) (sym made.1) made.0.in_hand, sym (accepted_all old.spool.state events made.0.accepted)),
+              λ died. absurd (both_ways _ lives died),
+            )
+      ]
 
 -- ## Rounds, and turns, one after the other
 
 module _ {D : Type 0} (laws : Laws D) where
-  quiet_both : (t : Told) (old mid new : Course D) (more further : List Event) (one : IsCallTurn t old more mid) (two : IsCallTurn one.now mid further new) → two.now.running ≡ [] → (laws.joined old mid new t more further one two).now.running ≡ []
-  quiet_both t old mid new more further one two quiet =
+  now_of_both : (t : Told) (old mid new : Course D) (more further : List Event) (one : IsCallTurn t old more mid) (two : IsCallTurn one.now mid further new) → two.now ≡ (laws.joined old mid new t more further one two).now
+  now_of_both t old mid new more further one two =
       let both = laws.joined old mid new t more further one two in
-      ap (λ (u : Told). u.running) (some_same both.now two.now (sym both.tells ∙ two.tells)) ∙ quiet
+      some_same two.now both.now (sym two.tells ∙ both.tells)
 
-  pub then_call : (t : Told) (old mid new : Course D) (one : IsQuietCall t old mid) → IsQuietCall one.1.now mid new → IsQuietCall t old new
-  then_call t old mid new (more, one, quiet) (further, two, quiet_then) =
-      (more ++ further, laws.joined old mid new t more further one two, quiet_both t old mid new more further one two quiet_then)
+  pub then_call : (t : Told) (old mid new : Course D) (one : IsTicketCall t old mid) → IsTicketCall one.1.now mid new → IsTicketCall t old new
+  then_call t old mid new (more, one, has) (further, two, has_then) =
+      (more ++ further, laws.joined old mid new t more further one two, subst (HasTickets new.slots) (now_of_both t old mid new more further one two) has_then)
 
   pub legal_then : (t : Told) (old mid : Course D) (more : List Event) → IsCallTurn t old more mid → IsLegal mid.spool.state
   legal_then t old mid more one = legal_rows mid.spool.state (subst IsLegal (sym one.turn.table) (laws.legal (raised old.spool.state) more (laws.raised_legal old.spool.state one.turn.legal)))
@@ -301,14 +369,15 @@ module _ {D : Type 0} (laws : Laws D) where
   -- rounds raise no version
   then_round : (t : Told) (old mid new : Course D) (tried others : List Event) → (one : IsTurned t old false tried mid) → IsTurned one.turn.1.now mid false others new → IsTurned t old false (tried ++ others) new
   then_round t old mid new tried others first second =
-      let (more, one, quiet, (a, hand, taken), none) = first.turn in
-      let (further, two, quiet_then, (b, hand_then, taken_then), none_then) = second.turn in
+      let (more, one, has, (a, hand, taken), none) = first.turn in
+      let (further, two, has_then, (b, hand_then, taken_then), none_then) = second.turn in
       let table = exact_behind false old.spool.state more mid.spool.state first.behind (inr refl) in
+      let same = now_of_both t old mid new more further one two in
       record {
         turn = (
           more ++ further,
           laws.joined old mid new t more further one two,
-          quiet_both t old mid new more further one two quiet_then,
+          subst (HasTickets new.slots) same has_then,
           (
             a ++ b,
             acknowledged_both mid.spool.dead new.spool.dead tried others a b hand hand_then none_then (λ died. (two.after_over died).1),
@@ -317,46 +386,75 @@ module _ {D : Type 0} (laws : Laws D) where
           λ died. ap (λ l. l ++ others) (none died) ∙ none_then (one.after_over died).1,
         );
         behind = inl (exact_behind false mid.spool.state further new.spool.state second.behind (inr refl) ∙ ap (λ s. after_all s further) table ∙ sym (after_both old.spool.state more further));
+        quiet = λ quiet. sym (ap (λ (u : Told). u.running) same) ∙ second.quiet (first.quiet quiet);
       }
 
-  rounds_turn : (v : Setting D) (rs : List (Ran D)) (t : Told) → t.running ≡ [] → (old new : Course D) → IsLegal old.spool.state → old.told ≡ Some t → AreRan v old rs new → IsTurned t old false (flat_map (λ r. r.tried) rs) new
-  rounds_turn v [] t quiet old new legal tells same = same_turn laws t quiet old new false legal tells same
-  rounds_turn v (r ∷ rs) t quiet old new legal tells (is, others) =
-      let one = round_behind laws t quiet v old r false legal tells is in
+  -- a round: first those that run are waited for
+  round_behind : (v : Setting D) (t : Told) (old : Course D) (r : Ran D) → IsLegal old.spool.state → IsTold t old → IsRan v old r → IsTurned t old false r.tried r.next
+  round_behind v t old r legal tells is =
+      let first = settle_turned laws t old r.settled legal tells is.settles in
+      let c = first.turn.1 in
+      let off = is.settles.finished t tells.0 tells.1 in
+      let none : c.now.running ≡ [] = ap (λ (u : Told). u.running) (some_same c.now off.now (sym c.tells ∙ off.tells)) ∙ off.none in
+      then_round t old r.settled r.next [] r.tried first (made_turned laws c.now v old r (legal_then t old r.settled first.turn.0 c) (c.tells, first.turn.2) none is)
+
+  pub round_turn : (v : Setting D) (t : Told) (old : Course D) (r : Ran D) → IsLegal old.spool.state → IsTold t old → IsRan v old r → IsQuietTurn t old r.tried r.next
+  round_turn v t old r legal tells is =
+      let one = round_behind v t old r legal tells is in
+      (one.turn, quiet_round one)
+    where
+      quiet_round : (one : IsTurned t old false r.tried r.next) → one.turn.1.now.running ≡ []
+      quiet_round one =
+          let off = is.settles.finished t tells.0 tells.1 in
+          quiet_after laws off.now v old r is off.tells off.none one.turn.1.now one.turn.1.tells
+
+  rounds_turn : (v : Setting D) (rs : List (Ran D)) (t : Told) (old new : Course D) → IsLegal old.spool.state → IsTold t old → AreRan v old rs new → IsTurned t old false (flat_map (λ r. r.tried) rs) new
+  rounds_turn v [] t old new legal tells same = same_turn laws t old new false legal tells same
+  rounds_turn v (r ∷ rs) t old new legal tells (is, others) =
+      let one = round_behind v t old r legal tells is in
       let c = one.turn.1 in
-      then_round t old r.next new r.tried (flat_map (λ r. r.tried) rs) one (rounds_turn v rs c.now one.turn.2 r.next new (legal_then t old r.next one.turn.0 c) c.tells others)
+      then_round t old r.next new r.tried (flat_map (λ r. r.tried) rs) one (rounds_turn v rs c.now r.next new (legal_then t old r.next one.turn.0 c) (c.tells, one.turn.2) others)
 
-  run_turn : (v : Setting D) (w : Meaning) (t : Told) → t.running ≡ [] → (old new : Course D) (rs : List (Ran D)) (reply : List ℕ) → IsLegal old.spool.state → old.told ≡ Some t → AreRunBy v w old rs new reply → IsTurned t old (is_listing w) (flat_map (λ r. r.tried) rs) new
-  run_turn v (says text) t quiet old new rs reply legal tells is = absurd is
-  run_turn v (asks e line) t quiet old new rs reply legal tells is = absurd is
-  run_turn v lists t quiet old new rs reply legal tells is = absurd is
-  run_turn v (runs most line) t quiet old new rs reply legal tells is = rounds_turn v rs t quiet old new legal tells is.each
+  run_turn : (v : Setting D) (w : Meaning) (t : Told) (old new : Course D) (rs : List (Ran D)) (reply : List ℕ) → IsLegal old.spool.state → IsTold t old → AreRunBy v w old rs new reply → IsTurned t old (is_listing w) (flat_map (λ r. r.tried) rs) new
+  run_turn v (says text) t old new rs reply legal tells is = absurd is
+  run_turn v (asks e line) t old new rs reply legal tells is = absurd is
+  run_turn v lists t old new rs reply legal tells is = absurd is
+  run_turn v (runs most line) t old new rs reply legal tells is = rounds_turn v rs t old new legal tells is.each
 
-  how_behind : (v : Setting D) (t : Told) → t.running ≡ [] → (old : Course D) (turn : Turn D) (how : How D) → IsLegal old.spool.state → old.told ≡ Some t → IsHow v old turn how
+  how_behind : (v : Setting D) (t : Told) (old : Course D) (turn : Turn D) (how : How D) → IsLegal old.spool.state → IsTold t old → IsHow v old turn how
       → IsTurned t old (is_listing (meaning v.mime old.spool.state turn.document turn.command)) (tried_by (event_of v.mime old.spool.state turn.document turn.command) how) turn.next
-  how_behind v t quiet old turn (replied outcome) legal tells is = outcome_turn laws t quiet v old turn outcome legal tells is.1 is.0
-  how_behind v t quiet old turn (ran rs) legal tells is = run_turn v (meaning v.mime old.spool.state turn.document turn.command) t quiet old turn.next rs turn.text legal tells is
+  how_behind v t old turn (replied outcome) legal tells is = outcome_turn laws t v old turn outcome legal tells is.1 is.0
+  how_behind v t old turn withheld legal tells is = same_turn laws t old turn.next _ legal tells is.same
+  how_behind v t old turn (ran rs) legal tells is = run_turn v (meaning v.mime old.spool.state turn.document turn.command) t old turn.next rs turn.text legal tells is
 
-  pub how_turn : (v : Setting D) (t : Told) → t.running ≡ [] → (old : Course D) (turn : Turn D) → IsLegal old.spool.state → old.told ≡ Some t → IsHow v old turn turn.how → IsQuietCall t old turn.next
-  how_turn v t quiet old turn legal tells is = let one = (how_behind v t quiet old turn turn.how legal tells is).turn in (one.0, one.1, one.2)
+  pub how_turn : (v : Setting D) (t : Told) (old : Course D) (turn : Turn D) → IsLegal old.spool.state → IsTold t old → IsHow v old turn turn.how → (one : IsTicketCall t old turn.next) × (t.running ≡ [] → one.1.now.running ≡ [])
+  how_turn v t old turn legal tells is = let one = how_behind v t old turn turn.how legal tells is in ((one.turn.0, one.turn.1, one.turn.2), one.quiet)
+
+  -- a run, and where no child ran before it none runs after it
+  abbrev pub IsRunTurned : Mime → Told → Course D → List (Turn D) → Type 0
+  IsRunTurned m t old turns = (one : IsTicketRun t m old turns) × (t.running ≡ [] → one.1.now.running ≡ [])
 
   -- a turn, and then more
   then_turns : (v : Setting D) (t : Told) (old : Course D) (turn : Turn D) (turns : List (Turn D)) → (one : IsTurned t old (is_listing (meaning v.mime old.spool.state turn.document turn.command)) (tried_in v.mime old turn) turn.next)
-      → IsQuietRun one.turn.1.now v.mime turn.next turns → IsQuietRun t v.mime old (turn ∷ turns)
-  then_turns v t old turn turns first (further, two, quiet_then, (b, hand_then, taken_then, kept_then), none_then) =
-      let (more, one, quiet, (a, hand, taken), none) = first.turn in
+      → IsRunTurned v.mime one.turn.1.now turn.next turns → IsRunTurned v.mime t old (turn ∷ turns)
+  then_turns v t old turn turns first ((further, two, has_then, (b, hand_then, taken_then, kept_then), none_then), quiet_then) =
+      let (more, one, has, (a, hand, taken), none) = first.turn in
       let tried = tried_in v.mime old turn in
-      let others = tried_in_turns v.mime turn.next turns in (
-        more ++ further,
-        laws.joined old turn.next (last_course turn.next turns) t more further one two,
-        quiet_both t old turn.next (last_course turn.next turns) more further one two quiet_then,
+      let others = tried_in_turns v.mime turn.next turns in
+      let same = now_of_both t old turn.next (last_course turn.next turns) more further one two in (
         (
-          a ++ b,
-          acknowledged_both turn.next.spool.dead (last_course turn.next turns).spool.dead tried others a b hand hand_then none_then (λ died. (two.after_over died).1),
-          (a, b, further, hand, refl, ap (λ l. l ++ further) taken, taken_then),
-          kept,
+          more ++ further,
+          laws.joined old turn.next (last_course turn.next turns) t more further one two,
+          subst (HasTickets (last_course turn.next turns).slots) same has_then,
+          (
+            a ++ b,
+            acknowledged_both turn.next.spool.dead (last_course turn.next turns).spool.dead tried others a b hand hand_then none_then (λ died. (two.after_over died).1),
+            (a, b, further, hand, refl, ap (λ l. l ++ further) taken, taken_then),
+            kept,
+          ),
+          λ died. ap (λ l. l ++ others) (none died) ∙ none_then (one.after_over died).1,
         ),
-        λ died. ap (λ l. l ++ others) (none died) ∙ none_then (one.after_over died).1,
+        λ quiet. sym (ap (λ (u : Told). u.running) same) ∙ quiet_then (first.quiet quiet),
       )
     where
       state : State
@@ -376,11 +474,17 @@ module _ {D : Type 0} (laws : Laws D) where
           ] in
           accepted_both state turn.next.spool.state first.turn.3.0 b first.turn.0 further first.turn.3.2 table (kept_then then)
 
-  pub turns_turn : (v : Setting D) (turns : List (Turn D)) (t : Told) → t.running ≡ [] → (old : Course D) → IsLegal old.spool.state → old.told ≡ Some t → AreTurns v old turns → IsQuietRun t v.mime old turns
-  turns_turn v [] t quiet old legal tells are =
-      let one = plain_call laws t quiet old old false [] legal tells tt (inl refl) (record { slots = refl; told = refl }) (λ died. died) in
-      ([], one.0, one.1, ([], inl refl, (refl, refl), λ keeps. refl), λ died. refl)
-  turns_turn v (turn ∷ turns) t quiet old legal tells (first, others) =
-      let one = how_behind v t quiet old turn turn.how legal tells first.how in
+  pub turns_turn : (v : Setting D) (turns : List (Turn D)) (t : Told) (old : Course D) → IsLegal old.spool.state → IsTold t old → AreTurns v old turns → IsRunTurned v.mime t old turns
+  turns_turn v [] t old legal tells are =
+      let one = plain_call laws t old old false [] legal tells tt (inl refl) (record { slots = refl; told = refl }) (λ died. died) in
+      (([], one.0, one.1, ([], inl refl, (refl, refl), λ keeps. refl), λ died. refl), one.2)
+  turns_turn v (turn ∷ turns) t old legal tells (first, others) =
+      let one = how_behind v t old turn turn.how legal tells first.how in
       let c = one.turn.1 in
-      then_turns v t old turn turns one (turns_turn v turns c.now one.turn.2 turn.next (legal_then t old turn.next one.turn.0 c) c.tells others)
+      then_turns v t old turn turns one (turns_turn v turns c.now turn.next (legal_then t old turn.next one.turn.0 c) (c.tells, one.turn.2) others)
+
+  -- a call of any kind
+  pub call_turn : (v : Setting D) (t : Told) (s : Course D) (c : Call D) → IsLegal s.spool.state → IsTold t s → IsCall v s c → IsTicketCall t s (left_by s c)
+  call_turn v t s (round_call r) legal tells is = let one = round_turn v t s r legal tells is in (one.0.0, one.0.1, one.0.2)
+  call_turn v t s (tick_call k) legal tells is = let one = tick_turn laws t v s k legal tells is in (one.0, one.1, one.2)
+  call_turn v t s (run_call turns) legal tells is = let one = turns_turn v turns t s legal tells is in (one.0.0, one.0.1, one.0.2)

@@ -1,8 +1,9 @@
--- A call of an engine as a turn: a round, or a run by its turns. And the calls of an engine, one after the other.
+-- A call of an engine as a turn: a round, a tick, or a run by its turns. And the calls of an engine, one after the other.
 use Rattle.std.specs.Prelude.{◌≡◌, true, List, [], ◌∷◌, ◌++◌, map, Some}
 use Rattle.spool_types.specs.declared.event.Event.{Event}
 use Rattle.job_table.specs.Fold.{accepted}
 use Rattle.job_table.specs.Turns.{AreOnce}
+use Rattle.child_pipeline.specs.Tickets.{HasTickets}
 use Rattle.child_pipeline.specs.Told.{Told}
 use Rattle.child_pipeline.specs.declared.order.Placed.{Placed}
 use Rattle.print_rounds.specs.Counts.{AreAcknowledged}
@@ -14,20 +15,25 @@ use Rattle.spool_engine.specs.Mime.{Mime}
 use Rattle.spool_engine.specs.Rounds.{Ran, IsRan}
 use Rattle.spool_engine.specs.Runs.{Turn, AreTurns, KeepVersion, commands_in, documents_left, last_course, last_documents, tried_in}
 use Rattle.spool_engine.specs.Script.{Documents}
+use Rattle.spool_engine.specs.Ticks.{Ticked, IsTicked}
 
 -- the events that were tried in turns
 abbrev pub tried_in_turns : {D : Type 0} → Mime → Course D → List (Turn D) → List Event
 tried_in_turns m s [] = []
 tried_in_turns m s (t ∷ ts) = tried_in m s t ++ tried_in_turns m t.next ts
 
--- A turn of World after which no child runs. Its events are the accepted ones of those that were acknowledged: of all that
--- were tried or, where the device failed at the last of them, of all but that one, which was in hand then. Where it had
--- failed before none was tried.
-abbrev pub IsQuietTurn : {D : Type 0} → Told → Course D → List Event → Course D → Type 0
-IsQuietTurn t old tried new =
-    (more : List Event) × (c : IsCallTurn t old more new) × (c.now.running ≡ [])
+-- A turn of World, after which the slots have the tickets of the children that run. Its events are the accepted ones of those
+-- that were acknowledged: of all that were tried or, where the device failed at the last of them, of all but that one, which
+-- was in hand then. Where it had failed before none was tried.
+abbrev pub IsTicketTurn : {D : Type 0} → Told → Course D → List Event → Course D → Type 0
+IsTicketTurn t old tried new =
+    (more : List Event) × (c : IsCallTurn t old more new) × HasTickets new.slots c.now
     × ((acknowledged : List Event) × AreAcknowledged new.spool.dead tried acknowledged × (more ≡ accepted old.spool.state acknowledged))
     × (old.spool.dead ≡ true → tried ≡ [])
+
+-- a turn after which no child runs
+abbrev pub IsQuietTurn : {D : Type 0} → Told → Course D → List Event → Course D → Type 0
+IsQuietTurn t old tried new = (one : IsTicketTurn t old tried new) × (one.1.now.running ≡ [])
 
 -- Of the events that were acknowledged in turns these were accepted, each on the table that its turn found.
 abbrev pub AreTaken : {D : Type 0} → Mime → Course D → List (Turn D) → List Event → List Event → Type 0
@@ -38,26 +44,33 @@ AreTaken m s (t ∷ ts) acknowledged more =
 
 -- So it is with a run, by its turns. Where no checkpoint raises the version, its events are those accepted of the acknowledged
 -- ones on the first table.
-abbrev pub IsQuietRun : {D : Type 0} → Told → Mime → Course D → List (Turn D) → Type 0
-IsQuietRun t m old turns =
-    (more : List Event) × (c : IsCallTurn t old more (last_course old turns)) × (c.now.running ≡ [])
+abbrev pub IsTicketRun : {D : Type 0} → Told → Mime → Course D → List (Turn D) → Type 0
+IsTicketRun t m old turns =
+    (more : List Event) × (c : IsCallTurn t old more (last_course old turns)) × HasTickets (last_course old turns).slots c.now
     × ((acknowledged : List Event) × AreAcknowledged (last_course old turns).spool.dead (tried_in_turns m old turns) acknowledged × AreTaken m old turns acknowledged more
     × (KeepVersion old.spool.state (commands_in turns) → more ≡ accepted old.spool.state acknowledged))
     × (old.spool.dead ≡ true → tried_in_turns m old turns ≡ [])
+
+-- a run after which no child runs
+abbrev pub IsQuietRun : {D : Type 0} → Told → Mime → Course D → List (Turn D) → Type 0
+IsQuietRun t m old turns = (one : IsTicketRun t m old turns) × (one.1.now.running ≡ [])
 
 -- ## The calls of one engine
 
 pub data Call (D : Type 0) : Type 0 where
   round_call : Ran D → Call D
+  tick_call : Ticked D → Call D
   run_call : List (Turn D) → Call D
 
 -- what a call leaves
 abbrev pub left_by : {D : Type 0} → Course D → Call D → Course D
 left_by s (round_call r) = r.next
+left_by s (tick_call t) = t.next
 left_by s (run_call turns) = last_course s turns
 
 abbrev pub IsCall : {D : Type 0} → Setting D → Course D → Call D → Type 0
 IsCall v s (round_call r) = IsRan v s r
+IsCall v s (tick_call t) = IsTicked v s t
 IsCall v s (run_call turns) = AreTurns v s turns
 
 -- each call is one on what the one before left
@@ -69,6 +82,16 @@ AreCalls v s (c ∷ cs) = IsCall v s c × AreCalls v (left_by s c) cs
 abbrev pub last_by : {D : Type 0} → Course D → List (Call D) → Course D
 last_by s [] = s
 last_by s (c ∷ cs) = last_by (left_by s c) cs
+
+abbrev pub IsNoTick : {D : Type 0} → Call D → Type 0
+IsNoTick (round_call r) = Unit {0}
+IsNoTick (tick_call t) = ⊥
+IsNoTick (run_call turns) = Unit {0}
+
+-- none of them is a tick
+abbrev pub HaveNoTicks : {D : Type 0} → List (Call D) → Type 0
+HaveNoTicks [] = Unit {0}
+HaveNoTicks (c ∷ cs) = IsNoTick c × HaveNoTicks cs
 
 -- ## What their stages are handed
 
@@ -93,11 +116,13 @@ TurnsHandDocuments m s documents (t ∷ ts) = HandsDocuments documents s t.next 
 
 abbrev pub CallHandsDocuments : {D : Type 0} → Mime → Course D → Documents → Call D → Type 0
 CallHandsDocuments m s documents (round_call r) = HandsDocuments documents s r.next
+CallHandsDocuments m s documents (tick_call t) = HandsDocuments documents s t.next
 CallHandsDocuments m s documents (run_call turns) = TurnsHandDocuments m s documents turns
 
 -- the documents behind a call
 abbrev pub documents_by : {D : Type 0} → Mime → Course D → Documents → Call D → Documents
 documents_by m s documents (round_call r) = documents
+documents_by m s documents (tick_call t) = documents
 documents_by m s documents (run_call turns) = last_documents m s documents turns
 
 -- and in each of these calls

@@ -3,19 +3,33 @@ use Rattle.std.specs.Prelude.{◌≡◌, ◌≤◌, ◌↔◌, ◌⊎◌, ℕ, z
 use Rattle.spool_types.specs.declared.event.Event.{Event}
 use Rattle.filter_args.specs.declared.place.Place.{Place}
 use Rattle.spool_disk.specs.Disk.{DiskView, LeavesOnly}
+use Rattle.child_pipeline.specs.Tickets.{HasTickets}
 use Rattle.child_pipeline.specs.Told.{Told}
 use Rattle.command_lines.specs.Replies.{rounded_line, drained_line}
 use Rattle.print_rounds.specs.Courses.{Course, AreHanded}
-use Rattle.print_rounds.specs.Finished.{EachFinishedOnce}
+use Rattle.print_rounds.specs.Finished.{EachFinishedOnce, HasNoneRunning}
 use Rattle.print_rounds.specs.Rounds.{HasSomeOf, HasSomeWhole, LeavesDocuments, IsUnbegun, IsRoundOf, IsRoundBy, tried_in}
+use Rattle.print_rounds.specs.Ticks.{AreFinishings, Finishing, IsFinishedOff, running_jobs}
 use Rattle.print_rounds.specs.declared.outcome.Round.{Round}
 use Rattle.print_rounds.specs.declared.outcome.RoundFault.{RoundFault}
 use Rattle.print_rounds.specs.declared.outcome.RoundFault.TheVariants as faults
 use Rattle.spool_engine.specs.EventTurns.{Setting, IsKept}
 use Rattle.spool_engine.specs.Script.{Meaning, says, asks, lists, runs, is_idle}
 
--- a round: what it leaves, its answer, the events that were tried in it, and what was read in it as the document of each job
+-- Each child that ran has been waited for. Its finish is kept in its slot, and no event was applied.
+pub record IsSettled {D : Type 0} (old settled : Course D) : Type 0 where
+  pub spool : settled.spool ≡ old.spool
+  pub steps : (fs : List Finishing) × AreFinishings old.slots old.told fs settled.slots settled.told × (map (λ f. f.job) fs ≡ running_jobs old.slots)
+  pub rest : HasNoneRunning settled.slots
+  -- where the children tell, each that ran has been finished, once
+  pub finished : (t : Told) → old.told ≡ Some t → HasTickets old.slots t → IsFinishedOff t settled.told
+  -- where none ran nothing has changed
+  pub same : HasNoneRunning old.slots → settled ≡ old
+
+-- a round: what it begins with, once no child runs, what it leaves, its answer, the events that were tried in it, and what was
+-- read in it as the document of each job
 pub record Ran (D : Type 0) : Type 0 where
+  pub settled : Course D
   pub next : Course D
   pub result : Result Round RoundFault
   pub tried : List Event
@@ -29,11 +43,14 @@ IsRoundWith device place old false r =
     (IsUnbegun old r.next r.result × (r.tried ≡ []))
     ⊎ ((made : IsRoundOf device place old r.next r.result) × (r.tried ≡ tried_in old made.steps) × AreHanded r.documents made.steps.launchings)
 
--- A round, and its children: whatever failed, each that was started is finished, once. Unless the device had failed
--- before, a crash at any moment of it leaves the table after some of the events that were tried, the first of them.
+-- A round, and its children: those that ran before it are waited for, and whatever failed, each that was started is finished,
+-- once, so that none runs after it. Unless the device had failed before, a crash at any moment of it leaves the table after some
+-- of the events that were tried, the first of them.
 pub record IsRan {D : Type 0} (v : Setting D) (old : Course D) (r : Ran D) : Type 0 where
-  pub round : IsRoundWith v.device v.place old old.spool.dead r
-  pub finished : (t : Told) → old.told ≡ Some t → t.running ≡ [] → (js : List ℕ) × EachFinishedOnce t r.next.told js
+  pub settles : IsSettled old r.settled
+  pub round : IsRoundWith v.device v.place r.settled r.settled.spool.dead r
+  pub finished : (t : Told) → r.settled.told ≡ Some t → t.running ≡ [] → (js : List ℕ) × EachFinishedOnce t r.next.told js
+  pub rest : HasNoneRunning r.next.slots
   pub counted : v.device.failures old.spool.disk ≤ v.device.failures r.next.spool.disk
   pub told : IsSome (v.device.bytes r.next.spool.disk) ↔ IsSome (v.device.bytes old.spool.disk)
   pub crash : old.spool.dead ≡ false → IsSome (v.device.bytes old.spool.disk) →

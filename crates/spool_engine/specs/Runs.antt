@@ -11,18 +11,19 @@ use Rattle.job_table.specs.Versions.{raised}
 use Rattle.filter_args.specs.declared.place.Place.{Place}
 use Rattle.spool_disk.specs.Disk.{LeavesOnly}
 use Rattle.command_lines.specs.Text.{commands_of}
-use Rattle.command_lines.specs.Pending.{Pending, Leads, to_come}
+use Rattle.command_lines.specs.Pending.{Pending, Leads, IsPartial, to_come, weight}
 use Rattle.command_lines.specs.declared.command.Command.{Command}
 use Rattle.command_lines.specs.declared.command.Command.TheVariants as commands
 use Rattle.spool_core.specs.Driving.{documents_after}
 use Rattle.spool_core.specs.Image.{HasTable, HasWhole}
+use Rattle.child_pipeline.specs.Tickets.{HasTickets}
 use Rattle.child_pipeline.specs.Told.{Told}
 use Rattle.print_rounds.specs.Courses.{Course}
 use Rattle.spool_engine.specs.Mime.{Mime}
 use Rattle.print_rounds.specs.Rounds.{HasSomeWhole, LeavesDocuments}
 use Rattle.spool_engine.specs.EventTurns.{Setting, Outcome, served, EventTurn, IsOutcome, IsReadFor, IsKept, HasSomeSent, HasTableIn, tried_as, is_checkpoint}
 use Rattle.spool_engine.specs.Rounds.{Ran, AreRunBy, counts_in, results_of}
-use Rattle.spool_engine.specs.Script.{Documents, Asked, Scene, meaning, event_of, script_text, script_events, script_scene, asked_on, documents_on}
+use Rattle.spool_engine.specs.Script.{Documents, Asked, Scene, meaning, event_of, withheld_line, withholds, script_text, script_events, script_scene, asked_on, documents_on}
 use Rattle.spool_engine.specs.declared.fault.RunFault.{RunFault}
 use Rattle.spool_engine.specs.declared.fault.RunFault.TheVariants.{Read, Write, Memory}
 
@@ -32,10 +33,11 @@ pub record Engine (D : Type 0) : Type 0 where
   pub place : Place
   pub course : Course D
 
--- how a command went: as one that says something or has one event, or by rounds
+-- how a command went: as one that says something or has one event, by rounds, or as a purge of a job whose child runs
 pub data How (D : Type 0) : Type 0 where
   answered : Outcome → How D
   ran : List (Ran D) → How D
+  withheld : How D
 
 -- a command, the document that was read to close a job, how it went, its reply, and what it leaves
 pub record Turn (D : Type 0) : Type 0 where
@@ -54,19 +56,28 @@ pub record IsHeld {D : Type 0} (old new : Course D) : Type 0 where
   pub slots : new.slots ≡ old.slots
   pub told : new.told ≡ old.told
 
+-- such a purge is told so, and nothing changes
+pub record IsWithheld {D : Type 0} (s : Course D) (t : Turn D) : Type 0 where
+  pub is : withholds s.slots t.command ≡ true
+  pub text : t.text ≡ withheld_line
+  pub same : t.next ≡ s
+
 -- a command that is no round runs no child
 abbrev pub IsHow : {D : Type 0} → Setting D → Course D → Turn D → How D → Type 0
-IsHow v s t (answered outcome) = IsOutcome v s.spool (event_turn t outcome) outcome × IsHeld s t.next
+IsHow v s t (answered outcome) = IsOutcome v s.spool (event_turn t outcome) outcome × IsHeld s t.next × (withholds s.slots t.command ≡ false)
 IsHow v s t (ran rs) = AreRunBy v (meaning v.mime s.spool.state t.document t.command) s rs t.next t.text
+IsHow v s t withheld = IsWithheld s t
 
 -- the document that a job was closed by is its own
 abbrev pub IsReadIn : {D : Type 0} → Setting D → Course D → Turn D → How D → Type 0
 IsReadIn v s t (answered outcome) = IsReadFor v s.spool t.document outcome t.command
 IsReadIn v s t (ran rs) = Unit {0}
+IsReadIn v s t withheld = Unit {0}
 
 abbrev pub tried_by : {D : Type 0} → Option Event → How D → List Event
 tried_by asked (answered outcome) = tried_as asked outcome
 tried_by asked (ran rs) = flat_map (λ r. r.tried) rs
+tried_by asked withheld = []
 
 -- the events that were tried in a turn
 abbrev pub tried_in : {D : Type 0} → Mime → Course D → Turn D → List Event
@@ -76,6 +87,7 @@ tried_in m s t = tried_by (event_of m s.spool.state t.document t.command) t.how
 abbrev pub documents_by_how : {D : Type 0} → Course D → Documents → Option Event → How D → Documents
 documents_by_how s documents asked (answered outcome) = documents_after s.spool.state documents (tried_as asked outcome)
 documents_by_how s documents asked (ran rs) = documents
+documents_by_how s documents asked withheld = documents
 
 abbrev pub documents_left : {D : Type 0} → Mime → Course D → Documents → Turn D → Documents
 documents_left m s documents t = documents_by_how s documents (event_of m s.spool.state t.document t.command) t.how
@@ -84,6 +96,7 @@ documents_left m s documents t = documents_by_how s documents (event_of m s.spoo
 abbrev pub HasSomeBy : {D : Type 0} → Course D → Documents → Option Event → How D → List ℕ → Type 0
 HasSomeBy s documents asked (answered outcome) image = HasSomeSent s.spool.state documents (tried_as asked outcome) image
 HasSomeBy s documents asked (ran rs) image = HasSomeWhole s.spool.state documents (tried_by asked (ran rs)) image
+HasSomeBy s documents asked withheld image = HasWhole s.spool.state documents image
 
 -- in a checkpoint it is the table, also in the newest version
 abbrev pub HasSomeIn : {D : Type 0} → Mime → Course D → Documents → Turn D → List ℕ → Type 0
@@ -126,6 +139,7 @@ commands_in ts = map (λ t. t.command) ts
 abbrev pub IsWell : {D : Type 0} → How D → Type 0
 IsWell (answered outcome) = outcome ≡ served
 IsWell (ran rs) = IsOk (counts_in (results_of rs))
+IsWell withheld = Unit {0}
 
 -- nothing failed
 abbrev pub AllServed : {D : Type 0} → List (Turn D) → Type 0
@@ -199,6 +213,22 @@ pub record Drains {D : Type 0} (v : Setting D) (s : Course D) (p : Pending) (tur
   pub commands : Leads p (commands_in turns) p'
   pub wrote : Wrote result old new turns
 
+-- how a run ends that goes no further
+abbrev pub without_count : Result Bool RunFault → Result (Unit {0}) RunFault
+without_count (Ok more) = Ok tt
+without_count (Err fault) = Err fault
+
+-- One turn where there was a command, and less is held then. None where no whole one was held.
+abbrev pub IsOneWhere : {D : Type 0} → Result Bool RunFault → Pending → List (Turn D) → Pending → Type 0
+IsOneWhere (Ok true) p turns p' = (length turns ≡ 1) × (weight p' < weight p)
+IsOneWhere (Ok false) p turns p' = (turns ≡ []) × IsPartial p'.mode p'.held
+IsOneWhere (Err fault) p turns p' = length turns ≤ 1
+
+-- the next command was served, if a whole one was held
+pub record ServesNext {D : Type 0} (v : Setting D) (s : Course D) (p : Pending) (turns : List (Turn D)) (s' : Course D) (p' : Pending) (result : Result Bool RunFault) (old new : Option (List ℕ)) : Type 0 where
+  pub served : Drains v s p turns s' p' (without_count result) old new
+  pub count : IsOneWhere result p turns p'
+
 -- the same of a piece that was fed, or after a fault wasn't
 pub record DrainsPiece {D : Type 0} (v : Setting D) (piece : List ℕ) (s : Course D) (p : Pending) (turns : List (Turn D)) (s' : Course D) (p' : Pending) (result : Result (Unit {0}) RunFault) (old new : Option (List ℕ)) : Type 0 where
   pub lead : Lead v s turns s'
@@ -228,6 +258,7 @@ read_in (r ∷ rs) (suc k) = read_in rs k
 abbrev pub read_by : {D : Type 0} → List ℕ → How D → ℕ → Documents
 read_by document (answered outcome) = λ k j. document
 read_by document (ran rs) = read_in rs
+read_by document withheld = λ k j. document
 
 -- the commands, each with what was read in its turn
 abbrev pub asked_by : {D : Type 0} → Turn D → Asked
@@ -270,18 +301,18 @@ pub record IsScene {D : Type 0} (s : Course D) (x : Scene) : Type 0 where
   pub slots : s.slots ≡ x.slots
   pub told : s.told ≡ Some x.told
 
--- A run is Script of these commands, without rounds whatever the children are, and with rounds where they tell and none is
--- running. Their new orders are Script's then, and so is what is held.
+-- A run is Script of these commands, without rounds whatever the children are, and with rounds where they tell and the slots
+-- have the tickets of those that run. Their new orders are Script's then, and so is what is held.
 pub record IsExact {D : Type 0} (v : Setting D) (s : Course D) (text : List ℕ) (asked : Scene → List Asked) (s' : Course D) (old new : Option (List ℕ)) : Type 0 where
   pub plain : HasNoRounds (commands_of text) → (t : Told) → IsScript v (scene_with s t) (asked (scene_with s t)) s' old new
-  pub telling : (t : Told) → s.told ≡ Some t → t.running ≡ [] →
+  pub telling : (t : Told) → s.told ≡ Some t → HasTickets s.slots t →
       IsScript v (scene_with s t) (asked (scene_with s t)) s' old new × IsScene s' (script_scene v.mime v.place (scene_with s t) (asked (scene_with s t)))
 
 -- Where the disk tells its bytes, a crash leaves these documents, and the device doesn't fail, the run is Script of a text
 -- with these documents, and with what is sent meanwhile. Behind it a crash leaves the documents that Script leaves.
 pub record IsExactWith {D : Type 0} (v : Setting D) (s : Course D) (text : List ℕ) (documents : Documents) (s' : Course D) (old new : Option (List ℕ)) : Type 0 where
   pub script : IsExact v s text (λ x. asked_on v.mime v.place x documents (commands_of text)) s' old new
-  pub lasting : (t : Told) → HasNoRounds (commands_of text) ⊎ ((s.told ≡ Some t) × (t.running ≡ [])) →
+  pub lasting : (t : Told) → HasNoRounds (commands_of text) ⊎ ((s.told ≡ Some t) × HasTickets s.slots t) →
       LeavesDocuments v.device (documents_on v.mime v.place (scene_with s t) documents (commands_of text)) s'.spool
 
 -- A run over a text: the commands of the text, or after a fault the first of them, each with its turn; and what was

@@ -10,8 +10,7 @@ ghost use Rattle.job_table.specs.Step.{creation, refusal_of};
 ghost use Rattle.command_lines.specs.Replies.{jobs_text, queues_text, shown_text};
 ghost use Rattle.command_lines.specs.declared.command.Command.{Command};
 ghost use Rattle.filter_args.specs.declared.place.Place.{Place as PlaceOf};
-ghost use Rattle.print_rounds.specs.Courses.{course};
-ghost use Rattle.print_rounds.specs.Finished.{HasNoneRunning};
+ghost use Rattle.print_rounds.specs.Courses.{Course, course};
 ghost use Rattle.spool_core.specs.Reading.{IsFrontRead as IsReadUpTo};
 ghost use Rattle.spool_core.specs.Standing.{len_at};
 ghost use Rattle.spool_core.specs.declared.spool.apply_fault.ApplyFault.{ApplyFault};
@@ -22,6 +21,7 @@ ghost use Rattle.spool_engine.specs.Script.{next_number};
 ghost use Rattle.spool_engine.specs.EventTurns.{setting, EventTurn, IsKept};
 ghost use Rattle.spool_engine.specs.Answers.{IsApplied, IsFrontRead, IsRelisted, Takes, answer_line, checkpoint_line};
 ghost use Rattle.spool_engine.specs.Rounds.{IsRan};
+ghost use Rattle.spool_engine.specs.Ticks.{IsTicked};
 ghost use Rattle.spool_types.specs.declared.event.Event.{Event as EventOf};
 
 use crate::answers::{answer_text, checkpoint_text, fault_text};
@@ -32,7 +32,7 @@ use command_lines::{Answer, Creation, ShownQueue, print_reply};
 use device_uri::{DeviceUri, UriFault};
 use filter_args::Place;
 use job_table::{Table, document_len};
-use print_rounds::{Round, RoundFault};
+use print_rounds::{Round, RoundFault, finish_children};
 use spool_core::{ApplyFault, CheckpointFault, Spool, Unread, read_front};
 use spool_disk::Disk;
 use spool_types::{
@@ -277,20 +277,36 @@ impl<D: Disk> Executor<D> {
         self.spool.checkpoint()
     }
 
-    /// Runs a round.
+    /// Waits for each child that runs, and then runs a round.
     pub fn round<C: Children>(
         &mut self,
         place: &Place,
         runner: &mut Runner<C>,
         children: &mut C,
     ) -> Result<Round, RoundFault>
-        requires { HasNoneRunning runner.old }
-        ensures round { (m : MimeDatabase) → (tried : List EventOf) × (documents : ℕ → List ℕ) × IsRan (setting D.device m place.now)
+        ensures { (m : MimeDatabase) → (settled : Course D) × (tried : List EventOf) × (documents : ℕ → List ℕ) × IsRan (setting D.device m place.now)
             (course self.old runner.old (C.tells children.old))
-            (record { next = course self.new runner.new (C.tells children.new); result = result; tried = tried; documents = documents }) }
-        ensures rest { HasNoneRunning runner.new }
+            (record { settled = settled; next = course self.new runner.new (C.tells children.new); result = result; tried = tried; documents = documents }) }
     {
+        finish_children(runner, children);
         let ran = print_rounds::round(self.alloc, place, &mut self.spool, runner, children);
+        // A crash leaves this table, which is the executor's invariant.
+        let _table = self.spool.table();
+        ran
+    }
+
+    /// Runs a tick, which waits for no child.
+    pub fn tick<C: Children>(
+        &mut self,
+        place: &Place,
+        runner: &mut Runner<C>,
+        children: &mut C,
+    ) -> Result<Round, RoundFault>
+        ensures { (m : MimeDatabase) → (tried : List EventOf) × IsTicked (setting D.device m place.now)
+            (course self.old runner.old (C.tells children.old))
+            (record { next = course self.new runner.new (C.tells children.new); result = result; tried = tried }) }
+    {
+        let ran = print_rounds::tick(self.alloc, place, &mut self.spool, runner, children);
         // A crash leaves this table, which is the executor's invariant.
         let _table = self.spool.table();
         ran

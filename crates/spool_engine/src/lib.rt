@@ -20,6 +20,13 @@
 //! finishes each child and applies the event of its end (`print_rounds`). `drain` runs rounds until one starts and finishes
 //! nothing, which it counts, or as many as it may; a fault ends it.
 //!
+//! A tick does what a round does and waits for no child ([`Engine::tick`]), so children may run between two calls. A round that
+//! finds some running waits for them first; their finishes stay in their slots, and the round tells them. A purge of a job whose
+//! child runs is withheld: it is answered `error 16 NotEnded`, and nothing changes. An engine that is taken apart waits for
+//! each child that runs ([`Engine::into_parts`]).
+//!
+//! Several clients are served by one engine, each with a reader of commands and a writer of its own ([`Engine::serve_next`]).
+//!
 //! `checkpoint` lists the table in the other area of the disk, so that the journal has room again (`Spool::checkpoint`). The
 //! table is in the newest version of the format then, and nothing else of it changes (`raised`).
 //!
@@ -29,8 +36,8 @@
 //!
 //! - *ExactScript* (`exact`): where it answers Ok and every command was served, the bytes that it wrote are the replies of
 //!   Script over these rules and conversions, and the table is Script's (`table`): the fold of Script's events, where no
-//!   checkpoint raises the version between them (`fold`). Of children that tell their answers, and of which none is
-//!   running, the new orders are Script's too, and so is what is held for each job. A text without rounds is served so
+//!   checkpoint raises the version between them (`fold`). Of children that tell their answers, and slots that have the tickets
+//!   of those that run, the new orders are Script's too, and so is what is held for each job. A text without rounds is served so
 //!   whatever the children tell. This speaks of readers and writers that tell their bytes. Each close is typed, and each
 //!   first stage handed, what was read of its job's document. Where the disk tells its bytes these are Script's own
 //!   documents (`exact_with`): those that every image had at the start, with what the sends of the text add to them.
@@ -43,13 +50,16 @@
 //!   the table is that of the events acknowledged in it. After a fault of the run this holds of the first commands of the
 //!   text (`first`).
 //! - *EachFinishedOnce* (`finished` of each round): whatever failed, each child that was started is finished once when the
-//!   round returns, and every start came before the first finish.
-//! - *NoStageTwice* ([`calls_are_turns`]): each call is a turn of World, whose events are those that were acknowledged in
-//!   it, each accepted on the table that its command found. World sees each table as the newest version has it. In every
-//!   world no stage of an attempt comes twice ([`lives_law`]), so over any number of engines none is ordered twice
-//!   ([`no_stage_is_ordered_twice`]).
-//! - *RightInput* ([`stages_have_right_input`]): over any number of calls each later stage of an attempt is handed the whole output
-//!   of the stage before it, and each first stage its job's document.
+//!   round returns, and every start came before the first finish. Those that ran before it were finished before (`settles`). Of a
+//!   tick each child that was started runs or has been finished once, and the slots have the tickets of those that run
+//!   (`tickets`, `HasTickets`). When the engine is taken apart none runs (`finished` of [`Engine::into_parts`]).
+//! - *NoStageTwice* ([`calls_are_turns`]): each call is a turn of World, a tick too, whose events are those that were
+//!   acknowledged in it, each accepted on the table that its command found. World sees each table as the newest version has
+//!   it. In every world no stage of an attempt comes twice ([`lives_law`]), so over any number of engines none is ordered
+//!   twice ([`no_stage_is_ordered_twice`]).
+//! - *RightInput* ([`stages_have_right_input`]): over any number of calls each later stage of an attempt is handed the whole
+//!   output of the stage before it, whichever calls its child was started and ended in, and each first stage its job's
+//!   document.
 //! - *Crashes* (`crash` and `kept` of each turn): unless the device had failed before, a crash at any moment of a turn
 //!   leaves the table before its command or the one after it, of a checkpoint that table in its version or in the newest,
 //!   and of rounds the table after some of the events that were tried in them, the first of them. With the table it leaves
@@ -58,14 +68,17 @@
 //!   turn sent (`lasting`). [`crashes_between_replies`] says of whole runs that no turn is lost, as long as the device
 //!   hasn't failed: not its events (`tables`), nor what they sent (`documents`). This speaks of disks that tell their
 //!   bytes.
+//! - *ClientsApart* ([`clients_stay_apart`]): over any row of ticks and of commands of several clients, the commands that are
+//!   served for a client are the first of those that it sent, it is given exactly their replies, and each is Script's on the
+//!   table that its command found.
 //! - What was written (`wrote`): all replies; after a fault of the writer a prefix of them and not all; where the text
 //!   of a reply found no memory, all but that reply.
 //!
 //! # Invariant
 //!
 //! Until the device has failed, a crash leaves the table that the engine shows (`IsKept`, of `Executor`, which applies the
-//! events). Between two calls no child is running (`HasNoneRunning`, of `Printer`, which serves the commands). The engine
-//! lends them the rules, the conversions and the place, which never change.
+//! events for `Printer`, which serves the commands). The engine lends them the rules, the conversions and the place, which never
+//! change. Where no child runs before a call other than a tick, none runs after it (`rests`).
 //!
 //! # Faults
 //!
@@ -87,6 +100,6 @@ mod printer;
 pub use engine::Engine;
 pub use fault::RunFault;
 pub use laws::{
-    calls_are_turns, crashes_between_replies, lives_law, no_stage_is_ordered_twice,
-    stages_have_right_input,
+    calls_are_turns, clients_stay_apart, crashes_between_replies, lives_law,
+    no_stage_is_ordered_twice, quiet_scenes_stay, stages_have_right_input,
 };

@@ -3,25 +3,28 @@ ghost use Rattle.std.specs.Prelude.{◌≡◌, ℕ, List, [], IfOk, OnOk};
 ghost use Rattle.std.specs.FinMap as finite;
 ghost use Rattle.spool_types.specs.declared.event.Event.{Event as EventOf};
 ghost use Rattle.command_lines.specs.declared.command.Command.{Command};
-ghost use Rattle.print_rounds.specs.Courses.{course};
+ghost use Rattle.child_pipeline.specs.Slots.{Slots};
+ghost use Rattle.print_rounds.specs.Courses.{Course, course};
 ghost use Rattle.spool_engine.specs.EventTurns.{setting, IsKept};
 ghost use Rattle.spool_engine.specs.Mime.{Mime as MimeDatabase};
-ghost use Rattle.spool_engine.specs.Rounds.{Ran, IsRan, AreRan, AreAll, AreRun, counts_in, results_of, rounds_run};
-ghost use Rattle.spool_engine.specs.Script.{is_idle, round_text, drain_text};
-ghost use Rattle.spool_engine.specs.Runs.{Turn, TakesTurn, Serves, IsRun, Drains, DrainsEnd, DrainsPiece};
+ghost use Rattle.spool_engine.specs.Ticks.{IsTicked};
+ghost use Rattle.spool_engine.specs.Rounds.{Ran, IsRan, IsSettled, AreRan, AreAll, AreRun, counts_in, results_of, rounds_run};
+ghost use Rattle.filter_args.specs.declared.place.Place.{Place as PlaceOf};
+ghost use Rattle.spool_engine.specs.Script.{is_idle, round_text, drain_text, withholds_event};
+ghost use Rattle.spool_engine.specs.Runs.{Turn, TakesTurn, Serves, IsRun, Drains, DrainsEnd, DrainsPiece, ServesNext};
 
 use crate::answers::{drained_text, rounded_text};
 use crate::executor::Executor;
 use crate::fault::RunFault;
 use crate::mime::Mime;
-use child_pipeline::{Children, Runner};
+use child_pipeline::{Children, Runner, tickets_stay};
 use command_lines::{Answer, Command, Commands, Rounds, print_reply};
 use filter_args::Place;
 use job_table::versions_rise;
-use print_rounds::{Round, RoundFault};
+use print_rounds::{Round, RoundFault, finish_children};
 use spool_core::Spool;
 use spool_disk::Disk;
-use spool_types::Refusal;
+use spool_types::{Event, Refusal};
 use std::alloc::{AllocError, Global};
 use std::io::{ErrorKind, Read, Write};
 use std::marker::Model;
@@ -30,8 +33,8 @@ use whole_writes::write_whole;
 // How many bytes are asked of the reader at once.
 const PIECE: usize = 16_384;
 
-/// An executor, and beside it the slots and the children by which rounds are run. It is seen as what the spool shows, the
-/// slots, and what the children tell. Between two commands no child is running.
+/// An executor, and beside it the slots and the children by which rounds and ticks are run. It is seen as what the spool shows,
+/// the slots, and what the children tell.
 #[derive(Drop)]
 pub(crate) struct Printer<D: Disk, C: Children> {
     alloc: Global,
@@ -42,7 +45,6 @@ pub(crate) struct Printer<D: Disk, C: Children> {
 
 impl<D: Disk, C: Children> Model for Printer<D, C> {
     ghost use Rattle.print_rounds.specs.Courses.{Course, course};
-    ghost use Rattle.print_rounds.specs.Finished.{HasNoneRunning};
     ghost use Rattle.std.specs.Coded.{codes};
     ghost use Rattle.std.specs.FinMap as map;
 
@@ -51,8 +53,6 @@ impl<D: Disk, C: Children> Model for Printer<D, C> {
     ghost coded = { Prim.hlevel (codes, map.code, D.code) };
 
     ghost view = { λ p. course p.executor p.runner (C.tells p.children) };
-
-    ghost invariant = { λ p. HasNoneRunning p.runner };
 }
 
 impl<D: Disk, C: Children> Printer<D, C> {
@@ -68,16 +68,19 @@ impl<D: Disk, C: Children> Printer<D, C> {
         }
     }
 
-    /// The spool as it is now, and the children.
+    /// The spool as it is now, and the children, once none of them runs.
     pub fn into_parts(self) -> (Spool<D>, C)
-        ensures spool { result.0 ≡ self.spool }
-        ensures children { C.tells result.1 ≡ self.told }
+        ensures { (slots : Slots) × IsSettled self (course result.0 slots (C.tells result.1)) }
     {
         let Printer {
             executor,
+            runner,
             children,
             ..
         } = self;
+        let mut runner = runner;
+        let mut children = children;
+        finish_children(&mut runner, &mut children);
         (executor.into_spool(), children)
     }
 
@@ -90,13 +93,22 @@ impl<D: Disk, C: Children> Printer<D, C> {
         self.executor.met_fault()
     }
 
-    /// Runs a round.
+    /// Waits for each child that runs, and then runs a round.
     pub fn round(&mut self, place: &Place) -> Result<Round, RoundFault>
-        ensures { (m : MimeDatabase) → (tried : List EventOf) × (documents : ℕ → List ℕ) × IsRan (setting D.device m place.now) self.old
-            (record { next = self.new; result = result; tried = tried; documents = documents }) }
+        ensures { (m : MimeDatabase) → (settled : Course D) × (tried : List EventOf) × (documents : ℕ → List ℕ) × IsRan (setting D.device m place.now) self.old
+            (record { settled = settled; next = self.new; result = result; tried = tried; documents = documents }) }
     {
         self.executor
             .round(place, &mut self.runner, &mut self.children)
+    }
+
+    /// Runs a tick, which waits for no child.
+    pub fn tick(&mut self, place: &Place) -> Result<Round, RoundFault>
+        ensures { (m : MimeDatabase) → (tried : List EventOf) × IsTicked (setting D.device m place.now) self.old
+            (record { next = self.new; result = result; tried = tried }) }
+    {
+        self.executor
+            .tick(place, &mut self.runner, &mut self.children)
     }
 
     // Runs rounds until one starts and finishes nothing, or these were run, and tells how many there were.
@@ -137,6 +149,31 @@ impl<D: Disk, C: Children> Printer<D, C> {
         drained_text(self.alloc, run)
     }
 
+    // Whether this is a purge of a job whose child runs.
+    fn withholds(&self, event: &Event) -> bool
+        ensures { result ≡ withholds_event self.now.slots event.now }
+    {
+        match event {
+            Event::Purge(job) => self.runner.is_running(*job),
+            _ => false,
+        }
+    }
+
+    // Applies an event, unless it is a purge of a job whose child runs, and makes the text of its reply.
+    fn apply(&mut self, event: Event) -> Result<Vec<u8>, AllocError>
+        ensures { (m : MimeDatabase) (p : PlaceOf) → (t : Turn D) ×
+            TakesTurn (setting D.device m p) self.old (Command.Apply event) t self.new ×
+            IfOk result (λ text. text.items ≡ t.text) }
+    {
+        // Until the device has failed a crash leaves the table that is shown.
+        let _kept = self.met_fault();
+        if self.withholds(&event) {
+            print_reply(self.alloc, &Answer::Refused(Refusal::NotEnded))
+        } else {
+            self.executor.execute_event(event)
+        }
+    }
+
     // Serves a command, and makes the text of its reply.
     fn execute(
         &mut self,
@@ -151,7 +188,7 @@ impl<D: Disk, C: Children> Printer<D, C> {
         // Until the device has failed a crash leaves the table that is shown.
         let _kept = self.met_fault();
         match command {
-            Command::Apply(event) => self.executor.execute_event(event),
+            Command::Apply(event) => self.apply(event),
             Command::Queue(queue) => self.executor.add_queue(queue),
             Command::Create(creation) => self.executor.create(creation),
             Command::Close { job, name } => self.executor.close(mime, job, name.as_str()),
@@ -183,6 +220,27 @@ impl<D: Disk, C: Children> Printer<D, C> {
                 Ok(()) => Ok(()),
                 Err(_) => Err(RunFault::Write),
             },
+            Err(_) => Err(RunFault::Memory),
+        }
+    }
+
+    /// Serves one command, if a whole one is held, and tells whether there was one.
+    pub fn serve_next<W: Write>(
+        &mut self,
+        mime: &Mime<'_>,
+        place: &Place,
+        commands: &mut Commands,
+        writer: &mut W,
+    ) -> Result<bool, RunFault>
+        ensures { (turns : List (Turn D)) × ServesNext (setting D.device mime.now place.now)
+            self.old commands.old turns self.new commands.new result (W.contents writer.old) (W.contents writer.new) }
+    {
+        match commands.next() {
+            Ok(Some(command)) => match self.answer(mime, place, command, writer) {
+                Ok(()) => Ok(true),
+                Err(fault) => Err(fault),
+            },
+            Ok(None) => Ok(false),
             Err(_) => Err(RunFault::Memory),
         }
     }
@@ -270,6 +328,8 @@ impl<D: Disk, C: Children> Printer<D, C> {
         let _kept = self.met_fault();
         // No event raises the version.
         versions_rise();
+        // No ticket is lost.
+        tickets_stay();
         let mut commands = Commands::new(self.alloc);
         let mut piece = [0u8; PIECE];
         'reads: for _ in 0..u32::MAX {

@@ -6,12 +6,16 @@
 //! what the stage before gave, `out-J-A-S` and `err-J-A-S` are its standard output and standard error. They are made
 //! before it is started, readable by their owner alone, and removed once it was finished. A crash may leave them: an opening
 //! removes them ([`crate::leftovers`]), and the next child of that name makes them anew. With a side channel there is the
-//! socket `side-J-A-S`, too: while a child is finished, those of all that run are served ([`crate::sessions`]).
+//! socket `side-J-A-S`, too: while a child is finished or looked at, those of all that run are served
+//! ([`crate::sessions`]).
 //!
 //! The first stage is told the document by its last word, and its standard input is empty. A later one reads what the
 //! stage before gave on standard input.
 //!
 //! `start` returns while the child runs, so the children of a round run at once.
+//!
+//! `has_ended` waits for nobody. It asks the system once, and answers what has come on the side channels. Where the system
+//! can't say, the child counts as ended, and `finish` tells it.
 //!
 //! # What is short
 //!
@@ -19,6 +23,11 @@
 //! two seconds in all ([`crate::shortage`]). A folder without room at a child's end is told. A filter that ended well is
 //! lost then where its output may be cut off, and any child where what it wrote is: no byte more can be written behind
 //! it.
+//!
+//! `is_ready` says no while there are fewer descriptors than a start takes, and after a start that failed for want of
+//! something: until two seconds have passed or a child is finished. So one start at most is lost in that time. Before such a
+//! start it knows nothing of the folder's room, of memory and of how many processes there may be, and it can't know what
+//! others take between its answer and the start. Once nothing more is started it always says no.
 //!
 //! # Faults
 //!
@@ -29,13 +38,14 @@
 //!
 //! Each fault is told in a line on standard error, with its cause, and so is an end that failed where the child told no
 //! message ([`crate::reasons`]).
-ghost use Rattle.std.specs.Prelude.{◌≡◌, ◌+◌, None, IfOk, IfSome, IsErr, IsOkAnd, is_some, string_bytes};
+ghost use Rattle.std.specs.Prelude.{◌≡◌, ◌+◌, ◌-◌, ◌/◌, min, None, IfOk, IfSome, IsErr, IsOkAnd, is_some, string_bytes};
 ghost use Rattle.std.specs.Option.{option_map};
 ghost use Rattle.spool_types.specs.Limits.{longest_document};
 ghost use Rattle.child_pipeline.specs.Finishes.{most_errors};
 ghost use Rattle.spool_host.specs.ChildFiles.{ReadsUpTo};
 ghost use Rattle.spool_host.specs.Serving.{IsPlace};
 ghost use Rattle.std.specs.IoError.{error_kind, raw_os_error};
+ghost use Rattle.std.specs.Time.{instant_nanos};
 ghost use Rattle.spool_host.specs.Launching.{TellsEnd, TellsNoEnd, device_for, input_name, may_be_cut, program_for, refusal_of};
 
 use crate::child_files::{
@@ -46,7 +56,7 @@ use crate::reasons::{Reason, StageRun, reason_of};
 use crate::script::Call;
 use crate::serving::place_in;
 use crate::sessions::{SideLine, SideLines};
-use crate::shortage::{MOST_WAITS, Patience, shortage_of};
+use crate::shortage::{MOST_WAITS, Patience, has_descriptors, shortage_of};
 use crate::side_device::{device_of, uri_in};
 use child_pipeline::{ChildFault, Children, Content, Finish, Input, Order, Program, Texts};
 use filter_args::Place;
@@ -59,7 +69,7 @@ use std::io::Read;
 use std::net::Net;
 use std::os::unix::process::ExitStatusExt;
 use std::process::{Child, ExitStatus, OpenProcess, Processes, Stdio};
-use std::time::{Clock, Duration};
+use std::time::{Clock, Duration, Instant};
 use std::{io, thread};
 
 // How many bytes of standard output are read: one more than a document may have shows that there were too many.
@@ -70,6 +80,9 @@ const MOST_ERRORS: usize = 1_048_576;
 
 // For how many milliseconds the side channels aren't looked at, at most.
 const LONGEST_PAUSE: u64 = 16;
+
+// How many milliseconds are told of the time between two looks, at most.
+const LONGEST_TIME: u128 = 60_000;
 
 // The standard input of a first stage.
 const NOTHING: &str = "/dev/null";
@@ -91,6 +104,8 @@ pub struct Launcher<'a, L, R> {
     patience: Patience,
     // The side channels of the children that run.
     sides: SideLines,
+    // When they were served last.
+    served: Option<Instant>,
     // Whether the end of a child couldn't be known.
     blind: bool,
 }
@@ -149,6 +164,7 @@ impl<'a, L: Log, R: Files<File = File> + Net + Processes + Clock + AllocGlobal> 
             most_blocks: MOST_BLOCKS,
             patience: Patience::new(),
             sides: SideLines::new(rt.alloc()),
+            served: None,
             blind: false,
         }
     }
@@ -171,7 +187,7 @@ impl<'a, L: Log, R: Files<File = File> + Net + Processes + Clock + AllocGlobal> 
         for _ in 0..MOST_WAITS + 1 {
             match self.launch_with_side(order) {
                 Err(reason) if reason.may_pass() && self.patience.wait(self.rt) => {
-                    self.sides.serve(self.rt.alloc(), 0);
+                    self.serve_sides();
                 }
                 launched => return launched,
             }
@@ -320,6 +336,9 @@ impl<'a, L: Log, R: Files<File = File> + Net + Processes + Clock + AllocGlobal> 
         match started {
             Ok(begun) => Ok(RunningChild { run, begun }),
             Err(reason) => {
+                if reason.may_pass() {
+                    self.patience.fail(self.rt);
+                }
                 run.tell(self.log, reason);
                 Err(ChildFault)
             }
@@ -342,18 +361,43 @@ impl<'a, L: Log, R: Files<File = File> + Net + Processes + Clock + AllocGlobal> 
             }
         }
     }
+
+    fn has_ended(&mut self, ticket: &mut RunningChild<R::Started>) -> bool {
+        self.serve_sides();
+        !is_running(&mut ticket.begun.child)
+    }
+
+    fn is_ready(&mut self) -> bool {
+        !self.blind && !self.patience.is_short(self.rt) && has_descriptors(self.rt)
+    }
 }
 
 impl<'a, L: Log, R: Files<File = File> + Net + Processes + Clock + AllocGlobal> Launcher<'a, L, R> {
+    // Answers what has come on all side channels, unless that was done within this millisecond. Whether something had come.
+    fn serve_sides(&mut self) -> bool {
+        let alloc = self.rt.alloc();
+        let Ok(now) = Instant::now(self.rt) else {
+            return self.sides.serve(alloc, 0);
+        };
+        let since = match self.served {
+            Some(last) => millis_between(last, now),
+            None => 1,
+        };
+        if since == 0 {
+            return false;
+        }
+        self.served = Some(now);
+        self.sides.serve(alloc, since)
+    }
+
     // Serves all side channels until this child has ended, and closes its own. Where none is open there is nothing to do.
     fn attend(&mut self, job: JobId, child: &mut Child<R::Started>) {
-        let alloc = self.rt.alloc();
         let mut pause = 0;
         for _ in 0..u64::MAX {
             if self.sides.are_closed() || !is_running(child) {
                 break;
             }
-            pause = next_pause(pause, self.sides.serve(alloc, pause));
+            pause = next_pause(pause, self.serve_sides());
             thread::sleep(self.rt, Duration::from_millis(pause));
         }
         self.sides.close(job);
@@ -401,6 +445,14 @@ impl<'a, L: Log, R: Files<File = File> + Net + Processes + Clock + AllocGlobal> 
 
 fn is_running<P: OpenProcess + Drop>(child: &mut Child<P>) -> bool {
     matches!(child.try_wait(), Ok(None))
+}
+
+// How many whole milliseconds passed, or a minute's.
+fn millis_between(earlier: Instant, later: Instant) -> u64
+    ensures { result ≡ min ((instant_nanos later - instant_nanos earlier) / 1_000_000) 60_000 }
+{
+    let passed = later.duration_since(earlier).as_millis();
+    passed.min(LONGEST_TIME) as u64
 }
 
 // For how many milliseconds the side channels aren't looked at: one after something has come, and then ever longer ones.

@@ -3,8 +3,9 @@ ghost use Rattle.std.specs.Prelude.{◌≡◌};
 ghost use Rattle.std.specs.IoError.{error_kind, raw_os_error};
 ghost use Rattle.spool_host.specs.Shortage.{begins_round, short_number, shortage_of};
 
+use std::fs::{self, File, Files};
 use std::io::ErrorKind;
-use std::time::{Clock, Duration};
+use std::time::{Clock, Duration, Instant};
 use std::{io, thread};
 use thiserror::Error;
 
@@ -17,6 +18,16 @@ const ENFILE: i32 = 23;
 pub(crate) const MOST_WAITS: u32 = 40;
 
 const WAIT: u64 = 50;
+
+// For how many seconds nothing is started behind a start that failed for want of something.
+const WANT: u64 = 2;
+
+// How many descriptors a start takes: what the child writes (two), its standard output once more, the side channel, the empty
+// device twice, and four that the child's script opens, which the system has to have too.
+const DESCRIPTORS: usize = 10;
+
+// What can be opened everywhere, and takes nothing but a descriptor.
+const NOTHING: &str = "/dev/null";
 
 /// What a start wants, and may have in a moment.
 #[derive(Clone, Copy, Debug, Drop, Error, PartialEq, Eq)]
@@ -50,10 +61,28 @@ fn short_number(number: Option<i32>) -> Option<Shortage>
     }
 }
 
-/// How often the starts of a round may still wait.
+/// Whether as many descriptors as a start takes can be had: they are opened, and closed again.
+pub(crate) fn has_descriptors<R: Files<File = File> + AllocGlobal>(rt: &R) -> bool {
+    let mut opened = Vec::new(rt.alloc());
+    for _ in 0..DESCRIPTORS {
+        match fs::open(rt, NOTHING) {
+            Ok(file) => {
+                if opened.push(file).is_err() {
+                    return false;
+                }
+            }
+            Err(error) => return shortage_of(&error).is_none(),
+        }
+    }
+    true
+}
+
+/// How often the starts of a round may still wait, and whether one of them found too little.
 #[derive(Drop)]
 pub(crate) struct Patience {
     left: u32,
+    // When a start failed for want of something, since the last child was finished.
+    failed: Option<Instant>,
     // The queue of the last start of this round, as a variable.
     last: Option<String>,
 }
@@ -62,14 +91,32 @@ impl Patience {
     pub fn new() -> Patience {
         Patience {
             left: MOST_WAITS,
+            failed: None,
             last: None,
         }
     }
 
-    /// A round is over: the next start is one of another round.
+    /// A child is finished, and a round is over: the next start is one of another round, and may find what it wants.
     pub fn renew(&mut self) {
         self.left = MOST_WAITS;
+        self.failed = None;
         self.last = None;
+    }
+
+    /// A start failed for want of something.
+    pub fn fail<R: Clock>(&mut self, rt: &R) {
+        self.failed = Instant::now(rt).ok();
+    }
+
+    /// Whether a start failed so a moment ago, and no child was finished since.
+    pub fn is_short<R: Clock>(&self, rt: &R) -> bool {
+        let Some(failed) = self.failed else {
+            return false;
+        };
+        match failed.elapsed(rt) {
+            Ok(passed) => passed < Duration::from_secs(WANT),
+            Err(_) => false,
+        }
     }
 
     /// A start for this queue begins. The queues of a round come in ascending order.

@@ -8,6 +8,12 @@ pub const OPENING: &[u8] = b"# reopen\n";
 /// The line behind which the engine runs again.
 pub const RUN: &[u8] = b"# run\n";
 
+/// The line behind which the engine makes a tick, and then runs again.
+pub const TICK: &[u8] = b"# tick\n";
+
+/// The line behind which a client is served one command at a time.
+pub const CLIENT: &[u8] = b"# client\n";
+
 /// The part of a script up to the first line that is this one, and what follows that line, if there is one.
 pub fn next_part<'a>(script: &'a [u8], line: &[u8]) -> (&'a [u8], Option<&'a [u8]>)
     ensures whole { IfNone result.1 (result.0.now ≡ script.now) }

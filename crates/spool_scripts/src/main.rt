@@ -5,8 +5,9 @@
 //!
 //! A case lies in the folder that the first word names, or in that in which the program runs: `NAME.script` has the
 //! commands and `NAME.replies` the replies that are wanted. A line `# reopen` cuts a script: what follows it is served by
-//! a new engine, over the spool that is opened again on the same disk. Behind a line `# run` the same engine runs again.
-//! Further files are there where there is need:
+//! a new engine, over the spool that is opened again on the same disk. Behind a line `# run` the same engine runs again,
+//! and behind a line `# tick` it makes one tick and then runs again. Behind a line `# client` a client sends what follows and is
+//! served one command at a time, as long as a whole one is held. Further files are there where there is need:
 //!
 //! - `NAME.types` has rules of types, and `NAME.convs` conversions.
 //! - `NAME.lang` has the locale of the types, which is else `C`.
@@ -19,8 +20,8 @@
 //!   fail.
 //! - `NAME.limits` says that the reader fails, or how many bytes the writer takes ([`limits`]).
 //! - `NAME.account` has what is wanted beside the replies ([`served::Served`]), and is empty where it is absent: which run met
-//!   a fault of the reader or of the writer or found no memory, which part met a fault of the disk, and then the orders of
-//!   the children ([`orders`]).
+//!   a fault of the reader or of the writer or found no memory, what each tick answered ([`ticks`]), which part met a fault of
+//!   the disk, and then the orders of the children ([`orders`]).
 //!
 //! The fuse holds up to the first opening, and the limits up to the first cut. What follows goes without them, and the
 //! children go on from where they are.
@@ -42,6 +43,7 @@
 //! - [`cut::next_part`]: a part, the line that cuts and what follows it are the script, and that line doesn't come before.
 //! - [`paced`]: a reader gives the bytes of the script and a writer keeps what it takes, whatever their pace and limits.
 //! - [`outcomes::read_children`]: no child was started before the script is served.
+//! - [`ticks::push_tick`]: a tick is told by its counts, or by its fault.
 #![tactic(auto)]
 
 mod case;
@@ -54,6 +56,7 @@ mod orders;
 mod outcomes;
 mod paced;
 mod served;
+mod ticks;
 mod ways;
 
 use case::{Case, case_names, read_case};

@@ -5,14 +5,24 @@
 //! `no start`, where it can't be started. Behind it stands what it writes, a line for each piece: `output COUNT TEXT` is the
 //! text on standard output so many times, `errors COUNT TEXT` the text on standard error, and `line COUNT TEXT` the text
 //! and a line feed there. Children behind the last can't be started, and give no order to the account.
-ghost use Rattle.std.specs.Prelude.{◌≡◌, ◌∷◌, ◌++◌, [], map, is_ok, IfOk, OnOk};
+//!
+//! Over ticks children may end in another order than that of their starts. How they end, and what they write, is then told in
+//! the order in which they are finished.
+//!
+//! Before the first child a line may tell the answers of looks at children, in the order in which they are asked: `looks`
+//! with a word of each, `yes` where the child has ended, or `no`. An empty line follows it. Each look behind the last says
+//! that its child has ended.
+ghost use Rattle.std.specs.Prelude.{◌≡◌, ◌≢◌, ◌<◌, ◌∷◌, ◌++◌, ℕ, List, [], codes, length, map, is_ok, IfOk, IfSome, OnOk};
 ghost use Rattle.child_pipeline.specs.Told.{finish_in};
-ghost use Rattle.spool_scripts.specs.Outcomes.{is_started, ends_of};
+ghost use Rattle.spool_scripts.specs.Outcomes.{is_started, ends_of, first_line, look_word, look_words, TellsLooks};
 
 use crate::fault::CaseFault;
 use child_pipeline::{ChildFault, Content, Finish, MemChildren};
 use spool_types::Exit;
 use std::alloc::{AllocError, Global};
+
+// The word of the line that tells looks.
+const LOOKS: &str = "looks";
 
 // How a child goes.
 #[derive(Drop)]
@@ -27,17 +37,86 @@ pub fn read_children(alloc: Global, text: &str) -> Result<MemChildren, CaseFault
     ensures unstarted { IfOk result (λ c. c.orders ≡ []) }
     ensures unfinished { IfOk result (λ c. c.finished ≡ 0) }
     ensures none { text.now ≡ [] → IfOk result (λ c. c.starts ≡ []) }
+    ensures looks { IfOk result (λ c. TellsLooks (first_line text.now) c.looks) }
 {
     let mut starts = Vec::new(alloc);
     let mut finishes = Vec::new(alloc);
-    if text.is_empty() {
-        return Ok(MemChildren::new(alloc, starts, finishes)?);
+    let looks = read_looks(alloc, first_line(text))?;
+    let children = behind_looks(text);
+    if children.is_empty() {
+        return Ok(MemChildren::new(alloc, starts, finishes, looks)?);
     }
-    for child in text.split("\n\n") {
+    for child in children.split("\n\n") {
         let outcome = read_outcome(alloc, child)?;
         push_outcome(&mut starts, &mut finishes, outcome)?;
     }
-    Ok(MemChildren::new(alloc, starts, finishes)?)
+    Ok(MemChildren::new(alloc, starts, finishes, looks)?)
+}
+
+fn first_line(text: &str) -> &[u8]
+    ensures { result.now ≡ first_line text.now }
+{
+    match text.split_once('\n') {
+        Some((line, _)) => line.as_bytes(),
+        None => text.as_bytes(),
+    }
+}
+
+// The children of a text, behind the line of looks where there is one.
+fn behind_looks(text: &str) -> &str
+    ensures none { text.now ≡ [] → result.now ≡ [] }
+    ensures all { ((rest : List ℕ) → text.now ≢ codes "looks" ++ rest) → result.now ≡ text.now }
+{
+    if !text.starts_with(LOOKS) {
+        return text;
+    }
+    match text.split_once("\n\n") {
+        Some((_, children)) => children,
+        None => "",
+    }
+}
+
+// The looks that a first line tells.
+fn read_looks(alloc: Global, line: &[u8]) -> Result<Vec<bool>, CaseFault>
+    ensures { IfOk result (λ looks. TellsLooks line.now looks.items) }
+{
+    match line.strip_prefix(LOOKS.as_bytes()) {
+        Some(words) => read_look_words(alloc, words),
+        None => Ok(Vec::new(alloc)),
+    }
+}
+
+// The looks that these words say.
+fn read_look_words(alloc: Global, words: &[u8]) -> Result<Vec<bool>, CaseFault>
+    ensures { IfOk result (λ looks. look_words looks.items ≡ words.now) }
+{
+    let mut looks = Vec::new(alloc);
+    let mut rest = words;
+    while let Some((ended, behind)) = next_look(rest) {
+        match looks.push(ended) {
+            Ok(()) => rest = behind,
+            Err(_) => return Err(CaseFault::Memory),
+        }
+    }
+    if rest.is_empty() {
+        Ok(looks)
+    } else {
+        Err(CaseFault::NoChildren)
+    }
+}
+
+// The look that the first word says, and the other words.
+fn next_look(words: &[u8]) -> Option<(bool, &[u8])>
+    ensures word { IfSome result (λ found. words.now ≡ look_word found.0 ++ found.1.now) }
+    ensures fewer { IfSome result (λ found. length found.1.now < length words.now) }
+{
+    if let Some(rest) = words.strip_prefix(b" yes".as_slice()) {
+        return Some((true, rest));
+    }
+    match words.strip_prefix(b" no".as_slice()) {
+        Some(rest) => Some((false, rest)),
+        None => None,
+    }
 }
 
 // Adds how a child starts, and how it ends if it does.

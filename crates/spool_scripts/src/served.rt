@@ -1,13 +1,15 @@
 //! What an engine does with a script.
 
 use crate::case::Case;
-use crate::cut::{OPENING, RUN, next_part};
+use crate::cut::{CLIENT, OPENING, RUN, TICK, next_part};
 use crate::fault::CaseFault;
 use crate::orders::push_orders;
 use crate::outcomes::read_children;
 use crate::paced::{PacedReader, PacedWriter};
+use crate::ticks::push_tick;
 use crate::ways::Way;
 use child_pipeline::MemChildren;
+use command_lines::Commands;
 use filter_args::Place;
 use mime_costs::Convs;
 use mime_rules::Types;
@@ -24,7 +26,7 @@ const VERSION_PLACE: u64 = 1;
 pub struct Served {
     pub replies: Vec<u8>,
     /// What is told beside the replies: of each run that its reader or its writer failed or that it found no memory, of each
-    /// part that its disk failed, and then the orders of the children.
+    /// tick what it answered, of each part that its disk failed, and then the orders of the children.
     pub account: Vec<u8>,
 }
 
@@ -133,7 +135,7 @@ fn serve_part(
     } = bench;
     let disk = failing(disk, part.calls, case.fuse.once);
     let mut printer = printer_on(alloc, case, disk, children)?;
-    serve_runs(&mut printer, part, way, writer, &mut account)?;
+    serve_runs(alloc, &mut printer, part, way, writer, &mut account)?;
     if printer.met_fault() {
         account.push_str("the disk failed\n")?;
     }
@@ -145,8 +147,9 @@ fn serve_part(
     })
 }
 
-// Serves a part of a script in one run after another. Where one of them fails is told in the account.
+// Serves a part of a script in one run after another.
 fn serve_runs(
+    alloc: Global,
     printer: &mut Printer,
     part: Part<'_>,
     way: Way,
@@ -157,13 +160,12 @@ fn serve_runs(
     let mut reader_fails = part.reader_fails;
     for _ in 0..u64::MAX {
         let (script, after) = next_part(rest, RUN);
-        let mut reader = PacedReader::new(script, way.reading, reader_fails);
-        match printer.run(&mut reader, writer) {
-            Ok(()) => {}
-            Err(RunFault::Read) => account.push_str("the reader failed\n")?,
-            Err(RunFault::Write) => account.push_str("the writer failed\n")?,
-            Err(RunFault::Memory) => account.push_str("a run found no memory\n")?,
-        }
+        let run = Part {
+            script,
+            reader_fails,
+            ..part
+        };
+        serve_ticks(alloc, printer, run, way, writer, account)?;
         match after {
             Some(script) => rest = script,
             None => break,
@@ -171,6 +173,94 @@ fn serve_runs(
         writer.lift();
         reader_fails = false;
     }
+    Ok(())
+}
+
+// Serves what stands between two lines that let the engine run again, with a tick at each line that asks for one. What
+// each tick answered is told in the account.
+fn serve_ticks(
+    alloc: Global,
+    printer: &mut Printer,
+    part: Part<'_>,
+    way: Way,
+    writer: &mut PacedWriter,
+    account: &mut String,
+) -> Result<(), CaseFault> {
+    let mut rest = part.script;
+    let mut reader_fails = part.reader_fails;
+    for _ in 0..u64::MAX {
+        let (script, after) = next_part(rest, TICK);
+        let piece = Part {
+            script,
+            reader_fails,
+            ..part
+        };
+        serve_clients(alloc, printer, piece, way, writer, account)?;
+        match after {
+            Some(script) => rest = script,
+            None => break,
+        }
+        writer.lift();
+        reader_fails = false;
+        push_tick(account, printer.tick())?;
+    }
+    Ok(())
+}
+
+// Serves what stands between two ticks in one run, and behind it the client of each line that says that one comes.
+fn serve_clients(
+    alloc: Global,
+    printer: &mut Printer,
+    part: Part<'_>,
+    way: Way,
+    writer: &mut PacedWriter,
+    account: &mut String,
+) -> Result<(), CaseFault> {
+    let (script, mut after) = next_part(part.script, CLIENT);
+    let mut reader = PacedReader::new(script, way.reading, part.reader_fails);
+    if let Err(fault) = printer.run(&mut reader, writer) {
+        push_fault(account, fault)?;
+    }
+    for _ in 0..u64::MAX {
+        let Some(rest) = after else {
+            break;
+        };
+        writer.lift();
+        let (text, behind) = next_part(rest, CLIENT);
+        serve_client(alloc, printer, text, writer, account)?;
+        after = behind;
+    }
+    Ok(())
+}
+
+// Serves a client that sends this text, one command at a time, as long as a whole one is held.
+fn serve_client(
+    alloc: Global,
+    printer: &mut Printer,
+    text: &[u8],
+    writer: &mut PacedWriter,
+    account: &mut String,
+) -> Result<(), CaseFault> {
+    let mut commands = Commands::new(alloc);
+    commands.feed(text)?;
+    for _ in 0..u64::MAX {
+        match printer.serve_next(&mut commands, writer) {
+            Ok(true) => {}
+            Ok(false) => break,
+            Err(fault) => return push_fault(account, fault),
+        }
+    }
+    Ok(())
+}
+
+// Tells in the account how a run failed.
+fn push_fault(account: &mut String, fault: RunFault) -> Result<(), CaseFault> {
+    let line = match fault {
+        RunFault::Read => "the reader failed\n",
+        RunFault::Write => "the writer failed\n",
+        RunFault::Memory => "a run found no memory\n",
+    };
+    account.push_str(line)?;
     Ok(())
 }
 

@@ -10,15 +10,15 @@ loop-run-init g c = λ m. ([], refl, tt, refl)
 pub loop-run-preserved : goal.loop-run-preserved
 loop-run-preserved g c = λ m.
     let (rs, each, busy, count) = c.loop-run.invariant m in
-    let (tried, documents, one) = c.round.ensures m in
-    let r : Ran g.row.D.Denot = record { next = c.round.new.self; result = c.round.result; tried = tried; documents = documents } in
+    let (settled, tried, documents, one) = c.round.ensures m in
+    let r : Ran g.row.D.Denot = record { settled = settled; next = c.round.new.self; result = c.round.result; tried = tried; documents = documents } in
     (rs ++ r ∷ [], ran_more _ _ _ rs r each one, busy_more rs r busy (ap is_last c.in-Ok.is ∙ sym c.if-is_idle.ensures), length_more rs r ∙ ap (λ n. n + 1) count)
 
 pub returns-then-is_idle : goal.returns-then-is_idle
 returns-then-is_idle g c = λ m.
     let (rs, each, busy, count) = c.loop-run.invariant m in
-    let (tried, documents, one) = c.round.ensures m in
-    let r : Ran g.row.D.Denot = record { next = c.round.new.self; result = c.round.result; tried = tried; documents = documents } in (
+    let (settled, tried, documents, one) = c.round.ensures m in
+    let r : Ran g.row.D.Denot = record { settled = settled; next = c.round.new.self; result = c.round.result; tried = tried; documents = documents } in (
       rs ++ r ∷ [],
       ran_more _ _ _ rs r each one,
       all_last c.args.most rs r busy (let less = c.loop-run-test.true in let end = c.get-run-end.ensures in omega (arith, count, less, end)) (ap is_last c.in-Ok.is ∙ sym c.if-is_idle.ensures),
@@ -28,8 +28,8 @@ returns-then-is_idle g c = λ m.
 pub returns-in-Err : goal.returns-in-Err
 returns-in-Err g c = λ m.
     let (rs, each, busy, count) = c.loop-run.invariant m in
-    let (tried, documents, one) = c.round.ensures m in
-    let r : Ran g.row.D.Denot = record { next = c.round.new.self; result = c.round.result; tried = tried; documents = documents } in (
+    let (settled, tried, documents, one) = c.round.ensures m in
+    let r : Ran g.row.D.Denot = record { settled = settled; next = c.round.new.self; result = c.round.result; tried = tried; documents = documents } in (
       rs ++ r ∷ [],
       ran_more _ _ _ rs r each one,
       all_last c.args.most rs r busy (let less = c.loop-run-test.true in let end = c.get-run-end.ensures in omega (arith, count, less, end)) (ap is_last c.in-Err.is),

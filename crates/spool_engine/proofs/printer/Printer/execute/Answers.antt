@@ -1,60 +1,59 @@
 -- each command is told as it went
-use Rattle.std.proofs.Common.{◌≡◌, ap, subst, refl, codes, []}
+use Rattle.std.proofs.Common.{◌≡◌, ap, subst, sym, refl, codes, []}
 use Rattle.std.specs.Prelude.{IfOk}
 use Rattle.std.specs.FinMap as finite
 use Rattle.spool_types.specs.declared.refusal.Refusal.TheVariants.{TooLong}
 use Rattle.command_lines.specs.Replies.{jobs_text, queues_text, refusal_line}
-use Rattle.command_lines.specs.declared.command.Command.TheVariants.{Apply, Close, OversizedSend, Jobs, Queues, Checkpoint, Malformed}
+use Rattle.command_lines.specs.declared.command.Command.TheVariants.{Close, OversizedSend, Jobs, Queues, Checkpoint, Malformed}
 use Rattle.spool_engine.specs.Answers.{Takes}
 use Rattle.spool_engine.specs.EventTurns.{EventTurn, setting}
-use Rattle.spool_engine.specs.Script.{reply_line, meaning, round_text, drain_text}
-use Rattle.spool_engine.proofs.EventLaws.{event_told, said_told, listing_told, same_command}
+use Rattle.spool_engine.specs.Runs.{Turn, TakesTurn}
+use Rattle.spool_engine.specs.Script.{meaning, round_text, drain_text, withholds}
+use Rattle.spool_engine.proofs.EventLaws.{said_told, listing_told, same_command}
 use Rattle.spool_engine.proofs.RoundLaws.{event_lifted, said_lifted, listed, rounds_turn}
 use Rattle.spool_engine.proofs.printer.Printer.execute.Goals as goal
 
 pub returns-in-Apply : goal.returns-in-Apply
 returns-in-Apply g c =
-    let e = c.self.inside.executor in
-    event_lifted (λ v. v.items) c.execute_event.result _ e _ _ _ _ c.args.command c.self.view_is
-    (same_command (λ v. v.items) c.execute_event.result _ e _ c.args.command _ c.in-Apply.is
-    (event_told (λ v. v.items) c.execute_event.result (setting g.D.Disk.device c.args.mime.now c.args.place.now) e _ (Apply c.in-Apply.event) c.in-Apply.event reply_line g.met.D.Disk.lawful.only_now (λ o. tt) refl c.execute_event.ensures))
+    subst (λ d. (t : Turn g.row.D.Denot) × TakesTurn (setting g.D.Disk.device c.args.mime.now c.args.place.now) c.args.self.now d t c.apply.new.self × IfOk c.apply.result (λ x. x.items ≡ t.text)) (sym c.in-Apply.is)
+    (c.apply.ensures c.args.mime.now c.args.place.now)
 
 pub returns-in-Queue : goal.returns-in-Queue
 returns-in-Queue g c =
-    event_lifted (λ v. v.items) c.add_queue.result _ c.self.inside.executor _ _ _ _ c.args.command c.self.view_is
+    event_lifted (λ v. v.items) c.add_queue.result _ c.self.inside.executor _ _ _ _ c.args.command c.self.view_is (ap (withholds _) c.in-Queue.is)
     (same_command (λ v. v.items) c.add_queue.result _ c.self.inside.executor _ c.args.command _ c.in-Queue.is (c.add_queue.ensures c.args.mime.now c.args.place.now))
 
 pub returns-in-Create : goal.returns-in-Create
 returns-in-Create g c =
-    event_lifted (λ v. v.items) c.create.result _ c.self.inside.executor _ _ _ _ c.args.command c.self.view_is
+    event_lifted (λ v. v.items) c.create.result _ c.self.inside.executor _ _ _ _ c.args.command c.self.view_is (ap (withholds _) c.in-Create.is)
     (same_command (λ v. v.items) c.create.result _ c.self.inside.executor _ c.args.command _ c.in-Create.is (c.create.ensures c.args.mime.now c.args.place.now))
 
 pub returns-in-Close : goal.returns-in-Close
 returns-in-Close g c =
     let e = c.self.inside.executor in
     let v = setting g.D.Disk.device c.args.mime.now c.args.place.now in
-    event_lifted (λ v. v.items) c.close.result _ e _ _ _ _ c.args.command c.self.view_is
+    event_lifted (λ v. v.items) c.close.result _ e _ _ _ _ c.args.command c.self.view_is (ap (withholds _) c.in-Close.is)
     (same_command (λ v. v.items) c.close.result _ e _ c.args.command _ c.in-Close.is
     (subst (λ name. (t : EventTurn g.row.D.Denot) × Takes v e (Close c.in-Close.job name) t c.close.new.self × IfOk c.close.result (λ x. x.items ≡ t.text)) c.as_str.ensures.value (c.close.ensures c.args.place.now)))
 
 pub returns-in-OversizedSend : goal.returns-in-OversizedSend
 returns-in-OversizedSend g c =
     let s = c.args.self.now in
-    said_lifted (λ v. v.items) c.print_reply.result _ s c.args.command
+    said_lifted (λ v. v.items) c.print_reply.result _ s c.args.command (ap (withholds s.slots) c.in-OversizedSend.is)
     (same_command (λ v. v.items) c.print_reply.result _ s.spool _ c.args.command _ c.in-OversizedSend.is
     (said_told (λ v. v.items) c.print_reply.result (setting g.D.Disk.device c.args.mime.now c.args.place.now) s.spool OversizedSend (refusal_line TooLong) g.met.D.Disk.lawful.only_now c.met_fault-kept.ensures.kept (λ o. tt) refl c.print_reply.ensures))
 
 pub returns-in-Jobs : goal.returns-in-Jobs
 returns-in-Jobs g c =
     let e = c.self.inside.executor in
-    listed (λ v. v.items) c.jobs.result _ e _ _ _ c.args.command c.self.view_is
+    listed (λ v. v.items) c.jobs.result _ e _ _ _ c.args.command c.self.view_is (ap (withholds _) c.in-Jobs.is)
     (same_command (λ v. v.items) c.jobs.result _ e _ c.args.command _ c.in-Jobs.is
     (said_told (λ v. v.items) c.jobs.result (setting g.D.Disk.device c.args.mime.now c.args.place.now) e Jobs (jobs_text e.state.moment (finite.values e.state.jobs)) g.met.D.Disk.lawful.only_now c.jobs.ensures.kept (λ o. tt) refl c.jobs.ensures.text))
 
 pub returns-in-Queues : goal.returns-in-Queues
 returns-in-Queues g c =
     let e = c.self.inside.executor in
-    listed (λ v. v.items) c.queues.result _ e _ _ _ c.args.command c.self.view_is
+    listed (λ v. v.items) c.queues.result _ e _ _ _ c.args.command c.self.view_is (ap (withholds _) c.in-Queues.is)
     (same_command (λ v. v.items) c.queues.result _ e _ c.args.command _ c.in-Queues.is
     (said_told (λ v. v.items) c.queues.result (setting g.D.Disk.device c.args.mime.now c.args.place.now) e Queues (queues_text (finite.values e.state.jobs) (finite.values e.state.queues)) g.met.D.Disk.lawful.only_now c.queues.ensures.kept (λ o. tt) refl c.queues.ensures.text))
 
@@ -71,13 +70,13 @@ returns-in-Drain g c =
 pub returns-in-Checkpoint : goal.returns-in-Checkpoint
 returns-in-Checkpoint g c =
     let e = c.self.inside.executor in
-    event_lifted (λ v. v.items) c.checkpoint.result _ e _ _ _ _ c.args.command c.self.view_is
+    event_lifted (λ v. v.items) c.checkpoint.result _ e _ _ _ _ c.args.command c.self.view_is (ap (withholds _) c.in-Checkpoint.is)
     (same_command (λ v. v.items) c.checkpoint.result _ e _ c.args.command _ c.in-Checkpoint.is
     (listing_told (λ v. v.items) c.checkpoint.result (setting g.D.Disk.device c.args.mime.now c.args.place.now) e _ Checkpoint (λ o. tt) refl refl c.checkpoint.ensures))
 
 pub returns-in-Malformed : goal.returns-in-Malformed
 returns-in-Malformed g c =
     let s = c.args.self.now in
-    said_lifted (λ v. v.items) c.print_reply-in-Malformed.result _ s c.args.command
+    said_lifted (λ v. v.items) c.print_reply-in-Malformed.result _ s c.args.command (ap (withholds s.slots) c.in-Malformed.is)
     (same_command (λ v. v.items) c.print_reply-in-Malformed.result _ s.spool _ c.args.command _ c.in-Malformed.is
     (said_told (λ v. v.items) c.print_reply-in-Malformed.result (setting g.D.Disk.device c.args.mime.now c.args.place.now) s.spool Malformed (codes "error syntax\n") g.met.D.Disk.lawful.only_now c.met_fault-kept.ensures.kept (λ o. tt) refl c.print_reply-in-Malformed.ensures))

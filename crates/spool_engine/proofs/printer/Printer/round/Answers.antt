@@ -10,4 +10,4 @@ pub returns : goal.returns
 returns g c = λ m.
     let v = setting g.D.Disk.device m c.args.place.now in
     let new = course c.round.new.self c.round.new.runner (g.C.Children.tells c.round.new.children) in
-    subst (λ (s : Course g.row.D.Denot). (tried : List Event) × (documents : ℕ → List ℕ) × IsRan v s (record { next = new; result = c.round.result; tried = tried; documents = documents })) c.self.view_is (c.round.ensures.round m)
+    subst (λ (s : Course g.row.D.Denot). (settled : Course g.row.D.Denot) × (tried : List Event) × (documents : ℕ → List ℕ) × IsRan v s (record { settled = settled; next = new; result = c.round.result; tried = tried; documents = documents })) c.self.view_is (c.round.ensures m)

@@ -7,7 +7,7 @@ use Rattle.spool_engine.proofs.printer.Printer.round_text.Goals as goal
 
 pub returns : goal.returns
 returns g c = λ m.
-    let (tried, documents, one) = c.round-ran.ensures m in
-    let r : Ran g.row.D.Denot = record { next = c.round-ran.new.self; result = c.round-ran.result; tried = tried; documents = documents } in
+    let (settled, tried, documents, one) = c.round-ran.ensures m in
+    let r : Ran g.row.D.Denot = record { settled = settled; next = c.round-ran.new.self; result = c.round-ran.result; tried = tried; documents = documents } in
     let reply = line_told round_text (counts_in (r.result ∷ [])) in
     (r ∷ [], reply, one_run _ _ r reply one refl, as_told (λ v. v.items) c.rounded_text.result reply _ (round_told c.round-ran.result) c.rounded_text.ensures)

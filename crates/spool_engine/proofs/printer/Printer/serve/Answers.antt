@@ -17,7 +17,7 @@ returns-in-Ok-eq0 g c =
     let bytes = c.in-Ok-eq0.ensures.bytes in
     let takes : Consumes (R c.reads.reader) (R c.read.new.self) [] = subst (λ n. Consumes (R c.reads.reader) (R c.read.new.self) (take n c.read.new.buf)) zero bytes.0 in
     let end : IsAtEnd (R c.read.new.self) = bytes.1 zero (let l : length c.read.new.buf ≡ 16384 = c.read.auto.buf ∙ long in omega arith) in
-    ends c.versions_rise.ensures.version _ g.met.D.Disk.lawful c.serve_end.result _ _ _ _ _ _ _ seen rest ts us _ _ _ far takes end h none c.met_fault-kept.ensures.kept
+    ends c.versions_rise.ensures.version c.tickets_stay.ensures.finishes _ g.met.D.Disk.lawful c.serve_end.result _ _ _ _ _ _ _ seen rest ts us _ _ _ far takes end h none c.met_fault-kept.ensures.kept
 
 pub returns-in-Err-take_piece : goal.returns-in-Err-take_piece
 returns-in-Err-take_piece g c =

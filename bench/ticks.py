@@ -1,0 +1,138 @@
+#!/usr/bin/env python3
+"""What a tick costs where jobs wait: ticks.py [PROGRAM]
+
+It runs crates/spool_scripts/out/spool_scripts (made by `rt run` in that folder) or PROGRAM on cases that it writes, over a disk and
+children in memory: 64 queues, of which each has a job to start, and behind these 1,000 to 100,000 jobs that wait. Then come no
+ticks, 200 or 2,000 of three kinds:
+
+- no child has ended: the first tick starts 64 children, and each later one looks at each of them in vain;
+- each ends at once: each tick starts 64 children and tells their ends, by which each job is tried again before all others;
+- none can be started: so it is there too, but no order is kept, and none is told in the account.
+
+The program serves each case in WAYS ways and compares its replies and its account with those that are wanted here. Printed is its
+processor time for a tick: the least of RUNS runs, less that of the same case without ticks. Where each ends at once, that is with
+the text of 64 orders in the account.
+
+A tick should take as long behind 1,800 others as behind none, and hardly longer where more jobs wait. Where 100,000 wait, most of
+the time goes to making them, so that what is told of 200 ticks is rough. Times depend on the machine; only their ratios are of
+interest, and no test reads them.
+"""
+import os
+import subprocess
+import sys
+import tempfile
+
+here = os.path.dirname(os.path.abspath(__file__))
+SCRIPTS = os.path.join(here, "..", "crates", "spool_scripts", "out", "spool_scripts")
+
+QUEUES = 64
+COUNTS = (1_000, 10_000, 100_000)
+TICKS = (200, 2_000)
+RUNS = 3
+# In how many ways the program serves a case.
+WAYS = 7
+
+TYPE = "application/octet-stream"
+# Room for what a job and a tick append to an area, and for the queues.
+OF_JOB, OF_TICK, OF_QUEUES = 100, 50 * QUEUES, 100 * QUEUES
+
+
+def queue(number):
+    """Its name. The names are in the order of the numbers."""
+    return f"q{number:02}"
+
+
+def before(count):
+    """The commands that make the queues and the jobs, and their replies."""
+    lines = [f"queue {queue(n)} s:/ {TYPE} retry-current-job 30 0\n" for n in range(QUEUES)]
+    replies = ["ok\n"] * QUEUES
+    for job in range(1, QUEUES + count + 1):
+        lines.append(f'create {queue((job - 1) % QUEUES)} ann t 1 50 ""\nclose {job} x\n')
+        replies.append(f"ok job {job}\nok type {TYPE} stages 1\n")
+    return "".join(lines), "".join(replies)
+
+
+def orders(attempt, behind):
+    """How the account tells the orders of the first job of each queue."""
+    for n in range(QUEUES):
+        job = n + 1
+        texts = ["CHARSET=utf-8", f"CONTENT_TYPE={TYPE}", "CUPS_FILETYPE=document", "DEVICE_URI=s:/", f"FINAL_CONTENT_TYPE={TYPE}"]
+        texts += ["LANG=C", "PATH=/bin", f"PRINTER={queue(n)}", "PRINTER_INFO=", "PRINTER_LOCATION=", "TMPDIR=/r"]
+        texts += [f"SPOOL_ATTEMPT={attempt}", "SPOOL_SIDE=", "SPOOL_STAGE=1"]
+        words = [str(job), "ann", "t", "1", "", f"/r/in-{job}-{attempt}-1"]
+        yield f"job {job} attempt {attempt} stage 1 behind {behind}\n"
+        yield "backend s" + "".join(f' "{word}"' for word in words) + "\n"
+        yield "variables" + "".join(f' "{variable}"' for variable in texts) + "\n"
+        yield "document \n"
+
+
+def told(started, finished):
+    return f"tick: started {started}, finished {finished}\n"
+
+
+def none_ended(ticks):
+    """The children, and the account, of so many ticks in which no child has ended."""
+    if not ticks:
+        return "", ""
+    looks = "looks" + " no" * (QUEUES * ticks) + "\n\n"
+    first = told(QUEUES, 0) + told(0, 0) * (ticks - 1)
+    return looks + "\n\n".join(["exit 0"] * QUEUES), first + "".join(orders(1, 0)) + f"finished {QUEUES}\n"
+
+
+def each_ended(ticks):
+    if not ticks:
+        return "", ""
+    all_orders = (line for tick in range(ticks) for line in orders(tick + 1, QUEUES * tick))
+    account = told(QUEUES, QUEUES) * ticks + "".join(all_orders) + f"finished {QUEUES * ticks}\n"
+    return "\n\n".join(["exit 7"] * (QUEUES * ticks)), account
+
+
+def none_started(ticks):
+    return "", told(0, QUEUES) * ticks
+
+
+KINDS = {"no child has ended": none_ended, "each ends at once": each_ended, "none can be started": none_started}
+
+
+def write_case(folder, count, kind, ticks):
+    script, replies = before(count)
+    children, account = kind(ticks)
+    size = 2 * (OF_QUEUES + OF_JOB * (QUEUES + count) + OF_TICK * TICKS[-1])
+    files = {"script": script + "# tick\n" * ticks, "replies": replies, "children": children, "account": account, "size": f"{size}\n"}
+    for ending, text in files.items():
+        with open(os.path.join(folder, f"case.{ending}"), "w", encoding="ascii") as file:
+            file.write(text)
+
+
+def seconds(program, count, kind, ticks):
+    """The least processor time of the program on this case."""
+    with tempfile.TemporaryDirectory() as folder:
+        write_case(folder, count, kind, ticks)
+        return min(run(program, folder) for _ in range(RUNS))
+
+
+def run(program, folder):
+    with tempfile.TemporaryFile() as output:
+        running = subprocess.Popen([program, folder], stdout=output)
+        _, status, used = os.wait4(running.pid, 0)
+        running.returncode = os.waitstatus_to_exitcode(status)
+        output.seek(0)
+        said = output.read()
+    if running.returncode or said != b"case ok\n1 scripts, 0 differ\n":
+        sys.exit(f"the program said {said[:300]!r}")
+    return used.ru_utime + used.ru_stime
+
+
+def main():
+    program = os.path.abspath(sys.argv[1] if len(sys.argv) > 1 else SCRIPTS)
+    for name, kind in KINDS.items():
+        print(name)
+        for count in COUNTS:
+            least = seconds(program, count, kind, 0)
+            for ticks in TICKS:
+                each = (seconds(program, count, kind, ticks) - least) / ticks / WAYS
+                print(f"  {count:9,} jobs wait, {ticks:5,} ticks: {1e6 * each:8.1f} us each")
+
+
+if __name__ == "__main__":
+    main()

@@ -1,0 +1,79 @@
+-- the parts together
+use Rattle.std.proofs.Common.{length, refl, sym, ap, subst, ◌∙◌, arith}
+use Rattle.std.specs.Prelude.{vec_capacity}
+use Rattle.std.specs.Option.{option_or}
+use Rattle.std.specs.FinMap as finite
+use Rattle.spool_types.specs.State.{State}
+use Rattle.print_rounds.specs.Counts.{counts_of, launching_fault, result_of, started_in, starting_fault}
+use Rattle.print_rounds.specs.Courses.{course, AreEndings}
+use Rattle.print_rounds.specs.Looks.{idle_among, idle_slots, strays, tended_jobs}
+use Rattle.print_rounds.specs.Passes.{chosen}
+use Rattle.print_rounds.proofs.PassParts.{failed_pass, queues_chosen, room_left, whole_pass}
+use Rattle.print_rounds.proofs.passes.pass.Goals as goal
+
+pub list_tended-requires-clause-room : goal.list_tended-requires-clause-room
+list_tended-requires-clause-room g c =
+    let (ts, starts, queues, fault) = c.start_free-fault.ensures in
+    room_left g.D.Disk.device c.args.spool.now ts c.start_free-fault.new.spool starts c.table.result.now.state c.table.ensures.table c.queues.result.now c.queues.ensures.names
+    (vec_capacity c.in-Ok.lists.tended) c.in-Ok.ensures.tended.1 c.table-4.result.now.state c.table-4.ensures.table
+
+pub list_idle-requires-clause-room : goal.list_idle-requires-clause-room
+list_idle-requires-clause-room g c =
+    let (ts, starts, queues, fault) = c.start_free-fault.ensures in
+    let room =
+    room_left g.D.Disk.device c.args.spool.now ts c.start_free-fault.new.spool starts c.table.result.now.state c.table.ensures.table c.queues.result.now c.queues.ensures.names
+    (vec_capacity c.in-Ok.lists.chosen) c.in-Ok.ensures.chosen.1 c.table-4.result.now.state c.table-4.ensures.table in
+    let few = c.list_tended.ensures.bound in
+    let same = ap length c.deref-2.ensures.value in
+    omega (arith, room, few, same)
+
+pub list_ripe-requires-clause-room : goal.list_ripe-requires-clause-room
+list_ripe-requires-clause-room g c =
+    let (ts, starts, queues, fault) = c.start_free-fault.ensures in
+    let room =
+    room_left g.D.Disk.device c.args.spool.now ts c.start_free-fault.new.spool starts c.table.result.now.state c.table.ensures.table c.queues.result.now c.queues.ensures.names
+    (vec_capacity c.in-Ok.lists.chosen) c.in-Ok.ensures.chosen.1 c.table-4.result.now.state c.table-4.ensures.table in
+    let few = c.list_tended.ensures.bound in
+    let same = ap length c.deref-4.ensures.value in
+    let cleared = c.clear.ensures.capacity in
+    let listed = c.list_idle.ensures.capacity in
+    omega (arith, room, few, same, cleared, listed)
+
+pub returns-then-is_dead-2 : goal.returns-then-is_dead-2
+returns-then-is_dead-2 g c =
+    let old = course c.args.spool.now c.args.runner.now (g.C.Children.tells c.args.children.now) in
+    let (ts, starts, queues, fault) = c.start_free-fault.ensures in
+    failed_pass g.D.Disk.device c.args.place.now c.args.waits c.may_start-ready.result c.may_start-ready.ensures.waited old c.may_start-ready.ensures.always (sym c.is_dead.ensures ∙ c.if-is_dead.false)
+    c.free_idle.new.runner (c.free_idle.ensures ∙ ap (λ s. idle_slots s c.args.runner.now) c.table-2.ensures.table) (g.C.Children.tells c.may_start-ready.new.children) c.may_start-ready.ensures.told
+    c.start_free-fault.new.spool ts starts
+    (queues_chosen _ c.may_start-ready.result c.free_idle.new.runner c.table-3.result.now.state c.args.spool.now.state c.table-3.ensures.table c.deref.result.now c.mark_blocked.new.blocked.items c.deref.ensures.value c.mark_blocked.ensures.value queues)
+    (sym c.is_dead-2.ensures ∙ c.if-is_dead-2.true) c.unless.result (c.unless.ensures ∙ ap (result_of (record { started = 0; finished = 0 })) fault)
+
+pub returns : goal.returns
+returns g c =
+    let old = course c.args.spool.now c.args.runner.now (g.C.Children.tells c.args.children.now) in
+    let (ts, starts, queues, fault) = c.start_free-fault.ensures in
+    let (ls, launches, reads, launched, started, later) = c.launch_all-launches.ensures in
+    let (looks, look, seen, ripe) = c.list_ripe.ensures.looks in
+    let (es, ends, ended, told, last) = c.end_stages-ends.ensures in
+    let (ds, drops, left) = c.drop_strays.ensures in
+    let looked = g.C.Children.tells c.list_ripe.new.children in
+    let behind = course c.end_stages-ends.new.spool c.end_stages-ends.new.runner (g.C.Children.tells c.end_stages-ends.new.children) in
+    let new = course c.end_stages-ends.new.spool c.drop_strays.new.runner (g.C.Children.tells c.drop_strays.new.children) in
+    whole_pass g.D.Disk.device c.args.place.now c.args.waits c.may_start-ready.result c.may_start-ready.ensures.waited old c.may_start-ready.ensures.always (sym c.is_dead.ensures ∙ c.if-is_dead.false)
+    c.free_idle.new.runner (c.free_idle.ensures ∙ ap (λ s. idle_slots s c.args.runner.now) c.table-2.ensures.table) (g.C.Children.tells c.may_start-ready.new.children) c.may_start-ready.ensures.told
+    c.start_free-fault.new.spool ts starts
+    (queues_chosen _ c.may_start-ready.result c.free_idle.new.runner c.table-3.result.now.state c.args.spool.now.state c.table-3.ensures.table c.deref.result.now c.mark_blocked.new.blocked.items c.deref.ensures.value c.mark_blocked.ensures.value queues)
+    (sym c.is_dead-2.ensures ∙ c.if-is_dead-2.false)
+    c.list_tended.new.jobs.items (c.list_tended.ensures.value ∙ ap (λ (s : State). tended_jobs s c.free_idle.new.runner (finite.keys s.queues)) c.table-4.ensures.table)
+    ls c.launch_all-launches.new.spool c.launch_all-launches.new.runner (g.C.Children.tells c.launch_all-launches.new.children) launches reads
+    (launched ∙ c.deref-3.ensures.value ∙ c.list_idle.ensures.value ∙ ap (λ ks. chosen c.may_start-ready.result (idle_among c.free_idle.new.runner ks)) c.deref-2.ensures.value)
+    looks looked look (seen ∙ c.deref-4.ensures.value)
+    es behind (subst (λ m. AreEndings g.D.Disk.device (course c.launch_all-launches.new.spool m looked) es behind) c.list_ripe.ensures.slots ends) (ended ∙ c.deref-5.ensures.value ∙ ripe)
+    ds new drops (left ∙ ap (λ s. strays s c.end_stages-ends.new.runner) c.table-5.ensures.table) refl
+    c.unless-2.result
+    (c.unless-2.ensures
+    ∙ ap (λ n. result_of (record { started = n; finished = c.end_stages-ends.result.told }) c.or-2.result) started
+    ∙ ap (λ n. result_of (record { started = started_in ls; finished = n }) c.or-2.result) told
+    ∙ ap (result_of (counts_of ls es)) (c.or-2.ensures ∙ ap (λ f. option_or f c.or.result) fault
+    ∙ ap (option_or (starting_fault ts)) (c.or.ensures ∙ ap (λ f. option_or f c.end_stages-ends.result.fault) later ∙ ap (option_or (launching_fault ls)) last)))

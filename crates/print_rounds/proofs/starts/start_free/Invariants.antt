@@ -1,0 +1,12 @@
+-- the starts of the queues so far
+use Rattle.std.proofs.Common.{◌≡◌, List, map, take}
+use Rattle.std.specs.FinMap as finite
+use Rattle.print_rounds.specs.Counts.{starting_fault}
+use Rattle.print_rounds.specs.Courses.{Starting, AreStartings}
+use Rattle.print_rounds.specs.Passes.{unblocked}
+use Rattle.print_rounds.proofs.starts.start_free.Given as goal
+
+abbrev pub invariant-loop-at : goal.invariant-loop-at
+invariant-loop-at g l =
+    (ts : List (Starting g.row.D.Denot)) × AreStartings g.D.Disk.device l.initial.spool ts l.spool
+    × (map (λ t. t.queue) ts ≡ unblocked (take l.at l.blocked) (take l.at (finite.keys l.initial.spool.state.queues))) × (l.fault ≡ starting_fault ts)

@@ -1,0 +1,35 @@
+-- the pass is a tick
+use Rattle.std.proofs.Common.{subst}
+use Rattle.job_table.specs.Legal.{IsLegal}
+use Rattle.print_rounds.specs.Courses.{course}
+use Rattle.print_rounds.proofs.HoldLaws.{Laws}
+use Rattle.print_rounds.proofs.TickTickets.{TicketLaws}
+use Rattle.print_rounds.proofs.TickLaws.{passed_tick, passed_device}
+use Rattle.print_rounds.proofs.ticks.tick.Goals as goal
+
+pub returns : goal.returns
+returns g c =
+    let old = course c.args.spool.now c.args.runner.now (g.C.Children.tells c.args.children.now) in
+    let new = course c.pass.new.spool c.pass.new.runner (g.C.Children.tells c.pass.new.children) in
+    let legal = subst IsLegal c.table.ensures.table c.jobs-legal.ensures.legal in
+    let laws : Laws = record {
+      legal = c.legal_tables_stay_legal.ensures.stays;
+      spent = c.spent_stages_stay_spent.ensures.stays;
+      left = c.spent_stages_stay_spent.ensures.left;
+      either = c.spent_stages_stay_spent.ensures.either;
+      ended = c.spent_stages_stay_spent.ensures.ended;
+      rises = c.versions_rise.ensures.all;
+      raised_legal = c.versions_rise.ensures.legal;
+    } in
+    let tickets : TicketLaws = record {
+      starts = c.tickets_stay.ensures.starts;
+      finishes = c.tickets_stay.ensures.finishes;
+      looks = c.tickets_stay.ensures.looks;
+      releases = c.tickets_stay.ensures.releases;
+    } in
+    let left = passed_device g.D.Disk.device g.met.D.Disk.lawful laws tickets c.args.place.now old new c.pass.result legal c.args.spool.now.dead c.pass.ensures in
+    record {
+      tick = passed_tick g.D.Disk.device g.met.D.Disk.lawful laws tickets c.args.place.now old new c.pass.result legal c.table.ensures.kept c.pass.ensures;
+      later = left.0;
+      told = left.1;
+    }

@@ -1,0 +1,97 @@
+//! A pass over the queues: what a round and a tick have in common.
+ghost use Rattle.std.specs.Prelude.{◌≡◌, ◌≤◌, true, [], vec_capacity, IfOk, IsSome};
+ghost use Rattle.print_rounds.specs.Courses.{course};
+ghost use Rattle.print_rounds.specs.Passes.{IsPassBy};
+
+use crate::busy::{list_idle, list_tended, mark_blocked};
+use crate::ends::end_stages;
+use crate::launches::launch_all;
+use crate::looks::{drop_strays, list_ripe};
+use crate::outcome::{Round, RoundFault};
+use crate::slots::free_idle;
+use crate::starts::start_free;
+use child_pipeline::{Children, Runner};
+use filter_args::Place;
+use spool_core::Spool;
+use spool_disk::Disk;
+use spool_types::JobId;
+use std::alloc::{AllocError, Global};
+
+// The lists of a pass, reserved before all else.
+#[derive(Drop)]
+struct Lists {
+    // Whether a queue starts nothing, for each queue.
+    blocked: Vec<bool>,
+    // The jobs whose stages are run.
+    tended: Vec<JobId>,
+    // Those of them that are started and, after that, those whose ends are told.
+    chosen: Vec<JobId>,
+}
+
+impl Lists {
+    // Empty lists, with room for so many queues.
+    fn reserve(alloc: Global, queues: usize) -> Result<Lists, AllocError>
+        ensures blocked { IfOk result (λ l. (l.blocked.items ≡ []) × (queues ≤ vec_capacity l.blocked)) }
+        ensures tended { IfOk result (λ l. (l.tended.items ≡ []) × (queues ≤ vec_capacity l.tended)) }
+        ensures chosen { IfOk result (λ l. (l.chosen.items ≡ []) × (queues ≤ vec_capacity l.chosen)) }
+    {
+        let blocked = Vec::with_capacity(alloc, queues)?;
+        let tended = Vec::with_capacity(alloc, queues)?;
+        let chosen = Vec::with_capacity(alloc, queues)?;
+        Ok(Lists {
+            blocked,
+            tended,
+            chosen,
+        })
+    }
+}
+
+// Whether something may be started: a round waits for each child, and is always ready.
+fn may_start<C: Children>(waits: bool, children: &mut C) -> bool
+    ensures waited { waits ≡ true → result ≡ true }
+    ensures always { IsSome (C.tells children.old) → result ≡ true }
+    ensures told { C.tells children.new ≡ C.tells children.old }
+{
+    waits || children.is_ready()
+}
+
+// Frees the slots that are neither current nor have a child, starts the next job of each queue of which no child runs and
+// then a stage of each processing job of which none does, and tells the ends: of all children, each of which is waited for,
+// or of those that a look finds to have ended.
+pub(crate) fn pass<D: Disk, C: Children>(
+    alloc: Global,
+    place: &Place,
+    spool: &mut Spool<D>,
+    runner: &mut Runner<C>,
+    children: &mut C,
+    waits: bool,
+) -> Result<Round, RoundFault>
+    ensures { IsPassBy D.device place.now waits (course spool.old runner.old (C.tells children.old)) spool.old.dead (course spool.new runner.new (C.tells children.new)) result }
+{
+    if spool.is_dead() {
+        return Err(RoundFault::Dead);
+    }
+    let mut lists = match Lists::reserve(alloc, spool.table().queues().len()) {
+        Ok(lists) => lists,
+        Err(_) => return Err(RoundFault::Memory),
+    };
+    let ready = may_start(waits, children);
+    free_idle(spool.table(), runner);
+    mark_blocked(ready, spool.table(), runner, &mut lists.blocked);
+    let fault = start_free(spool, &lists.blocked);
+    if spool.is_dead() {
+        return Round::NONE.unless(fault);
+    }
+    list_tended(spool.table(), runner, &mut lists.tended);
+    list_idle(ready, runner, &lists.tended, &mut lists.chosen);
+    let launches = launch_all(alloc, place, spool, runner, children, &lists.chosen);
+    lists.chosen.clear();
+    list_ripe(waits, runner, children, &lists.tended, &mut lists.chosen);
+    let ends = end_stages(spool, runner, children, &lists.chosen);
+    drop_strays(waits, spool.table(), runner, children);
+    let round = Round {
+        started: launches.started,
+        finished: ends.told,
+    };
+    round.unless(fault.or(launches.fault.or(ends.fault)))
+}

@@ -1,0 +1,58 @@
+//! A tick: what a round does, for whoever waits for no child.
+ghost use Rattle.std.specs.Prelude.{◌≡◌, ◌≤◌, ◌↔◌, List, map, IsSome, Some};
+ghost use Rattle.child_pipeline.specs.Tickets.{HasTickets};
+ghost use Rattle.child_pipeline.specs.Told.{Told};
+ghost use Rattle.print_rounds.specs.Courses.{course};
+ghost use Rattle.print_rounds.specs.Finished.{HasNoneRunning};
+ghost use Rattle.print_rounds.specs.Ticks.{AreFinishings, Finishing, IsFinishedOff, IsTickBy, running_jobs};
+
+use crate::outcome::{Round, RoundFault};
+use crate::passes::pass;
+use child_pipeline::{Children, Runner, tickets_stay};
+use filter_args::Place;
+use job_table::{legal_tables_stay_legal, spent_stages_stay_spent, versions_rise};
+use spool_core::Spool;
+use spool_disk::Disk;
+use std::alloc::Global;
+
+/// One tick: a round that waits for no child. It starts the next job of each queue of which no child runs, starts a stage of
+/// each processing job of which none does, and tells the ends of those children that have ended. A job that was canceled or
+/// abandoned while its child ran keeps its slot, and its queue starts nothing, until that child has ended. Where the children
+/// aren't ready nothing is started. It answers how many children it started and how many ends it told, or its first fault.
+pub fn tick<D: Disk, C: Children>(
+    alloc: Global,
+    place: &Place,
+    spool: &mut Spool<D>,
+    runner: &mut Runner<C>,
+    children: &mut C,
+) -> Result<Round, RoundFault>
+    ensures tick { IsTickBy D.device place.now (course spool.old runner.old (C.tells children.old)) spool.old.dead (course spool.new runner.new (C.tells children.new)) result }
+    ensures later { D.device.failures spool.old.disk ≤ D.device.failures spool.new.disk }
+    ensures told { IsSome (D.device.bytes spool.new.disk) ↔ IsSome (D.device.bytes spool.old.disk) }
+{
+    // The table is legal, and stays so; no ticket is lost.
+    let _legal = spool.table().jobs();
+    legal_tables_stay_legal();
+    spent_stages_stay_spent();
+    versions_rise();
+    tickets_stay();
+    pass(alloc, place, spool, runner, children, false)
+}
+
+/// Waits for each child that is running. Their finishes stay in their slots, and no event is applied. So each child that was
+/// started has been finished once before an engine is taken apart, or a round begins.
+pub fn finish_children<C: Children>(runner: &mut Runner<C>, children: &mut C)
+    ensures steps { (fs : List Finishing) × AreFinishings runner.old (C.tells children.old) fs runner.new (C.tells children.new) × (map (λ f. f.job) fs ≡ running_jobs runner.old) }
+    ensures rest { HasNoneRunning runner.new }
+    ensures finished { (t : Told) → C.tells children.old ≡ Some t → HasTickets runner.old t → IsFinishedOff t (C.tells children.new) }
+{
+    // No ticket is lost on the way.
+    tickets_stay();
+    let mut behind = None;
+    while let Some(job) = runner.next_job(behind) {
+        if runner.is_running(job) {
+            runner.finish(children, job);
+        }
+        behind = Some(job);
+    }
+}

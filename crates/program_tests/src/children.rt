@@ -1,0 +1,89 @@
+use child_pipeline::{Children, Content, Input, Order, Program, Scheme, Texts};
+use log::{Level, Logged};
+use program_lists::ProgramList;
+use spool_host::{WarningLines, launcher_in};
+use spool_types::{AttemptNumber, Exit, JobId, StageNumber};
+use std::alloc::Global;
+use std::test::Fail;
+use std::time::{Clock, Duration};
+use std::{fs, thread};
+
+const DIR: &str = "program_tests.children";
+
+// A backend that does what the word of a job says.
+const PROGRAMS: &str = "backend s /bin/sh -c\n";
+
+// The order of a job whose backend does this.
+fn order_of(alloc: Global, job: u32, word: &str) -> Result<Order, Fail> {
+    let (Some(job), Some(attempt), Some(stage)) = (
+        JobId::new(job),
+        AttemptNumber::new(1),
+        StageNumber::new(1),
+    ) else {
+        return Err(Fail::from("no numbers"));
+    };
+    let word = String::from_str(alloc, word)?;
+    Ok(Order {
+        job,
+        attempt,
+        stage,
+        program: Program::Backend(Scheme::new(String::from_str(alloc, "s")?)),
+        words: Texts::new(vec![in alloc; word]?),
+        environment: Texts::new(Vec::new(alloc)),
+        input: Input::Document(Content::empty(alloc)),
+    })
+}
+
+fn started<C: Children>(
+    alloc: Global,
+    children: &mut C,
+    job: u32,
+    word: &str,
+) -> Result<C::Ticket, Fail> {
+    match children.start(order_of(alloc, job, word)?) {
+        Ok(ticket) => Ok(ticket),
+        Err(_) => Err(Fail::from("not started")),
+    }
+}
+
+// Whether looks see the end of a child within ten seconds.
+fn ends_soon<C: Children, R: Clock>(rt: &R, children: &mut C, ticket: &mut C::Ticket) -> bool {
+    for _ in 0..1_000 {
+        if children.has_ended(ticket) {
+            return true;
+        }
+        thread::sleep(rt, Duration::from_millis(10));
+    }
+    false
+}
+
+// Whether a child ends with this status.
+fn ends_with<C: Children>(children: &mut C, ticket: C::Ticket, status: u8) -> bool {
+    match children.finish(ticket) {
+        Ok(finish) => finish.exit == Exit::Code(status),
+        Err(_) => false,
+    }
+}
+
+#[test]
+fn a_look_waits_for_nobody(rt: HostRuntime) -> Result<(), Fail> {
+    fs::create_dir(&rt, DIR)?;
+    let logged = Logged::new(rt, Level::Warn, WarningLines(rt));
+    let Ok(list) = ProgramList::read(rt.alloc(), PROGRAMS) else {
+        return Err(Fail::from("no programs"));
+    };
+    let (mut launcher, place) = launcher_in(&logged, &rt, DIR, list)?;
+    drop(place);
+    assert!(rt; launcher.is_ready());
+    let mut looked = started(rt.alloc(), &mut launcher, 1, "/bin/sleep 2; exit 3")?;
+    let unseen = started(rt.alloc(), &mut launcher, 2, "/bin/sleep 1; exit 4")?;
+    assert!(rt; !launcher.has_ended(&mut looked));
+    assert!(rt; ends_soon(&rt, &mut launcher, &mut looked));
+    assert!(rt; launcher.has_ended(&mut looked));
+    assert!(rt; ends_with(&mut launcher, looked, 3));
+    // Nobody looked at this one.
+    assert!(rt; ends_with(&mut launcher, unseen, 4));
+    assert!(rt; launcher.is_ready());
+    fs::remove_dir_all(&rt, DIR)?;
+    Ok(())
+}
