@@ -148,6 +148,11 @@ def ends_that_nobody_knows(folder):
     told = ["spool: job 1 attempt 1 stage 1 counts: how it ended isn't known"]
     told += [f"spool: job 1 attempt {n} stage 1 counts: not started, since the end of a child before it isn't known" for n in range(2, 6)]
     same("told", run.stderr.decode().splitlines(), told)
+    # Nobody waited for the child, which may come to its line only now.
+    for _ in range(200):
+        if os.path.exists(folder.at("backend-counts.ran")):
+            break
+        time.sleep(0.05)
     same("what ran", folder.read("backend-counts.ran"), b"ran\n")
 
 

@@ -28,6 +28,7 @@ PROMISED = {
     "drops-cut-line",
     "empty-listing-after-full",
     "finish-before-next-start",
+    "forgets-a-running-child",
     "forgets-other-children",
     "gate-with-payload",
     "header-in-one-write",
@@ -38,11 +39,14 @@ PROMISED = {
     "ok-before-second-sync",
     "open-without-sync",
     "opens-empty",
+    "purges-beside-its-child",
     "reopens-as-pending",
     "retry-current-as-retry",
     "round-starts-nothing",
+    "starts-beside-a-running-child",
     "stops-all-queues",
     "takes-away-and-puts-back",
+    "tick-ignores-the-look",
 }
 
 IN_GATE, ON_DEMAND = "must-fail", "more-edits"

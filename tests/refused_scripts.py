@@ -12,7 +12,7 @@ The program tells one difference at a time from what is wanted. So what came of 
 - A command of one event, or a checkpoint, that is answered `error memory` did nothing: all that follows is as without that command.
   Given again it has its reply, and all that follows is as ever.
 - Behind a round or a drain that is answered `error memory` a stage of one of the two jobs has ended. Only where there was no memory
-  for the list of the jobs did none, for LIST allocations at most. Further rounds start no stage a second time, and one job at most
+  for the lists of a pass did none, for LISTED allocations at most. Further rounds start no stage a second time, and one job at most
   ends in another way than without a refusal.
 - A run that ends for want of memory may have acknowledged the events of one command without its reply. What further runs of the
   same engine answer is as after that command, or as without it.
@@ -42,8 +42,8 @@ MOST_LOOKS = 1_000
 # The length of the disk: nothing else of the program takes just so many bytes.
 SIZE = 20_011
 
-# How many allocations of a round may be those of its list of jobs.
-LIST = 1
+# How many allocations of a round may be those of its lists: the queues that start nothing, the jobs, and those of them that are chosen.
+LISTED = 3
 
 TYPES = "a/a x\n"
 CONVS = "a/a a/b 10 f\n"
@@ -301,7 +301,7 @@ def all_passed(bench, every):
         for place in ROUNDS:
             numbers = range(1, bench.count(with_rounds(place)) + 1, every)
             seen = [idle for idle in tried(pool, trial.rounds_again, numbers, place) if idle is not None]
-            demand(sum(seen) <= LIST, f"{sum(seen)} refusals kept both queues where they were in {STORY[place]!r}")
+            demand(sum(seen) <= LISTED, f"{sum(seen)} refusals kept both queues where they were in {STORY[place]!r}")
             rounds += len(seen)
         numbers = range(1, bench.count(in_runs(STORY)) + 1, every)
         runs = sum(tried(pool, trial.further_runs, numbers))

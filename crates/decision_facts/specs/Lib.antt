@@ -12,3 +12,4 @@ pub mod ListedFaults
 pub mod Options
 pub mod Children
 pub mod Devices
+pub mod Services

@@ -17,6 +17,7 @@
 //!   (`event_codec`, over the fields of `field_codec`); of rows, in both versions.
 //! - [`options`] and [`children`]: what options say, and what a child is run with (`filter_args`).
 //! - [`devices`]: what bytes of a device are, as entries of a journal and as areas of a spool (`gate_journal`, `spool_areas`).
+//! - [`services`]: what a service decides (`service_rules`).
 #![tactic(auto)]
 
 ghost use Rattle.decision_facts.specs.Values.{LimitsRows, LaterRows, QueueNameRows, MediaRows, LongMediaRows, TitleRows, RefusedTexts, EffectSizeRows, EnoughRows};
@@ -31,6 +32,7 @@ ghost use Rattle.decision_facts.specs.ListedFaults.{ListedFaultRows, QueueFaultR
 ghost use Rattle.decision_facts.specs.Options.{OptionRows, OptionFaultRows, LastValueRows};
 ghost use Rattle.decision_facts.specs.Children.{FileRows, ArgumentRows, EnvironmentRows};
 ghost use Rattle.decision_facts.specs.Devices.{JournalRows, DamagedRows, ClosedRows, LeastAreaRows, MadeRows, MadeAnewRows, AreaRows, VersionRows, HeaderFaultRows, PlanRows};
+ghost use Rattle.decision_facts.specs.Services.{ServedRows, LookRows, WaitRows, ClockRows, ClockWaitRows, ShortRows, CheckpointRows, PurgeCountRows, PurgeRows, SweptRows, StartRows};
 
 /// Limits, texts, media types and the size of effects.
 pub fn values()
@@ -149,4 +151,19 @@ pub fn devices()
     ensures versions { VersionRows }
     ensures header_faults { HeaderFaultRows }
     ensures plans { PlanRows }
+{}
+
+/// What a service decides.
+pub fn services()
+    ensures served { ServedRows }
+    ensures looks { LookRows }
+    ensures waits { WaitRows }
+    ensures clocks { ClockRows }
+    ensures clock_waits { ClockWaitRows }
+    ensures short { ShortRows }
+    ensures checkpoints { CheckpointRows }
+    ensures purge_counts { PurgeCountRows }
+    ensures purges { PurgeRows }
+    ensures swept { SweptRows }
+    ensures starts { StartRows }
 {}

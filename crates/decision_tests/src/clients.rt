@@ -1,0 +1,54 @@
+//! What becomes of a newcomer beside the clients of a service.
+use service_rules::bounds::MOST_CLIENTS;
+use service_rules::{Admission, Client, admit, first_to_go};
+use std::alloc::Global;
+use std::test::Fail;
+
+// So many clients, of which each was heard at the moment 50,000, but for these.
+fn clients(alloc: Global, count: usize, others: &[Client]) -> Result<Vec<Client>, Fail> {
+    let mut clients = Vec::new(alloc);
+    for key in 0..count {
+        let mut client = Client { key, heard: 50_000 };
+        for other in others {
+            if other.key == key {
+                client = *other;
+            }
+        }
+        clients.push(client)?;
+    }
+    Ok(clients)
+}
+
+// Of clients that were heard at these moments, those with the keys 7 and 9 first.
+const OTHERS: [Client; 3] = [
+    Client {
+        key: 9,
+        heard: 40_000,
+    },
+    Client {
+        key: 7,
+        heard: 40_000,
+    },
+    Client {
+        key: 3,
+        heard: 41_000,
+    },
+];
+
+#[test]
+fn the_longest_idle_client_goes_for_a_newcomer(rt: HostRuntime) -> Result<(), Fail> {
+    let full = clients(rt.alloc(), MOST_CLIENTS, &OTHERS)?;
+    assert!(rt; matches!(admit(&full, 49_999), Admission::Busy));
+    assert!(rt; matches!(admit(&full, 50_000), Admission::InsteadOf(7)));
+    assert!(rt; matches!(admit(&full, 60_000), Admission::InsteadOf(7)));
+    Ok(())
+}
+
+#[test]
+fn a_newcomer_has_a_free_place(rt: HostRuntime) -> Result<(), Fail> {
+    let some = clients(rt.alloc(), MOST_CLIENTS - 1, &OTHERS)?;
+    assert!(rt; matches!(admit(&some, 60_000), Admission::Free));
+    assert!(rt; matches!(first_to_go(&some, 60_000), Some(Client { key: 7, .. })));
+    assert!(rt; first_to_go(&some, 49_999).is_none());
+    Ok(())
+}

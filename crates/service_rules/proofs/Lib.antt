@@ -1,0 +1,5 @@
+pub mod Costs
+pub mod Doubling
+pub mod Skipping
+pub mod GoingFirst
+pub mod Sweeping

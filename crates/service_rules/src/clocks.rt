@@ -1,0 +1,89 @@
+//! When the service tells its engine what time it is.
+ghost use Rattle.std.specs.Prelude.{◌≡◌, ◌<◌, ◌≤◌, ◌+◌, ◌↔◌, IsSome, IfSome, None, Some};
+ghost use Rattle.spool_types.specs.Limits.{greatest_moment};
+ghost use Rattle.service_rules.specs.Clocks.{clock_to_tell, clock_wait, has_come, is_rested, second_behind, wait_for};
+
+use crate::bounds::{CLOCK_INTERVAL, LONGEST_WAIT};
+use spool_types::Moment;
+
+/// What is known of the time.
+pub struct Clocks {
+    /// The system's second.
+    pub system: Moment,
+    /// The table's moment, the greatest that a clock has brought.
+    pub table: Moment,
+    /// The moment that was told last, whether or not it was accepted.
+    pub told: Option<Moment>,
+    /// The least moment that would change something if the clock brought it: a hold or a retry that is over, or a job that
+    /// has to have started before.
+    pub due: Option<Moment>,
+}
+
+/// The moment that the service tells its engine before a tick, if any. Where nothing has come due, or the system's clock went
+/// back, it tells none, so that an idle service writes nothing.
+pub fn clock_to_tell(clocks: &Clocks) -> Option<Moment>
+    ensures value { result ≡ clock_to_tell clocks.now }
+    ensures forward { IfSome result (λ moment. clocks.now.table < moment) }
+    ensures system { IfSome result (λ moment. moment ≡ clocks.now.system) }
+    ensures later { IfSome result (λ moment. IfSome clocks.now.told (λ told. told < moment)) }
+    ensures idle { clocks.now.due ≡ None → result ≡ None }
+{
+    if has_come(clocks.due, clocks.system)
+        && clocks.table < clocks.system
+        && is_rested(clocks.told, clocks.system)
+    {
+        Some(clocks.system)
+    } else {
+        None
+    }
+}
+
+/// How long it is, in milliseconds, until the clock is to be told, where something is to come due. So many milliseconds have
+/// passed of the system's second. What lies far ahead is looked at again after the longest wait.
+pub fn clock_wait(clocks: &Clocks, millis: u64) -> Option<u64>
+    ensures value { result ≡ clock_wait clocks.now clocks.now.due millis }
+
+    // It is over exactly where there is something to tell, so the service doesn't turn without doing anything.
+    ensures over { millis < 1000 → ((result ≡ Some 0) ↔ IsSome (clock_to_tell clocks.now)) }
+{
+    let due = clocks.due?;
+    let behind = (clocks.table.get() + 1).max(second_behind(clocks.told));
+    Some(wait_for(due.get().max(behind), clocks.system, millis))
+}
+
+fn has_come(due: Option<Moment>, system: Moment) -> bool
+    ensures { result ≡ has_come due system }
+{
+    match due {
+        Some(due) => due <= system,
+        None => false,
+    }
+}
+
+fn is_rested(told: Option<Moment>, system: Moment) -> bool
+    ensures { result ≡ is_rested told system }
+{
+    match told {
+        Some(told) => told.get() + CLOCK_INTERVAL <= system.get(),
+        None => true,
+    }
+}
+
+// The first second after the last clock that was told.
+fn second_behind(told: Option<Moment>) -> u64
+    ensures value { result ≡ second_behind told }
+    ensures at_most { result ≤ greatest_moment + 1 }
+{
+    match told {
+        Some(told) => told.get() + CLOCK_INTERVAL,
+        None => 0,
+    }
+}
+
+fn wait_for(second: u64, system: Moment, millis: u64) -> u64
+    requires { second ≤ greatest_moment + 1 }
+    ensures { result ≡ wait_for second system millis }
+{
+    let seconds = second.saturating_sub(system.get());
+    (seconds * 1000).saturating_sub(millis).min(LONGEST_WAIT)
+}
