@@ -64,6 +64,10 @@ PASSED_ON = {
     ("spool_host", "no_words"): 1,
     ("spool_host", "read_words"): 1,
     ("spool_host", "words_fault"): 1,
+    # A reply is written to memory, which is all that it can want.
+    ("spool_service", "from"): 1,
+    ("spool_service", "mistake"): 1,
+    ("spool_service", "read_words"): 1,
 }
 
 # The capacities and counts with a number, a constant or a sum in them, of each function. Each asks for a few items, or for
@@ -95,6 +99,9 @@ CAPACITIES = {
     # In room that is there.
     ("spool_core", "put_zeros"): ["block.len() + count"],
     ("spool_host", "reserve"): ["1"],
+    # One place for each client.
+    ("spool_service", "admit"): ["1"],
+    ("spool_service", "new"): ["MOST_CLIENTS"],
 }
 
 # The great numbers in bodies: bounds of loops, of counts and of fields. None is a capacity.
@@ -122,6 +129,10 @@ NUMBERS = {
     ("stage_tools", "write_result"): ["u64::MAX"],
     ("stderr_lines", "number_of"): ["u32::MAX"],
     ("whole_writes", "write_whole"): ["u64::MAX"],
+    ("spool_service", "give"): ["u32::MAX"],
+    ("spool_service", "millis"): ["<<"],
+    ("spool_service", "number_command"): ["4194304", "1_000_000"],
+    ("spool_service", "serve"): ["u64::MAX"],
 }
 
 # The great constants: limits of what is read, and the numbers of fields.
@@ -140,6 +151,8 @@ CONSTANTS = {
     ("spool_host", "MOST_LINES"): 1,
     ("spool_types", "GREATEST"): 2,
     ("spool_types", "LONGEST_DOCUMENT"): 1,
+    ("spool_service", "DEFAULT_SIZE"): 1,
+    ("spool_service", "GREATEST"): 1,
 }
 
 # What says out of memory, as a value.

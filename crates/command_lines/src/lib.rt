@@ -55,6 +55,6 @@ mod reply;
 mod words;
 
 pub use command::{Command, Creation, Rounds};
-pub use commands::Commands;
+pub use commands::{Commands, Wanted};
 pub use laws::{line_by_line, only_line_events, word_by_word};
 pub use reply::{Answer, ShownQueue, print_reply};

@@ -38,7 +38,7 @@ impl LeftChild<'_> {
 
 /// Removes what children of an earlier program left in the folder, and tells those that still run. The spool is open, and
 /// none of its children was started.
-pub(crate) fn clear_leftovers<L: Log, R: Files<File = File> + Clone + Drop + AllocGlobal>(
+pub fn clear_leftovers<L: Log, R: Files<File = File> + Clone + Drop + AllocGlobal>(
     log: &L,
     rt: &R,
     dir: &str,

@@ -102,12 +102,15 @@ mod side_device;
 mod warnings;
 mod words;
 
+pub use begun::check_child_ends;
 pub use device::{SpoolFolder, remove_if_there};
 pub use devices::{ChildDiscovery, Discovery, print_devices};
 pub use ends::{given_words, no_words, tell_end, tell_words_fault};
 pub use fault::{DiskCause, ShellFault};
 pub use files::read_rules;
+pub use fitness::tell_programs;
 pub use launcher::{Launcher, MOST_BLOCKS, RunningChild, launcher_in};
+pub use leftovers::clear_leftovers;
 pub use named_disk::NamedDisk;
 pub use running::run;
 pub use serving::{memory_device, open_engine, place_in, serve};
