@@ -1,9 +1,9 @@
 #!/usr/bin/env python3
-"""What a tick costs where jobs wait: ticks.py [PROGRAM]
+"""What a tick costs where jobs wait, and what a slow printer costs the others: ticks.py [memory|real [PROGRAM]]
 
-It runs crates/spool_scripts/out/spool_scripts (made by `rt run` in that folder) or PROGRAM on cases that it writes, over a disk and
-children in memory: 64 queues, of which each has a job to start, and behind these 1,000 to 100,000 jobs that wait. Then come no
-ticks, 200 or 2,000 of three kinds:
+With `memory`, or without words, it runs crates/spool_scripts/out/spool_scripts (made by `rt run` in that folder) or PROGRAM on
+cases that it writes, over a disk and children in memory: 64 queues, of which each has a job to start, and behind these 1,000 to
+100,000 jobs that wait. Then come no ticks, 200 or 2,000 of three kinds:
 
 - no child has ended: the first tick starts 64 children, and each later one looks at each of them in vain;
 - each ends at once: each tick starts 64 children and tells their ends, by which each job is tried again before all others;
@@ -14,15 +14,27 @@ processor time for a tick: the least of RUNS runs, less that of the same case wi
 the text of 64 orders in the account.
 
 A tick should take as long behind 1,800 others as behind none, and hardly longer where more jobs wait. Where 100,000 wait, most of
-the time goes to making them, so that what is told of 200 ticks is rough. Times depend on the machine; only their ratios are of
-interest, and no test reads them.
+the time goes to making them, so that what is told of 200 ticks is rough.
+
+With `real`, or without words, it runs crates/spool_service/out/spool_service or PROGRAM, which ticks, with real children. Two queues
+of jobs of 10 ms print for 35 s, kept full by clients, without and with a queue beside them whose jobs take 5 s. Printed is how many
+jobs they printed, the ratio (0.9 is aimed at), how long another client waited for a listing (under 50 ms in 99 of 100), and at last
+the processor time of the idle service in ten seconds. Its folder is where TMPDIR says.
+
+Times depend on the machine; only their ratios are of interest, and no test reads them.
 """
 import os
 import subprocess
 import sys
 import tempfile
+import threading
+import time
 
 here = os.path.dirname(os.path.abspath(__file__))
+sys.path.insert(0, os.path.join(here, "..", "tests"))
+
+import service_parts
+
 SCRIPTS = os.path.join(here, "..", "crates", "spool_scripts", "out", "spool_scripts")
 
 QUEUES = 64
@@ -123,8 +135,85 @@ def run(program, folder):
     return used.ru_utime + used.ru_stime
 
 
-def main():
-    program = os.path.abspath(sys.argv[1] if len(sys.argv) > 1 else SCRIPTS)
+# ---- real children
+
+SECONDS = 35
+FAST, SLOW = 0.01, 5
+# How many jobs of a queue wait while it is kept full.
+WAITING = 8
+
+
+def keep_full(folder, queue, stop):
+    """A client that makes the jobs of a queue, so that some always wait."""
+    client, jobs = service_parts.Client(folder), []
+    while not stop.is_set():
+        jobs.append(client.submit(queue, f"{queue}\n"))
+        if WAITING <= len(jobs):
+            client.listing(f"wait {jobs.pop(0)}\n")
+
+
+def ask_on_and_on(folder, stop, times):
+    client = service_parts.Client(folder)
+    while not stop.is_set():
+        times.append(service_parts.timed(lambda: client.listing("queues\n")))
+        time.sleep(0.01)
+
+
+def printed_beside(slow):
+    """How many jobs of 10 ms are printed, beside so many slow queues, and how long each reply to another client took."""
+    folder, stop, times = service_parts.Folder(), threading.Event(), []
+    try:
+        folder.start("--quiet")
+        client = service_parts.Client(folder)
+        queues = {**{f"fast{n}": FAST for n in range(2)}, **{f"slow{n}": SLOW for n in range(slow)}}
+        for name, seconds in queues.items():
+            folder.queue(client, name, seconds)
+        tasks = [(keep_full, (folder, name, stop)) for name in queues] + [(ask_on_and_on, (folder, stop, times))]
+        threads = [threading.Thread(target=task, args=words, daemon=True) for task, words in tasks]
+        for thread in threads:
+            thread.start()
+        time.sleep(SECONDS)
+        found = folder.printed().count("fast")
+        stop.set()
+        for thread in threads:
+            thread.join()
+        folder.shut_down()
+        return found, times
+    finally:
+        folder.end()
+        folder.remove()
+
+
+def idle_work():
+    """The processor time in milliseconds of a service that does nothing for ten seconds."""
+    folder = service_parts.Folder()
+    try:
+        folder.start("--quiet")
+        client = service_parts.Client(folder)
+        folder.queue(client, "q")
+        client.until_state(client.submit("q"), "9")
+        time.sleep(1)
+        before = folder.work()
+        time.sleep(10)
+        return folder.work() - before
+    finally:
+        folder.end()
+        folder.remove()
+
+
+def with_real_children(program):
+    service_parts.Folder.service = program
+    print(f"real children, {SECONDS} s")
+    alone, times = printed_beside(0)
+    print(f"  {alone} fast jobs without a slow queue")
+    service_parts.told("a client's replies", times)
+    beside, times = printed_beside(1)
+    print(f"  {beside} fast jobs beside a slow one: {beside / alone:.2f}")
+    service_parts.told("a client's replies", times)
+    print(f"  idle for 10 s: {idle_work():.0f} ms of processor time")
+
+
+def in_memory(program):
     for name, kind in KINDS.items():
         print(name)
         for count in COUNTS:
@@ -132,6 +221,15 @@ def main():
             for ticks in TICKS:
                 each = (seconds(program, count, kind, ticks) - least) / ticks / WAYS
                 print(f"  {count:9,} jobs wait, {ticks:5,} ticks: {1e6 * each:8.1f} us each")
+
+
+def main():
+    kind = sys.argv[1] if len(sys.argv) > 1 else "all"
+    program = sys.argv[2:]
+    if kind in ("memory", "all"):
+        in_memory(os.path.abspath(*program or [SCRIPTS]))
+    if kind in ("real", "all"):
+        with_real_children(os.path.abspath(*program or [service_parts.BUILT]))
 
 
 if __name__ == "__main__":

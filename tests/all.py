@@ -6,12 +6,12 @@ that on the built programs. This runs each of them, several side by side, each i
 each as it ends: its name, its seconds, and how it ended. With names it runs these alone, as `all.py syncs killed`.
 
 The programs have to be built before: `rt ci` leaves them in the folders of their crates. So do these commands there, but for
-what calls_without_memory.py runs: `rt run` in crates/spool_scripts, crates/spool_shell, crates/spool_admin and crates/spool_tools, and
-`rt test` in each crate that tests/allocations.py names. Which of them is missing is told first, with status 2.
+what calls_without_memory.py runs: `rt run` in crates/spool_scripts, crates/spool_shell, crates/spool_admin, crates/spool_service and
+crates/spool_tools, and `rt test` in each crate that tests/allocations.py names. Which of them is missing is told first, with status 2.
 
 A part that wants what isn't installed, or another user, is left out, and told as `skipped`. Each file of this folder has to
 be in one of the tables below. The last line is `all N passed`, with how much was skipped, and status 0; or `N failed`, with
-status 1. It takes some five minutes on four processors, and may take ten on busy ones.
+status 1. It takes some seven minutes on four processors, and may take fifteen on busy ones.
 """
 import concurrent.futures
 import os
@@ -35,6 +35,7 @@ CUPS_TYPES = "/usr/share/cups/mime/mime.types"
 
 # The scripts, longest first, each with the words that it is given.
 SCRIPTS = {
+    "service.py": [],
     "lives.py": [],
     "killed.py": [],
     "first_start.py": [],
@@ -70,6 +71,7 @@ PARTS = [
     "child_folder.py",
     "children_harm.py",
     "count_allocations.c",
+    "fast_clock.c",
     "journal.py",
     "large_children.py",
     "large_disks.py",
@@ -81,6 +83,12 @@ PARTS = [
     "large_run.py",
     "large_tables.py",
     "real_children.py",
+    "service_children.py",
+    "service_clients.py",
+    "service_crashes.py",
+    "service_office.py",
+    "service_parts.py",
+    "service_words.py",
     "spool_model.py",
     "stored_scripts.py",
     "stories.py",
@@ -88,7 +96,7 @@ PARTS = [
     "version_one.txt",
 ]
 
-PROGRAMS = ["spool_scripts", "spool_shell", "spool_admin", "spool_tools"]
+PROGRAMS = ["spool_scripts", "spool_shell", "spool_admin", "spool_service", "spool_tools"]
 
 
 def installed(path):
@@ -108,12 +116,15 @@ def wants():
         missing["syncs.py"] = (True, "strace (Debian's package strace)")
         missing["grow.py"] = (False, "kills at each call (Debian's package strace)")
         missing["children.py"] = (False, "what the system refuses (Debian's package strace)")
+        missing["service.py"] = (False, "power cuts (Debian's package strace)")
     elif os.geteuid():
         missing["children.py"] = (False, "a full folder (as root)")
+        missing["service.py"] = (False, "a full folder, and another user (as root)")
     if not shutil.which("valgrind"):
         missing["calls_without_memory.py"] = (True, "valgrind (Debian's package valgrind)")
     if not shutil.which("gcc"):
         missing["allocations.py"] = missing["refused_memory.py"] = missing["refused_scripts.py"] = (True, "a C compiler (Debian's package gcc)")
+        missing.setdefault("service.py", (False, "a day in fast motion (Debian's package gcc)"))
     return missing
 
 

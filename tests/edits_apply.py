@@ -34,6 +34,7 @@ PROMISED = {
     "header-in-one-write",
     "keeps-after-full",
     "keeps-no-disk",
+    "kills-without-grace",
     "next-stage-after-cancel",
     "ok-before-apply",
     "ok-before-second-sync",
@@ -44,9 +45,11 @@ PROMISED = {
     "retry-current-as-retry",
     "round-starts-nothing",
     "starts-beside-a-running-child",
+    "starts-beyond-the-places",
     "stops-all-queues",
     "takes-away-and-puts-back",
     "tick-ignores-the-look",
+    "waits-for-a-purged-job-forever",
 }
 
 IN_GATE, ON_DEMAND = "must-fail", "more-edits"

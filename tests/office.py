@@ -1,14 +1,16 @@
 #!/usr/bin/env python3
 """Prints with real programs, as an office would: office.py
 
-It runs the built programs, crates/spool_shell/out/spool_shell and crates/spool_tools/out/spool_tools:
+It runs the built programs, crates/spool_shell/out/spool_shell, crates/spool_service/out/spool_service and
+crates/spool_tools/out/spool_tools:
 
 1. examples/office/print.sh prints a letter through a filter into a file, whose bytes are compared.
 2. Two backends `meet` find each other, so the children of a round run at once; and `sideask` learns the device's id by
    the side channel.
 3. The same letter goes by the backend `appsocket` to a printer that listens on the loopback address. One that resets the
    connection is not told as printed: the letter is printed again, once the printer takes it.
-4. A document of all bytes goes through CUPS's own backend `socket` to such a printer. Where that backend isn't installed
+4. examples/office/serve.sh runs the office as a service, with six queues, of which one prints a letter.
+5. A document of all bytes goes through CUPS's own backend `socket` to such a printer. Where that backend isn't installed
    (Debian's package `cups`) this part is left out, and said to be.
 
 The last line is `N checks, 0 failed`, with status 0, or names how many failed, with status 1.
@@ -24,6 +26,7 @@ import threading
 HERE = os.path.dirname(os.path.realpath(__file__))
 ROOT = os.path.dirname(HERE)
 SHELL = os.path.join(ROOT, "crates/spool_shell/out/spool_shell")
+SERVICE = os.path.join(ROOT, "crates/spool_service/out/spool_service")
 TOOLS = os.path.join(ROOT, "crates/spool_tools/out/spool_tools")
 SOCKET = "/usr/lib/cups/backend/socket"
 
@@ -36,6 +39,23 @@ ok type text/plain stages 2
 ok rounds 3
 job 1 hall 9 job-completed-successfully "ann" 19 2 "A letter"
 ok 1
+"""
+
+ROWS = """job 1 hall 9 job-completed-successfully "ann" 19 2 "A letter"
+job 2 post 4 job-hold-until-specified "bo" 12 0 "For the post"
+"""
+
+SERVED = "ok\n" * 8 + f"""ok job 1
+ok bytes 19
+ok type text/plain stages 2
+ok job 2
+ok
+ok bytes 12
+ok type text/plain stages 2
+{ROWS.splitlines()[0]}
+ok 1
+{ROWS}ok 2
+ok
 """
 
 checks = failed = 0
@@ -64,6 +84,17 @@ def print_letter_to_file(room):
     print_letter(room)
     with open(os.path.join(room, "office", "letter.prn"), "rb") as file:
         check("the printed letter", file.read(), 2 * LETTER)
+
+
+def serve_an_office(room):
+    folder = os.path.join(room, "served")
+    words = [os.path.join(ROOT, "examples/office/serve.sh"), folder]
+    ran = subprocess.run(words, capture_output=True, timeout=120)
+    check("the status of serve.sh", (ran.returncode, ran.stderr), (0, b""))
+    check("the replies of the service", ran.stdout.decode(), SERVED)
+    with open(os.path.join(folder, "hall"), "rb") as file:
+        check("the letter that the service printed", file.read(), 2 * LETTER)
+    check("what is left in its folder", os.listdir(os.path.join(folder, "spool")), ["spool.disk"])
 
 
 def served(room, name, programs, script):
@@ -201,7 +232,7 @@ def print_to_socket(room):
 
 
 def main():
-    for program in (SHELL, TOOLS):
+    for program in (SHELL, SERVICE, TOOLS):
         if not os.path.isfile(program):
             print(f"office.py wants the built program {program}: run rt all check, or rt ci")
             return 1
@@ -212,6 +243,7 @@ def main():
         ask_the_device(room)
         print_letter_to_printer(room)
         print_again_after_a_reset(room)
+        serve_an_office(room)
         if os.path.isfile(SOCKET):
             print_to_socket(room)
         else:

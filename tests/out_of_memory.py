@@ -40,6 +40,18 @@ PASSED_ON = {
     ("print_rounds", "pass"): 1,
     ("print_rounds", "start"): 1,
     ("print_rounds", "end_stage"): 1,
+    ("service_texts", "push_by"): 1,
+    ("service_texts", "push_counts"): 1,
+    ("service_texts", "push_hold"): 1,
+    ("service_texts", "push_job_news"): 1,
+    ("service_texts", "push_media"): 1,
+    ("service_texts", "push_names"): 1,
+    ("service_texts", "push_phase"): 2,
+    ("service_texts", "push_queue_news"): 1,
+    ("service_texts", "push_ranks"): 1,
+    ("service_texts", "push_state"): 1,
+    # The replies are in memory, so that nothing else can be wanted.
+    ("service_loop", "serve"): 1,
     ("spool_areas", "collect"): 1,
     ("spool_areas", "new_window"): 1,
     ("spool_core", "change_areas"): 1,
@@ -60,10 +72,11 @@ PASSED_ON = {
     ("spool_admin", "read_words"): 1,
     # An error of the system whose kind says so.
     ("spool_host", "from"): 1,
-    ("spool_host", "long_root"): 1,
+    ("spool_host", "mistake"): 1,
     ("spool_host", "no_words"): 1,
     ("spool_host", "read_words"): 1,
     ("spool_host", "words_fault"): 1,
+    ("spool_service", "read_words"): 1,
 }
 
 # The capacities and counts with a number, a constant or a sum in them, of each function. Each asks for a few items, or for
@@ -89,6 +102,9 @@ CAPACITIES = {
     ("mime_costs", "cost_rows"): ["MOST_LINES"],
     ("mime_costs", "walk_lines"): ["MOST_LINES"],
     ("row_effects", "make_room"): ["MOST_KEPT"],
+    ("service_loop", "admit"): ["1"],
+    ("service_loop", "new"): ["MOST_CLIENTS", "MOST_CLIENTS", "MOST_LISTED"],
+    ("service_loop", "reserve"): ["1"],
     ("spool_core", "drive_all"): ["1"],
     # 576 KiB, for as long as a checkpoint lasts.
     ("spool_core", "prepare"): ["BLOCK_ROOM"],
@@ -104,6 +120,9 @@ NUMBERS = {
     ("job_table", "is_untyped"): ["u32::MAX"],
     ("mime_rules", "int_bytes"): ["16_777_216"],
     ("mime_rules", "most"): ["4_294_967_295"],
+    ("service_loop", "give"): ["u32::MAX"],
+    ("service_loop", "note_signs"): ["u32::MAX"],
+    ("service_loop", "serve"): ["u64::MAX"],
     ("side_channel", "read"): ["u32::MAX"],
     ("spool_disk", "counted"): ["u64::MAX"],
     ("spool_disk", "read"): ["u64::MAX", "u64::MAX"],
@@ -113,7 +132,8 @@ NUMBERS = {
     ("spool_host", "attend"): ["u64::MAX"],
     ("spool_host", "counted"): ["u64::MAX"],
     ("spool_host", "read_at_most"): ["u64::MAX"],
-    ("spool_host", "shell_command"): ["4194304"],
+    ("spool_host", "spool_command"): ["4194304"],
+    ("spool_service", "bound_options"): ["1_000_000"],
     ("stage_tools", "connect_seconds_of"): ["u32::MAX"],
     ("stage_tools", "end_seconds_of"): ["u32::MAX"],
     ("stage_tools", "turns_of"): ["u32::MAX"],
@@ -124,7 +144,7 @@ NUMBERS = {
     ("whole_writes", "write_whole"): ["u64::MAX"],
 }
 
-# The great constants: limits of what is read, and the numbers of fields.
+# The great constants: limits of what is read, the numbers of fields, and how far a turn moves on.
 CONSTANTS = {
     ("child_pipeline", "MOST_ERRORS"): 1,
     ("command_lines", "GREATEST"): 1,
@@ -138,6 +158,8 @@ CONSTANTS = {
     ("spool_host", "MOST_BLOCKS"): 1,
     ("spool_host", "MOST_ERRORS"): 1,
     ("spool_host", "MOST_LINES"): 1,
+    ("spool_host", "STRIDE"): 1,
+    ("spool_service", "MOST_MILLIS"): 1,
     ("spool_types", "GREATEST"): 2,
     ("spool_types", "LONGEST_DOCUMENT"): 1,
 }

@@ -36,6 +36,7 @@
 #![tactic(auto)]
 
 mod children;
+mod groups;
 mod laws;
 mod memory;
 mod none;
@@ -45,7 +46,8 @@ mod reports;
 mod runner;
 mod texts;
 
-pub use children::Children;
+pub use children::{Children, Places};
+pub use groups::Grouped;
 pub use laws::{right_input, tickets_stay};
 pub use memory::{MemChildren, MemTicket};
 pub use none::{NoChildren, NoTicket};

@@ -3,7 +3,7 @@ ghost use Rattle.std.specs.Prelude.{◌≡◌, true, None, IsErr};
 ghost use Rattle.child_pipeline.specs.Told.{Starts, Looks};
 ghost use Rattle.child_pipeline.specs.declared.none.NoTicket.{NoTicket as NoTicketValue};
 
-use crate::children::Children;
+use crate::children::{Children, Places};
 use crate::order::{ChildFault, Finish, Order};
 
 /// Children of which none can be started, and that tell nothing.
@@ -20,6 +20,8 @@ impl Children for NoChildren {
     ghost tells = { λ _. None };
 
     ghost number = { λ _. 0 };
+
+    ghost rooms = { λ _ places _. places ≡ None };
 
     fn start(&mut self, order: Order) -> Result<NoTicket, ChildFault>
         ensures told { Starts (λ (_ : NoTicketValue). 0) None order result None }
@@ -41,9 +43,9 @@ impl Children for NoChildren {
     }
 
     // A start would find nothing that it could want.
-    fn is_ready(&mut self) -> bool
-        ensures ready { result ≡ true }
+    fn places(&mut self) -> Option<Places>
+        ensures none { result ≡ None }
     {
-        true
+        None
     }
 }

@@ -10,3 +10,4 @@ pub mod Moves
 pub mod Seen
 pub mod Replies
 pub mod Asked
+pub mod Waits

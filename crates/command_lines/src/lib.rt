@@ -33,6 +33,8 @@
 //!   (`IsPartial`). `None` of `finish` means that none is left. Each command makes the `weight` less, so that a caller's
 //!   loop over either ends.
 //! - [`print_reply`] gives the bytes of a reply: of each [`Answer`] the line, or for a listing the lines, of `Replies`.
+//!   [`push_job`] and [`push_queue`] add a single line of a listing, and [`push_quoted`] a text as it stands in one.
+//! - [`job_number`] is the number of a job that a word is, as each command reads it.
 //! - Out of memory, the only fault, loses nothing: after `feed` the reader is as it was, and after `next` and
 //!   `finish` the same commands are to come. The call may be made again.
 //!
@@ -55,6 +57,7 @@ mod reply;
 mod words;
 
 pub use command::{Command, Creation, Rounds};
-pub use commands::Commands;
+pub use commands::{Commands, Wanted};
 pub use laws::{line_by_line, only_line_events, word_by_word};
-pub use reply::{Answer, ShownQueue, print_reply};
+pub use numbers::job_number;
+pub use reply::{Answer, ShownQueue, print_reply, push_job, push_queue, push_quoted};

@@ -140,7 +140,8 @@ fn jobs(alloc: Global, rows: &Rows, now: Moment) -> Result<Vec<u8>, AllocError>
     Ok(text)
 }
 
-fn push_job(text: &mut Vec<u8>, row: &Job, now: &Moment) -> Result<(), AllocError>
+/// Adds the line of a listing that shows this job, as it is at the moment now. Out of memory, some of the line may be there.
+pub fn push_job(text: &mut Vec<u8>, row: &Job, now: &Moment) -> Result<(), AllocError>
     ensures { OnOk result (text.new.items ≡ text.old.items ++ job_line now.now row.now) }
 {
     push_head(text, row, now)?;
@@ -180,7 +181,9 @@ fn queues(alloc: Global, queues: &[ShownQueue<'_>]) -> Result<Vec<u8>, AllocErro
     Ok(text)
 }
 
-fn push_queue(text: &mut Vec<u8>, row: &QueueRow, busy: bool) -> Result<(), AllocError>
+/// Adds the line of a listing that shows this queue, of which a job is processing or none is. Out of memory, some of the line
+/// may be there.
+pub fn push_queue(text: &mut Vec<u8>, row: &QueueRow, busy: bool) -> Result<(), AllocError>
     ensures { OnOk result (text.new.items ≡ text.old.items ++ queue_text busy row.now) }
 {
     push_queue_head(text, row, busy)?;
@@ -237,8 +240,8 @@ fn push_count(text: &mut Vec<u8>, count: usize) -> Result<(), AllocError>
     write!(text, "ok {count}\n").map_err(|_| AllocError)
 }
 
-// Adds a text in quotes, its quotes and backslashes escaped.
-fn push_quoted(text: &mut Vec<u8>, value: &str) -> Result<(), AllocError>
+/// Adds a text in quotes, its quotes and backslashes escaped. Out of memory, some of it may be there.
+pub fn push_quoted(text: &mut Vec<u8>, value: &str) -> Result<(), AllocError>
     ensures { OnOk result (text.new.items ≡ text.old.items ++ quoted value.now) }
 {
     text.push(b'"')?;

@@ -1,5 +1,5 @@
 // The journal of one area.
-ghost use Rattle.std.specs.Prelude.{◌≡◌, ◌<◌, ◌≤◌, ◌+◌, ◌^◌, [], ◌∷◌, false, length, OnOk, IfOk, IsSome};
+ghost use Rattle.std.specs.Prelude.{◌≡◌, ◌<◌, ◌≤◌, ◌+◌, ◌-◌, ◌^◌, [], ◌∷◌, false, length, OnOk, IfOk, IsSome};
 ghost use Rattle.spool_disk.specs.Disk.{IsSynced, IsWritten, ChangesOnly, HasCause};
 ghost use Rattle.gate_journal.specs.Entries.{KeepsEntries};
 ghost use Rattle.gate_journal.specs.Appends.{kept_room};
@@ -71,6 +71,13 @@ impl Journal {
             place,
             dead: false,
         }
+    }
+
+    /// How many bytes there are from the closed gate to the end.
+    pub fn room(&self) -> u64
+        ensures { result ≡ end_of self.now - place_of self.now }
+    {
+        self.end - self.place
     }
 
     /// Adds the payload of a frame, and answers the payload's place on the disk.

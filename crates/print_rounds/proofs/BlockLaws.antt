@@ -22,7 +22,7 @@ use Rattle.job_table.specs.Legal.{IsLegal}
 use Rattle.job_table.specs.Places.{IsNameAt}
 use Rattle.child_pipeline.specs.Slots.{Slots}
 use Rattle.print_rounds.specs.Looks.{free_queues, is_blocked, is_of_queue, runs}
-use Rattle.print_rounds.specs.Passes.{chosen, unblocked}
+use Rattle.print_rounds.specs.Passes.{unblocked}
 use Rattle.print_rounds.proofs.LookLaws.{jobs_to, no_jobs, true_from}
 use Rattle.print_rounds.proofs.StartLaws.{queue_count}
 
@@ -135,66 +135,61 @@ module _ (s : State) (rows : List QueueRow) (named : map (λ row. row.name) rows
 
 -- ## Queues that are blocked
 
--- whether each of these queues is blocked, by a child of one of these jobs or since nothing is to be started
-abbrev pub flags_to : State → Slots → Bool → List ℕ → List (List ℕ) → List Bool
-flags_to s slots ready js names = map (λ name. not ready || list_any (λ j. runs slots j && is_of_queue name (job_at s j)) js) names
+-- whether each of these queues is blocked, by a child of one of these jobs
+abbrev pub flags_to : State → Slots → List ℕ → List (List ℕ) → List Bool
+flags_to s slots js names = map (λ name. list_any (λ j. runs slots j && is_of_queue name (job_at s j)) js) names
 
-pub first_flags : (s : State) (slots : Slots) (ready : Bool) (names : List (List ℕ)) → replicate (length names) (not ready) ≡ flags_to s slots ready (jobs_to None (finite.keys slots)) names
-first_flags s slots ready names = by_names names ∙ ap (λ js. flags_to s slots ready js names) (sym (no_jobs slots))
+pub first_flags : (s : State) (slots : Slots) (names : List (List ℕ)) → replicate (length names) false ≡ flags_to s slots (jobs_to None (finite.keys slots)) names
+first_flags s slots names = by_names names ∙ ap (λ js. flags_to s slots js names) (sym (no_jobs slots))
   where
-    or_none : (b : Bool) → b ≡ (b || false)
-    or_none true = refl
-    or_none false = refl
-
-    by_names : (ns : List (List ℕ)) → replicate (length ns) (not ready) ≡ flags_to s slots ready [] ns
+    by_names : (ns : List (List ℕ)) → replicate (length ns) false ≡ flags_to s slots [] ns
     by_names [] = refl
-    by_names (n ∷ ns) = λ i. or_none (not ready) i ∷ by_names ns i
+    by_names (n ∷ ns) = ap (λ fs. false ∷ fs) (by_names ns)
 
-pub flag_count : (s : State) (slots : Slots) (ready : Bool) (js : List ℕ) (names : List (List ℕ)) → length (flags_to s slots ready js names) ≡ length names
-flag_count s slots ready js names = length-map names (λ name. not ready || list_any (λ j. runs slots j && is_of_queue name (job_at s j)) js)
+pub flag_count : (s : State) (slots : Slots) (js : List ℕ) (names : List (List ℕ)) → length (flags_to s slots js names) ≡ length names
+flag_count s slots js names = length-map names (λ name. list_any (λ j. runs slots j && is_of_queue name (job_at s j)) js)
 
-module _ (s : State) (slots : Slots) (ready : Bool) where
+module _ (s : State) (slots : Slots) where
   abbrev flag : List ℕ → List ℕ → Bool
-  flag js name = not ready || list_any (λ j. runs slots j && is_of_queue name (job_at s j)) js
+  flag js name = list_any (λ j. runs slots j && is_of_queue name (job_at s j)) js
 
-  or_more : (a b c : Bool) → (a || (b || (c || false))) ≡ ((a || b) || c)
-  or_more true b c = refl
-  or_more false true c = refl
-  or_more false false true = refl
-  or_more false false false = refl
+  or_more : (a b : Bool) → (a || (b || false)) ≡ (a || b)
+  or_more true b = refl
+  or_more false true = refl
+  or_more false false = refl
 
   -- one job more
   flag_more : (js : List ℕ) (k : ℕ) (name : List ℕ) → flag (js ++ k ∷ []) name ≡ (flag js name || (runs slots k && is_of_queue name (job_at s k)))
   flag_more js k name =
-      ap (λ b. not ready || b) (list_any-append (λ j. runs slots j && is_of_queue name (job_at s j)) js (k ∷ []))
-      ∙ or_more (not ready) (list_any (λ j. runs slots j && is_of_queue name (job_at s j)) js) (runs slots k && is_of_queue name (job_at s k))
+      list_any-append (λ j. runs slots j && is_of_queue name (job_at s j)) js (k ∷ [])
+      ∙ or_more (list_any (λ j. runs slots j && is_of_queue name (job_at s j)) js) (runs slots k && is_of_queue name (job_at s k))
 
   or_left : (a b : Bool) → b ≡ false → (a || b) ≡ a
   or_left true b off = refl
   or_left false b off = off
 
   -- a job that blocks none
-  pub flags_stay : (js : List ℕ) (k : ℕ) (names : List (List ℕ)) → ((name : List ℕ) → (runs slots k && is_of_queue name (job_at s k)) ≡ false) → flags_to s slots ready js names ≡ flags_to s slots ready (js ++ k ∷ []) names
+  pub flags_stay : (js : List ℕ) (k : ℕ) (names : List (List ℕ)) → ((name : List ℕ) → (runs slots k && is_of_queue name (job_at s k)) ≡ false) → flags_to s slots js names ≡ flags_to s slots (js ++ k ∷ []) names
   flags_stay js k [] off = refl
   flags_stay js k (n ∷ ns) off = λ i. sym (flag_more js k n ∙ or_left (flag js n) (runs slots k && is_of_queue n (job_at s k)) (off n)) i ∷ flags_stay js k ns off i
 
   -- a job that blocks the queue at this place
-  pub flags_set : (js : List ℕ) (k : ℕ) (r : Job) (names : List (List ℕ)) (at : ℕ) → runs slots k ≡ true → job_at s k ≡ Some r → IsNameAt names r.queue at → set (flags_to s slots ready js names) at true ≡ flags_to s slots ready (js ++ k ∷ []) names
-  flags_set js k r names at going there place = ext_get_or true _ _ (length-set (flags_to s slots ready js names) at true ∙ flag_count s slots ready js names ∙ sym (flag_count s slots ready (js ++ k ∷ []) names)) each
+  pub flags_set : (js : List ℕ) (k : ℕ) (r : Job) (names : List (List ℕ)) (at : ℕ) → runs slots k ≡ true → job_at s k ≡ Some r → IsNameAt names r.queue at → set (flags_to s slots js names) at true ≡ flags_to s slots (js ++ k ∷ []) names
+  flags_set js k r names at going there place = ext_get_or true _ _ (length-set (flags_to s slots js names) at true ∙ flag_count s slots js names ∙ sym (flag_count s slots (js ++ k ∷ []) names)) each
     where
       own : List ℕ → Bool
       own name = is_of_queue name (job_at s k)
 
-      new_at : (i : ℕ) → i < length names → get_or (flags_to s slots ready (js ++ k ∷ []) names) i true ≡ (flag js (get_or names i []) || own (get_or names i []))
+      new_at : (i : ℕ) → i < length names → get_or (flags_to s slots (js ++ k ∷ []) names) i true ≡ (flag js (get_or names i []) || own (get_or names i []))
       new_at i lt =
-          get_or_default (flags_to s slots ready (js ++ k ∷ []) names) i true (flag (js ++ k ∷ []) []) (omega (arith, lt, flag_count s slots ready (js ++ k ∷ []) names))
+          get_or_default (flags_to s slots (js ++ k ∷ []) names) i true (flag (js ++ k ∷ []) []) (omega (arith, lt, flag_count s slots (js ++ k ∷ []) names))
           ∙ get_or-map (flag (js ++ k ∷ [])) names i []
           ∙ flag_more js k (get_or names i [])
           ∙ ap (λ b. flag js (get_or names i []) || (b && own (get_or names i []))) going
 
-      old_at : (i : ℕ) → i < length names → get_or (flags_to s slots ready js names) i true ≡ flag js (get_or names i [])
+      old_at : (i : ℕ) → i < length names → get_or (flags_to s slots js names) i true ≡ flag js (get_or names i [])
       old_at i lt =
-          get_or_default (flags_to s slots ready js names) i true (flag js []) (omega (arith, lt, flag_count s slots ready js names))
+          get_or_default (flags_to s slots js names) i true (flag js []) (omega (arith, lt, flag_count s slots js names))
           ∙ get_or-map (flag js) names i []
 
       is_own : (i : ℕ) → get_or names i [] ≡ r.queue → own (get_or names i []) ≡ true
@@ -207,16 +202,16 @@ module _ (s : State) (slots : Slots) (ready : Bool) where
           by_test true is = absurd (apart (place.only i lt (sym (same_text r.queue (get_or names i []) (sym is ∙ ap (λ o. is_of_queue (get_or names i []) o) there)))))
           by_test false is = refl
 
-      each : (i : ℕ) → i < length (set (flags_to s slots ready js names) at true) → get_or (set (flags_to s slots ready js names) at true) i true ≡ get_or (flags_to s slots ready (js ++ k ∷ []) names) i true
+      each : (i : ℕ) → i < length (set (flags_to s slots js names) at true) → get_or (set (flags_to s slots js names) at true) i true ≡ get_or (flags_to s slots (js ++ k ∷ []) names) i true
       each i lt =
-          let i_in : i < length names = omega (arith, lt, length-set (flags_to s slots ready js names) at true, flag_count s slots ready js names) in
-          let at_in : at < length (flags_to s slots ready js names) = omega (arith, place.in_range, flag_count s slots ready js names) in
+          let i_in : i < length names = omega (arith, lt, length-set (flags_to s slots js names) at true, flag_count s slots js names) in
+          let at_in : at < length (flags_to s slots js names) = omega (arith, place.in_range, flag_count s slots js names) in
           elim (cases_eq i at) [
             | inl same ↦
-                subst (λ k. get_or (set (flags_to s slots ready js names) at true) k true ≡ true) (sym same) (get_or-set_same (flags_to s slots ready js names) at true true at_in)
+                subst (λ k. get_or (set (flags_to s slots js names) at true) k true ≡ true) (sym same) (get_or-set_same (flags_to s slots js names) at true true at_in)
                 ∙ sym (new_at i i_in ∙ or_right (flag js (get_or names i [])) (own (get_or names i [])) (is_own i (ap (λ k. get_or names k []) same ∙ place.own)))
             | inr apart ↦
-                get_or-set_other (flags_to s slots ready js names) at i true true apart
+                get_or-set_other (flags_to s slots js names) at i true true apart
                 ∙ old_at i i_in
                 ∙ sym (new_at i i_in ∙ or_left (flag js (get_or names i [])) (own (get_or names i [])) (is_other i i_in apart))
           ]
@@ -230,13 +225,8 @@ flags_filter f (n ∷ ns) = by_test (f n) (flags_filter f ns)
     by_test true rest = rest
     by_test false rest = ap (λ ms. n ∷ ms) rest
 
-none_off : (s : State) (slots : Slots) (js : List ℕ) (names : List (List ℕ)) → unblocked (flags_to s slots false js names) names ≡ []
-none_off s slots js [] = refl
-none_off s slots js (n ∷ ns) = none_off s slots js ns
-
-pub flags_chosen : (ready : Bool) (s : State) (slots : Slots) → unblocked (flags_to s slots ready (finite.keys slots) (finite.keys s.queues)) (finite.keys s.queues) ≡ chosen ready (free_queues s slots)
-flags_chosen true s slots = flags_filter (λ name. is_blocked s slots name) (finite.keys s.queues)
-flags_chosen false s slots = none_off s slots (finite.keys slots) (finite.keys s.queues)
+pub flags_free : (s : State) (slots : Slots) → unblocked (flags_to s slots (finite.keys slots) (finite.keys s.queues)) (finite.keys s.queues) ≡ free_queues s slots
+flags_free s slots = flags_filter (λ name. is_blocked s slots name) (finite.keys s.queues)
 
 -- ## Starts of the queues that aren't blocked
 

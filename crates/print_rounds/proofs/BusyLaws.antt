@@ -23,7 +23,6 @@ use Rattle.print_rounds.specs.Choice.{busy_jobs, with_busy}
 use Rattle.print_rounds.specs.Finished.{AreDistinct, AllRest, HasNoneRunning}
 use Rattle.child_pipeline.specs.Slots.{Slots}
 use Rattle.print_rounds.specs.Looks.{idle_among, is_stray, runs, tended_jobs}
-use Rattle.print_rounds.specs.Passes.{chosen}
 use Rattle.print_rounds.proofs.EndLaws.{not_first, not_second}
 use Rattle.print_rounds.proofs.FreeLaws.{resting_of}
 use Rattle.print_rounds.proofs.LookLaws.{true_from}
@@ -122,6 +121,13 @@ busy_further s names i name lt at =
     ∙ ap (λ n. busy_jobs s (take i names ++ n ∷ [])) (sym at)
     ∙ busy_more s (take i names) name
 
+-- of them those of which no child runs
+pub waiting_further : (s : State) (slots : Slots) (names : List (List ℕ)) (i : ℕ) (name : List ℕ) → i < length names → name ≡ get_or names i name →
+    idle_among slots (busy_jobs s (take (i + 1) names)) ≡ idle_among slots (busy_jobs s (take i names)) ++ idle_among slots (with_busy (busy_of s name) [])
+waiting_further s slots names i name lt at =
+    ap (idle_among slots) (busy_further s names i name lt at)
+    ∙ filter-append (λ j. not (runs slots j)) (busy_jobs s (take i names)) (with_busy (busy_of s name) [])
+
 -- ## Those that are tended
 
 module _ (s : State) (slots : Slots) where
@@ -153,19 +159,14 @@ part_distinct p (j ∷ js) (out, distinct) = by_test (part_distinct p js distinc
 
 -- ## Those that are started
 
-pub idle_distinct : (ready : Bool) (slots : Slots) (jobs : List ℕ) → AreDistinct jobs → AreDistinct (chosen ready (idle_among slots jobs))
-idle_distinct true slots jobs distinct = part_distinct (λ j. not (runs slots j)) jobs distinct
-idle_distinct false slots jobs distinct = tt
+pub idle_distinct : (slots : Slots) (jobs : List ℕ) → AreDistinct jobs → AreDistinct (idle_among slots jobs)
+idle_distinct slots jobs distinct = part_distinct (λ j. not (runs slots j)) jobs distinct
 
-idle_rests : (slots : Slots) (jobs : List ℕ) → AllRest slots (idle_among slots jobs)
+-- no child of any of them runs
+pub idle_rests : (slots : Slots) (jobs : List ℕ) → AllRest slots (idle_among slots jobs)
 idle_rests slots [] = tt
 idle_rests slots (j ∷ jobs) = by_test (idle_rests slots jobs) (runs slots j) refl
   where
     by_test : AllRest slots (idle_among slots jobs) → (b : Bool) → runs slots j ≡ b → AllRest slots (cond (not b) (j ∷ idle_among slots jobs) (idle_among slots jobs))
     by_test rest true is = rest
     by_test rest false off = (resting_of (finite.get slots j) off, rest)
-
--- no child of any of them runs
-pub chosen_rest : (ready : Bool) (slots : Slots) (jobs : List ℕ) → AllRest slots (chosen ready (idle_among slots jobs))
-chosen_rest true slots jobs = idle_rests slots jobs
-chosen_rest false slots jobs = tt

@@ -17,6 +17,7 @@ use Rattle.filter_args.specs.declared.place.Place.{Place}
 use Rattle.child_pipeline.specs.Slots.{Slots, slot_in, begun, with_progress, put_progress, progress_after, IsStart, IsTicketless, order_in, end_in, FinishesFrom, FinishesStage, Waits, IsFinish}
 use Rattle.child_pipeline.specs.Tickets.{AreKeptBy, AreOnce, HasTickets, IsRunningAs}
 use Rattle.child_pipeline.specs.Told.{Told, is_in, without, Looks, starts_first, started_by, first_finish, after_finish, after_look}
+use Rattle.child_pipeline.specs.declared.children.Places.{Places}
 use Rattle.child_pipeline.specs.declared.order.ChildFault.{ChildFault}
 use Rattle.child_pipeline.specs.declared.order.Finish.{Finish}
 use Rattle.child_pipeline.specs.declared.order.Order.{Order}
@@ -614,8 +615,8 @@ idle_there s slots j slot there = left_there (is_kept (job_at s j) (finite.get s
     (sym (finite.get-retain_keys slots (λ k. is_kept (job_at s k) (finite.get slots k)) j (λ x tied. ap (λ k. is_kept (job_at s k) (finite.get slots k)) (sym (finite.nat_cmp-IsAntisymmetric j x tied)))) ∙ there)
 
 module _ {D : Type 0} (device : DiskView D) (stays : (s : State) (events : List Event) → IsLegal s → IsLegal (after_all s events)) where
-  pass_hands : (place : Place) (waits ready : Bool) (earlier : List AnsweredOrder) (t : Told) (old : Course D) (steps : PassSteps D) (new : Course D) → IsPass device place waits ready old steps new → IsLegal old.spool.state → old.told ≡ Some t → HasTickets old.slots t → AreKeptFrom earlier old.slots → RunTheirStages t.orders old.slots → TickHandsOn earlier t old steps new
-  pass_hands place waits ready earlier t old steps new made legal tells tickets kept_old run =
+  pass_hands : (place : Place) (waits : Bool) (places : Option Places) (earlier : List AnsweredOrder) (t : Told) (old : Course D) (steps : PassSteps D) (new : Course D) → IsPass device place waits places old steps new → IsLegal old.spool.state → old.told ≡ Some t → HasTickets old.slots t → AreKeptFrom earlier old.slots → RunTheirStages t.orders old.slots → TickHandsOn earlier t old steps new
+  pass_hands place waits places earlier t old steps new made legal tells tickets kept_old run =
       let s : State = old.spool.state in
       let slots : Slots = idle_slots s old.slots in
       let mid : Standing D = steps.parts.mid in
@@ -642,7 +643,7 @@ module _ {D : Type 0} (device : DiskView D) (stays : (s : State) (events : List 
       }
 
   pub tick_hands : (place : Place) (earlier : List AnsweredOrder) (t : Told) (old new : Course D) (result : Result Round RoundFault) → IsLegal old.spool.state → old.told ≡ Some t → HasTickets old.slots t → AreKeptFrom earlier old.slots → RunTheirStages t.orders old.slots → (r : IsTickOf device place old new result) → TickHandsOn earlier t old r.steps new
-  tick_hands place earlier t old new result legal tells tickets kept_old run r = pass_hands place false r.ready earlier t old r.steps new r.made legal tells tickets kept_old run
+  tick_hands place earlier t old new result legal tells tickets kept_old run r = pass_hands place false r.places earlier t old r.steps new r.made legal tells tickets kept_old run
 
   -- ## Ticks one after the other
 

@@ -7,6 +7,7 @@ pub mod PlayLaws
 pub mod TraceLaws
 pub mod StageLaws
 pub mod BusyLaws
+pub mod PlaceLaws
 pub mod FreeLaws
 pub mod LookLaws
 pub mod BlockLaws

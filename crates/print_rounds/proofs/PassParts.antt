@@ -1,5 +1,5 @@
 -- A pass, from its parts.
-use Rattle.std.proofs.Common.{◌≡◌, ◌≤◌, inr, ℕ, Bool, true, false, List, [], length, map, Option, Result, IsSome, refl, sym, ap, subst, ◌∙◌}
+use Rattle.std.proofs.Common.{◌≡◌, ◌≤◌, inr, ℕ, Bool, true, false, List, [], length, map, Option, Result, refl, sym, ap, subst, ◌∙◌}
 use Rattle.std.specs.Option.{option_or}
 use Rattle.std.specs.FinMap as finite
 use Rattle.spool_disk.specs.Disk.{DiskView}
@@ -9,12 +9,15 @@ use Rattle.spool_core.specs.Standing.{Standing}
 use Rattle.filter_args.specs.declared.place.Place.{Place}
 use Rattle.child_pipeline.specs.Slots.{Slots}
 use Rattle.child_pipeline.specs.Told.{Told}
+use Rattle.child_pipeline.specs.declared.children.Places.{Places}
 use Rattle.print_rounds.specs.Counts.{counts_of, result_of, starting_fault, stages_fault}
 use Rattle.print_rounds.specs.Courses.{Course, course, Starting, AreStartings, Launching, AreLaunchings, AreReads, Ending, AreEndings}
-use Rattle.print_rounds.specs.Looks.{Look, AreLooks, Dropping, AreDroppings, idle_slots, free_queues, tended_jobs, idle_among, ripe_in, strays}
-use Rattle.print_rounds.specs.Passes.{IsPassBy, chosen, unblocked, jobs_tended, jobs_left}
+use Rattle.print_rounds.specs.Looks.{Look, AreLooks, Dropping, AreDroppings, idle_slots, tended_jobs, idle_among, ripe_in, strays}
+use Rattle.print_rounds.specs.Passes.{IsPassBy, unblocked, jobs_tended, jobs_left}
+use Rattle.print_rounds.specs.Places.{AreChosen, in_turn}
 use Rattle.print_rounds.specs.declared.outcome.Round.{Round}
 use Rattle.print_rounds.specs.declared.outcome.RoundFault.{RoundFault}
+use Rattle.print_rounds.proofs.PlaceLaws.{in_turn_none}
 use Rattle.print_rounds.proofs.RoundLaws.{or_none}
 use Rattle.print_rounds.proofs.StartLaws.{queue_count, starts_keys}
 
@@ -26,55 +29,45 @@ room_left device old ts mid starts t same rows names capacity few now later =
     (queue_count rows (finite.keys t.queues) names ∙ ap (λ (s : State). length (finite.keys s.queues)) same ∙ sym (ap length (starts_keys device old ts mid starts)) ∙ sym (ap (λ (s : State). length (finite.keys s.queues)) later))
     few
 
--- the queues that aren't marked are the free ones
-pub queues_chosen : (names : List (List ℕ)) (ready : Bool) (slots : Slots) (now old : State) → now ≡ old → (given flags : List Bool) → given ≡ flags → unblocked flags (finite.keys now.queues) ≡ chosen ready (free_queues now slots) → names ≡ unblocked given (finite.keys old.queues) → names ≡ chosen ready (free_queues old slots)
-queues_chosen names ready slots now old same given flags are value is =
-    is
-    ∙ ap (λ fs. unblocked fs (finite.keys old.queues)) are
-    ∙ sym (ap (λ (s : State). unblocked flags (finite.keys s.queues)) same)
-    ∙ value
-    ∙ ap (λ s. chosen ready (free_queues s slots)) same
+-- the queues that aren't marked are those that are chosen
+pub queues_chosen : (places : Option Places) (names : List (List ℕ)) (slots : Slots) (now old : State) → now ≡ old → (given flags : List Bool) → given ≡ flags → AreChosen places now slots (unblocked flags (finite.keys now.queues)) → names ≡ unblocked given (finite.keys old.queues) → AreChosen places old slots names
+queues_chosen places names slots now old same given flags are value is =
+    subst (AreChosen places old slots) (sym (is ∙ ap (λ fs. unblocked fs (finite.keys old.queues)) are))
+    (subst (λ (s : State). AreChosen places s slots (unblocked flags (finite.keys s.queues))) same value)
 
-none_chosen : {X : Type 0} → (b : Bool) (xs : List X) → xs ≡ [] → chosen b xs ≡ []
-none_chosen true xs none = none
-none_chosen false xs none = refl
-
--- the slots are those that stay, and what the children tell hasn't changed by then
-module _ {D : Type 0} (device : DiskView D) (place : Place) (waits ready : Bool) (waited : waits ≡ true → ready ≡ true) (old : Course D) (always : IsSome old.told → ready ≡ true) (alive : old.spool.dead ≡ false) (slots : Slots) (stay : slots ≡ idle_slots old.spool.state old.slots) (told : Option Told) (same : told ≡ old.told)
-    (mid : Standing D) (ts : List (Starting D)) (starts : AreStartings device old.spool ts mid) (queues : map (λ t. t.queue) ts ≡ chosen ready (free_queues old.spool.state slots)) where
+-- the slots are those that stay
+module _ {D : Type 0} (device : DiskView D) (place : Place) (waits : Bool) (places : Option Places) (old : Course D) (alive : old.spool.dead ≡ false) (slots : Slots) (stay : slots ≡ idle_slots old.spool.state old.slots)
+    (mid : Standing D) (ts : List (Starting D)) (starts : AreStartings device old.spool ts mid) (queues : AreChosen places old.spool.state slots (map (λ t. t.queue) ts)) where
   abbrev idle : Slots
   idle = idle_slots old.spool.state old.slots
 
-  queues_free : map (λ t. t.queue) ts ≡ chosen ready (free_queues old.spool.state idle)
-  queues_free = queues ∙ ap (λ m. chosen ready (free_queues old.spool.state m)) stay
+  queues_free : AreChosen places old.spool.state idle (map (λ t. t.queue) ts)
+  queues_free = subst (λ m. AreChosen places old.spool.state m (map (λ t. t.queue) ts)) stay queues
 
   -- the device failed at a start
-  pub failed_pass : mid.dead ≡ true → (result : Result Round RoundFault) → result ≡ result_of (record { started = 0; finished = 0 }) (starting_fault ts) → IsPassBy device place waits old old.spool.dead (course mid slots told) result
+  pub failed_pass : mid.dead ≡ true → (result : Result Round RoundFault) → result ≡ result_of (record { started = 0; finished = 0 }) (starting_fault ts) → IsPassBy device place waits places old old.spool.dead (course mid slots old.told) result
   failed_pass dead result answer =
-      subst (λ b. IsPassBy device place waits old b (course mid slots told) result) (sym alive)
+      subst (λ b. IsPassBy device place waits places old b (course mid slots old.told) result) (sym alive)
       (inr (record {
-        ready = ready;
-        waited = waited;
-        always = always;
         steps = record {
-          parts = record { startings = ts; mid = mid; launchings = []; read = mid; slots = slots; told = told; endings = [] };
+          parts = record { startings = ts; mid = mid; launchings = []; read = mid; slots = slots; told = old.told; endings = [] };
           looks = [];
-          looked = told;
-          ended = course mid slots told;
+          looked = old.told;
+          ended = course mid slots old.told;
           droppings = [];
         };
         made = record {
           starts = starts;
           queues = queues_free;
-          launches = (stay, same);
+          launches = (stay, refl);
           reads = refl;
-          launched = sym (none_chosen ready (idle_among idle (jobs_tended mid mid.dead idle)) (ap (λ b. idle_among idle (jobs_tended mid b idle)) dead));
+          launched = sym (in_turn_none places (idle_among idle (jobs_tended mid mid.dead idle)) (ap (λ b. idle_among idle (jobs_tended mid b idle)) dead));
           looks = refl;
           seen = sym (ap (λ b. jobs_tended mid b idle) dead);
           ends = refl;
           told = refl;
           drops = (refl, refl);
-          left = sym (ap (λ b. jobs_left b (course mid slots told)) dead);
+          left = sym (ap (λ b. jobs_left b (course mid slots old.told)) dead);
           spool = refl;
         };
         answer = answer ∙ ap (result_of (record { started = 0; finished = 0 })) (sym (or_none (starting_fault ts)));
@@ -85,17 +78,14 @@ module _ {D : Type 0} (device : DiskView D) (place : Place) (waits ready : Bool)
     tended : js ≡ jobs_tended mid mid.dead idle
     tended = jobs ∙ ap (λ m. tended_jobs mid.state m (finite.keys mid.state.queues)) stay ∙ sym (ap (λ b. jobs_tended mid b idle) lives)
 
-    pub whole_pass : (ls : List Launching) (read : Standing D) (slots' : Slots) (told' : Option Told) → AreLaunchings place mid.state slots told ls slots' told' → AreReads device mid ls read → map (λ l. l.job) ls ≡ chosen ready (idle_among slots js)
+    pub whole_pass : (ls : List Launching) (read : Standing D) (slots' : Slots) (told' : Option Told) → AreLaunchings place mid.state slots old.told ls slots' told' → AreReads device mid ls read → map (λ l. l.job) ls ≡ in_turn places (idle_among slots js)
         → (looks : List Look) (looked : Option Told) → AreLooks waits slots' told' looks looked → map (λ l. l.job) looks ≡ js
         → (es : List (Ending D)) (ended : Course D) → AreEndings device (course read slots' looked) es ended → map (λ e. e.job) es ≡ ripe_in looks
         → (ds : List Dropping) (new : Course D) → AreDroppings waits ended.slots ended.told ds new.slots new.told → map (λ d. d.look.job) ds ≡ strays ended.spool.state ended.slots → new.spool ≡ ended.spool
-        → (result : Result Round RoundFault) → result ≡ result_of (counts_of ls es) (option_or (starting_fault ts) (stages_fault ls es)) → IsPassBy device place waits old old.spool.dead new result
+        → (result : Result Round RoundFault) → result ≡ result_of (counts_of ls es) (option_or (starting_fault ts) (stages_fault ls es)) → IsPassBy device place waits places old old.spool.dead new result
     whole_pass ls read slots' told' launches reads launched looks looked look seen es ended ends ripe ds new drops left spool result answer =
-        subst (λ b. IsPassBy device place waits old b new result) (sym alive)
+        subst (λ b. IsPassBy device place waits places old b new result) (sym alive)
         (inr (record {
-          ready = ready;
-          waited = waited;
-          always = always;
           steps = record {
             parts = record { startings = ts; mid = mid; launchings = ls; read = read; slots = slots'; told = told'; endings = es };
             looks = looks;
@@ -106,9 +96,9 @@ module _ {D : Type 0} (device : DiskView D) (place : Place) (waits ready : Bool)
           made = record {
             starts = starts;
             queues = queues_free;
-            launches = subst (λ o. AreLaunchings place mid.state idle o ls slots' told') same (subst (λ m. AreLaunchings place mid.state m told ls slots' told') stay launches);
+            launches = subst (λ m. AreLaunchings place mid.state m old.told ls slots' told') stay launches;
             reads = reads;
-            launched = launched ∙ ap (λ m. chosen ready (idle_among m js)) stay ∙ ap (λ ks. chosen ready (idle_among idle ks)) tended;
+            launched = launched ∙ ap (λ m. in_turn places (idle_among m js)) stay ∙ ap (λ ks. in_turn places (idle_among idle ks)) tended;
             looks = look;
             seen = seen ∙ tended;
             ends = ends;

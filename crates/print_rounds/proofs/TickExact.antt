@@ -1,5 +1,5 @@
 -- Where nothing failed a tick is Script's.
-use Rattle.std.proofs.Common.{◌≡◌, ℕ, zero, suc, Bool, not, ◌&&◌, ◌||◌, true, false, cond, ◌==◌, List, [], ◌∷◌, map, Option, Some, None, refl, sym, ap, subst, ◌∙◌, arith, IsTrue}
+use Rattle.std.proofs.Common.{◌≡◌, ℕ, zero, suc, Bool, not, ◌&&◌, ◌||◌, true, false, cond, ◌==◌, List, [], ◌∷◌, length, map, Option, Some, None, refl, sym, ap, subst, ◌∙◌, arith, IsTrue}
 use Rattle.std.specs.Prelude.{IsSome, T, is_some}
 use Rattle.std.specs.declared.cmp.Ordering.{Ordering}
 use Rattle.std.specs.declared.cmp.Ordering.TheVariants.{Less, Equal, Greater}
@@ -19,6 +19,7 @@ use Rattle.filter_args.specs.declared.place.Place.{Place}
 use Rattle.child_pipeline.specs.Slots.{Slots}
 use Rattle.child_pipeline.specs.Tickets.{HasTickets, AreKeptBy}
 use Rattle.child_pipeline.specs.Told.{Told, is_in}
+use Rattle.child_pipeline.specs.declared.children.Places.{Places}
 use Rattle.child_pipeline.specs.declared.runner.Slot.{Slot}
 use Rattle.print_rounds.specs.Choice.{busy_jobs}
 use Rattle.print_rounds.specs.Counts.{starting_events, starting_fault, stages_fault, launching_fault, ending_fault, started_in}
@@ -26,12 +27,13 @@ use Rattle.print_rounds.specs.Courses.{Course, course, Starting, AreStartings, L
 use Rattle.print_rounds.specs.Faultless.{AllBegun, AllTold}
 use Rattle.print_rounds.specs.Finished.{AreDistinct, AllRest}
 use Rattle.print_rounds.specs.Looks.{has_child, runs, idle_slots, is_stray, strays, free_queues, tended_jobs, idle_among, ripe_in, AreDroppings}
-use Rattle.print_rounds.specs.Passes.{PassSteps, IsPass, chosen, jobs_tended, jobs_left}
+use Rattle.print_rounds.specs.Passes.{PassSteps, IsPass, jobs_tended, jobs_left}
+use Rattle.print_rounds.specs.Places.{HasPlacesFor, in_turn}
 use Rattle.print_rounds.specs.Rounds.{IsScriptRound, fault_in}
 use Rattle.print_rounds.specs.Script.{Play, plays, play_start, play_launch, play_end, play_from, is_current, current_slots}
 use Rattle.print_rounds.specs.Ticks.{ripe_by, looked_by, ripe_among, looked_among, play_ripe, play_tended, play_drop, drop_strays, tend_queues, tick_of}
 use Rattle.print_rounds.proofs.AcceptLaws.{all_begun, all_served, or_first, or_second}
-use Rattle.print_rounds.proofs.BusyLaws.{all_distinct, chosen_rest, part_distinct}
+use Rattle.print_rounds.proofs.BusyLaws.{all_distinct, idle_rests, part_distinct}
 use Rattle.print_rounds.proofs.CurrentLaws.{Suits, current_suit, starts_suit, launches_suit_at}
 use Rattle.print_rounds.proofs.EndLaws.{not_first, not_second}
 use Rattle.print_rounds.proofs.FreeLaws.{get_current, get_idle}
@@ -175,7 +177,7 @@ module _ {D : Type 0} (device : DiskView D) (old : Standing D) (slots : Slots) (
 
 -- ## The whole
 
-module _ {D : Type 0} (device : DiskView D) (laws : Laws) (kept : TicketLaws) (place : Place) (ready : Bool) (old new : Course D) (steps : PassSteps D) (made : IsPass device place false ready old steps new) (legal : IsLegal old.spool.state) (alive : old.spool.dead ≡ false) (always : IsSome old.told → ready ≡ true) (none : fault_in steps.parts ≡ None)
+module _ {D : Type 0} (device : DiskView D) (laws : Laws) (kept : TicketLaws) (place : Place) (places : Option Places) (old new : Course D) (steps : PassSteps D) (made : IsPass device place false places old steps new) (legal : IsLegal old.spool.state) (alive : old.spool.dead ≡ false) (always : IsSome old.told → places ≡ None) (none : fault_in steps.parts ≡ None)
     (t : Told) (documents : ℕ → List ℕ) (tells : old.told ≡ Some t) (has : HasTickets old.slots t) (handed : AreHanded documents steps.parts.launchings) where
   abbrev s : State
   s = old.spool.state
@@ -201,8 +203,8 @@ module _ {D : Type 0} (device : DiskView D) (laws : Laws) (kept : TicketLaws) (p
   begun : AllBegun steps.parts.startings
   begun = all_begun device old.spool steps.parts.startings mid made.starts (or_first (starting_fault steps.parts.startings) (stages_fault launchings steps.parts.endings) none)
 
-  ready_is : ready ≡ true
-  ready_is = always (ap (λ o. is_some o) tells)
+  unbound : places ≡ None
+  unbound = always (ap (λ o. is_some o) tells)
 
   mid_alive : mid.dead ≡ false
   mid_alive = starts_alive device old.spool steps.parts.startings mid made.starts begun alive
@@ -230,17 +232,17 @@ module _ {D : Type 0} (device : DiskView D) (laws : Laws) (kept : TicketLaws) (p
 
   started : plays play_start (play_from s idle t) (free_queues s idle) ≡ p1
   started =
-      ap (λ names. plays play_start (play_from s idle t) names) (sym (made.queues ∙ ap (λ b. chosen b (free_queues s idle)) ready_is))
+      ap (λ names. plays play_start (play_from s idle t) names) (sym (made.queues.all (subst (λ o. HasPlacesFor o (length (finite.keys s.queues))) (sym unbound) tt)))
       ∙ starts_played device old.spool steps.parts.startings mid made.starts (play_from s idle t) begun
 
   -- ### The starts of stages
 
   launched_are : map (λ l. l.job) launchings ≡ idle_among idle js
-  launched_are = made.launched ∙ ap (λ ks. chosen ready (idle_among idle ks)) tended ∙ ap (λ b. chosen b (idle_among idle js)) ready_is
+  launched_are = made.launched ∙ ap (λ ks. in_turn places (idle_among idle ks)) tended ∙ ap (λ o. in_turn o (idle_among idle js)) unbound
 
   launched : AreKeptBy t (started_in launchings) slots steps.parts.told
   launched = launches_keep kept place mid.state numbers t idle old.told launchings slots steps.parts.told made.launches
-      (subst (λ ks. AllRest idle ks) (sym launched_are) (chosen_rest true idle js))
+      (subst (λ ks. AllRest idle ks) (sym launched_are) (idle_rests idle js))
       (subst AreDistinct (sym launched_are) (part_distinct (λ j. not (runs idle j)) js distinct))
       tells (idle_tickets s old.slots t has)
 
@@ -336,9 +338,9 @@ module _ {D : Type 0} (device : DiskView D) (laws : Laws) (kept : TicketLaws) (p
   })
 
 -- the tables, slots, what is told, events and counts are those of Script's tick with the documents that were read
-pub tick_exact : {D : Type 0} (device : DiskView D) (laws : Laws) (kept : TicketLaws) (place : Place) (ready : Bool) (old new : Course D) (steps : PassSteps D)
-    → IsPass device place false ready old steps new → IsLegal old.spool.state → old.spool.dead ≡ false → (IsSome old.told → ready ≡ true) → fault_in steps.parts ≡ None
+pub tick_exact : {D : Type 0} (device : DiskView D) (laws : Laws) (kept : TicketLaws) (place : Place) (places : Option Places) (old new : Course D) (steps : PassSteps D)
+    → IsPass device place false places old steps new → IsLegal old.spool.state → old.spool.dead ≡ false → (IsSome old.told → places ≡ None) → fault_in steps.parts ≡ None
     → (t : Told) (documents : ℕ → List ℕ) → old.told ≡ Some t → HasTickets old.slots t → AreHanded documents steps.parts.launchings
     → IsScriptRound old steps.parts new (tick_of place documents old.spool.state old.slots t)
-tick_exact device laws kept place ready old new steps made legal alive always none t documents tells has handed =
-    is_script device laws kept place ready old new steps made legal alive always none t documents tells has handed
+tick_exact device laws kept place places old new steps made legal alive always none t documents tells has handed =
+    is_script device laws kept place places old new steps made legal alive always none t documents tells has handed

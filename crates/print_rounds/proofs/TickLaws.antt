@@ -1,8 +1,9 @@
 -- A tick is a turn of World, and whole.
-use Rattle.std.proofs.Common.{◌≡◌, ◌⊎◌, inl, inr, ℕ, ◌≤◌, Bool, not, ◌&&◌, ◌||◌, true, false, cond, ◌==◌, List, [], ◌∷◌, map, Option, Some, None, Result, refl, sym, ap, subst, ◌∙◌, append-nil, arith}
+use Rattle.std.proofs.Common.{◌≡◌, ◌⊎◌, inl, inr, ℕ, ◌≤◌, Bool, not, ◌&&◌, ◌||◌, true, false, cond, ◌==◌, List, [], ◌∷◌, length, map, Option, Some, None, Result, refl, sym, ap, subst, ◌∙◌, append-nil, arith}
 use Rattle.std.specs.Prelude.{◌↔◌, IsSome}
 use Rattle.std.specs.FinMap as finite
 use Rattle.std.proofs.lemmas.Bool.{both_ways}
+use Rattle.std.proofs.lemmas.List.{length-map}
 use Rattle.spool_disk.specs.Disk.{DiskView, IsLawful, LeavesOnly}
 use Rattle.spool_types.specs.State.{State}
 use Rattle.job_table.specs.Fold.{after_all, AreAccepted}
@@ -14,6 +15,7 @@ use Rattle.filter_args.specs.declared.place.Place.{Place}
 use Rattle.child_pipeline.specs.Slots.{Slots, FinishesFrom, slot_in, with_progress}
 use Rattle.child_pipeline.specs.Tickets.{HasTickets, AreKeptBy}
 use Rattle.child_pipeline.specs.Told.{Told, is_in}
+use Rattle.child_pipeline.specs.declared.children.Places.{Places}
 use Rattle.child_pipeline.specs.declared.runner.Progress.{Progress}
 use Rattle.child_pipeline.specs.declared.runner.Progress.TheVariants.{Ready, Running, Ended}
 use Rattle.print_rounds.specs.Choice.{busy_jobs}
@@ -21,14 +23,15 @@ use Rattle.print_rounds.specs.Counts.{counts_of, result_of, started_in, starting
 use Rattle.print_rounds.specs.Courses.{Course, course, Launching, AreHanded}
 use Rattle.print_rounds.specs.Finished.{AreDistinct, AllRest}
 use Rattle.print_rounds.specs.Looks.{Dropping, IsDropped, AreDroppings, has_child, idle_slots, idle_among, is_stray, runs}
-use Rattle.print_rounds.specs.Passes.{PassSteps, IsPass, IsPassBy, chosen, jobs_tended, jobs_left}
+use Rattle.print_rounds.specs.Passes.{PassSteps, IsPass, IsPassBy, jobs_tended, jobs_left}
+use Rattle.print_rounds.specs.Places.{HasPlacesFor, in_turn}
 use Rattle.print_rounds.specs.Rounds.{HasSomeOf, HasSomeWhole, LeavesDocuments, RoundSteps, events_in, tried_in, fault_in}
-use Rattle.print_rounds.specs.Ticks.{IsTickOf, IsTickBy, Finishing, AreFinishings}
+use Rattle.print_rounds.specs.Ticks.{IsTickOf, IsTickAsked, Finishing, AreFinishings}
 use Rattle.print_rounds.specs.World.{keys_in, IsBegunSlot, IsHeld, IsCallTurn}
 use Rattle.print_rounds.specs.declared.outcome.Round.{Round}
 use Rattle.print_rounds.specs.declared.outcome.RoundFault.{RoundFault}
 use Rattle.print_rounds.proofs.AcceptLaws.{all_begun, or_first, or_second}
-use Rattle.print_rounds.proofs.BusyLaws.{all_distinct, chosen_rest, part_distinct}
+use Rattle.print_rounds.proofs.BusyLaws.{all_distinct, idle_rests, part_distinct}
 use Rattle.print_rounds.proofs.CrashLaws.{IsKept, round_part, any_moment, any_whole, lasting, handed}
 use Rattle.print_rounds.proofs.EndLaws.{get_other, get_left, turned, not_first, not_second}
 use Rattle.print_rounds.proofs.FreeLaws.{get_idle}
@@ -37,6 +40,7 @@ use Rattle.print_rounds.proofs.KeyLaws.{accepted_both, starts_accepted, ends_acc
 use Rattle.print_rounds.proofs.LaunchLaws.{HasNumbers, some_of}
 use Rattle.print_rounds.proofs.PartLaws.{IsPart, starts_part, ends_part}
 use Rattle.print_rounds.proofs.PrefixLaws.{after_both}
+use Rattle.print_rounds.proofs.PlaceLaws.{in_turn_few, in_turn_none, in_turn_part, part_once, part_rest}
 use Rattle.print_rounds.proofs.ReadLaws.{reads_state, some_handed}
 use Rattle.print_rounds.proofs.RowLaws.{legal_rows}
 use Rattle.print_rounds.proofs.RoundLaws.{starts_alive, reads_work, ends_alive}
@@ -48,10 +52,6 @@ use Rattle.print_rounds.proofs.VersionLaws.{raised_turn}
 tended_distinct : {D : Type 0} (s : Standing D) (slots : Slots) (b : Bool) → IsLegal s.state → AreDistinct (jobs_tended s b slots)
 tended_distinct s slots true legal = tt
 tended_distinct s slots false legal = part_distinct (λ j. not (is_stray s.state slots j)) (busy_jobs s.state (finite.keys s.state.queues)) (all_distinct s.state (legal_rows s.state legal))
-
-chosen_distinct : (ready : Bool) (js : List ℕ) → AreDistinct js → AreDistinct (chosen ready js)
-chosen_distinct true js distinct = distinct
-chosen_distinct false js distinct = tt
 
 -- ## Droppings
 
@@ -96,7 +96,7 @@ none_handed : (documents : ℕ → List ℕ) (ts : List Launching) → map (λ t
 none_handed documents [] none = tt
 none_handed documents (t ∷ ts) none = absurd (cc)
 
-module _ {D : Type 0} (device : DiskView D) (laws : Laws) (tickets : TicketLaws) (place : Place) (ready : Bool) (old new : Course D) (steps : PassSteps D) (made : IsPass device place false ready old steps new) (legal : IsLegal old.spool.state) where
+module _ {D : Type 0} (device : DiskView D) (laws : Laws) (tickets : TicketLaws) (place : Place) (places : Option Places) (old new : Course D) (steps : PassSteps D) (made : IsPass device place false places old steps new) (legal : IsLegal old.spool.state) where
   abbrev parts : RoundSteps D
   parts = steps.parts
 
@@ -123,12 +123,18 @@ module _ {D : Type 0} (device : DiskView D) (laws : Laws) (tickets : TicketLaws)
   last = ap (λ (x : Standing D). x.state) made.spool ∙ (ends_part device seen parts.endings steps.ended made.ends).table ∙ ap (λ s. after_all s (ending_events parts.endings)) still
 
   -- no job's stage is started twice, and none beside a child
+  abbrev resting : List ℕ
+  resting = idle_among idle (jobs_tended parts.mid parts.mid.dead idle)
+
   once : AreDistinct (map (λ t. t.job) parts.launchings)
-  once = subst AreDistinct (sym made.launched) (chosen_distinct ready (idle_among idle (jobs_tended parts.mid parts.mid.dead idle))
+  once = subst AreDistinct (sym made.launched) (part_once (in_turn places resting) resting (in_turn_part places resting)
       (part_distinct (λ j. not (runs idle j)) (jobs_tended parts.mid parts.mid.dead idle) (tended_distinct parts.mid idle parts.mid.dead legal_mid)))
 
   rest : AllRest idle (map (λ t. t.job) parts.launchings)
-  rest = subst (AllRest idle) (sym made.launched) (chosen_rest ready idle (jobs_tended parts.mid parts.mid.dead idle))
+  rest = subst (AllRest idle) (sym made.launched) (part_rest idle (in_turn places resting) resting (in_turn_part places resting) (idle_rests idle (jobs_tended parts.mid parts.mid.dead idle)))
+
+  few : HasPlacesFor places (length parts.launchings)
+  few = subst (HasPlacesFor places) (ap length (sym made.launched) ∙ length-map parts.launchings (λ t. t.job)) (in_turn_few places resting)
 
   accepted : AreAccepted old.spool.state (events_in old parts)
   accepted = accepted_both old.spool.state (starting_events old.spool parts.startings) (ending_events parts.endings) (starts_accepted device old.spool parts.startings parts.mid made.starts)
@@ -217,65 +223,68 @@ module _ {D : Type 0} (device : DiskView D) (laws : Laws) (tickets : TicketLaws)
     own_handed : (bytes : List ℕ) (documents : ℕ → List ℕ) → device.bytes old.spool.disk ≡ Some bytes → HasDocuments old.spool.state documents bytes → AreHanded documents parts.launchings
     own_handed bytes documents is given = by_dead parts.mid.dead refl
       where
-        none_chosen : (b : Bool) → chosen {X = ℕ} b [] ≡ []
-        none_chosen true = refl
-        none_chosen false = refl
-
         by_dead : (b : Bool) → parts.mid.dead ≡ b → AreHanded documents parts.launchings
-        by_dead true died = none_handed documents parts.launchings (made.launched ∙ ap (λ b. chosen ready (idle_among idle (jobs_tended parts.mid b idle))) died ∙ none_chosen ready)
+        by_dead true died = none_handed documents parts.launchings (made.launched ∙ in_turn_none places resting (ap (λ b. idle_among idle (jobs_tended parts.mid b idle)) died))
         by_dead false lives =
             handed device lawful old.spool parts.mid parts.startings made.starts parts.launchings parts.read made.reads parts.slots steps.looked parts.endings steps.ended made.ends lives bytes documents is given
             place idle parts.slots old.told parts.told made.launches
 
-    whole_tick : IsKept device old.spool → old.spool.dead ≡ false → (IsSome old.told → ready ≡ true) → (result : Result Round RoundFault) → result ≡ result_of (counts_of parts.launchings parts.endings) (fault_in parts) → IsTickOf device place old new result
-    whole_tick kept alive always result answer = record {
-      ready = ready;
-      always = always;
-      steps = steps;
-      made = made;
-      answer = answer;
-      accepted = accepted;
-      table = whole_table;
-      any_moment = λ lived tells. subst (λ (x : Standing D). LeavesOnly device old.spool.disk x.disk (HasSomeOf old.spool.state (tried_in old parts))) (sym made.spool)
-          (any_moment device lawful old.spool parts.mid parts.startings made.starts parts.launchings parts.read made.reads parts.slots steps.looked parts.endings steps.ended made.ends kept lived tells);
-      any_whole = λ lived tells documents leaves. subst (λ (x : Standing D). LeavesOnly device old.spool.disk x.disk (HasSomeWhole old.spool.state documents (tried_in old parts))) (sym made.spool)
-          (any_whole device lawful old.spool parts.mid parts.startings made.starts parts.launchings parts.read made.reads parts.slots steps.looked parts.endings steps.ended made.ends kept lived tells documents leaves);
-      lasting = λ lives tells documents leaves. subst (LeavesDocuments device documents) (sym made.spool)
-          (lasting device lawful old.spool parts.mid parts.startings made.starts parts.launchings parts.read made.reads parts.slots steps.looked parts.endings steps.ended made.ends
-          (ap (λ (x : Standing D). x.dead) (sym made.spool) ∙ lives) tells documents leaves);
-      works = lives_on;
-      all_acknowledged = part.acknowledged;
-      in_hand = part.in_hand;
-      tickets = tick_keeps;
-      turn = λ t tells has. tick_turn t tells has alive;
-      read = some_handed parts.launchings once;
-      handed = own_handed;
-      exact = λ none t documents tells has given. tick_exact device laws tickets place ready old new steps made legal alive always none t documents tells has given;
-    }
+    whole_tick : IsKept device old.spool → old.spool.dead ≡ false → (IsSome old.told → places ≡ None) → (result : Result Round RoundFault) → result ≡ result_of (counts_of parts.launchings parts.endings) (fault_in parts) → (tick : IsTickOf device place old new result) × (tick.places ≡ places)
+    whole_tick kept alive always result answer = (
+      record {
+        places = places;
+        always = always;
+        few = few;
+        steps = steps;
+        made = made;
+        answer = answer;
+        accepted = accepted;
+        table = whole_table;
+        any_moment = λ lived tells. subst (λ (x : Standing D). LeavesOnly device old.spool.disk x.disk (HasSomeOf old.spool.state (tried_in old parts))) (sym made.spool)
+            (any_moment device lawful old.spool parts.mid parts.startings made.starts parts.launchings parts.read made.reads parts.slots steps.looked parts.endings steps.ended made.ends kept lived tells);
+        any_whole = λ lived tells documents leaves. subst (λ (x : Standing D). LeavesOnly device old.spool.disk x.disk (HasSomeWhole old.spool.state documents (tried_in old parts))) (sym made.spool)
+            (any_whole device lawful old.spool parts.mid parts.startings made.starts parts.launchings parts.read made.reads parts.slots steps.looked parts.endings steps.ended made.ends kept lived tells documents leaves);
+        lasting = λ lives tells documents leaves. subst (LeavesDocuments device documents) (sym made.spool)
+            (lasting device lawful old.spool parts.mid parts.startings made.starts parts.launchings parts.read made.reads parts.slots steps.looked parts.endings steps.ended made.ends
+            (ap (λ (x : Standing D). x.dead) (sym made.spool) ∙ lives) tells documents leaves);
+        works = lives_on;
+        all_acknowledged = part.acknowledged;
+        in_hand = part.in_hand;
+        tickets = tick_keeps;
+        turn = λ t tells has. tick_turn t tells has alive;
+        read = some_handed parts.launchings once;
+        handed = own_handed;
+        exact = λ none t documents tells has given. tick_exact device laws tickets place places old new steps made legal alive always none t documents tells has given;
+      },
+      refl,
+    )
 
 -- ## A tick
 
-module _ {D : Type 0} (device : DiskView D) (lawful : IsLawful device) (laws : Laws) (tickets : TicketLaws) (place : Place) (old new : Course D) (result : Result Round RoundFault) (legal : IsLegal old.spool.state) where
+module _ {D : Type 0} (device : DiskView D) (lawful : IsLawful device) (laws : Laws) (tickets : TicketLaws) (place : Place) (places : Option Places) (old new : Course D) (result : Result Round RoundFault) (legal : IsLegal old.spool.state) where
   abbrev still_part : IsPart device old.spool [] [] old.spool
   still_part = starts_part device old.spool [] old.spool refl
 
-  by_pass : (b : Bool) → old.spool.dead ≡ b → IsKept device old.spool → IsPassBy device place false old b new result → IsTickBy device place old b new result
-  by_pass true died kept pass = pass
-  by_pass false alive kept (inl unbegun) = inl unbegun
-  by_pass false alive kept (inr passed) = inr (whole_tick device laws tickets place passed.ready old new passed.steps passed.made legal lawful kept alive passed.always result passed.answer)
-
   -- the pass is a tick
-  pub passed_tick : IsKept device old.spool → IsPassBy device place false old old.spool.dead new result → IsTickBy device place old old.spool.dead new result
-  passed_tick kept pass = by_pass old.spool.dead refl kept pass
+  module _ (always : IsSome old.told → places ≡ None) (asked : Option Places → Type 0) (has : asked places) (kept : IsKept device old.spool) where
+    by_pass : (b : Bool) → old.spool.dead ≡ b → IsPassBy device place false places old b new result → IsTickAsked asked device place old b new result
+    by_pass true died pass = pass
+    by_pass false alive (inl unbegun) = inl unbegun
+    by_pass false alive (inr passed) =
+        let whole = whole_tick device laws tickets place places old new passed.steps passed.made legal lawful kept alive always result passed.answer in
+        inr (whole.0, subst asked (sym whole.1) has)
+
+    pub passed_tick : IsPassBy device place false places old old.spool.dead new result → IsTickAsked asked device place old old.spool.dead new result
+    passed_tick pass = by_pass old.spool.dead refl pass
 
   unmoved : new ≡ old → (device.failures old.spool.disk ≤ device.failures new.spool.disk) × (IsSome (device.bytes new.spool.disk) ↔ IsSome (device.bytes old.spool.disk))
   unmoved same = subst (λ (c : Course D). (device.failures old.spool.disk ≤ device.failures c.spool.disk) × (IsSome (device.bytes c.spool.disk) ↔ IsSome (device.bytes old.spool.disk))) (sym same) (still_part.counted, still_part.told)
 
   -- and what it leaves of the device
-  pub passed_device : (b : Bool) → IsPassBy device place false old b new result → (device.failures old.spool.disk ≤ device.failures new.spool.disk) × (IsSome (device.bytes new.spool.disk) ↔ IsSome (device.bytes old.spool.disk))
+  pub passed_device : (b : Bool) → IsPassBy device place false places old b new result → (device.failures old.spool.disk ≤ device.failures new.spool.disk) × (IsSome (device.bytes new.spool.disk) ↔ IsSome (device.bytes old.spool.disk))
   passed_device true pass = unmoved pass.1
   passed_device false (inl unbegun) = unmoved unbegun.1
-  passed_device false (inr passed) = let all = part device laws tickets place passed.ready old new passed.steps passed.made legal lawful in (all.counted, all.told)
+  passed_device false (inr passed) = let all = part device laws tickets place places old new passed.steps passed.made legal lawful in (all.counted, all.told)
 
 -- ## Finishes alone
 

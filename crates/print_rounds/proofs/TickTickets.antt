@@ -22,7 +22,7 @@ use Rattle.print_rounds.specs.Choice.{slots_for, slots_in, slots_by, new_slots, 
 use Rattle.print_rounds.specs.Counts.{started_by, started_in}
 use Rattle.print_rounds.specs.Courses.{Answer, Course, Launching, IsLaunch, AreLaunchings, given, Ending, IsEndingOf, AreEndings, IsReport, is_silent, moved}
 use Rattle.print_rounds.specs.Finished.{AreDistinct, AllRest}
-use Rattle.print_rounds.specs.Looks.{Look, is_looked_at, IsLookBy, AreLooks, Dropping, IsDropped, AreDroppings, is_kept, idle_slots, runs}
+use Rattle.print_rounds.specs.Looks.{Look, is_looked_at, IsLookBy, AreLooks, Dropping, IsDropped, AreDroppings, is_kept, idle_slots}
 use Rattle.print_rounds.specs.Ticks.{Finishing, AreFinishings}
 use Rattle.print_rounds.specs.declared.outcome.Launch.{Launch}
 use Rattle.print_rounds.specs.declared.outcome.Launch.TheVariants.{Unlaunched, Launched, NoMemory, Disk, Dead}

@@ -16,7 +16,7 @@ use Rattle.print_rounds.specs.Courses.{Course, course, Launching, AreLaunchings,
 use Rattle.print_rounds.specs.Faultless.{AreExactStarts}
 use Rattle.print_rounds.specs.Finished.{AreDistinct, EachFinishedOnce, HasNoneRunning}
 use Rattle.print_rounds.specs.Looks.{Look, AreLooks, Dropping, AreDroppings, has_child, runs, idle_slots, is_stray, strays, is_of_queue, is_blocked, free_queues, tended_jobs, idle_among, ripe_in}
-use Rattle.print_rounds.specs.Passes.{IsPassed, IsPassBy, chosen, jobs_tended, jobs_left}
+use Rattle.print_rounds.specs.Passes.{IsPassed, IsPassBy, jobs_tended, jobs_left}
 use Rattle.print_rounds.specs.Rounds.{RoundSteps, IsRoundBy}
 use Rattle.print_rounds.specs.Script.{current_slots, is_current, plays, play_start, play_from}
 use Rattle.print_rounds.specs.declared.outcome.Round.{Round}
@@ -126,7 +126,7 @@ module _ {D : Type 0} (device : DiskView D) (lawful : IsLawful device) (place : 
     rest = rests;
   })
 
-  module _ (alive : old.spool.dead ≡ false) (passed : IsPassed device place true old new result) where
+  module _ (alive : old.spool.dead ≡ false) (passed : IsPassed device place true None old new result) where
     abbrev parts : RoundSteps D
     parts = passed.steps.parts
 
@@ -139,16 +139,12 @@ module _ {D : Type 0} (device : DiskView D) (lawful : IsLawful device) (place : 
     idle_rests : HasNoneRunning idle
     idle_rests = subst HasNoneRunning (sym idle_is) (current_rests old.spool.state old.slots rests)
 
-    ready : passed.ready ≡ true
-    ready = passed.waited refl
-
     queues : map (λ t. t.queue) parts.startings ≡ finite.keys old.spool.state.queues
-    queues = passed.made.queues ∙ ap (λ b. chosen b (free_queues old.spool.state idle)) ready ∙ all_free old.spool.state idle idle_rests
+    queues = passed.made.queues.all tt ∙ all_free old.spool.state idle idle_rests
 
     launched : (b : Bool) → parts.mid.dead ≡ b → map (λ l. l.job) parts.launchings ≡ jobs_tended parts.mid b idle
     launched b is =
         passed.made.launched
-        ∙ ap (λ c. chosen c (idle_among idle (jobs_tended parts.mid parts.mid.dead idle))) ready
         ∙ all_idle old.spool.state idle idle_rests (jobs_tended parts.mid parts.mid.dead idle)
         ∙ ap (λ c. jobs_tended parts.mid c idle) is
 
@@ -278,10 +274,10 @@ module _ {D : Type 0} (device : DiskView D) (lawful : IsLawful device) (place : 
     by_mid true dead = failed_leaves dead
     by_mid false lives = whole_leaves lives
 
-  pub waited_round : IsPassBy device place true old old.spool.dead new result → Leaves
+  pub waited_round : IsPassBy device place true None old old.spool.dead new result → Leaves
   waited_round pass = by_dead old.spool.dead refl pass
     where
-      by_dead : (b : Bool) → old.spool.dead ≡ b → IsPassBy device place true old b new result → Leaves
+      by_dead : (b : Bool) → old.spool.dead ≡ b → IsPassBy device place true None old b new result → Leaves
       by_dead true dead (is, same) = (subst (λ b. IsRoundBy device place old b new result) (sym dead) (is, same), nothing_left same)
       by_dead false alive (inl unbegun) = (subst (λ b. IsRoundBy device place old b new result) (sym alive) (inl unbegun), nothing_left unbegun.1)
       by_dead false alive (inr passed) = by_mid alive passed passed.steps.parts.mid.dead refl

@@ -9,6 +9,7 @@ pub mod Faultless
 pub mod World
 pub mod Inputs
 pub mod Rounds
+pub mod Places
 pub mod Passes
 pub mod Ticks
 pub mod HandedOn

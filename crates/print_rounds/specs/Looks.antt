@@ -1,5 +1,5 @@
 -- What is looked at where children may run: which slots stay, which queues may start a job, and whose ends are to be told.
-use Rattle.std.specs.Prelude.{◌≡◌, ℕ, Bool, ◌&&◌, ◌||◌, ◌==◌, not, true, false, cond, List, [], ◌∷◌, Option, None, Some}
+use Rattle.std.specs.Prelude.{◌≡◌, ℕ, Bool, ◌&&◌, ◌||◌, not, true, false, cond, List, [], ◌∷◌, Option, None, Some}
 use Rattle.std.specs.List.{filter, list_any}
 use Rattle.std.specs.FinMap as finite
 use Rattle.spool_types.specs.Busy.{is_of}

@@ -1,14 +1,16 @@
 -- What a round and a tick have in common: a pass over the queues, step by step.
-use Rattle.std.specs.Prelude.{◌≡◌, ◌⊎◌, ℕ, Bool, true, false, cond, List, [], ◌∷◌, map, Option, IsSome, Result, Err}
+use Rattle.std.specs.Prelude.{◌≡◌, ◌⊎◌, ℕ, Bool, true, false, cond, List, [], ◌∷◌, map, Option, Result, Err}
 use Rattle.std.specs.FinMap as finite
 use Rattle.spool_disk.specs.Disk.{DiskView}
 use Rattle.spool_core.specs.Standing.{Standing}
 use Rattle.filter_args.specs.declared.place.Place.{Place}
 use Rattle.child_pipeline.specs.Slots.{Slots}
 use Rattle.child_pipeline.specs.Told.{Told}
+use Rattle.child_pipeline.specs.declared.children.Places.{Places}
 use Rattle.print_rounds.specs.Counts.{counts_of, result_of}
 use Rattle.print_rounds.specs.Courses.{Course, course, AreStartings, AreLaunchings, AreReads, AreEndings}
-use Rattle.print_rounds.specs.Looks.{Look, AreLooks, Dropping, AreDroppings, ripe_in, idle_slots, free_queues, tended_jobs, idle_among, strays}
+use Rattle.print_rounds.specs.Looks.{Look, AreLooks, Dropping, AreDroppings, ripe_in, idle_slots, tended_jobs, idle_among, strays}
+use Rattle.print_rounds.specs.Places.{AreChosen, in_turn}
 use Rattle.print_rounds.specs.Rounds.{RoundSteps, IsUnbegun, fault_in}
 use Rattle.print_rounds.specs.declared.outcome.Round.{Round}
 use Rattle.print_rounds.specs.declared.outcome.RoundFault.{RoundFault}
@@ -23,11 +25,6 @@ pub record PassSteps (D : Type 0) : Type 0 where
   -- behind the last end of a stage
   pub ended : Course D
   pub droppings : List Dropping
-
--- where nothing is to be started, no queue and no job is chosen for it
-abbrev pub chosen : {X : Type 0} → Bool → List X → List X
-chosen true xs = xs
-chosen false xs = []
 
 -- the queues that aren't blocked
 abbrev pub unblocked : List Bool → List (List ℕ) → List (List ℕ)
@@ -44,17 +41,17 @@ abbrev pub jobs_left : {D : Type 0} → Bool → Course D → List ℕ
 jobs_left true c = []
 jobs_left false c = strays c.spool.state c.slots
 
--- The slots that are neither current nor have a child are freed. Where something may be started, the next job of each free
--- queue is, and then a stage of each processing job whose child doesn't run. Each child that runs is looked at, or waited for,
+-- The slots that are neither current nor have a child are freed. The next job of each free queue is started, and then a stage
+-- of each processing job whose child doesn't run: those that have places. Each child that runs is looked at, or waited for,
 -- and the ends are told of those that have ended, and of those that keep a finish. Last come the children whose jobs have left
 -- their stages. If the device fails at the start of a job, nothing follows.
-pub record IsPass {D : Type 0} (device : DiskView D) (place : Place) (waits ready : Bool) (old : Course D) (steps : PassSteps D) (new : Course D) : Type 0 where
+pub record IsPass {D : Type 0} (device : DiskView D) (place : Place) (waits : Bool) (places : Option Places) (old : Course D) (steps : PassSteps D) (new : Course D) : Type 0 where
   pub starts : AreStartings device old.spool steps.parts.startings steps.parts.mid
-  pub queues : map (λ t. t.queue) steps.parts.startings ≡ chosen ready (free_queues old.spool.state (idle_slots old.spool.state old.slots))
+  pub queues : AreChosen places old.spool.state (idle_slots old.spool.state old.slots) (map (λ t. t.queue) steps.parts.startings)
   pub launches : AreLaunchings place steps.parts.mid.state (idle_slots old.spool.state old.slots) old.told steps.parts.launchings steps.parts.slots steps.parts.told
   pub reads : AreReads device steps.parts.mid steps.parts.launchings steps.parts.read
   pub launched : map (λ t. t.job) steps.parts.launchings ≡
-      chosen ready (idle_among (idle_slots old.spool.state old.slots) (jobs_tended steps.parts.mid steps.parts.mid.dead (idle_slots old.spool.state old.slots)))
+      in_turn places (idle_among (idle_slots old.spool.state old.slots) (jobs_tended steps.parts.mid steps.parts.mid.dead (idle_slots old.spool.state old.slots)))
   pub looks : AreLooks waits steps.parts.slots steps.parts.told steps.looks steps.looked
   pub seen : map (λ l. l.job) steps.looks ≡ jobs_tended steps.parts.mid steps.parts.mid.dead (idle_slots old.spool.state old.slots)
   pub ends : AreEndings device (course steps.parts.read steps.parts.slots steps.looked) steps.parts.endings steps.ended
@@ -63,15 +60,12 @@ pub record IsPass {D : Type 0} (device : DiskView D) (place : Place) (waits read
   pub left : map (λ d. d.look.job) steps.droppings ≡ jobs_left steps.parts.mid.dead steps.ended
   pub spool : new.spool ≡ steps.ended.spool
 
--- A pass and its answer. A round is always ready, and so are children that tell.
-pub record IsPassed {D : Type 0} (device : DiskView D) (place : Place) (waits : Bool) (old new : Course D) (result : Result Round RoundFault) : Type 0 where
-  pub ready : Bool
-  pub waited : waits ≡ true → ready ≡ true
-  pub always : IsSome old.told → ready ≡ true
+-- A pass and its answer.
+pub record IsPassed {D : Type 0} (device : DiskView D) (place : Place) (waits : Bool) (places : Option Places) (old new : Course D) (result : Result Round RoundFault) : Type 0 where
   pub steps : PassSteps D
-  pub made : IsPass device place waits ready old steps new
+  pub made : IsPass device place waits places old steps new
   pub answer : result ≡ result_of (counts_of steps.parts.launchings steps.parts.endings) (fault_in steps.parts)
 
-abbrev pub IsPassBy : {D : Type 0} → DiskView D → Place → Bool → Course D → Bool → Course D → Result Round RoundFault → Type 0
-IsPassBy device place waits old true new result = (result ≡ Err ends.Dead) × (new ≡ old)
-IsPassBy device place waits old false new result = IsUnbegun old new result ⊎ IsPassed device place waits old new result
+abbrev pub IsPassBy : {D : Type 0} → DiskView D → Place → Bool → Option Places → Course D → Bool → Course D → Result Round RoundFault → Type 0
+IsPassBy device place waits places old true new result = (result ≡ Err ends.Dead) × (new ≡ old)
+IsPassBy device place waits places old false new result = IsUnbegun old new result ⊎ IsPassed device place waits places old new result

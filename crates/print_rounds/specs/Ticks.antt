@@ -10,10 +10,12 @@ use Rattle.filter_args.specs.declared.place.Place.{Place}
 use Rattle.child_pipeline.specs.Slots.{Slots, FinishesStage}
 use Rattle.child_pipeline.specs.Tickets.{HasTickets, AreKeptBy}
 use Rattle.child_pipeline.specs.Told.{Told, looks_next, after_look}
+use Rattle.child_pipeline.specs.declared.children.Places.{Places}
 use Rattle.print_rounds.specs.Courses.{Course, AreHanded}
 use Rattle.print_rounds.specs.Counts.{AreAcknowledged, counts_of, started_in, result_of}
 use Rattle.print_rounds.specs.Looks.{idle_slots, free_queues, tended_jobs, idle_among, runs, strays}
 use Rattle.print_rounds.specs.Passes.{PassSteps, IsPass}
+use Rattle.print_rounds.specs.Places.{HasPlacesFor}
 use Rattle.print_rounds.specs.Rounds.{HasSomeOf, HasSomeWhole, LeavesDocuments, IsScriptRound, IsUnbegun, events_in, tried_in, fault_in}
 use Rattle.print_rounds.specs.Script.{Play, plays, play_start, play_launch, play_end, play_from, waited}
 use Rattle.print_rounds.specs.World.{IsCallTurn}
@@ -72,11 +74,12 @@ tick_of place documents s slots told =
 -- ## A tick, also where something fails
 
 pub record IsTickOf {D : Type 0} (device : DiskView D) (place : Place) (old new : Course D) (result : Result Round RoundFault) : Type 0 where
-  -- whether something may be started: children that tell are always ready
-  pub ready : Bool
-  pub always : IsSome old.told → ready ≡ true
+  -- how many children may be started: where they tell nothing bounds them
+  pub places : Option Places
+  pub always : IsSome old.told → places ≡ None
   pub steps : PassSteps D
-  pub made : IsPass device place false ready old steps new
+  pub made : IsPass device place false places old steps new
+  pub few : HasPlacesFor places (length steps.parts.launchings)
   pub answer : result ≡ result_of (counts_of steps.parts.launchings steps.parts.endings) (fault_in steps.parts)
   -- the events acknowledged in it are accepted in turn, and the table is the one after them
   pub accepted : AreAccepted old.spool.state (events_in old steps.parts)
@@ -109,6 +112,11 @@ pub record IsTickOf {D : Type 0} (device : DiskView D) (place : Place) (old new 
 abbrev pub IsTickBy : {D : Type 0} → DiskView D → Place → Course D → Bool → Course D → Result Round RoundFault → Type 0
 IsTickBy device place old true new result = (result ≡ Err ends.Dead) × (new ≡ old)
 IsTickBy device place old false new result = IsUnbegun old new result ⊎ IsTickOf device place old new result
+
+-- a tick that goes by the places that the children were asked for
+abbrev pub IsTickAsked : {D : Type 0} → (Option Places → Type 0) → DiskView D → Place → Course D → Bool → Course D → Result Round RoundFault → Type 0
+IsTickAsked asked device place old true new result = (result ≡ Err ends.Dead) × (new ≡ old)
+IsTickAsked asked device place old false new result = IsUnbegun old new result ⊎ ((made : IsTickOf device place old new result) × asked made.places)
 
 -- ## At the end
 

@@ -5,7 +5,7 @@ ghost use Rattle.spool_types.specs.State.{Job, job_at};
 ghost use Rattle.job_table.specs.Places.{IsNameAt};
 ghost use Rattle.print_rounds.specs.Finished.{AreDistinct, AllRest};
 ghost use Rattle.print_rounds.specs.Looks.{free_queues, idle_among, tended_jobs};
-ghost use Rattle.print_rounds.specs.Passes.{chosen, unblocked};
+ghost use Rattle.print_rounds.specs.Passes.{unblocked};
 
 use crate::slots::{has_child, is_stray};
 use child_pipeline::{Children, Runner};
@@ -25,20 +25,15 @@ fn queue_place(table: &Table, job: JobId) -> Option<usize>
     place.ok()
 }
 
-// Marks each queue of which a child is running or, where nothing is to be started, each queue.
-pub(crate) fn mark_blocked<C: Children>(
-    ready: bool,
-    table: &Table,
-    runner: &Runner<C>,
-    blocked: &mut Vec<bool>,
-)
+// Marks each queue of which a child is running.
+pub(crate) fn mark_blocked<C: Children>(table: &Table, runner: &Runner<C>, blocked: &mut Vec<bool>)
     requires empty { blocked.old.items ≡ [] }
     requires room { length (finite.keys table.now.state.queues) ≤ vec_capacity blocked.old }
     ensures count { length blocked.new.items ≡ length (finite.keys table.now.state.queues) }
-    ensures value { unblocked blocked.new.items (finite.keys table.now.state.queues) ≡ chosen ready (free_queues table.now.state runner.now) }
+    ensures value { unblocked blocked.new.items (finite.keys table.now.state.queues) ≡ free_queues table.now.state runner.now }
 {
     for _ in 0..table.queues().len() {
-        blocked.push_reserved(!ready);
+        blocked.push_reserved(false);
     }
     let mut behind = None;
     while let Some(job) = runner.next_job(behind) {
@@ -70,23 +65,18 @@ pub(crate) fn list_tended<C: Children>(table: &Table, runner: &Runner<C>, jobs: 
     }
 }
 
-// Lists those of these jobs of which no child is running or, where nothing is to be started, none.
-pub(crate) fn list_idle<C: Children>(
-    ready: bool,
-    runner: &Runner<C>,
-    jobs: &[JobId],
-    idle: &mut Vec<JobId>,
-)
+// Lists those of these jobs of which no child is running.
+pub(crate) fn list_idle<C: Children>(runner: &Runner<C>, jobs: &[JobId], idle: &mut Vec<JobId>)
     requires empty { idle.old.items ≡ [] }
     requires room { length jobs.now ≤ vec_capacity idle.old }
     requires distinct { AreDistinct jobs.now }
-    ensures value { idle.new.items ≡ chosen ready (idle_among runner.now jobs.now) }
-    ensures capacity { vec_capacity idle.new ≡ vec_capacity idle.old }
+    ensures value { idle.new.items ≡ idle_among runner.now jobs.now }
+    ensures bound { length idle.new.items ≤ length jobs.now }
     ensures distinct { AreDistinct idle.new.items }
     ensures rest { AllRest runner.now idle.new.items }
 {
     for job in jobs {
-        if ready && !has_child(runner, *job) {
+        if !has_child(runner, *job) {
             idle.push_reserved(*job);
         }
     }

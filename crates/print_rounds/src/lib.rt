@@ -14,16 +14,18 @@
 //! 5. A child whose job has left its stage (it was canceled, or its attempt abandoned) keeps its slot until it has ended, and
 //!    its queue starts nothing. So no second backend writes to its device. Its end is told to nobody.
 //!
-//! Where the children aren't ready (`Children::is_ready`) a tick starts nothing, so that no job loses an attempt. A round asks
-//! that no child runs when it begins: [`finish_children`] waits for those that a tick has left.
+//! Where the children have places for a few starts (`Children::places`), a tick starts no more, so that no job loses an attempt
+//! (`specs/Places.antt`). Jobs that wait for a child have theirs first, then queues with a next job, in turn. A round bounds
+//! nothing, and asks that no child runs when it begins: [`finish_children`] waits for those that a tick has left.
 //!
 //! # Promises
 //!
 //! - *The steps* (`IsRoundOf`, `IsTickOf`): what was done and in which order, each event with the answer of the spool, its cause
 //!   and what it left. The answer is the counts, or the first fault (`answer`), and the table is that of the acknowledged events,
-//!   which are accepted in turn (`accepted`, `table`). So no pass changes the version of the area. Of a tick the queues that
-//!   start are exactly those of which no child runs, the stages those of the processing jobs of which none runs, and the ends
-//!   those of the children that a look found ended, and of the finishes that were kept (`made`).
+//!   which are accepted in turn (`accepted`, `table`). So no pass changes the version of the area. Where there is a place for
+//!   each queue, the queues that start in a tick are exactly those of which no child runs, and the stages those of the processing
+//!   jobs of which none runs. The ends are those of the children that a look found ended, and of the finishes that were kept (`made`).
+//! - *Places*: a tick goes by the places that it asked for (`IsTickAsked`), and calls `start` no more often than there are (`few`).
 //! - *A crash in a pass*: unless the device had failed before, a crash at any moment of it leaves the table after the first of
 //!   the events that were tried in it, some or all (`any_moment`). These are the acknowledged ones and, behind them, the one at
 //!   which the device failed, if it did (`tried_in`, `all_acknowledged`, `in_hand`). The documents stay as they are, in a crash
@@ -70,6 +72,7 @@ mod laws;
 mod looks;
 mod outcome;
 mod passes;
+mod places;
 mod rounds;
 mod slots;
 mod starts;

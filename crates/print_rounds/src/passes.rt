@@ -1,5 +1,5 @@
 //! A pass over the queues: what a round and a tick have in common.
-ghost use Rattle.std.specs.Prelude.{◌≡◌, ◌≤◌, true, [], vec_capacity, IfOk, IsSome};
+ghost use Rattle.std.specs.Prelude.{◌≡◌, ◌≤◌, [], vec_capacity, IfOk};
 ghost use Rattle.print_rounds.specs.Courses.{course};
 ghost use Rattle.print_rounds.specs.Passes.{IsPassBy};
 
@@ -8,9 +8,10 @@ use crate::ends::end_stages;
 use crate::launches::launch_all;
 use crate::looks::{drop_strays, list_ripe};
 use crate::outcome::{Round, RoundFault};
+use crate::places::{choose_jobs, hold_back};
 use crate::slots::free_idle;
 use crate::starts::start_free;
-use child_pipeline::{Children, Runner};
+use child_pipeline::{Children, Places, Runner};
 use filter_args::Place;
 use spool_core::Spool;
 use spool_disk::Disk;
@@ -22,9 +23,12 @@ use std::alloc::{AllocError, Global};
 struct Lists {
     // Whether a queue starts nothing, for each queue.
     blocked: Vec<bool>,
+    spare: Vec<bool>,
     // The jobs whose stages are run.
     tended: Vec<JobId>,
-    // Those of them that are started and, after that, those whose ends are told.
+    // Those of them of which no child is running.
+    idle: Vec<JobId>,
+    // Those that are started and, after that, those whose ends are told.
     chosen: Vec<JobId>,
 }
 
@@ -32,32 +36,29 @@ impl Lists {
     // Empty lists, with room for so many queues.
     fn reserve(alloc: Global, queues: usize) -> Result<Lists, AllocError>
         ensures blocked { IfOk result (λ l. (l.blocked.items ≡ []) × (queues ≤ vec_capacity l.blocked)) }
+        ensures spare { IfOk result (λ l. (l.spare.items ≡ []) × (queues ≤ vec_capacity l.spare)) }
         ensures tended { IfOk result (λ l. (l.tended.items ≡ []) × (queues ≤ vec_capacity l.tended)) }
+        ensures idle { IfOk result (λ l. (l.idle.items ≡ []) × (queues ≤ vec_capacity l.idle)) }
         ensures chosen { IfOk result (λ l. (l.chosen.items ≡ []) × (queues ≤ vec_capacity l.chosen)) }
     {
         let blocked = Vec::with_capacity(alloc, queues)?;
+        let spare = Vec::with_capacity(alloc, queues)?;
         let tended = Vec::with_capacity(alloc, queues)?;
+        let idle = Vec::with_capacity(alloc, queues)?;
         let chosen = Vec::with_capacity(alloc, queues)?;
         Ok(Lists {
             blocked,
+            spare,
             tended,
+            idle,
             chosen,
         })
     }
 }
 
-// Whether something may be started: a round waits for each child, and is always ready.
-fn may_start<C: Children>(waits: bool, children: &mut C) -> bool
-    ensures waited { waits ≡ true → result ≡ true }
-    ensures always { IsSome (C.tells children.old) → result ≡ true }
-    ensures told { C.tells children.new ≡ C.tells children.old }
-{
-    waits || children.is_ready()
-}
-
 // Frees the slots that are neither current nor have a child, starts the next job of each queue of which no child runs and
-// then a stage of each processing job of which none does, and tells the ends: of all children, each of which is waited for,
-// or of those that a look finds to have ended.
+// then a stage of each processing job of which none does, as far as there are places, and tells the ends: of all children,
+// each of which is waited for, or of those that a look finds to have ended.
 pub(crate) fn pass<D: Disk, C: Children>(
     alloc: Global,
     place: &Place,
@@ -65,8 +66,9 @@ pub(crate) fn pass<D: Disk, C: Children>(
     runner: &mut Runner<C>,
     children: &mut C,
     waits: bool,
+    places: Option<Places>,
 ) -> Result<Round, RoundFault>
-    ensures { IsPassBy D.device place.now waits (course spool.old runner.old (C.tells children.old)) spool.old.dead (course spool.new runner.new (C.tells children.new)) result }
+    ensures { IsPassBy D.device place.now waits places (course spool.old runner.old (C.tells children.old)) spool.old.dead (course spool.new runner.new (C.tells children.new)) result }
 {
     if spool.is_dead() {
         return Err(RoundFault::Dead);
@@ -75,15 +77,17 @@ pub(crate) fn pass<D: Disk, C: Children>(
         Ok(lists) => lists,
         Err(_) => return Err(RoundFault::Memory),
     };
-    let ready = may_start(waits, children);
-    free_idle(spool.table(), runner);
-    mark_blocked(ready, spool.table(), runner, &mut lists.blocked);
+    let table = spool.table();
+    free_idle(table, runner);
+    mark_blocked(table, runner, &mut lists.blocked);
+    hold_back(places, table, runner, &mut lists.blocked, &mut lists.spare);
     let fault = start_free(spool, &lists.blocked);
     if spool.is_dead() {
         return Round::NONE.unless(fault);
     }
     list_tended(spool.table(), runner, &mut lists.tended);
-    list_idle(ready, runner, &lists.tended, &mut lists.chosen);
+    list_idle(runner, &lists.tended, &mut lists.idle);
+    choose_jobs(places, &lists.idle, &mut lists.chosen);
     let launches = launch_all(alloc, place, spool, runner, children, &lists.chosen);
     lists.chosen.clear();
     list_ripe(waits, runner, children, &lists.tended, &mut lists.chosen);

@@ -41,5 +41,5 @@ pub fn round<D: Disk, C: Children>(
     legal_tables_stay_legal();
     spent_stages_stay_spent();
     versions_rise();
-    pass(alloc, place, spool, runner, children, true)
+    pass(alloc, place, spool, runner, children, true, None)
 }

@@ -14,7 +14,7 @@ use spool_disk::Disk;
 use spool_types::{Event, JobId, Reply};
 
 // The next job of the queue at this place.
-fn next_at(table: &Table, at: usize) -> Option<JobId>
+pub(crate) fn next_at(table: &Table, at: usize) -> Option<JobId>
     requires { at < length (finite.keys table.now.state.queues) }
     ensures next { (name : List ℕ) × (name ≡ slice_index_or (finite.keys table.now.state.queues) at name) × (result ≡ next_of table.now.state name) }
     ensures startable { IfSome result (λ j. refusal_of table.now.state (Event.Start j) ≡ None) }

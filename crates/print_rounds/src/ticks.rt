@@ -4,7 +4,7 @@ ghost use Rattle.child_pipeline.specs.Tickets.{HasTickets};
 ghost use Rattle.child_pipeline.specs.Told.{Told};
 ghost use Rattle.print_rounds.specs.Courses.{course};
 ghost use Rattle.print_rounds.specs.Finished.{HasNoneRunning};
-ghost use Rattle.print_rounds.specs.Ticks.{AreFinishings, Finishing, IsFinishedOff, IsTickBy, running_jobs};
+ghost use Rattle.print_rounds.specs.Ticks.{AreFinishings, Finishing, IsFinishedOff, IsTickAsked, running_jobs};
 
 use crate::outcome::{Round, RoundFault};
 use crate::passes::pass;
@@ -17,8 +17,9 @@ use std::alloc::Global;
 
 /// One tick: a round that waits for no child. It starts the next job of each queue of which no child runs, starts a stage of
 /// each processing job of which none does, and tells the ends of those children that have ended. A job that was canceled or
-/// abandoned while its child ran keeps its slot, and its queue starts nothing, until that child has ended. Where the children
-/// aren't ready nothing is started. It answers how many children it started and how many ends it told, or its first fault.
+/// abandoned while its child ran keeps its slot, and its queue starts nothing, until that child has ended. It starts no
+/// more children than there are places ([`Children::places`]). It answers how many children it started and how many ends it
+/// told, or its first fault.
 pub fn tick<D: Disk, C: Children>(
     alloc: Global,
     place: &Place,
@@ -26,7 +27,7 @@ pub fn tick<D: Disk, C: Children>(
     runner: &mut Runner<C>,
     children: &mut C,
 ) -> Result<Round, RoundFault>
-    ensures tick { IsTickBy D.device place.now (course spool.old runner.old (C.tells children.old)) spool.old.dead (course spool.new runner.new (C.tells children.new)) result }
+    ensures tick { IsTickAsked (λ places. (then : C) × C.rooms children.old places then) D.device place.now (course spool.old runner.old (C.tells children.old)) spool.old.dead (course spool.new runner.new (C.tells children.new)) result }
     ensures later { D.device.failures spool.old.disk ≤ D.device.failures spool.new.disk }
     ensures told { IsSome (D.device.bytes spool.new.disk) ↔ IsSome (D.device.bytes spool.old.disk) }
 {
@@ -36,7 +37,8 @@ pub fn tick<D: Disk, C: Children>(
     spent_stages_stay_spent();
     versions_rise();
     tickets_stay();
-    pass(alloc, place, spool, runner, children, false)
+    let places = children.places();
+    pass(alloc, place, spool, runner, children, false, places)
 }
 
 /// Waits for each child that is running. Their finishes stay in their slots, and no event is applied. So each child that was

@@ -1,7 +1,7 @@
 use child_pipeline::{Children, Content, Input, Order, Program, Scheme, Texts};
 use log::{Level, Logged};
 use program_lists::ProgramList;
-use spool_host::{WarningLines, launcher_in};
+use spool_host::{LogLines, launcher_in};
 use spool_types::{AttemptNumber, Exit, JobId, StageNumber};
 use std::alloc::Global;
 use std::test::Fail;
@@ -65,16 +65,28 @@ fn ends_with<C: Children>(children: &mut C, ticket: C::Ticket, status: u8) -> bo
     }
 }
 
+// Whether four children may be started.
+fn has_four_places<C: Children>(children: &mut C) -> bool {
+    matches!(children.places(), Some(places) if places.count == 4)
+}
+
 #[test]
 fn a_look_waits_for_nobody(rt: HostRuntime) -> Result<(), Fail> {
     fs::create_dir(&rt, DIR)?;
-    let logged = Logged::new(rt, Level::Warn, WarningLines(rt));
+    let logged = Logged::new(
+        rt,
+        Level::Warn,
+        LogLines {
+            rt,
+            most: Level::Warn,
+        },
+    );
     let Ok(list) = ProgramList::read(rt.alloc(), PROGRAMS) else {
         return Err(Fail::from("no programs"));
     };
     let (mut launcher, place) = launcher_in(&logged, &rt, DIR, list)?;
     drop(place);
-    assert!(rt; launcher.is_ready());
+    assert!(rt; has_four_places(&mut launcher));
     let mut looked = started(rt.alloc(), &mut launcher, 1, "/bin/sleep 2; exit 3")?;
     let unseen = started(rt.alloc(), &mut launcher, 2, "/bin/sleep 1; exit 4")?;
     assert!(rt; !launcher.has_ended(&mut looked));
@@ -83,7 +95,7 @@ fn a_look_waits_for_nobody(rt: HostRuntime) -> Result<(), Fail> {
     assert!(rt; ends_with(&mut launcher, looked, 3));
     // Nobody looked at this one.
     assert!(rt; ends_with(&mut launcher, unseen, 4));
-    assert!(rt; launcher.is_ready());
+    assert!(rt; has_four_places(&mut launcher));
     fs::remove_dir_all(&rt, DIR)?;
     Ok(())
 }

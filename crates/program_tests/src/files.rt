@@ -1,6 +1,6 @@
 use log::{Level, Logged};
 use spool_disk::Disk;
-use spool_host::{ShellWords, WarningLines, memory_device, run, tell_end};
+use spool_host::{LogLines, ShellWords, memory_device, run, tell_end};
 use std::cell::RefCell;
 use std::fmt::Display;
 use std::io::Write;
@@ -47,7 +47,14 @@ fn told(rt: HostRuntime, named: Named) -> Result<Vec<u8>, Fail> {
         text: RefCell::new(Vec::new(rt.alloc())),
     };
     let mut told = Vec::new(rt.alloc());
-    let logged = Logged::new(rt, Level::Warn, WarningLines(&errors));
+    let logged = Logged::new(
+        rt,
+        Level::Warn,
+        LogLines {
+            rt: &errors,
+            most: Level::Warn,
+        },
+    );
     let ended = run(&logged, &rt, words, &mut b"queues\n".as_slice(), &mut told);
     let _ = tell_end(&errors, ended);
     let Kept { text } = errors;

@@ -8,6 +8,8 @@ mod files;
 #[cfg(test)]
 mod folders;
 #[cfg(test)]
+mod places;
+#[cfg(test)]
 mod runs;
 #[cfg(test)]
 mod tools;

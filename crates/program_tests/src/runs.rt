@@ -5,7 +5,7 @@ use log::{Level, Logged};
 use mime_costs::Convs;
 use mime_rules::Types;
 use spool_disk::FuseDisk;
-use spool_host::{ShellFault, ShellWords, WarningLines, memory_device, place_in, run, serve};
+use spool_host::{LogLines, ShellFault, ShellWords, memory_device, place_in, run, serve};
 use std::alloc::{AllocError, Global};
 use std::io;
 use std::io::{ErrorKind, Read};
@@ -105,7 +105,14 @@ const NOTHING: ShellWords<'static> = ShellWords {
 
 // Whether a run whose reader fails behind the first command ends so, with its reply.
 fn reader_fails(rt: HostRuntime) -> bool {
-    let logged = Logged::new(rt, Level::Warn, WarningLines(rt));
+    let logged = Logged::new(
+        rt,
+        Level::Warn,
+        LogLines {
+            rt,
+            most: Level::Warn,
+        },
+    );
     let mut told = Vec::new(rt.alloc());
     let mut reader = b"queues\nqueues".as_slice().chain(Broken);
     let ended = run(&logged, &rt, NOTHING, &mut reader, &mut told);
@@ -114,7 +121,14 @@ fn reader_fails(rt: HostRuntime) -> bool {
 
 // Whether a run whose writer takes seven bytes ends so, with them.
 fn writer_fails(rt: HostRuntime) -> bool {
-    let logged = Logged::new(rt, Level::Warn, WarningLines(rt));
+    let logged = Logged::new(
+        rt,
+        Level::Warn,
+        LogLines {
+            rt,
+            most: Level::Warn,
+        },
+    );
     let mut room = [0; 7];
     let ended = run(
         &logged,

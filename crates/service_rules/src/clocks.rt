@@ -7,6 +7,7 @@ use crate::bounds::{CLOCK_INTERVAL, LONGEST_WAIT};
 use spool_types::Moment;
 
 /// What is known of the time.
+#[derive(Clone, Copy)]
 pub struct Clocks {
     /// The system's second.
     pub system: Moment,

@@ -1,5 +1,5 @@
 //! The areas of an opened spool.
-ghost use Rattle.std.specs.Prelude.{◌≡◌, ◌≢◌, ◌<◌, ◌≤◌, ◌+◌, ◌^◌, ◌↔◌, ◌⊎◌, [], List, ℕ, false, length, Err, OnOk, OnErr, IsErrOf, IsTrue};
+ghost use Rattle.std.specs.Prelude.{◌≡◌, ◌≢◌, ◌<◌, ◌≤◌, ◌+◌, ◌-◌, ◌^◌, ◌↔◌, ◌⊎◌, [], List, ℕ, false, length, Err, OnOk, OnErr, IsErrOf, IsTrue};
 ghost use Rattle.spool_disk.specs.Disk.{Blames, Reads, IsSynced, ChangesNothing, ChangesOnly};
 ghost use Rattle.gate_journal.specs.Appends.{kept_room};
 ghost use Rattle.gate_journal.specs.Window.{Holds};
@@ -245,6 +245,13 @@ impl<D: Disk> Areas<D> {
         ensures { result ≡ self.now.epoch }
     {
         self.epoch
+    }
+
+    /// How many bytes of the current area lie behind its records.
+    pub fn room(&self) -> u64
+        ensures { result ≡ self.now.end - self.now.gate }
+    {
+        self.journal.room()
     }
 
     /// Whether a call has met a fault of the device.

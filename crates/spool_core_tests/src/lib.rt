@@ -1,5 +1,6 @@
 //! The tests of the tables and spools of `job_table` and `spool_core`: whole runs, cut by a device that fails, listings
-//! that are loaded, the calls of a checkpoint, and spools of an older version. Their events and rows are spelled in hexadecimal.
+//! that are loaded, the calls of a checkpoint, spools of an older version, and what a service tells of a table. Their events and
+//! rows are spelled in hexadecimal.
 #![tactic(auto)]
 
 #[cfg(test)]
@@ -16,5 +17,7 @@ mod runs;
 mod spelled;
 #[cfg(test)]
 mod spools;
+#[cfg(test)]
+mod texts;
 #[cfg(test)]
 mod versions;

@@ -9,15 +9,17 @@ use Rattle.spool_types.specs.State.{State}
 use Rattle.spool_core.specs.Image.{HasWhole}
 use Rattle.spool_core.specs.Standing.{Standing}
 use Rattle.job_table.specs.Fold.{after_all}
-use Rattle.spool_disk.specs.Disk.{LeavesOnly}
+use Rattle.spool_disk.specs.Disk.{DiskView, LeavesOnly}
 use Rattle.spool_disk.proofs.Moments.{runs_on, weaker_run}
 use Rattle.command_lines.specs.declared.command.Command.{Command}
+use Rattle.filter_args.specs.declared.place.Place.{Place}
 use Rattle.child_pipeline.specs.Slots.{Slots}
 use Rattle.child_pipeline.specs.Told.{Told}
+use Rattle.child_pipeline.specs.declared.children.Places.{Places}
 use Rattle.print_rounds.specs.Courses.{Course, course}
 use Rattle.print_rounds.proofs.PrefixLaws.{after_both, none_of, some_first, some_later}
 use Rattle.print_rounds.specs.Finished.{EachFinishedOnce, HasNoneRunning}
-use Rattle.print_rounds.specs.Ticks.{IsTickBy}
+use Rattle.print_rounds.specs.Ticks.{IsTickAsked, IsTickBy}
 use Rattle.print_rounds.specs.Rounds.{HasSomeOf, HasSomeWhole, LeavesDocuments, IsRoundBy, tried_in}
 use Rattle.print_rounds.specs.declared.outcome.Round.{Round}
 use Rattle.print_rounds.specs.declared.outcome.RoundFault.{RoundFault}
@@ -131,6 +133,12 @@ ran_of {D} v s slots slots' told told' new result false is settles now kept late
       },
     ))
     h
+
+-- a tick, whatever places the children were asked for
+pub tick_by : {D : Type 0} (asked : Option Places → Type 0) (device : DiskView D) (place : Place) (old new : Course D) (result : Result Round RoundFault) (b : Bool) → IsTickAsked asked device place old b new result → IsTickBy device place old b new result
+tick_by asked device place old new result true h = h
+tick_by asked device place old new result false (inl unbegun) = inl unbegun
+tick_by asked device place old new result false (inr made) = inr made.0
 
 -- a tick, by how it went
 pub ticked_of : {D : Type 0} (v : Setting D) (old new : Course D) (result : Result Round RoundFault) (b : Bool) → old.spool.dead ≡ b → OnlyNow v.device → IsKept v.device old.spool → IsKept v.device new.spool

@@ -91,8 +91,15 @@ impl<D: Disk> Executor<D> {
         self.spool.is_dead()
     }
 
-    // The table as it is now.
-    fn table(&self) -> &Table
+    /// How many bytes there are for records of events until a checkpoint.
+    pub fn room(&self) -> u64
+        ensures { result ≡ self.now.room }
+    {
+        self.spool.room()
+    }
+
+    /// The table as it is now.
+    pub fn table(&self) -> &Table
         ensures { result.now.state ≡ self.now.state }
     {
         self.spool.table()

@@ -48,7 +48,7 @@
 //!   sees. It comes only to an event that isn't refused, to a checkpoint, to a queue whose URI is within its limits, or to a
 //!   job whose options have no fault. A round, and each round of a drain, is told by its counts or by its first fault in time, and
 //!   the table is that of the events acknowledged in it. After a fault of the run this holds of the first commands of the
-//!   text (`first`).
+//!   text (`first`). Whoever serves a round by a tick tells it by the same bytes with [`rounded_text`] (`round_line`).
 //! - *EachFinishedOnce* (`finished` of each round): whatever failed, each child that was started is finished once when the
 //!   round returns, and every start came before the first finish. Those that ran before it were finished before (`settles`). Of a
 //!   tick each child that was started runs or has been finished once, and the slots have the tickets of those that run
@@ -97,6 +97,7 @@ mod mime;
 mod options;
 mod printer;
 
+pub use answers::rounded_text;
 pub use engine::Engine;
 pub use fault::RunFault;
 pub use laws::{

@@ -20,7 +20,7 @@ use crate::mime::Mime;
 use child_pipeline::{Children, Runner, tickets_stay};
 use command_lines::{Answer, Command, Commands, Rounds, print_reply};
 use filter_args::Place;
-use job_table::versions_rise;
+use job_table::{Table, versions_rise};
 use print_rounds::{Round, RoundFault, finish_children};
 use spool_core::Spool;
 use spool_disk::Disk;
@@ -91,6 +91,20 @@ impl<D: Disk, C: Children> Printer<D, C> {
         ensures kept { IsKept D.device self.now.spool }
     {
         self.executor.met_fault()
+    }
+
+    /// How many bytes there are for records of events until a checkpoint.
+    pub fn room(&self) -> u64
+        ensures { result ≡ self.now.spool.room }
+    {
+        self.executor.room()
+    }
+
+    /// The table as it is now.
+    pub fn table(&self) -> &Table
+        ensures { result.now.state ≡ self.now.spool.state }
+    {
+        self.executor.table()
     }
 
     /// Waits for each child that runs, and then runs a round.
@@ -204,8 +218,8 @@ impl<D: Disk, C: Children> Printer<D, C> {
         }
     }
 
-    // Serves a command, and writes its reply.
-    fn answer<W: Write>(
+    /// Serves a command, and writes its reply.
+    pub fn answer<W: Write>(
         &mut self,
         mime: &Mime<'_>,
         place: &Place,

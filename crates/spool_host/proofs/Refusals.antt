@@ -9,8 +9,8 @@ use Rattle.clap.specs.Words.{Text}
 use Rattle.clap.specs.declared.error.kind.ErrorKind.{ErrorKind}
 use Rattle.clap.specs.declared.error.kind.ErrorKind.TheVariants.{OutOfMemory}
 use Rattle.spool_host.specs.Words.{RefusesOnly}
-use Rattle.spool_host.specs.declared.words.WordsFault.{WordsFault}
-use Rattle.spool_host.specs.declared.words.WordsFault.TheVariants.{Refused, Memory}
+use Rattle.spool_host.specs.declared.options.WordsFault.{WordsFault}
+use Rattle.spool_host.specs.declared.options.WordsFault.TheVariants.{Refused, Memory}
 
 -- what doesn't hold may be refused
 pub refuses : (p : Type 0) (fault : WordsFault) → (p → ⊥) → RefusesOnly p fault

@@ -8,8 +8,8 @@ use Rattle.spool_host.specs.Faults.{of_run}
 use Rattle.spool_host.specs.declared.fault.DiskCause.TheVariants.{Failed}
 use Rattle.spool_host.specs.declared.fault.ShellFault.{ShellFault}
 use Rattle.spool_host.specs.declared.fault.ShellFault.TheVariants.{Disk}
-use Rattle.spool_host.specs.declared.words.WordsFault.{WordsFault}
-use Rattle.spool_host.specs.declared.words.WordsFault.TheVariants.{Refused, Memory}
+use Rattle.spool_host.specs.declared.options.WordsFault.{WordsFault}
+use Rattle.spool_host.specs.declared.options.WordsFault.TheVariants.{Refused, Memory}
 
 -- What a run's end is to the program, over a spool that has failed or hasn't. A run over a failed disk answers all
 -- commands, and is a fault nevertheless.

@@ -11,9 +11,9 @@ use denote.Ref.{Bor}
 abbrev pub script : List ℕ
 script = codes "run() {\n    { shift 6; exec /usr/bin/setsid /usr/bin/env -i \"$@\"; } <\"$1\" 2>\"$2\" 3<>/dev/null 4</dev/null\n    exit 126\n}\numask 077\nulimit -f \"$6\"\n[ -n \"$3\" ] || run \"$@\"\n(run \"$@\")\nstatus=$?\n/usr/bin/timeout -k 1 5 \"$4\" ${5:+\"$5\"} \"$3\" >/dev/null\nexit $status\n"
 
--- the script, and the name that it goes by
-abbrev pub script_words : List (List ℕ)
-script_words = codes "-c" ∷ script ∷ codes "sh" ∷ []
+-- a script, and the name that it goes by
+abbrev pub script_words : List ℕ → List (List ℕ)
+script_words text = codes "-c" ∷ text ∷ codes "sh" ∷ []
 
 -- the files that are standard input and standard error
 abbrev pub file_words : List ℕ → ChildPaths → List (List ℕ)
@@ -23,10 +23,6 @@ file_words input paths = input ∷ string_bytes paths.errors ∷ []
 abbrev pub side_words : List ℕ → Option (Bor ListedProgram) → List (List ℕ)
 side_words socket None = [] ∷ [] ∷ [] ∷ []
 side_words socket (Some program) = socket ∷ program.now.path ∷ unwrap_or program.now.word [] ∷ []
-
--- how large a file that the child writes may grow, in blocks of 512 bytes
-abbrev pub limit_words : ℕ → List (List ℕ)
-limit_words blocks = decimal blocks ∷ []
 
 -- a program, and the word that comes before those of a job
 abbrev pub program_words : ListedProgram → List (List ℕ)
@@ -39,5 +35,5 @@ env_words call = map string_bytes call.environment.now ++ (program_words call.pr
 -- the script and its parameters
 abbrev pub arguments_of : Call → List (List ℕ)
 arguments_of call =
-    script_words ++ (file_words call.input.now call.paths.now ++ (side_words (string_bytes call.paths.now.side) call.side
-    ++ (limit_words call.most_blocks ++ env_words call)))
+    script_words script ++ (file_words call.input.now call.paths.now ++ (side_words (string_bytes call.paths.now.side) call.side
+    ++ (decimal call.most_blocks ∷ [] ++ env_words call)))

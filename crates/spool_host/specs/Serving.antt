@@ -1,5 +1,5 @@
 -- How a spool is opened and served.
-use Rattle.std.specs.Prelude.{◌≡◌, ℕ, List, Bool, false, Option, Some, Result, Err, codes}
+use Rattle.std.specs.Prelude.{◌≡◌, ◌⊎◌, ℕ, List, Bool, false, Option, Some, Result, Err, codes}
 use Rattle.std.specs.FinMap as finite
 use Rattle.std.specs.String.{string_bytes}
 use Rattle.child_pipeline.specs.Told.{Told}
@@ -16,7 +16,7 @@ use Rattle.spool_engine.specs.Mime.{Mime}
 use Rattle.spool_engine.specs.Runs.{Engine, IsRun, Turn}
 use Rattle.spool_engine.specs.declared.fault.RunFault.{RunFault}
 use Rattle.spool_host.specs.Ending.{ending_of}
-use Rattle.spool_host.specs.Faults.{of_opening}
+use Rattle.spool_host.specs.Faults.{IsOfFolder, of_opening}
 use Rattle.spool_host.specs.declared.fault.ShellFault.{ShellFault}
 
 -- the place of the children of a spool in the folder `root`
@@ -41,6 +41,18 @@ pub record IsOpened {D : Type 0} (device : DiskView D) (mime : Mime) (place : Pl
   pub course_is : engine.course ≡ course spool finite.empty told
   pub rules_are : engine.mime ≡ mime
   pub place_is : engine.place ≡ place
+
+-- The same of a disk of which it isn't said what bytes it has.
+pub record IsSetUp {D : Type 0} (mime : Mime) (place : Place) (told : Option Told) (engine : Engine D) : Type 0 where
+  pub spool : Standing D
+  pub alive : spool.dead ≡ false
+  pub course_is : engine.course ≡ course spool finite.empty told
+  pub rules_are : engine.mime ≡ mime
+  pub place_is : engine.place ≡ place
+
+-- what may stand in the way: the folder, its file, or what is in it
+abbrev pub IsOfOpening : ShellFault → Type 0
+IsOfOpening told = IsOfFolder told ⊎ ((fault : OpenFault) × (told ≡ of_opening fault))
 
 -- the disk wasn't opened, for a fault that its bytes have, if it is one of bytes
 pub record IsUnread {D : Type 0} (device : DiskView D) (disk : D) (told : ShellFault) : Type 0 where

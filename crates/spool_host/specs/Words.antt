@@ -1,17 +1,18 @@
 -- What the words of the command line mean, as clap reads them.
-use Rattle.std.specs.Prelude.{◌≡◌, ◌⊎◌, ◌≤◌, ℕ, ⊤, Bool as Truth, false, List, [], Option, None, Some, IfSome, codes, length}
-use Rattle.std.specs.Prelude.{option_map, unwrap_or}
+use Rattle.std.specs.Prelude.{◌≡◌, ◌⊎◌, ◌≤◌, ℕ, ⊤, Bool as Truth, false, List, [], ◌∷◌, Option, None, Some, IfSome, codes, length}
+use Rattle.std.specs.Prelude.{filter, map, option_map, unwrap_or}
 use Rattle.std.specs.Str.{bytes_eq}
 use Rattle.std.specs.Str.Parse.{digits_value, without_leading_plus}
-use Rattle.clap.specs.Words.{App, IsUnsignedIn, Row, Rule, Text, fault_of, first_of, found_of, matches_of}
-use Rattle.clap.specs.Words.{kind_of, new_app, new_rule, one_of, one_text, with_rule}
+use Rattle.clap.specs.Words.{Accepts, App, IsUnsignedIn, Row, Rule, Text, built, fault_of, first_of, found_of, matches_of}
+use Rattle.clap.specs.Words.{kind_of, new_app, new_rule, one_of, one_text, reading_of, with_rule}
 use Rattle.clap.specs.declared.builder.value_parser.ValueParser.{ValueParser}
 use Rattle.clap.specs.declared.builder.value_parser.ValueParser.TheVariants.{Bool, NonEmptyString, Unsigned}
+use Rattle.clap.specs.declared.builder.value_parser.Reading.TheVariants.{AsWritten}
 use Rattle.clap.specs.declared.builder.action.ArgAction.TheVariants.{SetTrue}
 use Rattle.clap.specs.declared.error.kind.ErrorKind.TheVariants.{ValueValidation}
 use Rattle.clap.specs.declared.parser.matches.ArgMatches.{ArgMatches}
-use Rattle.spool_host.specs.declared.words.WordsFault.{WordsFault}
-use Rattle.spool_host.specs.declared.words.WordsFault.TheVariants.{Refused, Memory}
+use Rattle.spool_host.specs.declared.options.WordsFault.{WordsFault}
+use Rattle.spool_host.specs.declared.options.WordsFault.TheVariants.{Refused, Memory}
 
 -- ---- the command: its name and its options
 
@@ -24,6 +25,10 @@ abbrev pub option_of : Text → ValueParser → Rule
 option_of name parser =
     record (new_rule name) { long = Some name; value_names = 1; parser = Some parser }
 
+-- an option `--NAME` with a number from the least to the most
+abbrev pub option_in : ℕ → ℕ → Text → Rule
+option_in least most name = option_of name (Unsigned least most)
+
 -- an option `--NAME` whose value is not empty
 abbrev pub text_option : Text → Rule
 text_option name = option_of name NonEmptyString
@@ -32,14 +37,15 @@ text_option name = option_of name NonEmptyString
 abbrev pub flag_of : Text → Rule
 flag_of name = record (new_rule name) { long = Some name; action = Some SetTrue; parser = Some Bool }
 
--- the name, and the options whose values are texts
-abbrev pub text_app : App
-text_app = with_rule (with_rule (with_rule (with_rule (new_app (codes "spool_shell")) (text_option (codes "root")))
-    (text_option (codes "types"))) (text_option (codes "convs"))) (text_option (codes "programs"))
+-- a program's command `NAME [--root DIR] [--types FILE] [--convs FILE] [--programs FILE] [--size BYTES]`
+abbrev pub spool_app : Text → App
+spool_app name =
+    with_rule (with_rule (with_rule (with_rule (with_rule (new_app name) (text_option (codes "root"))) (text_option (codes "types")))
+    (text_option (codes "convs"))) (text_option (codes "programs"))) (option_of (codes "size") sizes)
 
--- `spool_shell [--root DIR] [--types FILE] [--convs FILE] [--programs FILE] [--size BYTES] [--devices]`
+-- `spool_shell`, with these options and `[--devices]`
 abbrev pub shell_app : App
-shell_app = with_rule (with_rule text_app (option_of (codes "size") sizes)) (flag_of (codes "devices"))
+shell_app = with_rule (spool_app (codes "spool_shell")) (flag_of (codes "devices"))
 
 -- ---- what clap finds in words, of which the first is the program's name
 
@@ -63,9 +69,13 @@ programs_of found = first_of (codes "programs") found
 abbrev pub number_of : Text → ℕ
 number_of text = digits_value 10 (without_leading_plus text)
 
+-- the number of an option, or the usual one where it is not given
+abbrev pub number_or : ℕ → Option Text → ℕ
+number_or usual given = unwrap_or (option_map number_of given) usual
+
 -- BYTES, or 4,194,304 where they are not given
 abbrev pub size_of : List Row → ℕ
-size_of found = unwrap_or (option_map number_of (one_of (codes "size") found)) 4194304
+size_of found = number_or 4194304 (one_of (codes "size") found)
 
 -- a flag that is there is `true`
 abbrev pub is_told : Option Text → Truth
@@ -94,9 +104,12 @@ size_in words = size_of (matches_of shell_app words)
 abbrev pub devices_in : List Text → Truth
 devices_in words = devices_of (matches_of shell_app words)
 
--- clap finds no fault in the words
+-- clap finds no fault in the words of a program with this command
+abbrev pub AreFaultlessFor : App → List Text → Type 0
+AreFaultlessFor app words = fault_of app words ≡ []
+
 abbrev pub AreFaultless : List Text → Type 0
-AreFaultless words = fault_of shell_app words ≡ []
+AreFaultless words = AreFaultlessFor shell_app words
 
 -- clap finds no fault in the words, and DIR has at most 64 bytes
 abbrev pub AreTaken : List Text → Type 0
@@ -114,11 +127,25 @@ IsMistake Memory = ⊤
 
 -- ---- between the steps of reading them
 
--- BYTES, where they are given, are in their range
-abbrev pub HasSizeInRange : ArgMatches → Type 0
-HasSizeInRange m =
-    (text : Text) → one_text (found_of m) (codes "size") ≡ Some text → IsUnsignedIn 4096 1073741824 text
+-- the parsers of the arguments with this name
+abbrev pub parsers_of : Text → List Rule → List (Option ValueParser)
+parsers_of name rules = map (λ (r : Rule). r.parser) (filter (λ (r : Rule). bytes_eq r.id name) rules)
 
--- the flag's value is one of the two that there are
-abbrev pub HasFlagInRange : ArgMatches → Type 0
-HasFlagInRange m = (text : Text) → one_text (found_of m) (codes "devices") ≡ Some text → (text ≡ codes "true") ⊎ (text ≡ codes "false")
+-- one option has this name, and its values pass this parser; so it is in the command that clap builds of this one
+abbrev pub HasOption : App → Text → ValueParser → Type 0
+HasOption app name parser =
+    (parsers_of name app.top.rules ≡ Some parser ∷ []) × (parsers_of name (built app).top.rules ≡ Some parser ∷ [])
+
+-- a text that was found for an option passes the option's parser, if that doesn't change it
+abbrev pub PassParsers : App → ArgMatches → Type 0
+PassParsers app m =
+    (name text : Text) (parser : ValueParser) → ¬ (name ≡ []) → reading_of parser ≡ AsWritten → HasOption app name parser
+    → one_text (found_of m) name ≡ Some text → (any_case : Truth) × Accepts any_case parser text
+
+-- the number of an option, where it is given, is in this range
+abbrev pub HasNumberIn : ℕ → ℕ → Text → ArgMatches → Type 0
+HasNumberIn least most name m = (text : Text) → one_text (found_of m) name ≡ Some text → IsUnsignedIn least most text
+
+-- the value of a flag is one of the two that there are
+abbrev pub HasFlag : Text → ArgMatches → Type 0
+HasFlag name m = (text : Text) → one_text (found_of m) name ≡ Some text → (text ≡ codes "true") ⊎ (text ≡ codes "false")

@@ -22,9 +22,7 @@ const STATUS: &str = "/proc/self/status";
 const IGNORED: &[u8] = b"SigIgn:";
 
 /// Refuses a start in which the ends of children can't be known.
-pub(crate) fn check_child_ends<R: Files<File = File> + AllocGlobal>(
-    rt: &R,
-) -> Result<(), ShellFault> {
+pub fn check_child_ends<R: Files<File = File> + AllocGlobal>(rt: &R) -> Result<(), ShellFault> {
     match fs::read_to_string(rt, STATUS) {
         Ok(status) => check_status(rt.alloc(), status.as_bytes()),
         Err(error) if error.kind() == ErrorKind::OutOfMemory => Err(ShellFault::Memory),

@@ -80,6 +80,13 @@ pub(crate) fn make_file<R: Files<File = File>>(rt: &R, path: &str) -> io::Result
     }
 }
 
+/// The path of a file by which the room of the folder is tried. It is named as those of a child, so that the next start removes
+/// what a crash left, and no job has the number 0.
+pub(crate) fn probe_path(alloc: Global, place: &Place) -> Result<String, AllocError> {
+    let root = place.root.as_str();
+    format!(in alloc; "{root}/out-0-0-0")
+}
+
 /// A child's standard output, to be handed to it: the file that was made. It is locked as long as a process of the child has
 /// it, so that an opening sees which children go on ([`crate::leftovers`]).
 pub(crate) fn output_to_hand<R: Files<File = File>>(rt: &R, path: &str) -> io::Result<File> {

@@ -6,7 +6,7 @@ ghost use Rattle.clap.specs.Words.{kind_of};
 ghost use Rattle.spool_host.specs.Ending.{IsRefusal, IsWordsStatus};
 
 use crate::fault::ShellFault;
-use crate::words::WordsFault;
+use crate::options::WordsFault;
 use std::io::ErrorKind;
 use std::process::ExitCode;
 use std::rt::Env;

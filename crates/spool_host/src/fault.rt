@@ -35,6 +35,9 @@ pub enum ShellFault {
     /// The replies can't be written.
     #[error("write")]
     Write,
+    /// The socket of clients can't be made, or waited on.
+    #[error("socket")]
+    Socket,
     /// There are programs to run, and how they end can't be known: the signal SIGCHLD is ignored.
     #[error("sigchld-ignored")]
     Ignored,

@@ -77,7 +77,7 @@ fn begins_right(head: &[u8]) -> bool
 }
 
 /// Tells each program of the file that can't be run as it is, a line for each.
-pub(crate) fn tell_programs<L: Log, R: Files<File = File>>(log: &L, rt: &R, list: &ProgramList) {
+pub fn tell_programs<L: Log, R: Files<File = File>>(log: &L, rt: &R, list: &ProgramList) {
     for filter in list.filters() {
         tell_program(log, rt, "filter", filter.name.as_str(), &filter.program);
     }

@@ -24,10 +24,12 @@
 //! lost then where its output may be cut off, and any child where what it wrote is: no byte more can be written behind
 //! it.
 //!
-//! `is_ready` says no while there are fewer descriptors than a start takes, and after a start that failed for want of
-//! something: until two seconds have passed or a child is finished. So one start at most is lost in that time. Before such a
-//! start it knows nothing of the folder's room, of memory and of how many processes there may be, and it can't know what
-//! others take between its answer and the start. Once nothing more is started it always says no.
+//! `places` bounds the starts of a tick. There are as many places as there are descriptors for, four at most. There is none
+//! while the folder has no room for 64 KiB, which a file of its own tries, a hundred times a second at most. There is none
+//! after a start that failed for want of something, until two seconds have passed or a child is finished. It knows nothing of
+//! memory and of how many processes there may be, a document may want more room than was tried, and others may take some
+//! between its answer and the starts. So a tick loses four starts at most. Once nothing more is started there is no place.
+//! Behind it a start waits for nothing, as all clients of a service would. A round doesn't ask.
 //!
 //! # Faults
 //!
@@ -38,7 +40,7 @@
 //!
 //! Each fault is told in a line on standard error, with its cause, and so is an end that failed where the child told no
 //! message ([`crate::reasons`]).
-ghost use Rattle.std.specs.Prelude.{◌≡◌, ◌+◌, ◌-◌, ◌/◌, min, None, IfOk, IfSome, IsErr, IsOkAnd, is_some, string_bytes};
+ghost use Rattle.std.specs.Prelude.{◌≡◌, ◌≤◌, ◌+◌, ◌-◌, ◌/◌, min, None, IfOk, IfSome, IsErr, IsOkAnd, IsSomeAnd, is_some, string_bytes};
 ghost use Rattle.std.specs.Option.{option_map};
 ghost use Rattle.spool_types.specs.Limits.{longest_document};
 ghost use Rattle.child_pipeline.specs.Finishes.{most_errors};
@@ -49,16 +51,18 @@ ghost use Rattle.std.specs.Time.{instant_nanos};
 ghost use Rattle.spool_host.specs.Launching.{TellsEnd, TellsNoEnd, device_for, input_name, may_be_cut, program_for, refusal_of};
 
 use crate::child_files::{
-    ChildPaths, has_room, make_file, make_file_of, output_to_hand, read_at_most,
+    ChildPaths, has_room, make_file, make_file_of, output_to_hand, probe_path, read_at_most,
 };
 use crate::fitness::obstacle_of;
 use crate::reasons::{Reason, StageRun, reason_of};
 use crate::script::Call;
 use crate::serving::place_in;
 use crate::sessions::{SideLine, SideLines};
-use crate::shortage::{MOST_WAITS, Patience, has_descriptors, shortage_of};
+use crate::shortage::{FolderRoom, MOST_WAITS, Patience, count_places, shortage_of};
 use crate::side_device::{device_of, uri_in};
-use child_pipeline::{ChildFault, Children, Content, Finish, Input, Order, Program, Texts};
+use child_pipeline::{
+    ChildFault, Children, Content, Finish, Grouped, Input, Order, Places, Program, Texts,
+};
 use filter_args::Place;
 use log::Log;
 use program_lists::{ListedProgram, ProgramList};
@@ -84,6 +88,10 @@ const LONGEST_PAUSE: u64 = 16;
 // How many milliseconds are told of the time between two looks, at most.
 const LONGEST_TIME: u128 = 60_000;
 
+// How far the turn of the queues moves on. Its upper half keeps no time with any number of queues or of ticks, so that no
+// queue is always passed over.
+const STRIDE: usize = 0x9E37_79B9_7F4A_7C15;
+
 // The standard input of a first stage.
 const NOTHING: &str = "/dev/null";
 
@@ -102,12 +110,15 @@ pub struct Launcher<'a, L, R> {
     /// How large a file that a child writes may grow, in blocks of 512 bytes.
     pub most_blocks: u32,
     patience: Patience,
+    room: FolderRoom,
     // The side channels of the children that run.
     sides: SideLines,
     // When they were served last.
     served: Option<Instant>,
     // Whether the end of a child couldn't be known.
     blind: bool,
+    // At which queue the choice of those that start a job began last.
+    turn: usize,
 }
 
 /// A child that is running, or has ended and wasn't finished.
@@ -115,6 +126,13 @@ pub struct Launcher<'a, L, R> {
 pub struct RunningChild<P: OpenProcess + Drop> {
     run: StageRun,
     begun: BegunChild<P>,
+}
+
+/// By the number of its process. Its session has that number, or with a side channel that of the process's only child.
+impl<P: OpenProcess + Drop> Grouped for RunningChild<P> {
+    fn group(&self) -> u32 {
+        self.begun.child.id()
+    }
 }
 
 // What a start has made.
@@ -163,9 +181,11 @@ impl<'a, L: Log, R: Files<File = File> + Net + Processes + Clock + AllocGlobal> 
             list,
             most_blocks: MOST_BLOCKS,
             patience: Patience::new(),
+            room: FolderRoom::new(),
             sides: SideLines::new(rt.alloc()),
             served: None,
             blind: false,
+            turn: 0,
         }
     }
 
@@ -315,6 +335,8 @@ impl<'a, L: Log, R: Files<File = File> + Net + Processes + Clock + AllocGlobal> 
 
     ghost number = { λ _. 0 };
 
+    ghost rooms = { λ _ places _. IsSomeAnd places (λ p. p.count ≤ 4) };
+
     fn start(&mut self, order: Order) -> Result<RunningChild<R::Started>, ChildFault> {
         self.patience.begin(queue_in(order.environment.as_slice()));
         let started = self.start_patiently(&order);
@@ -367,12 +389,28 @@ impl<'a, L: Log, R: Files<File = File> + Net + Processes + Clock + AllocGlobal> 
         !is_running(&mut ticket.begun.child)
     }
 
-    fn is_ready(&mut self) -> bool {
-        !self.blind && !self.patience.is_short(self.rt) && has_descriptors(self.rt)
+    fn places(&mut self) -> Option<Places> {
+        self.turn = self.turn.wrapping_add(STRIDE);
+        self.patience.hurry();
+        let count = if self.blind || self.patience.is_short(self.rt) || !self.has_folder_room() {
+            0
+        } else {
+            count_places(self.rt)
+        };
+        let first = self.turn >> 32;
+        Some(Places { count, first })
     }
 }
 
 impl<'a, L: Log, R: Files<File = File> + Net + Processes + Clock + AllocGlobal> Launcher<'a, L, R> {
+    // Whether the folder has room for a child's files. Without memory to ask, the start finds it out.
+    fn has_folder_room(&mut self) -> bool {
+        match probe_path(self.rt.alloc(), &self.place) {
+            Ok(probe) => self.room.is_there(self.rt, probe.as_str()),
+            Err(_) => true,
+        }
+    }
+
     // Answers what has come on all side channels, unless that was done within this millisecond. Whether something had come.
     fn serve_sides(&mut self) -> bool {
         let alloc = self.rt.alloc();

@@ -4,7 +4,7 @@
 //! `spool_shell` is the program that serves the commands on standard input, by [`run`]. Another one, as a service, takes the
 //! parts: it owns a folder ([`SpoolFolder`]), reads the files of types, conversions and programs ([`read_rules`]), makes the
 //! launcher of its children with their place ([`launcher_in`]), opens an engine with them over the folder's disk
-//! ([`open_engine`]), and tells its end ([`tell_end`]).
+//! ([`open_folder_engine`]), and tells its end ([`tell_end`]). What its words have in common with those here is in [`options`].
 //!
 //! Words: `[--root DIR] [--types FILE] [--convs FILE] [--programs FILE] [--size BYTES] [--devices]` ([`read_words`]). The
 //! spool lies in the file `DIR/spool.disk` ([`device`]), or else on a disk in memory ([`memory_device`]). The files say which
@@ -18,9 +18,13 @@
 //!   definition of a simple command finds in them or the default (`root`, `types`, `convs`, `programs`, `size`,
 //!   `devices`), each in its limits (`short_root`, `size_in_range`), and they are refused exactly where clap finds a fault
 //!   or the root is too long (`taken`).
+//! - [`parse`] gives what clap finds in the words of any simple command (`found`, `taken`), and that each value passes its
+//!   option's parser (`pass`). [`number_given`] and [`flag_given`] are what an option then has.
 //! - [`open_engine`] opens the spool of a disk: the engine has the table of the disk's bytes after the policy, holds no
 //!   slot, and goes on with the rules, the children and the place that it is given (`IsOpened`). Or else the disk doesn't
 //!   open, for this fault of its bytes (`IsUnread`).
+//! - [`open_folder_engine`] does the same over a folder's disk, which tells nothing of its bytes (`IsSetUp`). What stands in the way
+//!   is a fault of the folder, of its file or of what is in it (`IsOfOpening`).
 //! - [`serve`] opens it so and ends as the engine's run over it does (`HasRun`): Ok says that all commands were served and
 //!   that the disk hasn't failed, and a run whose disk failed ends with `disk`, although it answered all commands. Where the
 //!   disk doesn't open nothing is read or written (`IsUnopened`).
@@ -74,6 +78,7 @@
 //!   of these it is ([`DiskCause`]).
 //! - `sigchld-ignored`: there is a file of programs, and how they end can't be known ([`begun`]).
 //! - `memory`: memory ran out. What was answered before it stays.
+//! - `socket`: the socket of a service can't be made, or waited on.
 //! - `read`, `write`: standard input or standard output failed.
 //!
 //! A child that can't be started, or whose end can't be known, is no fault of the program: its stage ends so. Why is told in
@@ -92,24 +97,34 @@ mod fitness;
 mod launcher;
 mod leftovers;
 mod named_disk;
+mod options;
 mod reasons;
 mod running;
 mod script;
 mod serving;
 mod sessions;
+mod shell;
 mod shortage;
 mod side_device;
 mod warnings;
 mod words;
 
+pub use begun::check_child_ends;
 pub use device::{SpoolFolder, remove_if_there};
 pub use devices::{ChildDiscovery, Discovery, print_devices};
 pub use ends::{given_words, no_words, tell_end, tell_words_fault};
 pub use fault::{DiskCause, ShellFault};
 pub use files::read_rules;
+pub use fitness::tell_programs;
 pub use launcher::{Launcher, MOST_BLOCKS, RunningChild, launcher_in};
 pub use named_disk::NamedDisk;
-pub use running::run;
+pub use options::{
+    DEFAULT_SIZE, GREATEST_SIZE, LEAST_SIZE, LONGEST_ROOT, WordsFault, flag_given, flag_option,
+    long_root, mistake, number_given, number_option, parse, spool_command, text_option,
+    words_fault,
+};
+pub use running::{open_folder_engine, run};
 pub use serving::{memory_device, open_engine, place_in, serve};
-pub use warnings::WarningLines;
-pub use words::{GREATEST_SIZE, LEAST_SIZE, ShellWords, WordsFault, read_words, words_fault};
+pub use shell::{push_number, script_shell};
+pub use warnings::LogLines;
+pub use words::{ShellWords, read_words};

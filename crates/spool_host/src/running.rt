@@ -1,5 +1,6 @@
 //! What the words ask for is done.
-ghost use Rattle.std.specs.Prelude.{◌≡◌, true};
+ghost use Rattle.std.specs.Prelude.{◌≡◌, IfErr, IfOk, true};
+ghost use Rattle.spool_host.specs.Serving.{IsOfOpening, IsSetUp, database};
 
 use crate::begun::check_child_ends;
 use crate::device::SpoolFolder;
@@ -18,6 +19,7 @@ use log::Log;
 use mime_costs::Convs;
 use mime_rules::Types;
 use program_lists::ProgramList;
+use spool_engine::Engine;
 use std::alloc::Global;
 use std::fs::{File, Files};
 use std::io::{Read, Write};
@@ -83,19 +85,15 @@ where
 {
     tell_programs(log, rt, &programs);
     let children = launcher_in(log, rt, dir, programs)?;
-    let (folder, disk) = open_folder(rt, dir, size)?;
-    let served = serve_disk(log, rt, dir, disk, children, rules, reader, writer);
-    // The folder is this program's until all commands have been served.
-    drop(folder);
-    served
+    serve_children(log, rt, dir, size, children, rules, reader, writer)
 }
 
-// Serves them over the folder's disk. What children of an earlier program left is removed once the spool is open.
-fn serve_disk<L, H, C, R: Read, W: Write>(
+// Serves them with these children.
+fn serve_children<L, H, C, R: Read, W: Write>(
     log: &L,
     rt: &H,
     dir: &str,
-    disk: NamedDisk<'_, H>,
+    size: u64,
     children: (C, Place),
     rules: (Types, Convs),
     reader: &mut R,
@@ -103,25 +101,37 @@ fn serve_disk<L, H, C, R: Read, W: Write>(
 ) -> Result<(), ShellFault>
 where
     L: Log,
-    H: Files<File = File> + Clone + Drop + AllocGlobal,
+    H: Files<File = File> + Clock + Clone + Drop + AllocGlobal,
     C: Children + Drop,
 {
-    let mut engine = open_engine(rt.alloc(), disk, children, rules)?;
-    clear_leftovers(log, rt, dir);
+    let (folder, mut engine) = open_folder_engine(log, rt, dir, size, children, rules)?;
     let ran = engine.run(reader, writer);
-    ending(ran, engine.met_fault())
+    let served = ending(ran, engine.met_fault());
+    // The folder is this program's until all commands have been served.
+    drop(folder);
+    served
 }
 
-// The folder, which is this program's then, and the disk in it.
-fn open_folder<'a, H>(
+/// A folder, which is this program's as long as it isn't dropped, and an engine over the spool in it. A spool that isn't there is
+/// made, of so many bytes. What children of an earlier program left is removed once the spool is open.
+pub fn open_folder_engine<'a, L, H, C>(
+    log: &L,
     rt: &'a H,
     dir: &'a str,
     size: u64,
-) -> Result<(SpoolFolder<'a>, NamedDisk<'a, H>), ShellFault>
+    children: (C, Place),
+    rules: (Types, Convs),
+) -> Result<(SpoolFolder<'a>, Engine<NamedDisk<'a, H>, C>), ShellFault>
 where
-    H: Files<File = File> + Clock + AllocGlobal,
+    L: Log,
+    H: Files<File = File> + Clock + Clone + Drop + AllocGlobal,
+    C: Children + Drop,
+    ensures opened { IfOk result (λ opened. IsSetUp (database rules.0 rules.1 children.1) children.1 (C.tells children.0) opened.1) }
+    ensures fault { IfErr result IsOfOpening }
 {
     let folder = SpoolFolder::own(rt, dir)?;
     let disk = folder.device(rt, size)?;
-    Ok((folder, disk))
+    let engine = open_engine(rt.alloc(), disk, children, rules)?;
+    clear_leftovers(log, rt, dir);
+    Ok((folder, engine))
 }

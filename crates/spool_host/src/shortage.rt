@@ -1,8 +1,9 @@
 //! What the system is short of for a moment, and how long a start waits for it.
-ghost use Rattle.std.specs.Prelude.{◌≡◌};
+ghost use Rattle.std.specs.Prelude.{◌≡◌, ◌≤◌};
 ghost use Rattle.std.specs.IoError.{error_kind, raw_os_error};
 ghost use Rattle.spool_host.specs.Shortage.{begins_round, short_number, shortage_of};
 
+use crate::child_files::make_file_of;
 use std::fs::{self, File, Files};
 use std::io::ErrorKind;
 use std::time::{Clock, Duration, Instant};
@@ -25,6 +26,14 @@ const WANT: u64 = 2;
 // How many descriptors a start takes: what the child writes (two), its standard output once more, the side channel, the empty
 // device twice, and four that the child's script opens, which the system has to have too.
 const DESCRIPTORS: usize = 10;
+
+// For how many starts descriptors are opened.
+const MOST_PLACES: usize = 4;
+
+// How much room the folder has to have before a start, in bytes, and for how many milliseconds it counts as there.
+const ROOM: usize = 65_536;
+
+const SEEN: u64 = 10;
 
 // What can be opened everywhere, and takes nothing but a descriptor.
 const NOTHING: &str = "/dev/null";
@@ -61,9 +70,21 @@ fn short_number(number: Option<i32>) -> Option<Shortage>
     }
 }
 
-/// Whether as many descriptors as a start takes can be had: they are opened, and closed again.
-pub(crate) fn has_descriptors<R: Files<File = File> + AllocGlobal>(rt: &R) -> bool {
+/// For how many starts the descriptors can be had, up to four: they are opened together, and closed again.
+pub(crate) fn count_places<R: Files<File = File> + AllocGlobal>(rt: &R) -> usize
+    ensures { result ≤ 4 }
+{
     let mut opened = Vec::new(rt.alloc());
+    for count in 0..MOST_PLACES {
+        if !opens_more(rt, &mut opened) {
+            return count;
+        }
+    }
+    MOST_PLACES
+}
+
+// Opens as many descriptors as a start takes, beside those that are open. Whether they can be had.
+fn opens_more<R: Files<File = File> + AllocGlobal>(rt: &R, opened: &mut Vec<File>) -> bool {
     for _ in 0..DESCRIPTORS {
         match fs::open(rt, NOTHING) {
             Ok(file) => {
@@ -77,6 +98,53 @@ pub(crate) fn has_descriptors<R: Files<File = File> + AllocGlobal>(rt: &R) -> bo
     true
 }
 
+/// Whether the folder has room for the files of a child, as far as that can be known before they are made.
+#[derive(Drop)]
+pub(crate) struct FolderRoom {
+    // When there was room last.
+    seen: Option<Instant>,
+}
+
+impl FolderRoom {
+    pub fn new() -> FolderRoom {
+        FolderRoom { seen: None }
+    }
+
+    /// Whether there is room. What was seen a moment ago isn't looked at again.
+    pub fn is_there<R: Files<File = File> + Clock>(&mut self, rt: &R, probe: &str) -> bool {
+        if self.was_seen(rt) {
+            return true;
+        }
+        let is_there = has_room_for(rt, probe);
+        self.seen = if is_there {
+            Instant::now(rt).ok()
+        } else {
+            None
+        };
+        is_there
+    }
+
+    fn was_seen<R: Clock>(&self, rt: &R) -> bool {
+        let Some(seen) = self.seen else {
+            return false;
+        };
+        match seen.elapsed(rt) {
+            Ok(passed) => passed < Duration::from_millis(SEEN),
+            Err(_) => false,
+        }
+    }
+}
+
+// Whether a file of some bytes finds room: it is made, and removed.
+fn has_room_for<R: Files<File = File>>(rt: &R, probe: &str) -> bool {
+    let made = make_file_of(rt, probe, &[0u8; ROOM]);
+    let _ = fs::remove_file(rt, probe);
+    match made {
+        Ok(()) => true,
+        Err(error) => shortage_of(&error).is_none(),
+    }
+}
+
 /// How often the starts of a round may still wait, and whether one of them found too little.
 #[derive(Drop)]
 pub(crate) struct Patience {
@@ -85,6 +153,8 @@ pub(crate) struct Patience {
     failed: Option<Instant>,
     // The queue of the last start of this round, as a variable.
     last: Option<String>,
+    // Whether a start is to wait for nothing, since the places were asked for.
+    hurried: bool,
 }
 
 impl Patience {
@@ -93,7 +163,13 @@ impl Patience {
             left: MOST_WAITS,
             failed: None,
             last: None,
+            hurried: false,
         }
+    }
+
+    /// The starts that follow are those of a tick, which waits for nothing.
+    pub fn hurry(&mut self) {
+        self.hurried = true;
     }
 
     /// A child is finished, and a round is over: the next start is one of another round, and may find what it wants.
@@ -101,6 +177,7 @@ impl Patience {
         self.left = MOST_WAITS;
         self.failed = None;
         self.last = None;
+        self.hurried = false;
     }
 
     /// A start failed for want of something.
@@ -135,7 +212,7 @@ impl Patience {
 
     /// Waits once, unless this round's starts have waited enough. Tells whether it did.
     pub fn wait<R: Clock>(&mut self, rt: &R) -> bool {
-        if self.left == 0 {
+        if self.hurried || self.left == 0 {
             return false;
         }
         self.left -= 1;

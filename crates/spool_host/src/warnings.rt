@@ -1,7 +1,6 @@
-//! The program's log: the warnings, and what went wrong with a child, each a line on standard error.
+//! The program's log: the warnings, what went wrong, and what happens, each a line on standard error.
 ghost use Rattle.std.specs.Prelude.{nat_le, Some, []};
 ghost use Rattle.log.specs.Level.{level_rank};
-ghost use Rattle.log.specs.declared.level.Level.TheVariants.{Warn};
 
 use log::kv::Source;
 use log::span::Spans;
@@ -9,29 +8,31 @@ use log::{Level, Log, Metadata, Record, warn};
 use spool_types::Warning;
 use std::fmt::Display;
 
-/// Writes each warning to the standard error of `R`, as `spool: warning MESSAGE`, and what went wrong with a child as
+/// Writes each line up to a level to the standard error of `R`, a warning as `spool: warning MESSAGE`, and another line as
 /// `spool: MESSAGE`. A line that can't be written is dropped.
 #[derive(Clone, Copy, Drop)]
-pub struct WarningLines<R>(pub R);
+pub struct LogLines<R> {
+    pub rt: R,
+    pub most: Level,
+}
 
-impl<R: Eprint> Log for WarningLines<R> {
-    ghost enables = { λ _ level _. Some (nat_le (level_rank level) (level_rank Warn)) };
+impl<R: Eprint> Log for LogLines<R> {
+    ghost enables = { λ log level _. Some (nat_le (level_rank level) (level_rank log.most)) };
 
     ghost target_of = { λ _. Some [] };
 
     fn enabled(&self, metadata: &Metadata<'_>) -> bool {
-        metadata.level() <= Level::Warn
+        metadata.level() <= self.most
     }
 
     fn log<D: Display, K: Source, S: Spans>(&self, record: &Record<'_, D, K, S>) {
-        match record.level() {
-            Level::Warn => {
-                let _ = eprintln!(self.0; "spool: warning {}", record.args());
-            }
-            Level::Error => {
-                let _ = eprintln!(self.0; "spool: {}", record.args());
-            }
-            _ => {}
+        if record.level() > self.most {
+            return;
+        }
+        if record.level() == Level::Warn {
+            let _ = eprintln!(self.rt; "spool: warning {}", record.args());
+        } else {
+            let _ = eprintln!(self.rt; "spool: {}", record.args());
         }
     }
 

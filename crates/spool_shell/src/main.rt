@@ -5,9 +5,7 @@
 #![tactic(auto)]
 
 use log::{Level, Logged};
-use spool_host::{
-    WarningLines, given_words, no_words, read_words, run, tell_end, tell_words_fault,
-};
+use spool_host::{LogLines, given_words, no_words, read_words, run, tell_end, tell_words_fault};
 use std::process::ExitCode;
 
 fn main(rt: HostRuntime) -> ExitCode {
@@ -19,7 +17,8 @@ fn main(rt: HostRuntime) -> ExitCode {
         Ok(words) => words,
         Err(fault) => return tell_words_fault(&rt, &fault),
     };
-    let logged = Logged::new(rt, Level::Warn, WarningLines(rt));
+    let most = Level::Warn;
+    let logged = Logged::new(rt, most, LogLines { rt, most });
     let ended = run(&logged, &rt, words, &mut rt.stdin(), &mut rt.stdout());
     tell_end(&rt, ended)
 }

@@ -2,12 +2,11 @@
 use Rattle.std.proofs.Common.{◌≡◌, ◌≤◌, take, vec_len}
 use Rattle.std.specs.Prelude.{vec_capacity}
 use Rattle.print_rounds.specs.Looks.{idle_among}
-use Rattle.print_rounds.specs.Passes.{chosen}
 use Rattle.print_rounds.proofs.busy.list_idle.Given as goal
 
 abbrev pub invariant-loop-job : goal.invariant-loop-job
 invariant-loop-job g l = record {
-  idle : l.idle.items ≡ chosen l.ready (idle_among l.runner (take l.job-index l.jobs));
+  idle : l.idle.items ≡ idle_among l.runner (take l.job-index l.jobs);
   few : vec_len l.idle ≤ l.job-index;
   room : vec_capacity l.idle ≡ vec_capacity l.initial.idle;
 }

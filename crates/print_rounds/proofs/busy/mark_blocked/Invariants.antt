@@ -1,5 +1,5 @@
 -- the flags so far: those of the queues, and then those by the jobs that have slots
-use Rattle.std.proofs.Common.{◌≡◌, not, replicate}
+use Rattle.std.proofs.Common.{◌≡◌, false, replicate}
 use Rattle.std.specs.Prelude.{vec_capacity}
 use Rattle.std.specs.FinMap as finite
 use Rattle.print_rounds.proofs.BlockLaws.{flags_to}
@@ -9,12 +9,12 @@ use Rattle.print_rounds.proofs.busy.mark_blocked.Given as goal
 
 abbrev pub invariant-loop : goal.invariant-loop
 invariant-loop g l = record {
-  flags : l.blocked.items ≡ replicate l.counter (not l.ready);
+  flags : l.blocked.items ≡ replicate l.counter false;
   room : vec_capacity l.blocked ≡ vec_capacity l.initial.blocked;
 }
 
 abbrev pub invariant-loop-job : goal.invariant-loop-job
-invariant-loop-job g l = l.blocked.items ≡ flags_to l.table.state l.runner l.ready (jobs_to l.behind (finite.keys l.runner)) (finite.keys l.table.state.queues)
+invariant-loop-job g l = l.blocked.items ≡ flags_to l.table.state l.runner (jobs_to l.behind (finite.keys l.runner)) (finite.keys l.table.state.queues)
 
 abbrev pub decreases-loop-job : goal.decreases-loop-job
 decreases-loop-job g l = jobs_ahead l.behind

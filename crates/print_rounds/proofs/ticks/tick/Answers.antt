@@ -1,7 +1,9 @@
 -- the pass is a tick
-use Rattle.std.proofs.Common.{subst}
+use Rattle.std.proofs.Common.{false, Option, subst}
 use Rattle.job_table.specs.Legal.{IsLegal}
+use Rattle.child_pipeline.specs.declared.children.Places.{Places}
 use Rattle.print_rounds.specs.Courses.{course}
+use Rattle.print_rounds.specs.Passes.{IsPassBy}
 use Rattle.print_rounds.proofs.HoldLaws.{Laws}
 use Rattle.print_rounds.proofs.TickTickets.{TicketLaws}
 use Rattle.print_rounds.proofs.TickLaws.{passed_tick, passed_device}
@@ -27,9 +29,13 @@ returns g c =
       looks = c.tickets_stay.ensures.looks;
       releases = c.tickets_stay.ensures.releases;
     } in
-    let left = passed_device g.D.Disk.device g.met.D.Disk.lawful laws tickets c.args.place.now old new c.pass.result legal c.args.spool.now.dead c.pass.ensures in
+    let places = c.places-places.result in
+    let asked = λ (p : Option Places). (then : g.row.C.Denot) × g.C.Children.rooms c.args.children.now p then in
+    let passed : IsPassBy g.D.Disk.device c.args.place.now false places old c.args.spool.now.dead new c.pass.result =
+    subst (λ told. IsPassBy g.D.Disk.device c.args.place.now false places (course c.args.spool.now c.args.runner.now told) c.args.spool.now.dead new c.pass.result) c.places-places.ensures.told c.pass.ensures in
+    let left = passed_device g.D.Disk.device g.met.D.Disk.lawful laws tickets c.args.place.now places old new c.pass.result legal c.args.spool.now.dead passed in
     record {
-      tick = passed_tick g.D.Disk.device g.met.D.Disk.lawful laws tickets c.args.place.now old new c.pass.result legal c.table.ensures.kept c.pass.ensures;
+      tick = passed_tick g.D.Disk.device g.met.D.Disk.lawful laws tickets c.args.place.now places old new c.pass.result legal c.places-places.ensures.always asked (c.places-places.new.self, c.places-places.ensures.answer) c.table.ensures.kept passed;
       later = left.0;
       told = left.1;
     }

@@ -5,4 +5,4 @@ use Rattle.spool_host.proofs.script.Call.command.Goals as goal
 pub returns-clause-variables : goal.returns-clause-variables
 returns-clause-variables c name =
     c.in_ok-push_texts-2.ensures.env.1 name ∙ c.in_ok-push_program.ensures.env.1 name ∙ c.in_ok-push_texts.ensures.env.1 name
-    ∙ c.in_ok-push_limit.ensures.env.1 name ∙ c.in_ok-push_side.ensures.env.1 name ∙ c.in_ok-push_files.ensures.env.1 name ∙ c.in_ok-push_script.ensures.env.1 name ∙ c.in_ok-command.ensures.variables name
+    ∙ c.in_ok-push_number.ensures.env.1 name ∙ c.in_ok-push_side.ensures.env.1 name ∙ c.in_ok-push_files.ensures.env.1 name ∙ c.in_ok-command.ensures.variables name

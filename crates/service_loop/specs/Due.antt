@@ -1,0 +1,70 @@
+-- What comes due when the clock brings a later moment. Moments are in seconds.
+use Rattle.std.specs.Prelude.{◌≡◌, ℕ, ◌+◌, ◌<◌, ◌≤◌, Bool, true, false, ◌||◌, cond, nat_lt, nat_le, Option, None, Some, IfSome}
+use Rattle.spool_types.specs.declared.phase.Phase.{Phase}
+use Rattle.spool_types.specs.declared.phase.Phase.TheVariants.{Incoming, Waiting, Processing}
+use Rattle.spool_types.specs.declared.phase.Hold.{Hold}
+use Rattle.spool_types.specs.declared.phase.Hold.TheVariants.{Until}
+use Rattle.spool_types.specs.declared.rows.QueueRow.{QueueRow}
+use Rattle.spool_types.specs.Limits.{greatest_moment}
+use Rattle.spool_types.specs.Phases.{is_in_force}
+use Rattle.spool_types.specs.State.{State, Job, queue_at, job_at}
+use Rattle.service_rules.specs.Looks.{earlier}
+
+-- the moment after this one, if there is one
+abbrev pub next_moment : ℕ → Option ℕ
+next_moment moment = cond (nat_le (moment + 1) greatest_moment) (Some (moment + 1)) None
+
+-- the first moment at which a job is late that is to start by a moment
+abbrev pub late_from : Option ℕ → Option ℕ
+late_from None = None
+late_from (Some by) = next_moment by
+
+-- the end of a hold that is in force until a moment
+abbrev pub end_of_hold : Hold → ℕ → Option ℕ
+end_of_hold (Until until) known = cond (nat_lt known until) (Some until) None
+end_of_hold hold known = None
+
+-- a queue that isn't there starts nothing
+abbrev pub is_stopped_row : Option QueueRow → Bool
+is_stopped_row None = true
+is_stopped_row (Some q) = q.stopped
+
+-- the queue of a job starts none of its jobs
+abbrev pub is_stopped : State → Job → Bool
+is_stopped s r = is_stopped_row (queue_at s r.queue)
+
+-- A waiting job is due when its retry is, where that is to come. Where nothing holds it back it is due at once.
+abbrev pub start_of : State → Job → Hold → ℕ → Option ℕ
+start_of s r hold not_before =
+    cond (nat_lt s.moment not_before) (Some not_before)
+    (cond (is_in_force s.moment hold || is_stopped s r) None (next_moment s.moment))
+
+-- the least moment that changes something about a job in this phase if the clock brings it
+abbrev pub due_in : State → Job → Phase → Option ℕ
+due_in s r (Incoming hold) = end_of_hold hold s.moment
+due_in s r (Waiting hold not_before first) = earlier (earlier (late_from r.by) (end_of_hold hold s.moment)) (start_of s r hold not_before)
+due_in s r (Processing attempt stage stages) = next_moment s.moment
+due_in s r phase = None
+
+-- the same of the phase that it is in
+abbrev pub due_of : State → Job → Option ℕ
+due_of s r = due_in s r r.phase
+
+abbrev pub has_come : Option ℕ → ℕ → Bool
+has_come None m = false
+has_come (Some due) m = nat_le due m
+
+-- how a job is shown changes, or it is canceled, when the clock brings a moment
+abbrev pub is_changed_in : Job → Phase → ℕ → ℕ → Bool
+is_changed_in r (Incoming hold) known m = has_come (end_of_hold hold known) m
+is_changed_in r (Waiting hold not_before first) known m = has_come (end_of_hold hold known) m || has_come (late_from r.by) m
+is_changed_in r phase known m = false
+
+abbrev pub is_changed_by : Job → ℕ → ℕ → Bool
+is_changed_by r known m = is_changed_in r r.phase known m
+
+-- a later moment, at which nothing of any job has come due
+pub record IsQuietUntil (s : State) (m : ℕ) : Type 0 where
+  pub later : s.moment < m
+  pub at_most : m ≤ greatest_moment
+  pub none_due : (j : ℕ) (r : Job) → job_at s j ≡ Some r → IfSome (due_of s r) (λ due. m < due)

@@ -1,0 +1,24 @@
+-- The children that somebody wants to end, and when each is sent which signal. Moments are in milliseconds.
+use Rattle.std.specs.Prelude.{ℕ, ◌-◌, ◌==◌, Bool, cond, nat_le, List, [], ◌∷◌, ◌++◌, Option, None, Some}
+use Rattle.std.specs.List.{list_any}
+use Rattle.service_loop.specs.declared.endings.Ending.{Ending}
+use Rattle.service_loop.specs.declared.signals.Signal.{Signal}
+use Rattle.service_loop.specs.declared.signals.Signal.TheVariants.{Terminate, Kill}
+
+-- how long a child has that was asked to end
+abbrev pub grace : ℕ
+grace = 10000
+
+-- it is asked first, and killed once its grace is over
+abbrev pub signal_of : Option ℕ → ℕ → Option Signal
+signal_of None now = Some Terminate
+signal_of (Some sent) now = cond (nat_le grace (now - sent)) (Some Kill) None
+
+-- a child of this group is listed
+abbrev pub is_listed : ℕ → List Ending → Bool
+is_listed group endings = list_any (λ ending. ending.group == group) endings
+
+-- the child of a job is listed behind the others, unless its group is listed already
+abbrev pub with_ending : ℕ → ℕ → List Ending → List Ending
+with_ending job group endings =
+    cond (is_listed group endings) endings (endings ++ record { job = job; group = group; sent = None } ∷ [])

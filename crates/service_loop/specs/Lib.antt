@@ -1,0 +1,3 @@
+pub mod Clients
+pub mod Due
+pub mod Endings

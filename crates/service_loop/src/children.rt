@@ -1,0 +1,241 @@
+//! Children of which no more than so many run at once, and whose starts and ends are told.
+ghost use Rattle.std.specs.Prelude.{◌≡◌, ◌≤◌, ◌+◌, ◌-◌, None, IsSomeAnd, OnOk, OnErr};
+
+use child_pipeline::{ChildFault, Children, Finish, Grouped, Order, Places, Program};
+use log::{Log, debug, error, info};
+use service_rules::starts_left;
+use spool_types::{Exit, JobId};
+use std::alloc::{AllocError, Global};
+use std::cell::{Cell, RefCell};
+
+// How many bytes of what a child told last are shown.
+const LAST_BYTES: usize = 400;
+
+/// A child that runs: its job, and the group of its processes.
+#[derive(Clone, Copy, Debug)]
+pub struct Run {
+    pub job: JobId,
+    pub group: u32,
+}
+
+/// Which children run, and how many more the loop lets start. The loop and the children have it in common.
+#[derive(Drop)]
+pub struct Watch {
+    runs: RefCell<Vec<Run>>,
+    starts: Cell<usize>,
+}
+
+impl Watch {
+    /// No child runs. Room for so many is taken.
+    pub fn new(alloc: Global, most: usize) -> Result<Watch, AllocError> {
+        Ok(Watch {
+            runs: RefCell::new(Vec::with_capacity(alloc, most)?),
+            starts: Cell::new(most),
+        })
+    }
+
+    /// How many children run.
+    pub fn running(&self) -> usize {
+        match self.runs.try_borrow() {
+            Ok(runs) => runs.len(),
+            Err(_) => 0,
+        }
+    }
+
+    /// The group of a job's child, if one runs.
+    pub fn group_of(&self, job: JobId) -> Option<u32> {
+        match self.runs.try_borrow() {
+            Ok(runs) => {
+                let run = runs.iter().find(|run| run.job == job)?;
+                Some(run.group)
+            }
+            Err(_) => None,
+        }
+    }
+
+    /// Lets the next tick start no more than so many children.
+    pub fn bound_starts(&self, starts: usize) {
+        self.starts.set(starts);
+    }
+
+    // So many, or as many as the loop lets start.
+    fn bounded(&self, count: usize) -> usize
+        ensures { result ≤ count }
+    {
+        count.min(self.starts.get())
+    }
+
+    // Sees that there is room for one child more.
+    fn reserve(&self) -> bool {
+        match self.runs.try_borrow_mut() {
+            Ok(mut runs) => runs.reserve(1).is_ok(),
+            Err(_) => false,
+        }
+    }
+
+    fn add(&self, run: Run) {
+        if let Ok(mut runs) = self.runs.try_borrow_mut() {
+            let _ = runs.push(run);
+        }
+    }
+
+    fn remove(&self, job: JobId) {
+        if let Ok(mut runs) = self.runs.try_borrow_mut() {
+            if let Some(at) = runs.iter().position(|run| run.job == job) {
+                runs.swap_remove(at);
+            }
+        }
+    }
+}
+
+/// Children of which no more than so many run at once.
+#[derive(Drop)]
+pub struct WatchedChildren<'a, L, C: Children> {
+    log: &'a L,
+    alloc: Global,
+    watch: &'a Watch,
+    inner: C,
+    /// How many may run at once, and how many do.
+    pub most: usize,
+    pub running: usize,
+}
+
+/// A child that runs, with its job, and its name for the log.
+#[derive(Drop)]
+pub struct WatchedTicket<T: Drop> {
+    inner: T,
+    job: JobId,
+    name: String,
+}
+
+impl<'a, L: Log, C: Children> WatchedChildren<'a, L, C> {
+    /// Children of which no more than so many run at once. None runs yet.
+    pub fn new(
+        log: &'a L,
+        alloc: Global,
+        watch: &'a Watch,
+        inner: C,
+        most: usize,
+    ) -> WatchedChildren<'a, L, C>
+        ensures most { result.most ≡ most }
+        ensures running { result.running ≡ 0 }
+    {
+        WatchedChildren {
+            log,
+            alloc,
+            watch,
+            inner,
+            most,
+            running: 0,
+        }
+    }
+
+    fn tell_end(&self, name: &str, finish: &Finish) {
+        match finish.exit {
+            Exit::Code(0) => info!(self.log; "{name}: ended"),
+            Exit::Code(code) => error!(self.log; "{name}: ended with status {code}"),
+            Exit::Signal => error!(self.log; "{name}: ended by a signal"),
+            Exit::NoStart | Exit::Lost => {}
+        }
+        if finish.exit != Exit::Code(0) {
+            tell_last_lines(self.log, name, finish.errors.as_slice());
+        }
+    }
+}
+
+// Shows the last lines of what a child told.
+fn tell_last_lines<L: Log>(log: &L, name: &str, errors: &[u8]) {
+    let from = errors.len().saturating_sub(LAST_BYTES);
+    for line in errors[from..].split(|b| *b == b'\n') {
+        if let Ok(line) = str::from_utf8(line) {
+            if !line.is_empty() {
+                error!(log; "{name}: {line}");
+            }
+        }
+    }
+}
+
+fn name_of(alloc: Global, order: &Order) -> Result<String, AllocError> {
+    let job = order.job.get();
+    let attempt = order.attempt.get();
+    let stage = order.stage.get();
+    let program = match &order.program {
+        Program::Filter(name) => name.as_str(),
+        Program::Backend(scheme) => scheme.as_str(),
+    };
+    format!(in alloc; "job {job} attempt {attempt} stage {stage} {program}")
+}
+
+impl<'a, L: Log, C: Children> Children for WatchedChildren<'a, L, C>
+where
+    C::Ticket: Grouped,
+{
+    type Ticket = WatchedTicket<C::Ticket>;
+
+    ghost tells = { λ _. None };
+
+    ghost number = { λ _. 0 };
+
+    // There are no more places than there are children fewer than the most.
+    ghost rooms = { λ old places new. IsSomeAnd places (λ p. p.count ≤ old.most - old.running) × (new.most ≡ old.most) × (new.running ≡ old.running) };
+
+    fn start(&mut self, order: Order) -> Result<WatchedTicket<C::Ticket>, ChildFault>
+        ensures most { self.new.most ≡ self.old.most }
+        ensures counted { OnOk result (self.new.running ≡ self.old.running + 1) }
+        ensures bound { OnOk result (self.new.running ≤ self.new.most) }
+        ensures refused { OnErr result (self.new.running ≡ self.old.running) }
+    {
+        if self.most <= self.running {
+            return Err(ChildFault);
+        }
+        let Ok(name) = name_of(self.alloc, &order) else {
+            return Err(ChildFault);
+        };
+        if !self.watch.reserve() {
+            return Err(ChildFault);
+        }
+        let job = order.job;
+        let inner = self.inner.start(order)?;
+        let group = inner.group();
+        self.running += 1;
+        self.watch.add(Run { job, group });
+        debug!(self.log; "{name}: started");
+        Ok(WatchedTicket { inner, job, name })
+    }
+
+    fn finish(&mut self, ticket: WatchedTicket<C::Ticket>) -> Result<Finish, ChildFault>
+        ensures most { self.new.most ≡ self.old.most }
+        ensures counted { self.new.running ≡ self.old.running - 1 }
+    {
+        let WatchedTicket { inner, job, name } = ticket;
+        self.running = self.running.saturating_sub(1);
+        self.watch.remove(job);
+        let finish = self.inner.finish(inner)?;
+        self.tell_end(name.as_str(), &finish);
+        Ok(finish)
+    }
+
+    fn has_ended(&mut self, ticket: &mut WatchedTicket<C::Ticket>) -> bool {
+        self.inner.has_ended(&mut ticket.inner)
+    }
+
+    // Those that the others have, as far as so many may run.
+    fn places(&mut self) -> Option<Places> {
+        let left = self
+            .watch
+            .bounded(starts_left(true, self.running, self.most));
+        if left == 0 {
+            return Some(Places { count: 0, first: 0 });
+        }
+        match self.inner.places() {
+            Some(places) => Some(Places {
+                count: left.min(places.count),
+                first: places.first,
+            }),
+            None => Some(Places {
+                count: left,
+                first: 0,
+            }),
+        }
+    }
+}

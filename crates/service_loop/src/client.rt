@@ -1,0 +1,433 @@
+//! A client: what came of its text, and what it hasn't taken of its replies.
+//!
+//! Of its text no more is read than a piece beyond a line's beginning, and the engine's reader gets it line by line, so that
+//! a word of the service is found where a line begins, and never inside a document.
+ghost use Rattle.std.specs.Prelude.{◌≡◌, ◌==◌, ◌-◌, vec_len, position};
+
+use crate::bounds::{LONGEST_LINE, MOST_STEPS, PIECE};
+use crate::office::Office;
+use child_pipeline::Children;
+use command_lines::{Command, Commands, Wanted};
+use service_rules::bounds::MOST_UNREAD;
+use service_rules::is_served_on;
+use service_texts::{OwnWord, has_settled, job_told, own_word, shown_job};
+use spool_disk::Disk;
+use spool_engine::rounded_text;
+use spool_types::JobId;
+use std::alloc::{AllocError, Global};
+use std::io::{ErrorKind, Read, Write};
+
+const LINE_FEED: u8 = b'\n';
+
+// What one is told who asks for what isn't there.
+const NO_JOB: &[u8] = b"error job\n";
+
+const DONE: &[u8] = b"ok\n";
+
+// What a watching client is told that left too much unread.
+const MISSED: &[u8] = b"missed\n";
+
+/// Why a client goes.
+#[derive(Clone, Copy, Debug, PartialEq, Eq)]
+pub enum Parting {
+    /// It has gone, or its text has ended and it has all replies.
+    Left,
+    /// There was no memory for its text or a reply.
+    Memory,
+    /// Its place was wanted.
+    Idle,
+}
+
+/// Why a client can't be served.
+#[derive(Clone, Copy, Debug, PartialEq, Eq)]
+enum ClientFault {
+    /// There was no memory for its text or a reply.
+    Memory,
+}
+
+impl From<AllocError> for ClientFault {
+    ghost use Rattle.service_loop.specs.declared.client.ClientFault.TheVariants.{Memory};
+
+    ghost from_gives = { λ _ e. e ≡ Memory };
+
+    fn from(_error: AllocError) -> ClientFault {
+        ClientFault::Memory
+    }
+}
+
+/// What came of a client's turn.
+#[derive(Clone, Copy)]
+pub struct Turn {
+    /// Whether a command was served.
+    pub served: bool,
+    /// Whether there is more to be served at once.
+    pub more: bool,
+    // Whether nothing more was served because too much of its replies was unread.
+    brimful: bool,
+    /// Whether it said that the service is to end.
+    pub shutdown: bool,
+    pub parting: Option<Parting>,
+}
+
+impl Turn {
+    fn new() -> Turn {
+        Turn {
+            served: false,
+            more: false,
+            brimful: false,
+            shutdown: false,
+            parting: None,
+        }
+    }
+}
+
+// What a client asks for next.
+enum Asked {
+    Command(Command),
+    Own(OwnWord),
+    // Nothing yet: a step was made.
+    Again,
+    // More of its text is wanted.
+    Text,
+    // That a job has ended.
+    End,
+}
+
+#[derive(Drop)]
+pub struct Client<L: Read + Write + Drop> {
+    line: L,
+    // What was read and the reader of commands hasn't got.
+    text: Vec<u8>,
+    commands: Commands,
+    // The replies, of which so many bytes were taken.
+    replies: Vec<u8>,
+    taken: usize,
+    readable: bool,
+    writable: bool,
+    // Its text has ended, and nobody reads its replies any more.
+    over: bool,
+    gone: bool,
+    // The job whose end it waits for.
+    waits: Option<JobId>,
+    // Whether it is told what changes, and whether it wasn't told all.
+    watches: bool,
+    missed: bool,
+    // When something of it came or went.
+    stirred: u64,
+}
+
+impl<L: Read + Write + Drop> Client<L> {
+    pub fn new(alloc: Global, line: L, now: u64) -> Client<L> {
+        Client {
+            line,
+            text: Vec::new(alloc),
+            commands: Commands::new(alloc),
+            replies: Vec::new(alloc),
+            taken: 0,
+            readable: true,
+            writable: true,
+            over: false,
+            gone: false,
+            waits: None,
+            watches: false,
+            missed: false,
+            stirred: now,
+        }
+    }
+
+    /// When something of it came or went last.
+    pub fn stirred(&self) -> u64
+        ensures { result ≡ self.now.stirred }
+    {
+        self.stirred
+    }
+
+    /// There may be something to read, and perhaps it takes more, or has gone.
+    pub fn signal(&mut self, writable: bool, gone: bool) {
+        self.readable = true;
+        self.writable = self.writable || writable;
+        self.gone = self.gone || gone;
+    }
+
+    fn unread(&self) -> usize
+        ensures { result ≡ vec_len self.now.replies - self.now.taken }
+    {
+        self.replies.len().saturating_sub(self.taken)
+    }
+
+    /// Serves some commands of it.
+    pub fn serve<D: Disk, C: Children>(&mut self, office: &mut Office<'_, D, C>, now: u64) -> Turn {
+        let mut turn = Turn::new();
+        match self.try_serve(office, now, &mut turn) {
+            Ok(true) => {}
+            Ok(false) => turn.parting = Some(Parting::Left),
+            Err(ClientFault::Memory) => turn.parting = Some(Parting::Memory),
+        }
+        turn
+    }
+
+    // The same. Whether it is still there.
+    fn try_serve<D: Disk, C: Children>(
+        &mut self,
+        office: &mut Office<'_, D, C>,
+        now: u64,
+        turn: &mut Turn,
+    ) -> Result<bool, ClientFault> {
+        // Of one that waits nothing is read, so that its end isn't found.
+        if !self.give(now) || self.gone && self.waits.is_some() {
+            return Ok(false);
+        }
+        if !self.serve_some(office, now, turn)? {
+            return Ok(false);
+        }
+        // A line that its text ends in is no command: a client that was killed may have been in the middle of another one.
+        let ended = self.over && !turn.more && !turn.brimful && self.waits.is_none();
+        let there = self.give(now);
+        // It took so much that there is something to be served again, and perhaps no sign of it comes.
+        turn.more = turn.more || turn.brimful && self.unread() < MOST_UNREAD;
+        Ok(there && (!ended || 0 < self.unread()))
+    }
+
+    // Serves the commands that are whole, up to the bounds. Whether it is still there.
+    fn serve_some<D: Disk, C: Children>(
+        &mut self,
+        office: &mut Office<'_, D, C>,
+        now: u64,
+        turn: &mut Turn,
+    ) -> Result<bool, ClientFault> {
+        turn.more = true;
+        let mut served = 0;
+        for _ in 0..MOST_STEPS {
+            if !is_served_on(served, self.unread()) {
+                turn.brimful = MOST_UNREAD <= self.unread();
+                turn.more = !turn.brimful;
+                break;
+            }
+            match self.next_asked(office)? {
+                Asked::Again => {}
+                Asked::Command(command) => {
+                    self.answer(office, command, turn)?;
+                    served += 1;
+                }
+                Asked::Own(word) => {
+                    self.answer_own(office, word, turn)?;
+                    served += 1;
+                }
+                Asked::Text if self.readable => {
+                    if !self.read(now)? {
+                        return Ok(false);
+                    }
+                }
+                Asked::Text | Asked::End => {
+                    turn.more = false;
+                    break;
+                }
+            }
+        }
+        Ok(true)
+    }
+
+    // What it asks for next. Of a line that is no word of the service the engine's reader gets the whole, and of a send no
+    // more than its bytes.
+    fn next_asked<D: Disk, C: Children>(
+        &mut self,
+        office: &Office<'_, D, C>,
+    ) -> Result<Asked, ClientFault> {
+        if !self.is_told_end(office)? {
+            return Ok(Asked::End);
+        }
+        if let Some(command) = self.commands.next()? {
+            return Ok(Asked::Command(command));
+        }
+        let count = match self.commands.wanted() {
+            Wanted::Line => match line_end(&self.text) {
+                Some(at) => {
+                    if let Some(word) = own_word(&self.text[..at]) {
+                        self.text.drain(..at + 1);
+                        return Ok(Asked::Own(word));
+                    }
+                    at + 1
+                }
+                None if LONGEST_LINE < self.text.len() => self.text.len(),
+                None => return Ok(Asked::Text),
+            },
+            Wanted::Rest => match line_end(&self.text) {
+                Some(at) => at + 1,
+                None => self.text.len(),
+            },
+            Wanted::Bytes(count) => count,
+        };
+        if self.text.is_empty() {
+            return Ok(Asked::Text);
+        }
+        feed(&mut self.commands, &mut self.text, count)?;
+        Ok(Asked::Again)
+    }
+
+    // Tells it the end of the job that it waits for, if that has come. Whether it waits for none then.
+    fn is_told_end<D: Disk, C: Children>(
+        &mut self,
+        office: &Office<'_, D, C>,
+    ) -> Result<bool, AllocError> {
+        let Some(job) = self.waits else {
+            return Ok(true);
+        };
+        let table = office.engine.table();
+        if !has_settled(table, job) {
+            return Ok(false);
+        }
+        let text = job_told(*self.replies.allocator(), table, job)?;
+        self.replies.extend_from_slice(&text)?;
+        self.waits = None;
+        Ok(true)
+    }
+
+    // Serves a command of the engine. A round is a tick here: it would wait for the children, and all others with it.
+    fn answer<D: Disk, C: Children>(
+        &mut self,
+        office: &mut Office<'_, D, C>,
+        command: Command,
+        turn: &mut Turn,
+    ) -> Result<(), ClientFault> {
+        turn.served = true;
+        match command {
+            Command::Round | Command::Drain(_) => {
+                let counts = office.tick();
+                let text = rounded_text(*self.replies.allocator(), counts)?;
+                self.replies.extend_from_slice(&text)?;
+                Ok(())
+            }
+            command => {
+                office.answer(command, &mut self.replies)?;
+                Ok(())
+            }
+        }
+    }
+
+    // Answers a word of the service.
+    fn answer_own<D: Disk, C: Children>(
+        &mut self,
+        office: &mut Office<'_, D, C>,
+        word: OwnWord,
+        turn: &mut Turn,
+    ) -> Result<(), ClientFault> {
+        turn.served = true;
+        match word {
+            OwnWord::Job(job) => {
+                let text = shown_job(*self.replies.allocator(), office.engine.table(), job)?;
+                self.replies.extend_from_slice(&text)?;
+            }
+            OwnWord::Wait(job) => self.waits = Some(job),
+            OwnWord::Watch => {
+                self.watches = true;
+                self.replies.extend_from_slice(DONE)?;
+            }
+            OwnWord::End(job) => {
+                let ends = office.endings.ask(office.watch, job)?;
+                self.replies
+                    .extend_from_slice(if ends { DONE } else { NO_JOB })?;
+            }
+            OwnWord::Shutdown => {
+                turn.shutdown = true;
+                self.replies.extend_from_slice(DONE)?;
+            }
+        }
+        Ok(())
+    }
+
+    /// Whether it is told what changes.
+    pub fn watches(&self) -> bool {
+        self.watches && !self.over
+    }
+
+    /// Tells it what changed, if it watches. One that left too much unread is told later that it wasn't told all. Whether there
+    /// was memory for it.
+    pub fn tell(&mut self, text: &[u8]) -> bool {
+        if !self.watches() {
+            return true;
+        }
+        if MOST_UNREAD <= self.unread() {
+            self.missed = true;
+            return true;
+        }
+        if self.missed {
+            self.missed = false;
+            if self.replies.extend_from_slice(MISSED).is_err() {
+                return false;
+            }
+        }
+        self.replies.extend_from_slice(text).is_ok()
+    }
+
+    // Gives it what it takes of its replies. Whether it is still there.
+    fn give(&mut self, now: u64) -> bool {
+        for _ in 0..u32::MAX {
+            if self.replies.len() <= self.taken {
+                self.replies.clear();
+                self.taken = 0;
+                return true;
+            }
+            if !self.writable {
+                return true;
+            }
+            match self.line.write(&self.replies[self.taken..]) {
+                Ok(0) => return false,
+                Ok(count) => {
+                    self.taken += count;
+                    self.stirred = now;
+                    self.forget_taken();
+                }
+                Err(error) if error.kind() == ErrorKind::WouldBlock => self.writable = false,
+                Err(error) if error.kind() == ErrorKind::Interrupted => {}
+                Err(_) => return false,
+            }
+        }
+        true
+    }
+
+    // Lets go of the replies that were taken, once they are as much as may be unread: of a client that reads on and on, and
+    // always leaves something, no more is kept.
+    fn forget_taken(&mut self) {
+        if MOST_UNREAD <= self.taken {
+            self.replies.drain(..self.taken.min(self.replies.len()));
+            self.taken = 0;
+        }
+    }
+
+    // Reads a piece of its text. Whether it is still there.
+    fn read(&mut self, now: u64) -> Result<bool, ClientFault> {
+        let mut piece = [0u8; PIECE];
+        match self.line.read(&mut piece) {
+            Ok(0) => {
+                self.readable = false;
+                self.over = true;
+                Ok(true)
+            }
+            Ok(count) => {
+                self.stirred = now;
+                self.text.extend_from_slice(&piece[..count])?;
+                Ok(true)
+            }
+            Err(error) if error.kind() == ErrorKind::WouldBlock => {
+                self.readable = false;
+                Ok(true)
+            }
+            Err(error) => Ok(error.kind() == ErrorKind::Interrupted),
+        }
+    }
+}
+
+// Feeds the first bytes of a text, which are gone from it then.
+fn feed(commands: &mut Commands, text: &mut Vec<u8>, count: usize) -> Result<(), ClientFault> {
+    let count = count.min(text.len());
+    commands.feed(&text[..count])?;
+    text.drain(..count);
+    Ok(())
+}
+
+// Where the first line of a text ends.
+fn line_end(text: &[u8]) -> Option<usize>
+    ensures { result ≡ position (λ b. b == 10) text.now }
+{
+    text.iter().position(|b| *b == LINE_FEED)
+}

@@ -1,0 +1,168 @@
+//! The clients, each at a place of its own.
+ghost use Rattle.std.specs.Prelude.{◌≡◌, IfOk, OnOk};
+ghost use Rattle.service_rules.specs.Places.{IsAdmission};
+ghost use Rattle.service_loop.specs.Clients.{heard_of};
+
+use crate::client::{Client, Parting, Turn};
+use crate::door::Door;
+use crate::office::Office;
+use child_pipeline::Children;
+use service_rules::bounds::MOST_CLIENTS;
+use service_rules::{Admission, Client as Heard, admit};
+use slab::Slab;
+use spool_disk::Disk;
+use std::alloc::{AllocError, Global};
+use std::io::{Read, Write};
+
+// What one is told for whom there is no place.
+const BUSY: &[u8] = b"error busy\n";
+
+/// What the turns of all clients came to.
+#[derive(Clone, Copy)]
+pub struct Turns {
+    pub served: bool,
+    pub more: bool,
+    pub shutdown: bool,
+    /// How many clients went for want of memory.
+    pub starved: usize,
+}
+
+#[derive(Drop)]
+pub struct Clients<L: Read + Write + Drop> {
+    alloc: Global,
+    places: Slab<Client<L>>,
+    // When each was heard last, listed where a newcomer wants a place.
+    heard: Vec<Heard>,
+}
+
+impl<L: Read + Write + Drop> Clients<L> {
+    pub fn new(alloc: Global) -> Result<Clients<L>, AllocError> {
+        Ok(Clients {
+            alloc,
+            places: Slab::with_capacity(alloc, MOST_CLIENTS)?,
+            heard: Vec::with_capacity(alloc, MOST_CLIENTS)?,
+        })
+    }
+
+    pub fn len(&self) -> usize {
+        self.places.len()
+    }
+
+    /// There is a sign of the client at this place.
+    pub fn signal(&mut self, key: usize, writable: bool, gone: bool) {
+        if let Some(client) = self.places.get_mut(key) {
+            client.signal(writable, gone);
+        }
+    }
+
+    /// Lets a client in, or tells it that there is no place. Where none is left the client goes that was idle longest, if it
+    /// was long enough. What became of it.
+    pub fn admit<R: Door<Line = L>>(
+        &mut self,
+        door: &mut R,
+        line: L,
+        now: u64,
+    ) -> Result<Admission, AllocError>
+        ensures { IfOk result (IsAdmission (heard_of self.old.places) now) }
+    {
+        let mut line = line;
+        list_heard(&self.places, &mut self.heard)?;
+        let admission = admit(&self.heard, now);
+        match admission {
+            Admission::Free => {}
+            Admission::InsteadOf(key) => {
+                self.places.try_remove(key);
+            }
+            Admission::Busy => {
+                let _ = line.write(BUSY);
+                return Ok(admission);
+            }
+        }
+        self.places.reserve(1)?;
+        let key = self.places.vacant_key();
+        if door.watch(&mut line, key) {
+            self.places
+                .insert_reserved(Client::new(self.alloc, line, now));
+        }
+        Ok(admission)
+    }
+
+    /// Whether a client watches.
+    pub fn watch(&self) -> bool {
+        (0..MOST_CLIENTS).any(|key| match self.places.get(key) {
+            Some(client) => client.watches(),
+            None => false,
+        })
+    }
+
+    /// Tells those that watch what changed. How many went for want of memory.
+    pub fn tell(&mut self, text: &[u8]) -> usize {
+        let mut starved = 0;
+        for key in 0..MOST_CLIENTS {
+            let there = match self.places.get_mut(key) {
+                Some(client) => client.tell(text),
+                None => true,
+            };
+            if !there {
+                self.places.try_remove(key);
+                starved += 1;
+            }
+        }
+        starved
+    }
+
+    /// Gives each client a turn.
+    pub fn serve<D: Disk, C: Children>(
+        &mut self,
+        office: &mut Office<'_, D, C>,
+        now: u64,
+    ) -> Turns {
+        let mut turns = Turns {
+            served: false,
+            more: false,
+            shutdown: false,
+            starved: 0,
+        };
+        for key in 0..MOST_CLIENTS {
+            if let Some(turn) = self.serve_at(office, key, now) {
+                turns.served = turns.served || turn.served;
+                turns.more = turns.more || turn.more;
+                turns.shutdown = turns.shutdown || turn.shutdown;
+                if turn.parting == Some(Parting::Memory) {
+                    turns.starved += 1;
+                }
+            }
+        }
+        turns
+    }
+
+    // Gives the client at this place a turn, and lets it go where it has gone.
+    fn serve_at<D: Disk, C: Children>(
+        &mut self,
+        office: &mut Office<'_, D, C>,
+        key: usize,
+        now: u64,
+    ) -> Option<Turn> {
+        let client = self.places.get_mut(key)?;
+        let turn = client.serve(office, now);
+        if turn.parting.is_some() {
+            self.places.try_remove(key);
+        }
+        Some(turn)
+    }
+}
+
+// Lists when each client was heard last.
+fn list_heard<L: Read + Write + Drop>(
+    places: &Slab<Client<L>>,
+    list: &mut Vec<Heard>,
+) -> Result<(), AllocError>
+    ensures { OnOk result (list.new.items ≡ heard_of places.now) }
+{
+    list.clear();
+    for (key, client) in places.iter() {
+        let heard = client.stirred();
+        list.push(Heard { key, heard })?;
+    }
+    Ok(())
+}

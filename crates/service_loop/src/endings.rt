@@ -1,0 +1,91 @@
+//! The children that somebody wants to be ended: each is sent SIGTERM, and SIGKILL ten seconds later.
+ghost use Rattle.std.specs.Prelude.{◌≡◌, ℕ, ◌+◌, ◌≤◌, Some, IsNone, OnOk, OnErr};
+ghost use Rattle.service_loop.specs.Endings.{grace, is_listed, signal_of, with_ending};
+
+use crate::children::Watch;
+use crate::signals::{Signal, Signals};
+use spool_types::JobId;
+use std::alloc::{AllocError, Global};
+
+/// After how many milliseconds a child is killed that was asked to end and didn't.
+pub const GRACE: u64 = 10_000;
+
+// A child that is to end.
+#[derive(Clone, Copy)]
+struct Ending {
+    job: JobId,
+    group: u32,
+    // When it was sent the last signal, if it was sent one.
+    sent: Option<u64>,
+}
+
+/// The children that are to end, each once.
+#[derive(Drop)]
+pub(crate) struct Endings {
+    list: Vec<Ending>,
+}
+
+impl Endings {
+    pub fn new(alloc: Global) -> Endings {
+        Endings {
+            list: Vec::new(alloc),
+        }
+    }
+
+    /// Somebody wants the child of a job to end. Whether one runs.
+    pub fn ask(&mut self, watch: &Watch, job: JobId) -> Result<bool, AllocError> {
+        let Some(group) = watch.group_of(job) else {
+            return Ok(false);
+        };
+        self.note(job, group)?;
+        Ok(true)
+    }
+
+    // Notes a child that is to end, unless its group is noted already.
+    fn note(&mut self, job: JobId, group: u32) -> Result<(), AllocError>
+        ensures ok { OnOk result (self.new.list.items ≡ with_ending job group self.old.list.items) }
+        ensures err { OnErr result (self.new.list.items ≡ self.old.list.items) }
+    {
+        if !self.is_listed(group) {
+            let sent = None;
+            self.list.push(Ending { job, group, sent })?;
+        }
+        Ok(())
+    }
+
+    fn is_listed(&self, group: u32) -> bool
+        ensures { result ≡ is_listed group self.now.list.items }
+    {
+        self.list.iter().any(|ending| ending.group == group)
+    }
+
+    /// Whether no child is to end.
+    pub fn is_empty(&self) -> bool {
+        self.list.is_empty()
+    }
+
+    /// Asks those to end that weren't asked yet, kills those whose grace is over, and forgets those that have ended.
+    pub fn act<S: Signals>(&mut self, watch: &Watch, signals: &mut S, now: u64) {
+        self.list
+            .retain(|ending| watch.group_of(ending.job) == Some(ending.group));
+        for ending in self.list.iter_mut() {
+            if let Some(signal) = signal_of(ending.sent, now) {
+                signals.send(ending.group, signal);
+                ending.sent = Some(now);
+            }
+        }
+    }
+}
+
+// What a child that is to end is sent now, where its last signal was sent at a moment, if one was.
+fn signal_of(sent: Option<u64>, now: u64) -> Option<Signal>
+    ensures value { result ≡ signal_of sent now }
+    ensures asked_first { IsNone sent → result ≡ Some Signal.Terminate }
+    ensures patient { result ≡ Some Signal.Kill → (asked : ℕ) × (sent ≡ Some asked) × (asked + grace ≤ now) }
+{
+    match sent {
+        None => Some(Signal::Terminate),
+        Some(at) if GRACE <= now.saturating_sub(at) => Some(Signal::Kill),
+        Some(_) => None,
+    }
+}

@@ -1,0 +1,292 @@
+//! The service's own clock and housekeeping: it is a client of its own engine.
+//!
+//! The table is looked at once a second at most, and only where something was done since ([`House::look`]): then it is known
+//! what comes due next, and which ended jobs are to go. So an idle service looks at nothing, and tells nothing.
+ghost use Rattle.std.specs.Prelude.{◌≡◌, ◌-◌};
+ghost use Rattle.service_rules.specs.Checkpoints.{is_wanted};
+ghost use Rattle.service_rules.specs.Looks.{earlier};
+ghost use Rattle.service_loop.specs.Due.{due_of, end_of_hold, has_come, is_changed_by, is_stopped, late_from, next_moment};
+
+use crate::office::Office;
+use child_pipeline::Children;
+use command_lines::Command;
+use job_table::Table;
+use service_rules::{
+    Candidate, Checkpoint, Clocks, Room, clock_to_tell, clock_wait, is_wanted, jobs_to_purge,
+    purge_count, swept_to,
+};
+use spool_disk::Disk;
+use spool_types::{Event, Hold, Job, JobId, Moment, Phase};
+use std::alloc::{AllocError, Global};
+
+// How many of the oldest ended jobs are listed at once.
+const MOST_LISTED: usize = 1_024;
+
+const SECOND: u64 = 1_000;
+
+// The reply to a checkpoint that was made.
+const DONE: &[u8] = b"ok\n";
+
+#[derive(Drop)]
+pub(crate) struct House {
+    alloc: Global,
+    // How many ended jobs are kept.
+    keep: usize,
+    // Of how many ended jobs was known at the last look, and the oldest of them that weren't purged since.
+    ended: usize,
+    listed: Vec<Candidate>,
+    // The second of the last look, the moment that was told last, and the one by which something comes due.
+    looked: Option<Moment>,
+    told: Option<Moment>,
+    due: Option<Moment>,
+    // A checkpoint is made where less than so many hundredths are left of the room behind the last one.
+    percent: u8,
+    fresh: u64,
+    last: Option<Checkpoint>,
+}
+
+impl House {
+    pub fn new(alloc: Global, keep: usize, percent: u8, room: u64) -> Result<House, AllocError> {
+        Ok(House {
+            alloc,
+            keep,
+            ended: 0,
+            listed: Vec::with_capacity(alloc, MOST_LISTED)?,
+            looked: None,
+            told: None,
+            due: None,
+            percent,
+            fresh: room,
+            last: None,
+        })
+    }
+
+    /// Looks at the table and tells the system's time, in milliseconds, where that is wanted.
+    pub fn tell_time<D: Disk, C: Children>(
+        &mut self,
+        office: &mut Office<'_, D, C>,
+        millis: u64,
+    ) -> Result<(), AllocError> {
+        let Some(system) = Moment::new(millis / SECOND) else {
+            return Ok(());
+        };
+        if office.stirred && self.looked != Some(system) {
+            office.stirred = false;
+            self.looked = Some(system);
+            self.look(office)?;
+        }
+        let clocks = self.clocks(office.engine.table(), system);
+        if let Some(moment) = clock_to_tell(&clocks) {
+            self.told = Some(moment);
+            office.note_due(moment)?;
+            say(self.alloc, office, Command::Apply(Event::Clock(moment)))?;
+        }
+        Ok(())
+    }
+
+    fn clocks(&self, table: &Table, system: Moment) -> Clocks {
+        Clocks {
+            system,
+            table: table.now(),
+            told: self.told,
+            due: self.due,
+        }
+    }
+
+    /// How many milliseconds it is until the time is to be told or the table looked at, if it is.
+    pub fn wait<D: Disk, C: Children>(
+        &self,
+        office: &Office<'_, D, C>,
+        millis: u64,
+    ) -> Option<u64> {
+        let part = millis % SECOND;
+        if office.stirred {
+            return Some(SECOND - part);
+        }
+        let system = Moment::new(millis / SECOND)?;
+        clock_wait(&self.clocks(office.engine.table(), system), part)
+    }
+
+    // Looks at all jobs.
+    fn look<D: Disk, C: Children>(&mut self, office: &Office<'_, D, C>) -> Result<(), AllocError> {
+        let table = office.engine.table();
+        self.due = None;
+        self.ended = 0;
+        self.listed.clear();
+        for row in table.jobs().iter() {
+            let job = &row.job;
+            self.due = earlier(self.due, due_of(table, job));
+            if job.phase.has_ended() {
+                // No memory holds more jobs than a count does.
+                self.ended = self.ended.saturating_add(1);
+                if self.listed.len() < MOST_LISTED {
+                    self.listed.push(Candidate {
+                        id: job.id,
+                        ended: true,
+                        runs: office.watch.group_of(job.id).is_some(),
+                    })?;
+                }
+            }
+        }
+        Ok(())
+    }
+
+    /// Purges the oldest ended jobs beyond those that are kept, a few at once. Whether there may be more to purge.
+    pub fn purge<D: Disk, C: Children>(
+        &mut self,
+        office: &mut Office<'_, D, C>,
+    ) -> Result<bool, AllocError> {
+        let count = purge_count(self.ended, self.keep);
+        if count == 0 || self.listed.is_empty() {
+            return Ok(false);
+        }
+        let swept = swept_to(&self.listed, count, 0);
+        for job in jobs_to_purge(&self.listed, count) {
+            self.ended = self.ended.saturating_sub(1);
+            say(self.alloc, office, Command::Apply(Event::Purge(job)))?;
+        }
+        self.listed.retain(|candidate| swept < candidate.id.get());
+        Ok(!self.listed.is_empty() && 0 < purge_count(self.ended, self.keep))
+    }
+
+    /// Whether a checkpoint is to be made at a moment in milliseconds.
+    pub fn wants_checkpoint<D: Disk, C: Children>(
+        &self,
+        office: &Office<'_, D, C>,
+        now: u64,
+    ) -> bool
+        ensures { result ≡ is_wanted (record { used = self.now.fresh - office.now.engine.course.spool.room; size = self.now.fresh }) self.now.percent office.now.full self.now.last now }
+    {
+        let room = Room {
+            used: self.fresh.saturating_sub(office.engine.room()),
+            size: self.fresh,
+        };
+        is_wanted(room, self.percent, office.full, self.last, now)
+    }
+
+    /// Makes a checkpoint, which began at a moment in milliseconds. Whether it was made.
+    pub fn checkpoint<D: Disk, C: Children>(
+        &mut self,
+        office: &mut Office<'_, D, C>,
+    ) -> Result<bool, AllocError> {
+        office.full = false;
+        let mut reply = Vec::new(self.alloc);
+        office.answer(Command::Checkpoint, &mut reply)?;
+        let made = reply.as_slice() == DONE;
+        if made {
+            self.fresh = office.engine.room();
+        }
+        Ok(made)
+    }
+
+    /// A checkpoint was made, or tried, between these moments.
+    pub fn note_checkpoint(&mut self, began: u64, ended: u64, made: bool) {
+        let left = if made { Some(0) } else { None };
+        self.last = Some(Checkpoint { began, ended, left });
+    }
+}
+
+// Says a command to the engine.
+fn say<D: Disk, C: Children>(
+    alloc: Global,
+    office: &mut Office<'_, D, C>,
+    command: Command,
+) -> Result<(), AllocError> {
+    let mut reply = Vec::new(alloc);
+    office.answer(command, &mut reply)
+}
+
+// The earlier of two moments that may come.
+fn earlier(one: Option<Moment>, other: Option<Moment>) -> Option<Moment>
+    ensures { result ≡ earlier one other }
+{
+    match (one, other) {
+        (Some(one), Some(other)) => Some(one.min(other)),
+        (None, other) => other,
+        (one, None) => one,
+    }
+}
+
+// The least moment that would change something about a job if the clock brought it. A job that is processing, or is started as
+// soon as its queue is free, wants the next: an interval until a retry counts from the moment that the engine knows.
+fn due_of(table: &Table, job: &Job) -> Option<Moment>
+    ensures { result ≡ due_of table.now.state job.now }
+{
+    let known = table.now();
+    let phase = job.phase;
+    match phase {
+        Phase::Processing { .. } => next_moment(known),
+        Phase::Incoming(hold) => end_of_hold(&hold, known),
+        Phase::Waiting {
+            hold,
+            not_before,
+            ..
+        } => {
+            let due = earlier(late_from(job.by), end_of_hold(&hold, known));
+            if known < not_before {
+                earlier(due, Some(not_before))
+            } else if hold.is_in_force(known) || is_stopped(table, job) {
+                due
+            } else {
+                earlier(due, next_moment(known))
+            }
+        }
+        _ => None,
+    }
+}
+
+// The first moment at which a job is late that is to start by a moment.
+fn late_from(by: Option<Moment>) -> Option<Moment>
+    ensures { result ≡ late_from by }
+{
+    match by {
+        Some(by) => next_moment(by),
+        None => None,
+    }
+}
+
+fn next_moment(moment: Moment) -> Option<Moment>
+    ensures { result ≡ next_moment moment }
+{
+    Moment::new(moment.get() + 1)
+}
+
+/// Whether the clock changes how a job is shown, or cancels it, if it brings a moment.
+pub(crate) fn is_changed_by(job: &Job, known: Moment, moment: Moment) -> bool
+    ensures { result ≡ is_changed_by job.now known moment }
+{
+    match &job.phase {
+        Phase::Incoming(hold) => has_come(end_of_hold(hold, known), moment),
+        Phase::Waiting { hold, .. } => {
+            has_come(end_of_hold(hold, known), moment) || has_come(late_from(job.by), moment)
+        }
+        _ => false,
+    }
+}
+
+fn has_come(due: Option<Moment>, moment: Moment) -> bool
+    ensures { result ≡ has_come due moment }
+{
+    match due {
+        Some(due) => due <= moment,
+        None => false,
+    }
+}
+
+fn end_of_hold(hold: &Hold, known: Moment) -> Option<Moment>
+    ensures { result ≡ end_of_hold hold.now known }
+{
+    match hold {
+        Hold::Until(until) if hold.is_in_force(known) => Some(*until),
+        _ => None,
+    }
+}
+
+fn is_stopped(table: &Table, job: &Job) -> bool
+    ensures { result ≡ is_stopped table.now.state job.now }
+{
+    match table.queue(&job.queue) {
+        Some(queue) => queue.stopped,
+        None => true,
+    }
+}

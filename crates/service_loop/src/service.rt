@@ -1,0 +1,294 @@
+//! The loop: clients are served while children run.
+
+use crate::bounds::{LONGEST_END, LONGEST_IDLE, MOST_ACCEPTED, MOST_TICKS};
+use crate::children::Watch;
+use crate::clients::{Clients, Turns};
+use crate::door::{Coming, Door, Sign};
+use crate::fault::ServiceFault;
+use crate::house::House;
+use crate::office::Office;
+use crate::signals::Signals;
+use crate::times::Times;
+use child_pipeline::Children;
+use log::{Log, debug, error, info};
+use print_rounds::{Round, RoundFault};
+use service_rules::{Admission, next_look, poll_wait};
+use spool_disk::Disk;
+use spool_engine::Engine;
+use std::alloc::{AllocError, Global};
+use std::io;
+
+/// How a service keeps house.
+#[derive(Clone, Copy, Debug)]
+pub struct Keeping {
+    /// How many ended jobs are kept.
+    pub jobs: usize,
+    /// A checkpoint is made where less than so many hundredths are left of the room behind the last one.
+    pub room: u8,
+}
+
+/// The service of one engine, with its clients.
+#[derive(Drop)]
+pub struct Service<'a, L, D: Disk, C: Children, R: Door> {
+    log: &'a L,
+    alloc: Global,
+    office: Office<'a, D, C>,
+    clients: Clients<R::Line>,
+    house: House,
+    // How far the last look at the children was away, in milliseconds, if children ran.
+    look: Option<u64>,
+    // Whether something was done in the last turn, and whether there is more to be done at once.
+    moved: bool,
+    more: bool,
+    // Whether somebody may want to come in, and whether the last one who came couldn't be let in, which is told once.
+    knocks: bool,
+    barred: bool,
+    // When somebody has asked for the end, which waits for what is processing.
+    ends: Option<u64>,
+}
+
+impl<'a, L: Log, D: Disk + Drop, C: Children + Drop, R: Door> Service<'a, L, D, C, R> {
+    /// A service of an engine whose children are watched.
+    pub fn new(
+        log: &'a L,
+        alloc: Global,
+        watch: &'a Watch,
+        engine: Engine<D, C>,
+        keeping: Keeping,
+    ) -> Result<Service<'a, L, D, C, R>, AllocError> {
+        let house = House::new(alloc, keeping.jobs, keeping.room, engine.room())?;
+        Ok(Service {
+            log,
+            alloc,
+            office: Office::new(alloc, watch, engine),
+            clients: Clients::new(alloc)?,
+            house,
+            look: None,
+            moved: true,
+            more: true,
+            knocks: true,
+            barred: false,
+            ends: None,
+        })
+    }
+
+    /// Serves until somebody ends the service, or the disk or the wait for signs fails.
+    pub fn serve<T: Times, S: Signals>(
+        &mut self,
+        door: &mut R,
+        times: &mut T,
+        signals: &mut S,
+    ) -> Result<(), ServiceFault> {
+        for _ in 0..u64::MAX {
+            if !self.turn(door, times, signals)? {
+                break;
+            }
+        }
+        info!(self.log; "ends");
+        Ok(())
+    }
+
+    // One turn of the loop. Whether there is to be another.
+    fn turn<T: Times, S: Signals>(
+        &mut self,
+        door: &mut R,
+        times: &mut T,
+        signals: &mut S,
+    ) -> Result<bool, ServiceFault> {
+        self.wait(door, times)?;
+        let now = times.millis();
+        // Before the clients are served: so they are told what the last turn did.
+        let over = self.is_over(now);
+        self.let_in(door, now)?;
+        let turns = self.clients.serve(&mut self.office, now);
+        self.heed(turns, now);
+        self.office.end_children(signals, now);
+        let ticked = self.tick();
+        let kept = self.keep_house(times)?;
+        self.moved = turns.served || ticked;
+        if self.moved {
+            self.office.note_stages()?;
+        }
+        // Of those who wait to come in no further sign comes.
+        let knocks = self.knocks && !self.barred && self.ends.is_none();
+        self.more = turns.more || self.moved || kept || knocks;
+        self.tell_changes()?;
+        if self.office.engine.met_fault() {
+            return Err(ServiceFault::Disk);
+        }
+        Ok(!over)
+    }
+
+    // Waits for a sign, and notes it.
+    fn wait<T: Times>(&mut self, door: &mut R, times: &mut T) -> Result<(), ServiceFault> {
+        let millis = self.pause(times);
+        match door.wait(millis) {
+            Ok(()) => {}
+            Err(error) if error.kind() == io::ErrorKind::Interrupted => {}
+            Err(_) => return Err(ServiceFault::Socket),
+        }
+        self.note_signs(door);
+        Ok(())
+    }
+
+    // Notes the signs that the wait has found.
+    fn note_signs(&mut self, door: &mut R) {
+        for _ in 0..u32::MAX {
+            match door.next_sign() {
+                Some(Sign::Knock) => self.knocks = true,
+                Some(
+                    Sign::Client {
+                        key,
+                        writable,
+                        gone,
+                    },
+                ) => self.clients.signal(key, writable, gone),
+                None => return,
+            }
+        }
+    }
+
+    // How long the next wait is, at most: until the next look at the children, or until the house has something to do.
+    fn pause<T: Times>(&mut self, times: &mut T) -> Option<u64> {
+        self.look = next_look(self.look, self.moved, self.office.watch.running());
+        let house = match times.system() {
+            Some(millis) => self.house.wait(&self.office, millis),
+            None => Some(LONGEST_IDLE),
+        };
+        let wait = poll_wait(self.more, self.look, house);
+        if self.ends.is_some() || self.office.full || self.barred {
+            return poll_wait(false, wait, Some(LONGEST_IDLE));
+        }
+        wait
+    }
+
+    // Lets in who comes.
+    fn let_in(&mut self, door: &mut R, now: u64) -> Result<(), AllocError> {
+        if !self.knocks || self.ends.is_some() {
+            return Ok(());
+        }
+        for _ in 0..MOST_ACCEPTED {
+            match door.accept() {
+                Coming::Client(line) => {
+                    self.barred = false;
+                    let admission = self.clients.admit(door, line, now)?;
+                    self.tell_admission(admission);
+                }
+                Coming::Nobody => {
+                    self.knocks = false;
+                    break;
+                }
+                Coming::Failed => {
+                    if !self.barred {
+                        error!(self.log; "a client can't be let in");
+                    }
+                    self.barred = true;
+                    break;
+                }
+            }
+        }
+        Ok(())
+    }
+
+    fn tell_admission(&self, admission: Admission) {
+        match admission {
+            Admission::Free => {}
+            Admission::InsteadOf(_) => {
+                info!(self.log; "an idle client had to go for another one");
+            }
+            Admission::Busy => info!(self.log; "there is no place for a client"),
+        }
+        debug!(self.log; "clients: {}", self.clients.len());
+    }
+
+    // Heeds what the clients' turns came to.
+    fn heed(&mut self, turns: Turns, now: u64) {
+        self.tell_starved(turns.starved);
+        if turns.shutdown && self.ends.is_none() {
+            info!(self.log; "is to end: {} children run", self.office.watch.running());
+            self.ends = Some(now);
+            self.office.ends = true;
+        }
+        self.office.watched = self.clients.watch();
+    }
+
+    fn tell_starved(&self, starved: usize) {
+        if 0 < starved {
+            error!(self.log; "memory: {starved} clients had to go");
+        }
+    }
+
+    // Ticks until nothing moves, or as often as there may be. Whether something moved. Where the service is to end no job is
+    // started, and those that are processing go on.
+    fn tick(&mut self) -> bool {
+        let mut moved = false;
+        for _ in 0..MOST_TICKS {
+            match self.office.tick() {
+                Ok(
+                    Round {
+                        started: 0,
+                        finished: 0,
+                    },
+                ) => break,
+                Ok(_) => moved = true,
+                Err(fault) => {
+                    self.tell_fault(fault);
+                    break;
+                }
+            }
+        }
+        moved
+    }
+
+    fn tell_fault(&self, fault: RoundFault) {
+        match fault {
+            RoundFault::Full => {}
+            RoundFault::Memory => error!(self.log; "memory: a tick is made again"),
+            RoundFault::Dead | RoundFault::Disk => error!(self.log; "the disk has failed"),
+        }
+    }
+
+    // Tells the time, purges and makes a checkpoint, each where it is wanted. Whether there is more to be done at once.
+    fn keep_house<T: Times>(&mut self, times: &mut T) -> Result<bool, ServiceFault> {
+        if let Some(millis) = times.system() {
+            self.house.tell_time(&mut self.office, millis)?;
+        }
+        let more = self.house.purge(&mut self.office)?;
+        let began = times.millis();
+        if self.house.wants_checkpoint(&self.office, began) {
+            let made = self.house.checkpoint(&mut self.office)?;
+            let ended = times.millis();
+            self.house.note_checkpoint(began, ended, made);
+            let took = ended.saturating_sub(began);
+            if made {
+                info!(self.log; "a checkpoint took {took} ms");
+            } else {
+                error!(self.log; "a checkpoint can't be made");
+            }
+        }
+        Ok(more)
+    }
+
+    // Tells the clients that watch what changed.
+    fn tell_changes(&mut self) -> Result<(), AllocError> {
+        if !self.office.watched {
+            return Ok(());
+        }
+        let mut text = Vec::new(self.alloc);
+        self.office.tell_changes(&mut text)?;
+        if !text.is_empty() {
+            let starved = self.clients.tell(&text);
+            self.tell_starved(starved);
+            self.more = true;
+        }
+        Ok(())
+    }
+
+    // Whether the end that was asked for has come.
+    fn is_over(&self, now: u64) -> bool {
+        match self.ends {
+            Some(asked) => LONGEST_END <= now.saturating_sub(asked) || self.office.is_quiet(),
+            None => false,
+        }
+    }
+}

@@ -1,0 +1,122 @@
+-- No line with a word of the service's own is a command.
+use Rattle.std.proofs.Common.{◌≡◌, ◌⊎◌, inl, inr, ℕ, Bool, true, false, cond, ◌==◌, List, [], ◌∷◌, length, Option, None, Some, refl, ap, sym, ◌∙◌}
+use Rattle.std.specs.Prelude.{codes, nat_lt}
+use Rattle.std.specs.Cmp.Lexicographic.{bytes_decides}
+use Rattle.std.specs.List.{list_any}
+use Rattle.std.proofs.lemmas.Bool.{eqb-true}
+use Rattle.line_words.specs.Blanks.{is_blank, after_blanks, word_here, behind_word, first_word}
+use Rattle.line_words.specs.Quotes.{is_quote, quoted}
+use Rattle.command_lines.specs.Words.{Front, broken, word, with_word, bare_word, quoted_word, front_here, next_word, after_front, words_of}
+use Rattle.command_lines.specs.Grammar.{is_word, line_of, or_malformed, kind_of_words, is_remark, kind_of}
+use Rattle.command_lines.specs.declared.command.Command.TheVariants.{Malformed}
+use Rattle.command_lines.specs.declared.command.Kind.{Kind}
+use Rattle.command_lines.specs.declared.command.Kind.TheVariants.{Remark, Says}
+use Rattle.service_texts.specs.Words.{own_word}
+use Rattle.service_texts.specs.declared.own_words.OwnWord.{OwnWord}
+
+-- ## A line whose first word is the name of no command
+
+-- no words make a command of it
+abbrev pub IsNoName : List ℕ → Type 0
+IsNoName name = (words : List (List ℕ)) → line_of name words ≡ None
+
+no_words : (name : List ℕ) → IsNoName name → (words : Option (List (List ℕ))) → kind_of_words (with_word name words) ≡ Says Malformed
+no_words name none None = refl
+no_words name none (Some words) = ap or_malformed (none words)
+
+no_front : (name rest : List ℕ) → IsNoName name → (quotes : Bool) → kind_of_words (after_front words_of (cond quotes broken (word name rest))) ≡ Says Malformed
+no_front name rest none true = refl
+no_front name rest none false = no_words name none (words_of rest)
+
+-- a word that is here begins with the first byte
+first_byte : (x : ℕ) (xs : List ℕ) (b : ℕ) (bs : List ℕ) → word_here (x ∷ xs) ≡ b ∷ bs → x ≡ b
+first_byte x xs b bs = elim (is_blank x) as (λ v. cond v [] (x ∷ word_here xs) ≡ b ∷ bs → x ≡ b) [ true ↦ λ e. cc | false ↦ λ e. cc ]
+
+no_here : (line : List ℕ) (b : ℕ) (bs : List ℕ) → word_here line ≡ b ∷ bs → is_quote b ≡ false → IsNoName (b ∷ bs) → kind_of_words (after_front words_of (front_here line)) ≡ Says Malformed
+no_here [] b bs is plain none = cc
+no_here (x ∷ xs) b bs is plain none =
+    let unquoted : is_quote x ≡ false = ap is_quote (first_byte x xs b bs is) ∙ plain in
+    let bare : front_here (x ∷ xs) ≡ bare_word (x ∷ xs) = ap (λ v. cond v (quoted_word (quoted false xs)) (bare_word (x ∷ xs))) unquoted in
+    let named : bare_word (x ∷ xs) ≡ cond (list_any is_quote (b ∷ bs)) broken (word (b ∷ bs) (behind_word (x ∷ xs))) =
+    ap (λ (w : List ℕ). cond (list_any is_quote w) broken (word w (behind_word (x ∷ xs)))) is in
+    ap (λ (front : Front). kind_of_words (after_front words_of front)) (bare ∙ named) ∙ no_front (b ∷ bs) (behind_word (x ∷ xs)) none (list_any is_quote (b ∷ bs))
+
+blank_says : (x : ℕ) → is_blank x ≡ true → is_remark (x ∷ []) ≡ false
+blank_says x blank = by_test (x == 35) refl
+  where
+    by_test : (v : Bool) → (x == 35) ≡ v → v ≡ false
+    by_test false is = refl
+    by_test true is = sym blank ∙ ap is_blank (eqb-true x 35 is)
+
+no_remark : (line : List ℕ) (b : ℕ) (bs : List ℕ) → first_word line ≡ b ∷ bs → (b == 35) ≡ false → is_remark line ≡ false
+no_remark [] b bs is other = cc
+no_remark (x ∷ xs) b bs is other =
+    (elim (is_blank x) as (λ v. is_blank x ≡ v → word_here (cond v (after_blanks xs) (x ∷ xs)) ≡ b ∷ bs → is_remark (x ∷ xs) ≡ false) [
+      | true ↦ λ blank e. blank_says x blank
+      | false ↦ λ blank e. ap (λ n. n == 35) (first_byte x xs b bs e) ∙ other
+    ]) refl is
+
+either : (v : Bool) (k : Kind) → cond v k k ≡ k
+either true k = refl
+either false k = refl
+
+no_command : ((line : List ℕ) → words_of line ≡ after_front words_of (next_word line)) → (line : List ℕ) (b : ℕ) (bs : List ℕ) → first_word line ≡ b ∷ bs → is_quote b ≡ false → (b == 35) ≡ false → IsNoName (b ∷ bs) → kind_of line ≡ Says Malformed
+unfolding kind_of
+no_command by_word line b bs is plain other none =
+    let says : kind_of_words (words_of line) ≡ Says Malformed = ap kind_of_words (by_word line) ∙ no_here (after_blanks line) b bs is plain none in
+    ap (λ v. cond v Remark (cond (nat_lt 4096 (length line)) (Says Malformed) (kind_of_words (words_of line)))) (no_remark line b bs is other)
+    ∙ ap (cond (nat_lt 4096 (length line)) (Says Malformed)) says
+    ∙ either (nat_lt 4096 (length line)) (Says Malformed)
+
+-- ## The service's own words
+
+job_none : IsNoName (codes "job")
+job_none [] = refl
+job_none (w ∷ []) = refl
+job_none (w ∷ v ∷ ws) = refl
+
+wait_none : IsNoName (codes "wait")
+wait_none [] = refl
+wait_none (w ∷ []) = refl
+wait_none (w ∷ v ∷ ws) = refl
+
+end_none : IsNoName (codes "end")
+end_none [] = refl
+end_none (w ∷ []) = refl
+end_none (w ∷ v ∷ ws) = refl
+
+watch_none : IsNoName (codes "watch")
+watch_none [] = refl
+watch_none (w ∷ []) = refl
+watch_none (w ∷ v ∷ ws) = refl
+
+shutdown_none : IsNoName (codes "shutdown")
+shutdown_none [] = refl
+shutdown_none (w ∷ []) = refl
+shutdown_none (w ∷ v ∷ ws) = refl
+
+-- the name is this one, or what follows is said
+tested : (name own : List ℕ) (x y : Option OwnWord) (w : OwnWord) → cond (is_word name own) x y ≡ Some w → (name ≡ own) ⊎ (y ≡ Some w)
+tested name own x y w = (elim (is_word name own) as (λ v. is_word name own ≡ v → cond v x y ≡ Some w → (name ≡ own) ⊎ (y ≡ Some w)) [
+  | true ↦ λ is e. inl ((bytes_decides name own).0 is)
+  | false ↦ λ is e. inr e
+]) refl
+
+module _ (by_word : (line : List ℕ) → words_of line ≡ after_front words_of (next_word line)) (line : List ℕ) (w : OwnWord) where
+  pub no_own_word : own_word line ≡ Some w → kind_of line ≡ Says Malformed
+  no_own_word e = elim (tested (first_word line) (codes "job") _ _ w e) [
+    | inl is ↦ no_command by_word line _ _ is refl refl job_none
+    | inr e2 ↦ elim (tested (first_word line) (codes "wait") _ _ w e2) [
+      | inl is ↦ no_command by_word line _ _ is refl refl wait_none
+      | inr e3 ↦ elim (tested (first_word line) (codes "end") _ _ w e3) [
+        | inl is ↦ no_command by_word line _ _ is refl refl end_none
+        | inr e4 ↦ elim (tested (first_word line) (codes "watch") _ _ w e4) [
+          | inl is ↦ no_command by_word line _ _ is refl refl watch_none
+          | inr e5 ↦ elim (tested (first_word line) (codes "shutdown") _ _ w e5) [
+            | inl is ↦ no_command by_word line _ _ is refl refl shutdown_none
+            | inr e6 ↦ absurd (cc)
+          ]
+        ]
+      ]
+    ]
+  ]

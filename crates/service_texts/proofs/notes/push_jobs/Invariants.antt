@@ -1,0 +1,8 @@
+-- the lines of the jobs so far were added
+use Rattle.std.proofs.Common.{◌≡◌, ◌++◌, take}
+use Rattle.std.specs.List.{flat_map}
+use Rattle.service_texts.specs.Changes.{job_told}
+use Rattle.service_texts.proofs.notes.push_jobs.Given as goal
+
+abbrev pub invariant-loop-job : goal.invariant-loop-job
+invariant-loop-job l = l.text.items ≡ l.initial.text.items ++ flat_map (job_told l.table.state) (take l.job-index l.jobs)

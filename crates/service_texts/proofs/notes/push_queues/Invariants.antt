@@ -1,0 +1,8 @@
+-- the lines of the queues so far were added
+use Rattle.std.proofs.Common.{◌≡◌, ◌++◌, take}
+use Rattle.std.specs.List.{flat_map}
+use Rattle.service_texts.specs.Changes.{queue_told}
+use Rattle.service_texts.proofs.notes.push_queues.Given as goal
+
+abbrev pub invariant-loop-name : goal.invariant-loop-name
+invariant-loop-name l = l.text.items ≡ l.initial.text.items ++ flat_map (queue_told l.table.state) (take l.name-index l.names)

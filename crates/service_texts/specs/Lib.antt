@@ -1,0 +1,3 @@
+pub mod Words
+pub mod Shown
+pub mod Changes

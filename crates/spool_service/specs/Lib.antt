@@ -1,0 +1,4 @@
+pub mod Words
+pub mod Kills
+pub mod Socket
+pub mod Start

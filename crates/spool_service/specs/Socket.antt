@@ -1,0 +1,27 @@
+-- What a wait has found, and who comes in.
+use Rattle.std.specs.Prelude.{◌==◌, ◌-◌, if◌then◌else◌, Result, Ok, Err}
+use Rattle.std.specs.IoError.{error_kind}
+use Rattle.std.specs.declared.io.Error.{Error}
+use Rattle.std.specs.declared.io.ErrorKind.{ErrorKind}
+use Rattle.std.specs.declared.io.ErrorKind.TheVariants.{WouldBlock}
+use Rattle.mio.specs.Event.{event_token, is_writable, is_write_closed}
+use Rattle.mio.specs.declared.event.event.Event.{Event}
+use Rattle.service_loop.specs.declared.door.Coming.{Coming}
+use Rattle.service_loop.specs.declared.door.Coming.TheVariants as coming
+use Rattle.service_loop.specs.declared.door.Sign.{Sign}
+use Rattle.service_loop.specs.declared.door.Sign.TheVariants.{Client, Knock}
+
+-- Token 0 is the listener's, and a client's is its key and one.
+abbrev pub sign_of : Event → Sign
+sign_of event =
+    let token = (event_token event).0 in
+    if token == 0 then Knock else Client (token - 1) (is_writable event) (is_write_closed event)
+
+-- nobody comes in: nobody is there, or who is there can't be let in
+abbrev pub without_client : {L : Type 0} → ErrorKind → Coming L
+without_client WouldBlock = coming.Nobody
+without_client _ = coming.Failed
+
+abbrev pub coming_of : {L A : Type 0} → Result (L × A) Error → Coming L
+coming_of (Ok accepted) = coming.Client accepted.0
+coming_of (Err error) = without_client (error_kind error)

@@ -1,0 +1,27 @@
+-- How the service is opened, and how its end is told.
+use Rattle.std.specs.Prelude.{ℕ, ◌++◌, List, Option, None, Some, Result, Ok, Err, codes}
+use Rattle.std.specs.Borrow.{Bor}
+use Rattle.std.specs.declared.io.ErrorKind.{ErrorKind}
+use Rattle.std.specs.declared.io.ErrorKind.TheVariants.{OutOfMemory}
+use Rattle.service_loop.specs.declared.fault.ServiceFault.{ServiceFault}
+use Rattle.service_loop.specs.declared.fault.ServiceFault.TheVariants as service
+use Rattle.spool_host.specs.declared.fault.DiskCause.TheVariants.{Failed}
+use Rattle.spool_host.specs.declared.fault.ShellFault.{ShellFault}
+use Rattle.spool_host.specs.declared.fault.ShellFault.TheVariants.{Disk, Memory, Socket}
+
+-- SOCKET, or that of DIR
+abbrev pub socket_of : List ℕ → Option (Bor (List ℕ)) → List ℕ
+socket_of root None = root ++ codes "/spool.sock"
+socket_of root (Some socket) = socket.now
+
+-- the end of the service, as it is told
+abbrev pub told_of : Result (Unit {0}) ServiceFault → Result (Unit {0}) ShellFault
+told_of (Ok ended) = Ok ended
+told_of (Err service.Memory) = Err Memory
+told_of (Err service.Disk) = Err (Disk Failed)
+told_of (Err service.Socket) = Err Socket
+
+-- what failed where the socket can't be made
+abbrev pub at_socket : ErrorKind → ShellFault
+at_socket OutOfMemory = Memory
+at_socket _ = Socket

@@ -1,0 +1,121 @@
+//! How the service is opened: the folder's lock first, then the spool, and the socket last.
+ghost use Rattle.std.specs.Prelude.{◌≡◌, IfOk, string_bytes};
+ghost use Rattle.spool_service.specs.Start.{at_socket, socket_of, told_of};
+
+use crate::clocks::SystemTimes;
+use crate::kills::Kills;
+use crate::socket::SocketDoor;
+use crate::words::ServiceWords;
+use child_pipeline::Children;
+use filter_args::Place;
+use log::{Log, info};
+use mime_costs::Convs;
+use mime_rules::Types;
+use service_loop::{Keeping, Service, ServiceFault, Watch, WatchedChildren};
+use spool_host::{
+    DiskCause, ShellFault, check_child_ends, launcher_in, open_folder_engine, read_rules,
+    remove_if_there, tell_programs,
+};
+use std::alloc::AllocError;
+use std::fs::{File, Files};
+use std::io::ErrorKind;
+use std::net::Net;
+use std::path::Path;
+use std::process::Processes;
+use std::time::Clock;
+
+/// Opens the spool, and serves the clients of the socket until somebody ends it.
+pub fn run<L, H>(logged: &L, rt: &H, words: ServiceWords<'_>) -> Result<(), ShellFault>
+where
+    L: Files<File = File> + AllocGlobal + Log,
+    H: Files<File = File> + Net + Processes + Clock + Clone + Drop + AllocGlobal,
+{
+    if words.programs.is_some() {
+        check_child_ends(rt)?;
+    }
+    let (types, convs, programs) = read_rules(logged, words.types, words.convs, words.programs)?;
+    tell_programs(logged, rt, &programs);
+    let (launcher, place) = launcher_in(logged, rt, words.root, programs)?;
+    let most = words.children;
+    let watch = Watch::new(rt.alloc(), most)?;
+    let children = WatchedChildren::new(logged, rt.alloc(), &watch, launcher, most);
+    let rules = (types, convs);
+    serve_children(logged, rt, &words, &watch, (children, place), rules)
+}
+
+// Opens the spool, and serves the clients of the socket with these children.
+fn serve_children<L, H, C>(
+    logged: &L,
+    rt: &H,
+    words: &ServiceWords<'_>,
+    watch: &Watch,
+    children: (C, Place),
+    rules: (Types, Convs),
+) -> Result<(), ShellFault>
+where
+    L: Log,
+    H: Files<File = File> + Net + Processes + Clock + Clone + Drop + AllocGlobal,
+    C: Children + Drop,
+{
+    let (folder, engine) = open_folder_engine(logged, rt, words.root, words.size, children, rules)?;
+    let keeping = Keeping {
+        jobs: words.keep,
+        room: words.room,
+    };
+    let mut service = Service::new(logged, rt.alloc(), watch, engine, keeping)?;
+    let socket = socket_name(rt, words)?;
+    let mut door = open_door(rt, socket.as_str(), words.mode)?;
+    info!(logged; "serves {}", socket.as_str());
+    let served = service.serve(&mut door, &mut SystemTimes::new(rt), &mut Kills::new(rt));
+    let _ = remove_if_there(rt, Path::new(socket.as_str()));
+    // The folder is this program's until the service has ended.
+    drop(service);
+    drop(folder);
+    told_as(served)
+}
+
+// The end of the service, as it is told.
+fn told_as(served: Result<(), ServiceFault>) -> Result<(), ShellFault>
+    ensures { result ≡ told_of served }
+{
+    match served {
+        Ok(()) => Ok(()),
+        Err(ServiceFault::Memory) => Err(ShellFault::Memory),
+        Err(ServiceFault::Disk) => Err(ShellFault::Disk(DiskCause::Failed)),
+        Err(ServiceFault::Socket) => Err(ShellFault::Socket),
+    }
+}
+
+fn open_door<H: Files<File = File> + Net + AllocGlobal>(
+    rt: &H,
+    socket: &str,
+    mode: u32,
+) -> Result<SocketDoor, ShellFault> {
+    match SocketDoor::open(rt, socket, mode) {
+        Ok(door) => Ok(door),
+        Err(error) => Err(at_socket(error.kind())),
+    }
+}
+
+// What failed where the socket can't be made, by the kind of the system's error.
+fn at_socket(kind: ErrorKind) -> ShellFault
+    ensures { result ≡ at_socket kind }
+{
+    match kind {
+        ErrorKind::OutOfMemory => ShellFault::Memory,
+        _ => ShellFault::Socket,
+    }
+}
+
+// The socket of the words, or that of the folder.
+fn socket_name<H: AllocGlobal>(rt: &H, words: &ServiceWords<'_>) -> Result<String, AllocError>
+    ensures { IfOk result (λ name. string_bytes name ≡ socket_of words.now.root.now words.now.listen) }
+{
+    match words.listen {
+        Some(socket) => String::from_str(rt.alloc(), socket),
+        None => {
+            let root = words.root;
+            format!(in rt.alloc(); "{root}/spool.sock")
+        }
+    }
+}

@@ -1,0 +1,204 @@
+//! The words of the command line.
+ghost use Rattle.std.specs.Prelude.{◌≡◌, IfErr, IfOk, MatchResult, map};
+ghost use Rattle.std.specs.Option.{SomeIff, option_map};
+ghost use Rattle.clap.specs.Words.{app_of, found_of, matches_of, rows_of};
+ghost use Rattle.spool_host.specs.Words.{IsMistake, RefusesOnly};
+ghost use Rattle.spool_service.specs.Words.{AreFaultless, AreInRange, AreTaken, Fit, HasFlags, HasNumbers, IsAsked, IsMode, SaysMode, level_of, octal_of};
+ghost use Rattle.spool_service.specs.Words.{service_app, with_bounds, with_socket};
+
+use clap::{ArgMatches, Command};
+use log::Level;
+use service_rules::bounds::{KEPT_JOBS, LEAST_ROOM, MOST_CHILDREN};
+use spool_host::{
+    DEFAULT_SIZE, LONGEST_ROOT, WordsFault, flag_given, flag_option, long_root, mistake,
+    number_given, number_option, parse, spool_command, text_option,
+};
+use std::alloc::{AllocError, Global};
+use std::convert::AsStr;
+
+// The mode of the socket, where the words don't say it, and the greatest one.
+const USUAL_MODE: u32 = 0o660;
+
+const GREATEST_MODE: u32 = 0o777;
+
+/// What the words ask for.
+#[derive(Clone, Copy)]
+pub struct ServiceWords<'a> {
+    /// The folder of the spool's file.
+    pub root: &'a str,
+    /// The socket. Without one it is that of the folder.
+    pub listen: Option<&'a str>,
+    /// Who may open the socket.
+    pub mode: u32,
+    /// The file of mime.types(5). Without one it counts as empty.
+    pub types: Option<&'a str>,
+    /// The file of mime.convs(5). Without one it counts as empty.
+    pub convs: Option<&'a str>,
+    /// The file that says which programs filters and backends are. Without one it counts as empty.
+    pub programs: Option<&'a str>,
+    /// The length in bytes of a spool that is made.
+    pub size: u64,
+    /// How many ended jobs are kept.
+    pub keep: usize,
+    /// A checkpoint is made where less than so many hundredths are left of the room behind the last one.
+    pub room: u8,
+    /// How many children run at once.
+    pub children: usize,
+    /// Up to which level lines are told.
+    pub level: Level,
+}
+
+/// Reads the words of the command line, of which the first is the program's name.
+pub fn read_words<'a, S: AsStr>(
+    alloc: Global,
+    words: &'a [S],
+) -> Result<ServiceWords<'a>, WordsFault>
+    ensures asked { IfOk result (IsAsked (matches_of service_app (map S.text words.entry.now))) }
+    ensures in_range { IfOk result AreInRange }
+    ensures taken { MatchResult result (λ _. AreTaken (map S.text words.entry.now))
+        (RefusesOnly (AreTaken (map S.text words.entry.now))) }
+    ensures mistake { AreFaultless (map S.text words.entry.now) → IfErr result IsMistake }
+{
+    let Ok(mut command) = service_command(alloc) else {
+        return Err(WordsFault::Memory);
+    };
+    match parse(&mut command, words) {
+        Ok(matches) => words_in(&mut command, &matches),
+        Err(fault) => Err(fault),
+    }
+}
+
+// What the values that were found ask for.
+fn words_in<'a>(
+    command: &mut Command<'_>,
+    matches: &ArgMatches<'a>,
+) -> Result<ServiceWords<'a>, WordsFault>
+    requires numbers { HasNumbers matches.now }
+    requires flags { HasFlags matches.now }
+    ensures asked { IfOk result (IsAsked (rows_of (found_of matches.now))) }
+    ensures in_range { IfOk result AreInRange }
+    ensures fit { MatchResult result (λ _. Fit (rows_of (found_of matches.now)))
+        (RefusesOnly (Fit (rows_of (found_of matches.now)))) }
+    ensures mistake { IfErr result IsMistake }
+{
+    let Some(root) = matches.get_str("root") else {
+        return Err(mistake(command, "DIR is missing"));
+    };
+    if root.len() > LONGEST_ROOT {
+        return Err(long_root(command));
+    }
+    let Some(mode) = mode_of(matches.get_str("mode")) else {
+        return Err(mistake(command, "MODE is no number of octal digits up to 777"));
+    };
+    Ok(ServiceWords {
+        root,
+        listen: matches.get_str("listen"),
+        mode,
+        types: matches.get_str("types"),
+        convs: matches.get_str("convs"),
+        programs: matches.get_str("programs"),
+        size: number_given(matches, "size", DEFAULT_SIZE),
+        keep: number_given(matches, "keep", KEPT_JOBS as u64) as usize,
+        room: number_given(matches, "room", u64::from(LEAST_ROOM)) as u8,
+        children: number_given(matches, "children", MOST_CHILDREN as u64) as usize,
+        level: level_given(matches),
+    })
+}
+
+// The mode that is given, or else the usual one.
+fn mode_of(given: Option<&str>) -> Option<u32>
+    ensures { SaysMode (option_map (λ text. text.now) given.entry) result }
+{
+    match given {
+        Some(text) => octal_mode(text),
+        None => Some(USUAL_MODE),
+    }
+}
+
+// The mode that octal digits say.
+fn octal_mode(text: &str) -> Option<u32>
+    ensures { SomeIff result (IsMode text.now) (octal_of text.now) }
+{
+    match u32::from_str_radix(text, 8) {
+        Ok(mode) if mode <= GREATEST_MODE => Some(mode),
+        _ => None,
+    }
+}
+
+// Up to which level lines are told.
+fn level_given(matches: &ArgMatches<'_>) -> Level
+    requires { HasFlags matches.now }
+    ensures { result ≡ level_of (rows_of (found_of matches.now)) }
+{
+    if flag_given(matches, "verbose") {
+        Level::Debug
+    } else if flag_given(matches, "quiet") {
+        Level::Error
+    } else {
+        Level::Info
+    }
+}
+
+// The program's command, as clap knows it.
+fn service_command<'a>(alloc: Global) -> Result<Command<'a>, AllocError>
+    ensures { IfOk result (λ command. app_of command ≡ service_app) }
+{
+    let command = spool_command(
+        alloc,
+        "spool_service",
+        "Serves a print spool to the clients of a socket",
+        "Keep the spool in the file spool.disk of this folder",
+    )?;
+    let command = socket_options(alloc, command)?;
+    let command = bound_options(alloc, command)?;
+    let quiet = flag_option(alloc, "quiet", "Tell what failed alone");
+    let verbose = flag_option(alloc, "verbose", "Tell each start of a child too");
+    command.arg(quiet)?.arg(verbose)
+}
+
+// The command with the options of the socket, too.
+fn socket_options<'a>(alloc: Global, command: Command<'a>) -> Result<Command<'a>, AllocError>
+    ensures { IfOk result (λ more. app_of more ≡ with_socket (app_of command.entry)) }
+{
+    let listen = text_option(
+        alloc,
+        "listen",
+        "SOCKET",
+        "Serve clients on this socket [default: DIR/spool.sock]",
+    );
+    let mode = text_option(
+        alloc,
+        "mode",
+        "MODE",
+        "Who may open the socket [default: 0660]",
+    );
+    command.arg(listen)?.arg(mode)
+}
+
+// The command with the options that bound what is kept and run, too.
+fn bound_options<'a>(alloc: Global, command: Command<'a>) -> Result<Command<'a>, AllocError>
+    ensures { IfOk result (λ more. app_of more ≡ with_bounds (app_of command.entry)) }
+{
+    let keep = number_option(
+        alloc,
+        "keep",
+        "N",
+        (0, 1_000_000),
+        "How many ended jobs are kept [default: 500]",
+    );
+    let room = number_option(
+        alloc,
+        "room",
+        "PERCENT",
+        (1, 90),
+        "Make a checkpoint where less of the journal is left [default: 25]",
+    );
+    let children = number_option(
+        alloc,
+        "children",
+        "N",
+        (1, 1_000),
+        "How many children run at once [default: 32]",
+    );
+    command.arg(keep)?.arg(room)?.arg(children)
+}

@@ -1,0 +1,66 @@
+#!/usr/bin/env python3
+"""Runs the service with real clients and children: service.py [--long] [--list] [SERVICE [TEST..]]
+
+SERVICE is the program, and crates/spool_service/out/spool_service (made by `rt run` in that folder) where none is given. No clause
+can say what a socket, a child or a clock does, so these are the tests of the loop. Each TEST is the name of a function of
+the files beside this one, or of one of these files; without one all are run. --list prints their names.
+
+| File | What it tries |
+|---|---|
+| service_words.py | the words of the service alone (`job`, `wait`, `watch`, `shutdown`), its socket, and its end |
+| service_clients.py | clients that stall, flood, never read, come too many, and are cut at each byte |
+| service_children.py | children that are slow, hang and are ended, how many run at once, and a full folder |
+| service_crashes.py | a service that is killed, also at random, and the files that a power cut leaves |
+| service_office.py | the clock, the housekeeping, a day of an office in fast motion, and thousands of jobs |
+
+The backends are small programs of sh in a fresh folder for each test. Some tests take long by what they are, and have fewer
+turns unless --long is given, or SERVICE_LONG is set: with it the service is killed 1,000 times, prints 10,000 jobs, and has 2,000
+files of power cuts; that takes an hour or more, and else some five to seven minutes. What wants root, strace, gcc or the built
+spool_shell is left out where that isn't there, and told as `left out`. Times are told, not judged.
+
+The last line is `N of N`, with what was left out, and status 0; or how many failed, with status 1. The folder of a test that failed
+stays then, and is named.
+"""
+import os
+import sys
+
+import service_children
+import service_clients
+import service_crashes
+import service_office
+import service_words
+from service_parts import Folder, run_test
+
+FILES = [service_words, service_clients, service_children, service_crashes, service_office]
+
+
+def wanted_tests(names):
+    """The tests of these names, or of the files of these names, or all."""
+    tests = [(file.__name__, test) for file in FILES for test in file.TESTS]
+    known = {name for file, test in tests for name in (file, test.__name__)}
+    unknown = [name for name in names if name not in known]
+    if unknown:
+        sys.exit(f"no test {' '.join(unknown)}: --list prints them")
+    return [test for file, test in tests if not names or file in names or test.__name__ in names]
+
+
+def main():
+    flags = [word for word in sys.argv[1:] if word.startswith("--")]
+    words = [word for word in sys.argv[1:] if not word.startswith("--")]
+    if "--list" in flags:
+        print("\n".join(test.__name__ for test in wanted_tests([])))
+        return 0
+    Folder.is_long = "--long" in flags or bool(os.environ.get("SERVICE_LONG"))
+    Folder.service = os.path.abspath(words[0] if words else Folder.service)
+    if not os.path.exists(Folder.service):
+        sys.exit(f"no program {Folder.service}: run `rt run` in crates/spool_service first")
+    tests = wanted_tests(words[1:])
+    ends = [run_test(test) for test in tests]
+    passed, skipped = ends.count("passed"), ends.count("skipped")
+    part = f", {skipped} left out" if skipped else ""
+    print(f"{passed} of {len(tests) - skipped}{part}")
+    return 1 if "failed" in ends else 0
+
+
+if __name__ == "__main__":
+    sys.exit(main())

@@ -1,0 +1,476 @@
+"""Tests of clients: what one of them does, or leaves undone, holds nobody else up, and costs the service no more than its place.
+See tests/service.py."""
+import random
+import resource
+import select
+import signal
+import socket
+import threading
+import time
+
+from service_parts import Client, Difference, LONGEST, at_once, holds, listings, patient_client, same, told, until
+
+# How many places there are.
+PLACES = 64
+
+BUSY = "error busy"
+
+
+# ---- one at a time
+
+
+def a_client_that_stalls_in_a_send(folder):
+    folder.start()
+    client, other = Client(folder), Client(folder)
+    folder.queue(client, "q")
+    job = client.create("q")
+    client.say(b"send %d 60000\n" % job + b"y" * 30_000)
+    told("listings beside it", listings(other))
+    other.until_state(other.submit("q", "other\n"), "9")
+    client.close()
+    time.sleep(0.2)
+    fields = other.fields(job)
+    same("its job", (fields["state"], fields["size"]), ("4", "0"))
+
+
+def a_client_that_never_reads(folder):
+    folder.start()
+    client, other = Client(folder), Client(folder)
+    for name in range(20):
+        folder.queue(other, f"q{name}")
+    client.line.settimeout(2)
+    sent = 0
+    try:
+        while sent < 40_000_000:
+            sent += client.line.send(b"queues\n" * 1_000)
+    except TimeoutError:
+        pass
+    print(f"  it could send {sent} bytes")
+    holds("it was held up", sent < 2_000_000)
+    told("listings beside it", listings(other))
+    # It has lost nothing: once it reads, it gets each reply.
+    client.line.settimeout(LONGEST)
+    client.line.shutdown(socket.SHUT_WR)
+    got = []
+    while piece := client.line.recv(1_000_000):
+        got.append(piece)
+    replies = b"".join(got)
+    print(f"  its replies, read in the end: {len(replies)} bytes; memory of the service {folder.memory()} kB")
+    same("its replies", replies.count(b"\nok 20\n"), sent // 7)
+
+
+def a_client_that_reads_slowly(folder):
+    """It always leaves something unread. Of what it has taken nothing is kept."""
+    folder.start()
+    client, other = Client(folder), Client(folder)
+    for name in range(50):
+        folder.queue(other, f"q{name:02}")
+    client.line.setsockopt(socket.SOL_SOCKET, socket.SO_RCVBUF, 4_096)
+    stop = threading.Event()
+
+    def ask():
+        try:
+            while not stop.is_set():
+                client.line.send(b"queues\n" * 100)
+        except OSError:
+            pass
+
+    thread = threading.Thread(target=ask)
+    thread.start()
+    time.sleep(0.5)
+    before, got, began = folder.memory(), 0, time.time()
+    while got < 20_000_000 and time.time() - began < 15:
+        got += len(client.line.recv(20_000))
+    after, took = folder.memory(), time.time() - began
+    stop.set()
+    client.line.shutdown(socket.SHUT_RDWR)
+    thread.join()
+    # Under an address sanitizer what was let go is kept for a while, so memory is only told.
+    print(f"  it took {got} bytes in {took:.1f} s; memory before {before} kB, after {after} kB")
+
+
+def a_flood(folder):
+    folder.start()
+    flooder, other = Client(folder), Client(folder)
+    stop, done = threading.Event(), [0]
+
+    def flood():
+        while not stop.is_set():
+            flooder.say(b"cancel 999999\n" * 200)
+            got = 0
+            while got < 200:
+                got += flooder.line.recv(65_536).count(b"\n")
+            done[0] += 200
+
+    thread = threading.Thread(target=flood)
+    thread.start()
+    try:
+        began = time.time()
+        times = listings(other, 100)
+        told(f"listings beside {done[0] / (time.time() - began):.0f} commands/s of another client", times)
+    finally:
+        stop.set()
+        thread.join()
+
+
+def a_client_that_leaves_while_it_waits(folder):
+    folder.start()
+    client = Client(folder)
+    folder.queue(client, "q")
+    job = client.create("q")
+    time.sleep(0.2)
+    before = folder.descriptors()
+    others = [Client(folder) for _ in range(PLACES - 1)]
+    for other in others:
+        other.say(f"wait {job}\n")
+    until("all have a place", lambda: folder.descriptors() == before + PLACES - 1)
+    for other in others:
+        other.close()
+    until("their places are free", lambda: folder.descriptors() == before, 5)
+    same("another one", Client(folder).ask(f"job {job}\n"), f"job {job}")
+
+
+def an_end_of_text(folder):
+    folder.start()
+    client = Client(folder)
+    # A line without its line feed is no command: whoever sent it may have been killed.
+    client.say("queues\nqueues\nshutdown")
+    client.line.shutdown(socket.SHUT_WR)
+    same("both are answered", (client.reply(), client.reply(), client.is_closed()), ("ok 0", "ok 0", True))
+    same("it serves on", Client(folder).ask("queues\n"), "ok 0")
+
+
+# ---- cut at each byte
+
+
+def conversation(job):
+    """The commands about a job that is to be made, each with its replies."""
+    row = f'job {job} q 3 none "u" 24 0 "t"'
+    return [
+        ('create q u "t" 1 50 ""\n', [f"ok job {job}"]),
+        (f"send {job} 12\nend 1\njobs\ny\n", ["ok bytes 12"]),
+        (f"send {job} 12\nhello\nworld\n\n", ["ok bytes 24"]),
+        ("job 999999\n", ["error job"]),
+        (f"hold {job} indefinite\n", ["ok"]),
+        (f"close {job} f\n", ["ok type application/octet-stream stages 1"]),
+        (f"release {job}\n", ["ok"]),
+        (f"wait 999999\ncancel {job}\n", ["error job", "ok"]),
+        (f"wait {job}\n", [row.replace("3 none", "7 canceled"), "ok 1"]),
+    ]
+
+
+def cut_at_each_byte(folder):
+    """A conversation in two pieces, with another client's command between them, has its replies wherever it is cut."""
+    folder.start()
+    client, other = Client(folder), Client(folder)
+    folder.queue(other, "q")
+    # No job starts by itself.
+    same("disable", other.ask("disable q\n"), "ok")
+    cut, job = 0, 1
+    while cut <= len(text_of(conversation(job))):
+        said = conversation(job)
+        text, wanted = text_of(said), [line for _, lines in said for line in lines]
+        client.say(text[:cut])
+        other.listing("queues\n")
+        client.say(text[cut:])
+        same(f"cut at byte {cut}", [client.reply() for _ in wanted], wanted)
+        cut, job = cut + 1, job + 1
+    print(f"  {cut} cuts")
+
+
+def text_of(said):
+    return "".join(text for text, _ in said)
+
+
+# What is so of the job after each of the commands: its state, and the bytes of its document.
+AFTER = [None, ("4", "0"), ("4", "12"), ("4", "24"), ("4", "24"), ("4", "24"), ("4", "24"), ("3", "24"), ("7", "24"), ("7", "24")]
+
+
+def left_at_each_byte(folder):
+    """A client that leaves within a command has done nothing by it, and what it was answered is there."""
+    folder.start()
+    other = Client(folder)
+    folder.queue(other, "q")
+    same("disable", other.ask("disable q\n"), "ok")
+    time.sleep(0.2)
+    cut, job, before = 0, 1, folder.descriptors()
+    while cut <= len(text_of(conversation(job))):
+        whole = leave_at(folder, job, cut)
+        until("its descriptor is closed", lambda: folder.descriptors() <= before)
+        state = found(other, job)
+        same(f"left at byte {cut}", state, AFTER[whole])
+        cut, job = cut + 1, job + (state is not None)
+    print(f"  {cut} cuts")
+
+
+def leave_at(folder, job, cut):
+    """A client says so many bytes, takes the replies that it is owed, and leaves. How many of its commands were whole."""
+    client, said, whole, length = Client(folder), conversation(job), 0, 0
+    client.say(text_of(said)[:cut])
+    for text, lines in said:
+        length += len(text)
+        if cut < length:
+            break
+        same(f"replies before byte {cut}", [client.reply() for _ in lines], lines)
+        whole += 1
+    client.close()
+    return whole
+
+
+def found(client, job):
+    fields = client.fields(job)
+    return (fields["state"], fields["size"]) if fields else None
+
+
+# ---- many
+
+
+def fifty_clients_at_once(folder):
+    folder.start()
+    first = Client(folder)
+    for name in range(4):
+        folder.queue(first, f"q{name}")
+    times = []
+
+    def print_one(number):
+        began = time.time()
+        client = Client(folder)
+        job = client.submit(f"q{number % 4}", f"{number}\n")
+        times.append(time.time() - began)
+        client.until_state(job, "9", 120)
+
+    began = time.time()
+    at_once([lambda number=number: print_one(number) for number in range(50)])
+    told("jobs accepted from clients at once", times)
+    print(f"  all were printed after {time.time() - began:.2f} s")
+    same("printed", sorted(folder.printed().split(), key=int), [str(number) for number in range(50)])
+
+
+def the_65th_connection(folder):
+    folder.start()
+    clients = [Client(folder) for _ in range(PLACES)]
+    for client in clients:
+        same("a reply", client.ask("queues\n"), "ok 0")
+    late = Client(folder)
+    same("the 65th", (late.reply(), late.is_closed()), (BUSY, True))
+    clients[5].close()
+    time.sleep(0.2)
+    late = Client(folder)
+    same("a place that is free again", late.ask("queues\n"), "ok 0")
+    time.sleep(10.2)
+    for client in clients[:5] + clients[6:]:
+        if client is not clients[40]:
+            same("a reply", client.ask("queues\n"), "ok 0")
+    same("a reply", late.ask("queues\n"), "ok 0")
+    another = Client(folder)
+    same("the 65th, beside one idle for 10 s", another.ask("queues\n"), "ok 0")
+    same("the idle one", clients[40].is_closed(), True)
+    same("another one", clients[0].ask("queues\n"), "ok 0")
+
+
+def a_crowd_at_the_door(folder):
+    """Those who came while the service was stopped are all answered, though they are more than it lets in at a time."""
+    folder.start()
+    clients = [Client(folder) for _ in range(PLACES)]
+    for client in clients:
+        same("a reply", client.ask("queues\n"), "ok 0")
+    # Until it has nothing to do, and would sleep for good.
+    time.sleep(2)
+    folder.running.send_signal(signal.SIGSTOP)
+    late = [Client(folder) for _ in range(2 * PLACES)]
+    folder.running.send_signal(signal.SIGCONT)
+    for client in late:
+        same("one for whom there is no place", (client.reply(), client.is_closed()), (BUSY, True))
+    same("one who is there", clients[0].ask("queues\n"), "ok 0")
+
+
+def clients_that_come_and_go(folder):
+    folder.start()
+    first = Client(folder)
+    same("a reply", first.ask("queues\n"), "ok 0")
+    began, before = time.time(), folder.descriptors()
+    for number in range(1_000):
+        client = Client(folder)
+        if number % 3 == 0:
+            say_if_there(client, "queues\n")
+            holds("a reply", client.reply() in ("ok 0", BUSY))
+        if number % 3 == 1:
+            client.say("send 1 500\nabc")
+        client.close()
+    until("the descriptors", lambda: folder.descriptors() == before)
+    print(f"  1000 in {time.time() - began:.2f} s; memory {folder.memory()} kB")
+
+
+def a_thousand_connections(folder):
+    """Each of a thousand that come at once, and stay, is served or told that there is no place."""
+    soft, hard = resource.getrlimit(resource.RLIMIT_NOFILE)
+    resource.setrlimit(resource.RLIMIT_NOFILE, (min(4_096, hard), hard))
+    folder.start()
+    before = folder.descriptors()
+    began, clients = time.time(), []
+    for _ in range(1_000):
+        clients.append(Client(folder))
+        say_if_there(clients[-1], "queues\n")
+    replies = [client.reply() for client in clients]
+    took = time.time() - began
+    counts = {reply: replies.count(reply) for reply in sorted(set(replies))}
+    print(f"  {counts} in {took:.2f} s; descriptors {folder.descriptors()}, memory {folder.memory()} kB")
+    same("served, or told", set(counts) <= {"ok 0", BUSY}, True)
+    holds("as many as there are places were served", counts["ok 0"] >= PLACES)
+    holds("its descriptors", folder.descriptors() <= before + PLACES)
+    # Nobody was idle for ten seconds and had to go.
+    same("and no more", counts["ok 0"] == PLACES or 10 < took, True)
+    for client in clients:
+        client.close()
+    until("a place for the next one", lambda: patient_client(folder).ask("queues\n") == "ok 0")
+    until("the descriptors", lambda: folder.descriptors() <= before + 1)
+    resource.setrlimit(resource.RLIMIT_NOFILE, (soft, hard))
+
+
+def clients_beyond_the_descriptors(folder):
+    """One for whom the service has no descriptor comes in once it has, and the others are served meanwhile."""
+    folder.limit_descriptors(32)
+    folder.start()
+    first = Client(folder)
+    others = [Client(folder) for _ in range(40)]
+    for other in others:
+        other.say("queues\n")
+    time.sleep(0.3)
+    same("the first one", first.ask("queues\n"), "ok 0")
+    holds("it is told, and not on and on", 1 <= folder.log().count("a client can't be let in") <= 5)
+    for other in others:
+        same("a reply", other.reply(), "ok 0")
+        other.close()
+    same("the first one", first.ask("queues\n"), "ok 0")
+
+
+def say_if_there(client, text):
+    """Says something to a service that may have closed the line."""
+    try:
+        client.say(text)
+    except ConnectionError:
+        pass
+
+
+# ---- two hundred, each of which does something else in turn
+
+
+def comes_and_goes(folder, chance):
+    Client(folder).close()
+
+
+def asks_and_goes(folder, chance):
+    client = Client(folder)
+    reply = client.ask(chance.choice(["queues\n", "jobs\n", "job 1\n", "nonsense\n", "watch\n"]))
+    holds("it was answered", reply != "")
+    client.close()
+
+
+def stalls(folder, chance):
+    client = Client(folder)
+    client.say(b"send 1 60000\n" + b"z" * chance.randrange(60_000))
+    time.sleep(chance.uniform(0, 0.5))
+    client.close()
+
+
+def never_reads(folder, chance):
+    client = Client(folder)
+    client.line.setblocking(False)
+    for _ in range(2_000):
+        if not select.select([], [client.line], [], 0.05)[1]:
+            break
+        client.line.send(b"jobs\nqueues\n" * 50)
+    client.close()
+
+
+def floods(folder, chance):
+    client = Client(folder)
+    client.say(b"cancel 999999\n" * chance.randrange(1, 400))
+    client.line.shutdown(socket.SHUT_WR)
+    while client.line.recv(65_536):
+        pass
+    client.close()
+
+
+def is_cut(folder, chance):
+    client = Client(folder)
+    text = text_of(conversation(1_000_000)).encode()
+    client.say(text[: chance.randrange(len(text))])
+    client.close()
+
+
+def waits_for_ever(folder, chance):
+    client = Client(folder)
+    client.say("wait 1\nwatch\n")
+    time.sleep(chance.uniform(0, 0.5))
+    client.close()
+
+
+KINDS = [comes_and_goes, asks_and_goes, stalls, never_reads, floods, is_cut, waits_for_ever]
+
+
+def two_hundred_clients(folder):
+    """They come and go, stall, flood, never read and are cut, more of them than there are places. One beside them is served as
+    if it were alone, and its jobs are printed."""
+    folder.start()
+    good = Client(folder)
+    folder.queue(good, "q")
+    # A job that waits for ever, for which others wait, and of which no cut command is to speak.
+    same("the first job", good.create("q"), 1)
+    time.sleep(0.2)
+    before, stop, turns = folder.descriptors(), threading.Event(), []
+
+    def others(seed):
+        chance = random.Random(seed)
+        while not stop.is_set():
+            try:
+                chance.choice(KINDS)(folder, chance)
+            except (OSError, Difference):
+                # It was told that there is no place, or the line was closed on it.
+                time.sleep(0.01)
+            turns.append(seed)
+
+    threads = [threading.Thread(target=others, args=(seed,)) for seed in range(200)]
+    for thread in threads:
+        thread.start()
+    try:
+        times, jobs = beside_others(good, 60 if folder.is_long else 6)
+    finally:
+        stop.set()
+        for thread in threads:
+            thread.join()
+    told(f"listings beside {len(turns)} turns of 200 others", times)
+    print(f"  memory {folder.memory()} kB")
+    good.until_ended(jobs, "9", 60)
+    same("each was printed once", sorted(folder.printed().split(), key=int), [str(n) for n in range(len(jobs))])
+    until("the descriptors", lambda: folder.descriptors() == before)
+    same("the job of which nobody said anything", good.state(1), "4 job-incoming")
+
+
+def beside_others(client, seconds):
+    """How long each listing of a client takes for so long, and which jobs it made meanwhile."""
+    times, jobs, end = [], [], time.time() + seconds
+    while time.time() < end:
+        times += listings(client, 5)
+        jobs.append(client.submit("q", f"{len(jobs)}\n"))
+        time.sleep(0.02)
+    return times, jobs
+
+
+TESTS = [
+    a_client_that_stalls_in_a_send,
+    a_client_that_never_reads,
+    a_client_that_reads_slowly,
+    a_flood,
+    a_client_that_leaves_while_it_waits,
+    an_end_of_text,
+    cut_at_each_byte,
+    left_at_each_byte,
+    fifty_clients_at_once,
+    the_65th_connection,
+    a_crowd_at_the_door,
+    clients_that_come_and_go,
+    a_thousand_connections,
+    clients_beyond_the_descriptors,
+    two_hundred_clients,
+]

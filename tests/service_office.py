@@ -1,0 +1,323 @@
+"""Tests of a service over a long time: its clock, its housekeeping, a day of an office, and thousands of jobs. See tests/service.py."""
+import os
+import random
+import shutil
+import subprocess
+import time
+from dataclasses import dataclass
+
+from service_parts import Client, HERE, Skipped, at_once, holds, patient_client, same, until
+
+# ---- the clock and the housekeeping
+
+
+def the_clock_is_told_where_it_matters(folder):
+    folder.start()
+    client = Client(folder)
+    folder.queue(client, "q")
+    moment = int(time.time()) + 3
+    job = client.create("q")
+    same("hold", client.ask(f"hold {job} {moment}\n"), "ok")
+    client.finish(job)
+    client.until_state(job, "9")
+    late = time.time() - moment
+    print(f"  a hold that ended was over {late:.2f} s later")
+    holds("not before", 0 <= late)
+    client.close()
+    time.sleep(1.5)
+    before, work = folder.disk_time(), folder.work()
+    time.sleep(4)
+    same("an idle service writes nothing", folder.disk_time(), before)
+    print(f"  processor time of an idle service in 4 s: {folder.work() - work:.0f} ms")
+
+
+def a_moment_that_goes_by(folder):
+    """A job that is to start by a moment is canceled behind it, and one that was in time is printed."""
+    folder.start()
+    client = Client(folder)
+    folder.queue(client, "q")
+    moment = int(time.time()) + 4
+    late, in_time = client.create("q", by=moment), client.create("q", by=moment)
+    same("hold", client.ask(f"hold {late} indefinite\n"), "ok")
+    client.finish(late)
+    client.finish(in_time)
+    client.until_state(in_time, "9")
+    same("before its moment", client.state(late)[0], "4")
+    client.until_state(late, "7")
+    print(f"  it was canceled {time.time() - moment:.2f} s behind its moment")
+    holds("not before", moment <= time.time())
+
+
+def a_clock_that_goes_back(folder):
+    """A system clock that tells less than the spool knows changes nothing, until it has caught up."""
+    library = fast_clock(folder)
+    folder.environment = {"LD_PRELOAD": library, "FAST_CLOCK": f"{time.time()} {DAWN} 1"}
+    folder.start()
+    client = Client(folder)
+    folder.queue(client, "q")
+    job = client.create("q")
+    same("hold", client.ask(f"hold {job} {DAWN + 2}\n"), "ok")
+    client.finish(job)
+    client.until_state(job, "9")
+    known = moment_of(client)
+    holds(f"it was told the time: {known}", DAWN + 2 <= known <= DAWN + 60)
+    folder.kill()
+    folder.environment["FAST_CLOCK"] = f"{time.time()} {DAWN - 100_000} 1"
+    folder.start()
+    client = Client(folder)
+    client.until_state(client.submit("q"), "9")
+    held = client.create("q")
+    same("hold", client.ask(f"hold {held} {known + 2}\n"), "ok")
+    client.finish(held)
+    before = folder.disk_time()
+    time.sleep(3)
+    same("nothing is written", folder.disk_time(), before)
+    same("it is held still", client.state(held)[0], "4")
+    same("the moment stays", moment_of(client), known)
+
+
+def moment_of(client):
+    """The moment that the engine knows: the last one until which a hold is over at once."""
+    low, high = 0, 4_000_000_000
+    job = client.create("q")
+    while low + 1 < high:
+        middle = (low + high) // 2
+        same("hold", client.ask(f"hold {job} {middle}\n"), "ok")
+        low, high = (middle, high) if client.ask(f"release {job}\n") == "error 15 NotHeld" else (low, middle)
+    same("cancel", client.ask(f"cancel {job}\n"), "ok")
+    return low
+
+
+def fast_clock(folder):
+    """The library by which the system's clock goes otherwise."""
+    if not shutil.which("gcc"):
+        raise Skipped("a C compiler (Debian's package gcc)")
+    library = folder.at("fast_clock.so")
+    subprocess.run(["gcc", "-shared", "-fPIC", "-O1", "-o", library, os.path.join(HERE, "fast_clock.c")], check=True)
+    return library
+
+
+def a_job_is_tried_again(folder):
+    """A printer that is away is tried again after its queue's interval, without a command."""
+    folder.backend("away", '#!/bin/sh\n[ -e FOLDER/there ] || exit 6\ncat "$6" >>FOLDER/printed\n')
+    folder.start()
+    client = Client(folder)
+    folder.queue(client, "q", policy="retry-job", scheme="away", interval=1)
+    job = client.submit("q")
+    until("some attempts", lambda: int(client.fields(job)["attempts"]) >= 2)
+    folder.write("there", "")
+    client.until_state(job, "9")
+    print(f"  printed by attempt {client.fields(job)['attempts']}")
+
+
+def old_jobs_are_purged(folder):
+    folder.start("--keep", "5")
+    client = Client(folder)
+    folder.queue(client, "q")
+    jobs = [client.submit("q", f"{number}\n") for number in range(20)]
+    until("the last ones", lambda: sorted(client.states()) == jobs[-5:])
+    same("all were printed", len(folder.printed().split()), 20)
+    same("one that was purged", client.ask(f"job {jobs[0]}\n"), "error job")
+
+
+def a_small_spool_goes_on(folder):
+    """What is printed on a spool that its journal fills again and again: the service makes room."""
+    folder.size = 16_384
+    folder.start("--keep", "5")
+    client = Client(folder)
+    folder.queue(client, "q")
+    full, count, began = [0], 600 if folder.is_long else 100, time.time()
+
+    def ask(text):
+        for _ in range(50):
+            reply = client.ask(text)
+            if reply != "error full":
+                return reply
+            full[0] += 1
+            time.sleep(0.1)
+        raise Skipped("error full, 50 times")
+
+    for _ in range(count):
+        job = int(ask('create q u "t" 1 50 ""\n').split()[2])
+        same("send", ask(f"send {job} 2\nx\n\n"), "ok bytes 2")
+        same("close", ask(f"close {job} f\n").split()[:2], ["ok", "type"])
+    until("all are printed", lambda: not any(state[0] in "35" for state in client.states().values()), 120)
+    took = [int(line.split()[-2]) for line in folder.log().splitlines() if "a checkpoint took" in line]
+    print(f"  {count} jobs: {full[0]} replies were `error full`; {len(took)} checkpoints, {sum(took)} ms of {time.time() - began:.1f} s")
+    same("printed", len(folder.printed().split()), count)
+    holds("checkpoints cost no more than a tenth of the time", sum(took[:-1]) * 10 < (time.time() - began) * 1_000)
+
+
+# ---- many jobs
+
+
+def thousands_of_jobs(folder):
+    """Memory and descriptors stay as they are, and so does the time of a job."""
+    # On a spool as large as one is without words: it has to be made room in meanwhile.
+    count, parts, folder.size = 10_000 if folder.is_long else 400, 10, 4_194_304
+    folder.words = ["--keep", "50", "--quiet"]
+    folder.start()
+    client = Client(folder)
+    for name in range(4):
+        folder.queue(client, f"q{name}", 0, scheme="slow")
+    before, found = None, []
+    for _ in range(parts):
+        began = time.time()
+        at_once([lambda number=number: submit_some(folder, number, count // parts // 4) for number in range(4)])
+        until("all are printed", lambda: {state[0] for state in client.states().values()} == {"9"}, 120)
+        found.append((time.time() - began, folder.memory()))
+        until("its descriptors", lambda: before in (None, folder.descriptors()))
+        before = folder.descriptors()
+    first, last = found[1], found[-1]
+    print(f"  {count} jobs, by tenths: the second in {first[0]:.2f} s, the last in {last[0]:.2f} s; memory {first[1]} and {last[1]} kB")
+    same("printed", len(folder.printed().split()), count)
+    if not is_sanitized(folder.service):
+        holds("memory stays as it is", last[1] < first[1] + 1_024)
+
+
+def submit_some(folder, queue, count):
+    client = Client(folder)
+    for _ in range(count):
+        client.submit(f"q{queue}", "x\n")
+    client.close()
+
+
+def is_sanitized(program):
+    """Whether a program was built with an address sanitizer, which keeps what was let go for a while."""
+    with open(program, "rb") as file:
+        return b"__asan_" in file.read()
+
+
+# ---- a day of an office
+
+HOUR = 3_600
+DAY = 24 * HOUR
+
+# The second of the system's clock at which the day begins.
+DAWN = 1_800_000_000
+
+QUEUES = ["desk", "front", "hall", "lab", "post", "room"]
+
+# A backend that tells when it printed, by the system's clock. While there is a file `QUEUE.off` the printer is away.
+PRINTER = """#!/bin/sh
+[ -e FOLDER/$PRINTER.off ] && exit 6
+echo "$3 $PRINTER $(date +%s.%N)" >>FOLDER/pages
+"""
+
+
+@dataclass
+class Letter:
+    """A job of the day: when it is made, until when it is held, by when it is to start, and whether it is to be printed."""
+    title: str
+    queue: str
+    made: int
+    held: int | None = None
+    by: int | None = None
+    is_printed: bool = True
+    job: int = 0
+
+
+class Day:
+    """A day in which the clock goes so many times as fast."""
+
+    def __init__(self, folder, faster, library):
+        self.folder, self.faster = folder, faster
+        self.began = time.time()
+        folder.environment = {"LD_PRELOAD": library, "FAST_CLOCK": f"{self.began} {DAWN} {faster}"}
+        self.client = None
+
+    def second_of(self, real):
+        """The second of the day at a moment of the system."""
+        return (real - self.began) * self.faster
+
+    def wait_until(self, second):
+        time.sleep(max(0, self.began + second / self.faster - time.time()))
+
+    def open(self):
+        self.folder.start("--keep", "100000")
+        self.client = Client(self.folder)
+
+    def print_letter(self, letter):
+        letter.job = self.client.create(letter.queue, letter.title, by=None if letter.by is None else DAWN + letter.by)
+        if letter.held is not None:
+            moment = "indefinite" if letter.held == DAY else DAWN + letter.held
+            same("hold", self.client.ask(f"hold {letter.job} {moment}\n"), "ok")
+        self.client.finish(letter.job, f"{letter.title}\n")
+
+    def ask(self, command):
+        same(command, self.client.ask(f"{command}\n"), "ok")
+
+    def kill(self):
+        """The service is killed, and started again."""
+        self.folder.kill()
+        self.open()
+
+
+def letters(count, chance):
+    """The jobs of a day, made from seven to seven. Some are held, some are to start by a moment, and some are too late."""
+    found = []
+    for number in range(count):
+        made = 7 * HOUR + chance.randrange(12 * HOUR)
+        letter = Letter(f"letter-{number}", chance.choice(QUEUES), made)
+        kind = chance.randrange(10)
+        if kind < 2:
+            letter.held = made + HOUR + chance.randrange(3 * HOUR)
+        elif kind == 2:
+            letter.by = made + 5 * HOUR
+        elif kind == 3:
+            letter.held, letter.by, letter.is_printed = DAY, made + HOUR, False
+        found.append(letter)
+    return found
+
+
+def a_day_of_an_office(folder):
+    """Twenty-four hours of six queues in a minute, or in ten: the system's clock goes as much faster for the service, by a library
+    that LD_PRELOAD names. The printer of `lab` is away from nine to eleven, `hall` is disabled at noon for an hour, and the
+    service is killed at three in the morning and at three in the afternoon."""
+    folder.backend("printer", PRINTER)
+    day = Day(folder, 144 if folder.is_long else 1_440, fast_clock(folder))
+    day.open()
+    for name in QUEUES:
+        folder.queue(day.client, name, "p", "retry-job", scheme="printer", interval=300)
+    made = letters(1_000 if folder.is_long else 100, random.Random(7))
+    plan = [(letter.made, lambda letter=letter: day.print_letter(letter)) for letter in made]
+    plan += [(3 * HOUR, day.kill), (15 * HOUR, day.kill)]
+    plan += [(9 * HOUR, lambda: folder.write("lab.off", "")), (11 * HOUR, lambda: os.remove(folder.at("lab.off")))]
+    plan += [(12 * HOUR, lambda: day.ask("disable hall")), (13 * HOUR, lambda: day.ask("enable hall"))]
+    for second, step in sorted(plan, key=lambda row: row[0]):
+        day.wait_until(second)
+        step()
+    day.wait_until(DAY)
+    check_day(folder, day, made)
+
+
+def check_day(folder, day, made):
+    states = patient_client(folder).states()
+    wrong = [(letter, states[letter.job]) for letter in made if states[letter.job][0] != ("9" if letter.is_printed else "7")]
+    same("letters that ended otherwise", wrong, [])
+    pages = {}
+    for line in folder.read("pages").splitlines():
+        title, queue, real = line.split()
+        pages.setdefault(title, []).append(day.second_of(float(real)))
+    same("letters that were printed", sorted(pages), sorted(letter.title for letter in made if letter.is_printed))
+    held = [letter for letter in made if letter.held not in (None, DAY)]
+    early = [letter.title for letter in held if min(pages[letter.title]) < letter.held - 1]
+    same("held ones that were printed before their moment", early, [])
+    late = max(min(pages[letter.title]) - letter.held for letter in held)
+    away = [letter for letter in made if letter.queue == "lab" and 9 * HOUR < letter.made < 10.9 * HOUR and letter.is_printed]
+    same("printed while the printer was away", [one.title for one in away if min(pages[one.title]) < 10.9 * HOUR], [])
+    again = sum(len(times) - 1 for times in pages.values())
+    print(f"  {len(made)} letters, {len(pages)} printed, {again} pages again; a held one was {late / 60:.1f} minutes late at the worst")
+    print(f"  the {len(away)} of the printer that was away were printed by {max([min(pages[one.title]) for one in away], default=0) / HOUR:.2f} h")
+
+
+TESTS = [
+    the_clock_is_told_where_it_matters,
+    a_moment_that_goes_by,
+    a_clock_that_goes_back,
+    a_job_is_tried_again,
+    old_jobs_are_purged,
+    a_small_spool_goes_on,
+    thousands_of_jobs,
+    a_day_of_an_office,
+]
