@@ -42,8 +42,9 @@ MOST_LOOKS = 1_000
 # The length of the disk: nothing else of the program takes just so many bytes.
 SIZE = 20_011
 
-# How many allocations of a round may be those of its lists: the queues that start nothing, the jobs, and those of them that are chosen.
-LISTED = 3
+# How many allocations of a round may be those of its lists: the queues that start nothing, twice, the jobs, those of them of which no
+# child runs, and those that are chosen.
+LISTED = 5
 
 TYPES = "a/a x\n"
 CONVS = "a/a a/b 10 f\n"
