@@ -72,8 +72,8 @@ def no_more_than_two_at_once(folder):
     same("how many are left", running, 0)
     holds("no more than two ran at once", most <= 2)
     same("the jobs of each queue", [len(turn) for turn in turns], [4] * 8)
-    # Each queue has had a turn before any has its last.
-    holds("all queues have their turn", max(turn[0] for turn in turns) < min(turn[3] for turn in turns))
+    # Each queue has had a turn before any has its third.
+    holds("all queues have their turn", max(turn[0] for turn in turns) < min(turn[2] for turn in turns))
 
 
 def a_child_that_hangs(folder):

@@ -12,9 +12,6 @@ pub const MOST_STEPS: usize = 256;
 /// How many connections are taken before the clients have their turn.
 pub const MOST_ACCEPTED: usize = 64;
 
-/// How many ticks follow one another before the clients have their turn.
-pub const MOST_TICKS: usize = 8;
-
 /// How long a turn without children waits at most, in milliseconds, so that the clock of the system is seen.
 pub const LONGEST_IDLE: u64 = 1_000;
 

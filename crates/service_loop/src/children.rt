@@ -23,6 +23,9 @@ pub struct Run {
 pub struct Watch {
     runs: RefCell<Vec<Run>>,
     starts: Cell<usize>,
+    // The jobs that were begun since the turn of the queues was passed on, and the place of the queue whose turn it is.
+    begun: RefCell<Vec<JobId>>,
+    first: Cell<usize>,
 }
 
 impl Watch {
@@ -31,6 +34,8 @@ impl Watch {
         Ok(Watch {
             runs: RefCell::new(Vec::with_capacity(alloc, most)?),
             starts: Cell::new(most),
+            begun: RefCell::new(Vec::with_capacity(alloc, most)?),
+            first: Cell::new(0),
         })
     }
 
@@ -56,6 +61,30 @@ impl Watch {
     /// Lets the next tick start no more than so many children.
     pub fn bound_starts(&self, starts: usize) {
         self.starts.set(starts);
+    }
+
+    /// The place among the queues of the one whose turn it is.
+    pub fn first(&self) -> usize {
+        self.first.get()
+    }
+
+    /// The turn is passed on to the queue at this place.
+    pub fn pass_to(&self, place: usize) {
+        self.first.set(place);
+    }
+
+    /// A job that was begun since the turn was passed on, each once.
+    pub fn next_begun(&self) -> Option<JobId> {
+        match self.begun.try_borrow_mut() {
+            Ok(mut begun) => begun.pop(),
+            Err(_) => None,
+        }
+    }
+
+    fn note_begun(&self, job: JobId) {
+        if let Ok(mut begun) = self.begun.try_borrow_mut() {
+            let _ = begun.push(job);
+        }
     }
 
     // So many, or as many as the loop lets start.
@@ -195,10 +224,14 @@ where
             return Err(ChildFault);
         }
         let job = order.job;
+        let is_first = order.stage.get() == 1;
         let inner = self.inner.start(order)?;
         let group = inner.group();
         self.running += 1;
         self.watch.add(Run { job, group });
+        if is_first {
+            self.watch.note_begun(job);
+        }
         debug!(self.log; "{name}: started");
         Ok(WatchedTicket { inner, job, name })
     }
@@ -219,7 +252,7 @@ where
         self.inner.has_ended(&mut ticket.inner)
     }
 
-    // Those that the others have, as far as so many may run.
+    // Those that the others have, as far as so many may run. The queues take turns as the loop says.
     fn places(&mut self) -> Option<Places> {
         let left = self
             .watch
@@ -227,15 +260,11 @@ where
         if left == 0 {
             return Some(Places { count: 0, first: 0 });
         }
-        match self.inner.places() {
-            Some(places) => Some(Places {
-                count: left.min(places.count),
-                first: places.first,
-            }),
-            None => Some(Places {
-                count: left,
-                first: 0,
-            }),
-        }
+        let count = match self.inner.places() {
+            Some(places) => left.min(places.count),
+            None => left,
+        };
+        let first = self.watch.first();
+        Some(Places { count, first })
     }
 }

@@ -11,6 +11,7 @@ use crate::house::is_changed_by;
 use crate::signals::Signals;
 use child_pipeline::Children;
 use command_lines::Command;
+use job_table::Table;
 use print_rounds::{Round, RoundFault};
 use service_texts::Changes;
 use spool_disk::Disk;
@@ -86,6 +87,7 @@ impl<'a, D: Disk, C: Children> Office<'a, D, C> {
     {
         self.bound_starts();
         let counts = self.engine.tick();
+        self.pass_turn();
         match counts {
             Ok(
                 Round {
@@ -158,6 +160,26 @@ impl<'a, D: Disk, C: Children> Office<'a, D, C> {
         self.watch.bound_starts(starts);
     }
 
+    // Passes the turn on, behind the last queue in turn that has begun a job.
+    fn pass_turn(&self) {
+        let table = self.engine.table();
+        let queues = table.queues().len();
+        if queues == 0 {
+            return;
+        }
+        let first = self.watch.first() % queues;
+        let mut steps = 0;
+        for _ in 0..queues {
+            let Some(job) = self.watch.next_begun() else {
+                break;
+            };
+            if let Some(at) = place_of(table, job) {
+                steps = usize::max(steps, steps_behind(first, at, queues));
+            }
+        }
+        self.watch.pass_to(first.saturating_add(steps) % queues);
+    }
+
     // How many queues have a job that is at rest or, if none is processing, a next one.
     fn startable(&self) -> usize {
         let table = self.engine.table();
@@ -209,4 +231,23 @@ fn serve<D: Disk, C: Children>(
         Ok(()) => Ok(()),
         Err(_) => Err(AllocError),
     }
+}
+
+// Where the queue of a job stands among the queues.
+fn place_of(table: &Table, job: JobId) -> Option<usize> {
+    let row = table.job(job)?;
+    table
+        .queues()
+        .iter()
+        .position(|queue| queue.name == row.job.queue)
+}
+
+// How many steps it is from one queue to the place behind another, in turn. No sum here is too large for its type.
+fn steps_behind(first: usize, at: usize, queues: usize) -> usize {
+    let steps = if first <= at {
+        at - first
+    } else {
+        queues.saturating_sub(first).saturating_add(at)
+    };
+    steps.saturating_add(1)
 }

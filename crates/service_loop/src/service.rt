@@ -1,6 +1,6 @@
 //! The loop: clients are served while children run.
 
-use crate::bounds::{LONGEST_END, LONGEST_IDLE, MOST_ACCEPTED, MOST_TICKS};
+use crate::bounds::{LONGEST_END, LONGEST_IDLE, MOST_ACCEPTED};
 use crate::children::Watch;
 use crate::clients::{Clients, Turns};
 use crate::door::{Coming, Door, Sign};
@@ -218,26 +218,22 @@ impl<'a, L: Log, D: Disk + Drop, C: Children + Drop, R: Door> Service<'a, L, D, 
         }
     }
 
-    // Ticks until nothing moves, or as often as there may be. Whether something moved. Where the service is to end no job is
-    // started, and those that are processing go on.
+    // One tick, so that clients have a turn behind it. Whether something moved. Where the service is to end no job is started,
+    // and those that are processing go on.
     fn tick(&mut self) -> bool {
-        let mut moved = false;
-        for _ in 0..MOST_TICKS {
-            match self.office.tick() {
-                Ok(
-                    Round {
-                        started: 0,
-                        finished: 0,
-                    },
-                ) => break,
-                Ok(_) => moved = true,
-                Err(fault) => {
-                    self.tell_fault(fault);
-                    break;
-                }
+        match self.office.tick() {
+            Ok(
+                Round {
+                    started: 0,
+                    finished: 0,
+                },
+            ) => false,
+            Ok(_) => true,
+            Err(fault) => {
+                self.tell_fault(fault);
+                false
             }
         }
-        moved
     }
 
     fn tell_fault(&self, fault: RoundFault) {
