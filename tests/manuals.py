@@ -98,7 +98,7 @@ def heads():
     for file in sorted(PAGES.iterdir()):
         text = file.read_text(encoding="utf-8")
         check(f".Dt {file.stem.upper()} {file.suffix[1:]}\n" in text, f"{file.name}: its .Dt isn't that of its name")
-        check(f".Nm {file.stem}\n" in text and "\n.Nd " in text, f"{file.name}: no name line")
+        check(re.search(rf"^\.Nm {file.stem}(?: ,)?$", text, re.MULTILINE) and "\n.Nd " in text, f"{file.name}: no name line")
         check(all(len(it) <= 160 for it in text.splitlines()), f"{file.name}: a line above 160 bytes")
         for named in sorted(set(re.findall(r"\.Xr (\S+) (\d)", text))):
             called = f"{named[0]}({named[1]})"
@@ -134,16 +134,24 @@ def heads_with_options(name):
 
 
 def front():
-    """The words of the front, once they are there."""
+    """The words of the front, once they are there: its tasks and its options stand in its page and in the completion."""
     folder = CRATES / FRONT[1]
-    if not folder.is_dir() or not (PAGES / FRONT[0]).exists():
+    if not folder.is_dir():
         return
     code = "\n".join(source(it.relative_to(CRATES)) for it in sorted(folder.rglob("*.rt")))
-    said = page(FRONT[0])
-    for option in sorted(set(re.findall(r'\.long\(\s*"([a-z][a-z-]*)"', code)) | set(OPTION.findall(code))):
-        check(f"-{option}" in said, f"{FRONT[0]} lacks --{option}")
-    for word in sorted(set(re.findall(r'Command::new\(\s*alloc,\s*"([a-z]+)"', code))):
-        check(re.search(rf"\b{word}\b", said), f"{FRONT[0]} lacks {word}")
+    said, completed = page(FRONT[0]), (HERE / "completions" / "spool.bash").read_text(encoding="utf-8")
+    long = set(re.findall(r'\b(?:text_option|flag_option)\(\s*alloc,\s*"([a-z][a-z-]*)"', code))
+    short = set(re.findall(r"\b(?:letter_option|letter_flag|lettered)\((?:[^'\"]*?),\s*'(.)'", code))
+    tasks = set(re.findall(r'task == "([a-z]+)"', code)) | set(re.findall(r'"spool (?:queue )?([a-z]+)"', code))
+    check(long and short and tasks, "the words of front_words can't be read")
+    for option in sorted(long):
+        check(re.search(rf"Fl -{option}\b", said), f"{FRONT[0]} lacks --{option}")
+        check(f"--{option}" in completed, f"completions/spool.bash lacks --{option}")
+    for letter in sorted(short):
+        check(re.search(rf"^\.(?:It |Op |Fl )?.*\b(?:Fl )(?:\S , )?{re.escape(letter)}(?!\w)", said, re.MULTILINE), f"{FRONT[0]} lacks -{letter}")
+    for task in sorted(tasks):
+        check(re.search(rf"^\.It .*\b{task}\b", said, re.MULTILINE), f"{FRONT[0]} lacks the task {task}")
+        check(re.search(rf"\b{task}\b", completed), f"completions/spool.bash lacks {task}")
 
 
 def commands():
@@ -228,7 +236,8 @@ def main():
         part()
     if not shutil.which("mandoc"):
         print("left out: the lint, since mandoc isn't installed (Debian's package mandoc)")
-    print("\n".join(FAULTS))
+    for fault in FAULTS:
+        print(fault)
     print(f"{COUNT} checks, {len(FAULTS)} failed")
     return 1 if FAULTS else 0
 
