@@ -1,0 +1,130 @@
+#!/usr/bin/env python3
+"""A newcomer's walk: runs the README's commands as they are written, and compares what they show: walk.py [--show]
+
+A block of the README that begins with ```console has commands, each behind `$ ` on a line of its own, and below each what it shows. They
+are run one after another by one bash, in a fresh copy of the repository's files with the results of the proved build, in a home of
+their own (HOME), so `~` is an empty folder at first. What a command shows on both streams has to be the lines below it: carriage returns, form feeds and
+blanks at the end of a line aside, and `...` stands for any text of a line. --show prints what is shown.
+
+Where a program isn't built, or `rt` isn't there, the walk is left out, and said to be. It also sees that each file that the README
+names is there. The last line is `N commands, 0 differ`, with status 0, or names how many differ, with status 1.
+"""
+import os
+import re
+import shutil
+import subprocess
+import sys
+import tempfile
+from pathlib import Path
+
+ROOT = Path(__file__).resolve().parent.parent
+PROGRAMS = ["spool_front", "spool_shell", "spool_service", "spool_admin", "spool_tools"]
+SECONDS = 1_500
+
+BLOCK = re.compile(r"^```console\n(.*?)^```$", re.MULTILINE | re.DOTALL)
+# A path in the README, and names that only stand for one.
+PATH = re.compile(r"`(?:man )?((?:[\w.-]+/)+[\w.-]+|[A-Z]+\.md|install\.sh)(?: [^`]*)?`|\]\(([\w./-]+)\)")
+
+
+def commands(text):
+    """The commands of the README in their order, each with the lines that it is to show."""
+    found = []
+    for block in BLOCK.findall(text):
+        for line in block.splitlines():
+            if line.startswith("$ "):
+                found.append((line[2:], []))
+            else:
+                found[-1][1].append(line.rstrip())
+    return found
+
+
+def absent(text):
+    """The files that the README names and that aren't there."""
+    named = {one or other for one, other in PATH.findall(text)}
+    return sorted(it for it in named if not (ROOT / it).exists())
+
+
+def copied(folder):
+    """A copy of the files that git knows, as they are now, with what the proved build has left."""
+    listed = subprocess.run(["git", "-C", ROOT, "ls-files", "-co", "--exclude-standard"], capture_output=True, text=True, check=True)
+    for name in listed.stdout.splitlines():
+        if (ROOT / name).is_file():
+            (folder / name).parent.mkdir(parents=True, exist_ok=True)
+            shutil.copy2(ROOT / name, folder / name)
+    for out in ROOT.glob("crates/*/out"):
+        # By links to the same bytes, where the file system can: the results take gigabytes.
+        target = folder / out.relative_to(ROOT)
+        if subprocess.run(["cp", "-al", out, target], capture_output=True).returncode:
+            shutil.rmtree(target, ignore_errors=True)
+            subprocess.run(["cp", "-a", out, target], check=True)
+
+
+def walked(found, folder):
+    """What each command shows, run by one bash in this folder."""
+    mark = "=walk-mark="
+    script = "".join(f"echo; echo {mark}\n{command}\n" for command, _ in found) + f"echo; echo {mark}\n"
+    home = folder.parent / "home"
+    home.mkdir()
+    environment = {**os.environ, "HOME": str(home), "LC_ALL": "C.UTF-8", "COLUMNS": "80"}
+    for name in ("SPOOL_SOCKET", "LPDEST", "PRINTER", "DESTDIR"):
+        environment.pop(name, None)
+    shell = subprocess.Popen(
+        ["bash", "-c", script], cwd=folder, env=environment, stdin=subprocess.DEVNULL, stdout=subprocess.PIPE, stderr=subprocess.STDOUT, start_new_session=True
+    )
+    try:
+        output, _ = shell.communicate(timeout=SECONDS)
+    except subprocess.TimeoutExpired:
+        os.killpg(shell.pid, 9)
+        output, _ = shell.communicate()
+    text = output.decode(errors="replace").replace("\r", "").replace("\f", "")
+    return [[line.rstrip() for line in part.strip("\n").splitlines()] for part in text.split(f"\n{mark}\n")[1:-1]]
+
+
+def fits(wanted, shown):
+    """Whether a line is the one that is wanted, in which `...` is any text."""
+    return re.fullmatch(".*".join(re.escape(it) for it in wanted.split("...")), shown) is not None
+
+
+def agrees(wanted, shown):
+    return len(wanted) == len(shown) and all(fits(*it) for it in zip(wanted, shown))
+
+
+def left_out(found):
+    """Why the walk can't be tried, if it can't."""
+    missing = [it for it in PROGRAMS if not (ROOT / "crates" / it / "out" / it).exists()]
+    if missing:
+        return f"the walk, since these aren't built: {' '.join(missing)}"
+    if any(re.search(r"\brt\b", command) for command, _ in found) and not shutil.which("rt"):
+        return "the walk, since there is no rt"
+    return None
+
+
+def main():
+    text = (ROOT / "README.md").read_text(encoding="utf-8")
+    found, wrong = commands(text), 0
+    for name in absent(text):
+        wrong += 1
+        print(f"the README names {name}, which isn't there")
+    why = left_out(found)
+    if why:
+        print(f"left out: {why}")
+        found = []
+    room = Path(tempfile.mkdtemp(prefix="w-"))
+    if found:
+        (room / "cegmandi").mkdir()
+        copied(room / "cegmandi")
+        shown = walked(found, room / "cegmandi")
+        shown += [["(it wasn't reached)"]] * (len(found) - len(shown))
+        for (command, wanted), lines in zip(found, shown):
+            if "--show" in sys.argv[1:]:
+                print("\n".join([f"$ {command}", *lines]))
+            if not agrees(wanted, lines):
+                wrong += 1
+                print("\n".join([f"differs: {command}", *(f"  wanted: {it}" for it in wanted), *(f"  shown:  {it}" for it in lines)]))
+    shutil.rmtree(room, ignore_errors=True)
+    print(f"{len(found)} commands, {wrong} differ")
+    return 1 if wrong else 0
+
+
+if __name__ == "__main__":
+    sys.exit(main())
