@@ -3,8 +3,9 @@
 
 A block of the README that begins with ```console has commands, each behind `$ ` on a line of its own, and below each what it shows. They
 are run one after another by one bash, in a fresh copy of the repository's files with the results of the proved build, in a home of
-their own (HOME), so `~` is an empty folder at first. What a command shows on both streams has to be the lines below it: carriage returns, form feeds and
-blanks at the end of a line aside, and `...` stands for any text of a line. --show prints what is shown.
+their own (HOME), so `~` is an empty folder at first. What a command shows on both streams has to be the lines below it: carriage returns, form
+feeds and blanks at the end of a line aside. `...` stands for any text of a line, and alone on a line for any lines. --show prints what is
+shown.
 
 Where a program isn't built, or `rt` isn't there, the walk is left out, and said to be. It also sees that each file that the README
 names is there. The last line is `N commands, 0 differ`, with status 0, or names how many differ, with status 1.
@@ -86,7 +87,12 @@ def fits(wanted, shown):
 
 
 def agrees(wanted, shown):
-    return len(wanted) == len(shown) and all(fits(*it) for it in zip(wanted, shown))
+    """Whether these lines are those that are wanted, of which one that is `...` is any lines."""
+    if not wanted:
+        return not shown
+    if wanted[0] == "...":
+        return any(agrees(wanted[1:], shown[count:]) for count in range(len(shown) + 1))
+    return bool(shown) and fits(wanted[0], shown[0]) and agrees(wanted[1:], shown[1:])
 
 
 def left_out(found):
