@@ -9,10 +9,11 @@
 #   PREFIX/bin                   spool; with --lp also lp, lpr, lpstat, cancel, lpq and lprm
 #   PREFIX/lib/cegmandi/bin      these six, without --lp, so that those of CUPS stay: put it first in PATH
 #   PREFIX/sbin                  spool_shell, spool_service, spool_admin
-#   PREFIX/lib/cegmandi          spool_tools, say.py, and the list of all that was put
+#   PREFIX/lib/cegmandi          spool_tools, say.py, the wrappers of stock filters, and the list of all that was put
 #   PREFIX/lib/systemd/system    cegmandi.service
 #   PREFIX/share                 man pages, the completion for bash, this text and the examples
-#   /etc/cegmandi                the files that the unit names; PREFIX/etc/cegmandi where PREFIX is neither /usr nor /usr/local
+#   /etc/cegmandi                the files that the unit names, with the stock filters of CUPS where /usr/lib/cups/filter is there;
+#                                PREFIX/etc/cegmandi where PREFIX is neither /usr nor /usr/local
 #
 # A file that is there already, and that this script didn't put there, is never written over: it ends before it does anything. Only
 # a file below etc that is there is kept as it is. A second install takes the first away before. What was changed since it was put
@@ -147,7 +148,7 @@ put() {
 # A file of the repository with the places of this install in it.
 adapted() {
     mkdir -p "$work/texts"
-    sed -e "s|TOOLS|$library/spool_tools|g" -e "s|/usr/local/lib/cegmandi/spool_service|$prefix/sbin/spool_service|g" \
+    sed -e "s|TOOLS|$library/spool_tools|g" -e "s|HERE/|$library/|g" -e "s|/usr/local/lib/cegmandi/spool_service|$prefix/sbin/spool_service|g" \
         -e "s|/usr/local/lib/cegmandi|$library|g" -e "s|/usr/local/bin/spool|$prefix/bin/spool|g" -e "s|/etc/cegmandi|$etc|g" \
         "$here/$1" > "$work/texts/$(basename "$1")"
     echo "$work/texts/$(basename "$1")"
@@ -172,7 +173,11 @@ programs() {
         program "$1" $name "$prefix/sbin/$name"
     done
     program "$1" spool_tools "$library/spool_tools"
-    "$1" file 755 "$here/examples/office/say.py" "$library/say.py"
+    for name in say.py with-cups-env as-pages; do
+        if [ -f "$here/examples/office/$name" ]; then
+            "$1" file 755 "$here/examples/office/$name" "$library/$name"
+        fi
+    done
     for name in lp lpr lpstat cancel lpq lprm; do
         if [ -n "$lp" ]; then
             "$1" link - spool "$prefix/bin/$name"
@@ -187,7 +192,12 @@ unit() {
     "$1" file 644 "$(adapted examples/office/cegmandi.service)" "$prefix/lib/systemd/system/cegmandi.service"
     named=$(grep -o '/etc/cegmandi/[A-Za-z0-9._-]*' "$here/examples/office/cegmandi.service" | sed 's|.*/||' | sort -u)
     for name in $named; do
-        "$1" config 644 "$(adapted "examples/office/$name")" "$etc/$name"
+        example=$name
+        # The stock filters, where there are some.
+        if [ "$name" = programs ] && [ -d "$root/usr/lib/cups/filter" ] && [ -f "$here/examples/office/stock-programs" ]; then
+            example=stock-programs
+        fi
+        "$1" config 644 "$(adapted "examples/office/$example")" "$etc/$name"
     done
 }
 

@@ -103,6 +103,8 @@ def put(script, room, prefix, words):
     old = below / prefix.strip("/") / "bin"
     old.mkdir(parents=True)
     (old / "other").write_text("another one\n")
+    if prefix == "/usr":
+        (below / "usr/lib/cups/filter").mkdir(parents=True)
     before = seen(below)
     run = ran(script, *words, prefix, below=below)
     check(run.returncode == 0, f"{prefix}: install.sh ends with {run.returncode}: {run.stderr}")
@@ -125,7 +127,7 @@ def put_there(below, prefix, words, before, there):
     check(all(there[path] == before[path] for path in before), f"{prefix}: what was there has changed")
     for path in sorted(new):
         if there[path][0] == "file":
-            runs = "/bin/" in path or "/sbin/" in path or path.endswith((".sh", ".py", "/spool_tools"))
+            runs = "/bin/" in path or "/sbin/" in path or path.endswith((".sh", ".py", "/spool_tools", "/with-cups-env", "/as-pages"))
             check(there[path][1] == (0o755 if runs else 0o644), f"{path} has the mode {there[path][1]:o}")
     folder = f"{prefix}/bin" if words else f"{prefix}/lib/cegmandi/bin"
     for name in LINKS:

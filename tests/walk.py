@@ -20,7 +20,7 @@ from pathlib import Path
 
 ROOT = Path(__file__).resolve().parent.parent
 PROGRAMS = ["spool_front", "spool_shell", "spool_service", "spool_admin", "spool_tools"]
-SECONDS = 1_500
+SECONDS = 1_700
 
 BLOCK = re.compile(r"^```console\n(.*?)^```$", re.MULTILINE | re.DOTALL)
 # A path in the README, and names that only stand for one.
