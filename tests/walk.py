@@ -42,7 +42,7 @@ def commands(text):
 def absent(text):
     """The files that the README names and that aren't there."""
     named = {one or other for one, other in PATH.findall(text)}
-    return sorted(it for it in named if not (ROOT / it).exists())
+    return sorted(it for it in named if "NAME" not in it and not (ROOT / it).exists())
 
 
 def copied(folder):
