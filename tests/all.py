@@ -57,6 +57,7 @@ SCRIPTS = {
     "stock.py": [],
     "walk.py": [],
     "manuals.py": [],
+    "promises.py": [],
     "cups_types.py": [CUPS_TYPES],
     "grow.py": [],
     "large.py": [],
