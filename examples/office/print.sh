@@ -16,5 +16,5 @@ device=${printer:+appsocket://$printer/?contimeout=10}
 mkdir "$folder" "$folder/spool"
 sed "s|TOOLS|$crates/spool_tools/out/spool_tools|" "$here/programs" > "$folder/programs"
 sed "s|DEVICE|${device:-spoolfile:$folder/letter.prn}|" "$here/letter.spool" |
-    "$crates/spool_shell/out/spool_shell" --root "$folder/spool" --types "$here/office.types" \
-        --convs "$here/office.convs" --programs "$folder/programs"
+    "$crates/spool_shell/out/spool_shell" --root "$folder/spool" --types "$here/types" \
+        --convs "$here/convs" --programs "$folder/programs"
