@@ -206,7 +206,11 @@ texts() {
         "$1" file 644 "$page" "$prefix/share/man/man${page##*.}/$(basename "$page")"
     done
     "$1" file 644 "$here/completions/spool.bash" "$prefix/share/bash-completion/completions/spool"
-    "$1" file 644 "$here/README.md" "$prefix/share/doc/cegmandi/README.md"
+    for name in README.md docs/STOCK.md docs/first-page.png; do
+        if [ -f "$here/$name" ]; then
+            "$1" file 644 "$here/$name" "$prefix/share/doc/cegmandi/$name"
+        fi
+    done
     find "$here/examples" -type f ! -path '*/__pycache__/*' | sort > "$work/examples"
     while read -r file; do
         mode=644
