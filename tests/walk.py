@@ -2,7 +2,7 @@
 """A newcomer's walk: runs the README's commands as they are written, and compares what they show: walk.py [--show]
 
 A block of the README that begins with ```console has commands, each behind `$ ` on a line of its own, and below each what it shows. They
-are run one after another by one bash, in a fresh copy of the repository's files with the results of the proved build, in a home of
+are run one after another by one bash, in a copy of the repository with the results of the proved build, in a home of
 their own (HOME), so `~` is an empty folder at first. What a command shows on both streams has to be the lines below it: carriage returns, form
 feeds and blanks at the end of a line aside. `...` stands for any text of a line, and alone on a line for any lines. --show prints what is
 shown.
@@ -10,6 +10,7 @@ shown.
 Where a program isn't built, or `rt` isn't there, the walk is left out, and said to be. It also sees that each file that the README
 names is there. The last line is `N commands, 0 differ`, with status 0, or names how many differ, with status 1.
 """
+import contextlib
 import os
 import re
 import shutil
@@ -45,19 +46,22 @@ def absent(text):
     return sorted(it for it in named if "NAME" not in it and not (ROOT / it).exists())
 
 
-def copied(folder):
-    """A copy of the files that git knows, as they are now, with what the proved build has left."""
-    listed = subprocess.run(["git", "-C", ROOT, "ls-files", "-co", "--exclude-standard"], capture_output=True, text=True, check=True)
-    for name in listed.stdout.splitlines():
-        if (ROOT / name).is_file():
-            (folder / name).parent.mkdir(parents=True, exist_ok=True)
-            shutil.copy2(ROOT / name, folder / name)
-    for out in ROOT.glob("crates/*/out"):
-        # By links to the same bytes, where the file system can: the results take gigabytes.
-        target = folder / out.relative_to(ROOT)
-        if subprocess.run(["cp", "-al", out, target], capture_output=True).returncode:
-            shutil.rmtree(target, ignore_errors=True)
-            subprocess.run(["cp", "-a", out, target], check=True)
+@contextlib.contextmanager
+def copy_of_all(room):
+    """A folder with the repository as it is, with what the proved build has left. What is changed there changes nothing here."""
+    folder, changes, work = (room / it for it in ("cegmandi", "changes", "work"))
+    for it in (folder, changes, work):
+        it.mkdir()
+    layers = f"lowerdir={ROOT},upperdir={changes},workdir={work}"
+    laid = subprocess.run(["mount", "-t", "overlay", "overlay", "-o", layers, folder], capture_output=True).returncode == 0
+    if not laid:
+        # Not as root: the results take gigabytes, and are copied.
+        shutil.copytree(ROOT, folder, symlinks=True, dirs_exist_ok=True, ignore=shutil.ignore_patterns(".git", "__pycache__"))
+    try:
+        yield folder
+    finally:
+        if laid:
+            subprocess.run(["umount", "-l", folder], check=True)
 
 
 def walked(found, folder):
@@ -117,9 +121,8 @@ def main():
         found = []
     room = Path(tempfile.mkdtemp(prefix="w-"))
     if found:
-        (room / "cegmandi").mkdir()
-        copied(room / "cegmandi")
-        shown = walked(found, room / "cegmandi")
+        with copy_of_all(room) as folder:
+            shown = walked(found, folder)
         shown += [["(it wasn't reached)"]] * (len(found) - len(shown))
         for (command, wanted), lines in zip(found, shown):
             if "--show" in sys.argv[1:]:
