@@ -19,7 +19,7 @@ most_commands = 32
 
 -- the shortest pause between two looks at children, in microseconds
 abbrev pub first_look : ℕ
-first_look = 200
+first_look = 100
 
 -- the longest pause between two looks, in microseconds
 abbrev pub last_look : ℕ
@@ -27,7 +27,7 @@ last_look = 64000
 
 -- a pause is one part of so many parts of the time that the youngest child has run
 abbrev pub look_parts : ℕ
-look_parts = 8
+look_parts = 16
 
 -- microseconds of a millisecond
 abbrev pub millisecond : ℕ

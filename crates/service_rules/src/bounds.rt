@@ -14,13 +14,13 @@ pub const MOST_UNREAD: usize = 65_536;
 pub const MOST_COMMANDS: usize = 32;
 
 /// The shortest pause between two looks at children, in microseconds.
-pub const FIRST_LOOK: u64 = 200;
+pub const FIRST_LOOK: u64 = 100;
 
 /// The longest pause between two looks at children, in microseconds. It bounds how long the end of a child goes unseen.
 pub const LAST_LOOK: u64 = 64_000;
 
 /// A pause between two looks at children is one part of so many parts of the time that the youngest of them has run.
-pub const LOOK_PARTS: u64 = 8;
+pub const LOOK_PARTS: u64 = 16;
 
 /// How many microseconds a millisecond has.
 pub const MILLISECOND: u64 = 1_000;
