@@ -2,7 +2,7 @@
 //!
 //! The table is looked at once a second at most, and only where something was done since ([`House::look`]): then it is known
 //! what comes due next, and which ended jobs are to go. So an idle service looks at nothing, and tells nothing.
-ghost use Rattle.std.specs.Prelude.{◌≡◌, None, Some, cond, IfOk, OnOk};
+ghost use Rattle.std.specs.Prelude.{◌≡◌, None, Some, cond, IfOk};
 ghost use Rattle.service_rules.specs.Checkpoints.{is_wanted, room_in};
 ghost use Rattle.service_rules.specs.Looks.{earlier};
 ghost use Rattle.service_loop.specs.Due.{due_of, end_of_hold, has_come, is_changed_by, is_stopped, late_from, next_moment};
@@ -176,7 +176,7 @@ impl House {
         &mut self,
         office: &mut Office<'_, D, C>,
     ) -> Result<bool, AllocError>
-        ensures left { OnOk result (λ made. self.new.left ≡ cond made (Some office.new.engine.course.spool.room) self.old.left) }
+        ensures left { IfOk result (λ made. self.new.left ≡ cond made (Some office.new.engine.course.spool.room) self.old.left) }
     {
         office.full = false;
         let mut reply = Vec::new(self.alloc);
