@@ -76,6 +76,7 @@ PARTS = [
     "child_folder.py",
     "children_harm.py",
     "count_allocations.c",
+    "cups_beside.py",
     "failover_volume.py",
     "fast_clock.c",
     "journal.py",
@@ -96,6 +97,10 @@ PARTS = [
     "service_parts.py",
     "service_words.py",
     "spool_model.py",
+    "stock_backends.py",
+    "stock_chains.py",
+    "stock_documents.py",
+    "stock_runs.py",
     "stored_scripts.py",
     "stories.py",
     "traces.py",
@@ -114,6 +119,8 @@ def wants():
     missing = {}
     if not installed(FILTERS):
         missing["stock.py"] = (True, "stock filters (Debian's packages cups and cups-filters)")
+    elif os.geteuid():
+        missing["stock.py"] = (False, "backends that only root runs (as root)")
     if not installed(BACKEND):
         missing["office.py"] = (False, "CUPS's own backend socket (Debian's package cups)")
     if not installed(CUPS_TYPES):
