@@ -22,6 +22,8 @@ import sys
 import tempfile
 import time
 
+import failover_volume
+
 HERE = os.path.dirname(os.path.realpath(__file__))
 ROOT = os.path.dirname(HERE)
 
@@ -37,6 +39,7 @@ CUPS_TYPES = "/usr/share/cups/mime/mime.types"
 SCRIPTS = {
     "service.py": [],
     "lives.py": [],
+    "failover.py": [],
     "killed.py": [],
     "first_start.py": [],
     "syncs.py": [],
@@ -71,6 +74,7 @@ PARTS = [
     "child_folder.py",
     "children_harm.py",
     "count_allocations.c",
+    "failover_volume.py",
     "fast_clock.c",
     "journal.py",
     "large_children.py",
@@ -120,6 +124,9 @@ def wants():
     elif os.geteuid():
         missing["children.py"] = (False, "a full folder (as root)")
         missing["service.py"] = (False, "a full folder, and another user (as root)")
+    lacking = failover_volume.lacks()
+    if lacking:
+        missing["failover.py"] = (True, f"a replicated volume: {lacking}")
     if not shutil.which("valgrind"):
         missing["calls_without_memory.py"] = (True, "valgrind (Debian's package valgrind)")
     if not shutil.which("gcc"):
