@@ -41,7 +41,7 @@ from service_parts import Client, Difference, holds, same, until
 
 HERE = os.path.dirname(os.path.abspath(__file__))
 SHELL = os.path.join(HERE, "..", "crates", "spool_shell", "out", "spool_shell")
-SIZE = 33_554_432
+SIZE = 8_388_608
 TYPE = service_parts.TYPE
 OWNED = "spool: disk\nspool: cause: owned\n"
 QUEUES = {"slow": 0.3, "quick": 0}
@@ -390,11 +390,11 @@ def no_quorum(volume, _times):
     world.end()
 
 
-def ask_until_gone(client, command):
-    """The replies to a command that is given again and again, until the service closes the line."""
+def ask_until_gone(client, command, most=5):
+    """The replies to a command that is given so many times, or until the service closes the line."""
     replies = []
     try:
-        while len(replies) < 5:
+        while len(replies) < most:
             replies.append(client.ask(command))
     except (OSError, Difference):
         pass
@@ -454,26 +454,25 @@ def bricks_that_are_started_anew(volume, _times):
     world.open()
     world.make_queues()
     client = Client(world)
-    jobs, replies = [], []
+    jobs = []
     for number in range(3):
         volume.kill_brick(number)
         volume.start_bricks()
         # The clients come back to a brick after some seconds.
         time.sleep(5)
-        if not replies:
-            reply = client.ask(f'create quick u "brick-{number}" 1 50 ""\n')
-            if reply.startswith("ok job "):
-                jobs.append(int(reply.split()[2]))
-                same("a start on the other host", world.other().refusal(), (1, OWNED))
-            else:
-                replies.append(reply)
-    holds(f"it answered {replies} behind {len(jobs)} bricks", not replies or replies[0] in FAILED)
+        reply = next(iter(ask_until_gone(client, f'create quick u "brick-{number}" 1 50 ""\n', 1)), "")
+        if not reply.startswith("ok job "):
+            break
+        jobs.append(int(reply.split()[2]))
+        same("a start on the other host", world.other().refusal(), (1, OWNED))
+    holds(f"it answered {reply} behind {len(jobs)} bricks", reply in ("", *FAILED))
+    volume.start_bricks()
     world.current.end()
     world.current = world.other()
     world.open()
     rows = [line.split() for line in Client(world).listing("jobs\n")]
     holds(f"the jobs {jobs} are there", set(jobs) <= {int(row[1]) for row in rows})
-    print(f"  it went on behind {len(jobs)} of 3 bricks that were started anew, and then answered {replies}")
+    print(f"  it went on behind {len(jobs)} of 3 bricks that were started anew, and then answered {reply!r}")
     world.end()
 
 
