@@ -1,10 +1,11 @@
 """The chains of examples/office/convs: each kind of document for each type of queue, by the service. See tests/stock.py.
 
 One document of each kind is printed in two copies on nine queues at once, each with a file as its printer. What is in the file is looked at:
-the type, the number of pages, and whether something is on each.
+the type, the number of pages, whether something is on each, and of a PDF the paper.
 """
 import os
 import re
+import shutil
 import subprocess
 import time
 
@@ -14,6 +15,7 @@ from stock_documents import OFFICE, boxes
 # The columns of the page's table, and the kinds of documents.
 COLUMNS = [("text", "HTML"), ("PNG", "JPEG", "GIF", "TIFF"), ("PDF",), ("PostScript",)]
 COPIES = 2
+PAPER, POINTS = "A5", "420 x 595"
 
 
 class Served:
@@ -53,7 +55,7 @@ class Served:
         file = os.path.join(self.folder, queue)
         ask = self.client.ask
         told = [ask(f"queue {queue} spoolfile:{file} {target} abort-job\n")]
-        told.append(ask(f'create {queue} ann "A page" {COPIES} 50 "media=A4"\n'))
+        told.append(ask(f'create {queue} ann "A page" {COPIES} 50 "media={PAPER}"\n'))
         job = int(told[-1].split()[2])
         told.append(ask(b"send %d %d\n" % (job, len(document)) + document + b"\n"))
         return job, ask(f"close {job} {name}\n")
@@ -95,6 +97,18 @@ def pages_of(place, output):
     return None
 
 
+def paper_of(place, output):
+    """The paper of a PDF's first page in points, or None where Poppler's pdfinfo isn't installed."""
+    if not shutil.which("pdfinfo"):
+        return None
+    path = os.path.join(place.room, "paper")
+    with open(path, "wb") as file:
+        file.write(output)
+    told = subprocess.run(["pdfinfo", path], capture_output=True, text=True).stdout
+    found = re.search(r"^Page size: +(.*?) pts", told, re.M)
+    return found[1] if found else "none"
+
+
 # How a file of each type begins.
 BEGINS = {
     "application/vnd.cups-pdf": b"%PDF",
@@ -119,6 +133,8 @@ def wrong_of(place, target, kind, filters, output):
         return f"it begins with {output[:20]!r}"
     if target == "application/vnd.hp-pclxl":
         return "" if b"HP-PCL XL" in output else "no PCL XL"
+    if target == "application/vnd.cups-pdf" and paper_of(place, output) not in (None, POINTS):
+        return f"a paper of {paper_of(place, output)}"
     # texttopdf and the others make no copies, and pstops leaves them to the printer.
     once = "pdftopdf" not in filters
     pages = pages_of(place, output)
