@@ -46,6 +46,9 @@ TYPE = service_parts.TYPE
 OWNED = "spool: disk\nspool: cause: owned\n"
 QUEUES = {"slow": 0.3, "quick": 0}
 
+# How many jobs are made before as many are printed.
+AHEAD = 20
+
 # What the volume is told: a client whose connection was lost may not write where it had a lock; after how many seconds one that says
 # nothing has lost it; and that no client answers from what it kept.
 OPTIONS = [("client.strict-locks", "on"), ("server.tcp-user-timeout", "10"), ("performance.quick-read", "off"),
@@ -197,8 +200,9 @@ class Office:
                 text = f"page-{len(self.accepted):05}."
                 clerk.queue = list(QUEUES)[len(self.accepted) % len(QUEUES)]
                 self.accepted[clerk.submit(text)] = text
-                # Not many more than are printed meanwhile.
-                time.sleep(0.1)
+                # Not many more than are printed.
+                while self.open and len(self.world.printed()) + AHEAD < len(self.accepted):
+                    time.sleep(0.1)
         except (Difference, OSError, ValueError) as fault:
             self.fault = fault
 
