@@ -1,5 +1,5 @@
 #!/usr/bin/env python3
-"""Lets a service fail over between two hosts of a replicated volume: failover.py [--times N] [--list] [SERVICE [TEST..]]
+"""Lets a service fail over between two hosts of a replicated volume: failover.py [--times N] [--careless] [--list] [SERVICE [TEST..]]
 
 SERVICE is the program, and crates/spool_service/out/spool_service (made by `rt run` in that folder) where none is given; the
 spool_shell beside it is used too. N is how many failovers there are: 20, or as many as are asked for. Each TEST is the name of a
@@ -21,6 +21,9 @@ and told in a line.
   another.
 
 Seconds until the other host answers, and events a second, are told, and not judged.
+
+With --careless the volume and its mounts are told nothing of what examples/office/failover asks for. Then `turns_in_haste`,
+`a_host_that_is_cut_off` and `bricks_that_are_started_anew` have to be seen to fail: each is to be run alone.
 
 The last line is `N of N`, with status 0; or how many failed, with status 1. The folder of a test that failed stays then, and is
 named.
@@ -523,6 +526,10 @@ def main():
         at = words.index("--times")
         times = int(words[at + 1])
         del words[at : at + 2]
+    if "--careless" in words:
+        words.remove("--careless")
+        OPTIONS[:] = [option for option in OPTIONS if option[0].startswith("server.")]
+        failover_volume.MOUNT.clear()
     if "--list" in words:
         print("\n".join(test.__name__ for test in TESTS))
         return 0
