@@ -23,10 +23,11 @@ with_handling app =
     (flag_rule (codes "hold"))) (text_rule (codes "at"))) (text_rule (codes "by"))) (flag_rule (codes "wait"))) (flag_rule (codes "quiet"))
 
 -- `spool submit QUEUE FILE..`
+abbrev pub submit_words : App
+submit_words = with_rule (with_rule (task_app (codes "spool submit")) (needed (word_rule (codes "queue")))) (needed (several (word_rule (codes "file"))))
+
 abbrev pub submit_app : App
-submit_app =
-    with_handling (with_document (with_rule (with_rule (task_app (codes "spool submit"))
-    (needed (word_rule (codes "queue")))) (needed (several (word_rule (codes "file"))))))
+submit_app = with_handling (with_document submit_words)
 
 -- `spool status [JOB] [-q QUEUE] [--json]`
 abbrev pub status_app : App
@@ -70,12 +71,17 @@ other_app = with_rule (new_app (codes "spool")) (needed (several (word_rule (cod
 -- ---- the programs by name
 
 -- `lp [-d DEST] [-t TITLE] [-U USER] [-n N] [-q P] [-o NAME=VALUE].. [-P PAGES] [-H WHEN] [-c] [-s] [FILE]..`
+abbrev pub lp_words : App
+lp_words =
+    with_rule (with_rule (with_rule (with_rule (with_rule (with_rule (named_app (codes "lp"))
+    (several (word_rule (codes "file")))) (letter_rule 100 (codes "queue"))) (letter_rule 116 (codes "title"))) (letter_rule 85 (codes "user")))
+    (letter_rule 110 (codes "copies"))) (letter_rule 113 (codes "priority"))
+
 abbrev pub lp_app : App
 lp_app =
-    with_rule (with_rule (with_rule (with_rule (with_rule (with_rule (with_rule (with_rule (with_rule (with_rule (with_rule (named_app (codes "lp"))
-    (several (word_rule (codes "file")))) (letter_rule 100 (codes "queue"))) (letter_rule 116 (codes "title"))) (letter_rule 85 (codes "user")))
-    (letter_rule 110 (codes "copies"))) (letter_rule 113 (codes "priority"))) (several (letter_rule 111 (codes "option"))))
-    (letter_rule 80 (codes "pages"))) (letter_rule 72 (codes "handling"))) (letter_flag_rule 99 (codes "copy"))) (letter_flag_rule 115 (codes "quiet"))
+    with_rule (with_rule (with_rule (with_rule (with_rule lp_words
+    (several (letter_rule 111 (codes "option")))) (letter_rule 80 (codes "pages"))) (letter_rule 72 (codes "handling"))) (letter_flag_rule 99 (codes "copy")))
+    (letter_flag_rule 115 (codes "quiet"))
 
 -- -T, and the same by -J and -C
 abbrev pub title_rule : Rule

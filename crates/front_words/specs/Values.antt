@@ -1,5 +1,5 @@
 -- What the texts of options and words are.
-use Rattle.std.specs.Prelude.{ℕ, Bool, false, List, [], ◌∷◌, Option, None, Some, codes, if◌then◌else◌, nat_le, ◌==◌, option_and_then, option_map, unwrap_or}
+use Rattle.std.specs.Prelude.{ℕ, Bool, false, List, [], ◌∷◌, ◌++◌, Option, None, Some, codes, if◌then◌else◌, nat_le, ◌==◌, option_and_then, option_map, unwrap_or}
 use Rattle.std.specs.Str.{bytes_eq}
 use Rattle.clap.specs.Words.{Row, Text, all_of}
 use Rattle.line_words.specs.Numbers.{decimal}
@@ -10,13 +10,17 @@ use Rattle.front_words.specs.declared.asked.Moment.TheVariants.{Epoch, FromNow}
 abbrev pub all_in : Text → List Row → List Text
 all_in name found = unwrap_or (all_of name found) []
 
+-- this word is given
+abbrev pub is_word : Text → Option Text → Bool
+is_word word None = false
+is_word word (Some text) = bytes_eq text word
+
 -- a flag that is there is `true`
 abbrev pub is_told : Option Text → Bool
-is_told None = false
-is_told (Some text) = bytes_eq text (codes "true")
+is_told given = is_word (codes "true") given
 
 -- the part that counts so far, and the rest of the text
-unfoldable pub part_of : ℕ → Text → Text → Text
+abbrev pub part_of : ℕ → Text → Text → Text
 part_of mark part [] = part
 part_of mark part (b ∷ bs) = part_of mark (if b == mark then bs else part) bs
 
@@ -55,11 +59,11 @@ abbrev pub job_or_none : Option Text → Option (Option ℕ)
 job_or_none None = Some None
 job_or_none (Some text) = option_map Some (job_of text)
 
-abbrev pub with_first : Option ℕ → Option (List ℕ) → Option (List ℕ)
-with_first (Some job) (Some jobs) = Some (job ∷ jobs)
-with_first job jobs = None
+-- the jobs so far, and those of the texts that are left, if each is one
+abbrev pub jobs_on : List ℕ → List Text → Option (List ℕ)
+jobs_on jobs [] = Some jobs
+jobs_on jobs (text ∷ rest) = option_and_then (λ job. jobs_on (jobs ++ job ∷ []) rest) (job_of text)
 
 -- the jobs of texts, if each is one
-unfoldable pub jobs_of : List Text → Option (List ℕ)
-jobs_of [] = Some []
-jobs_of (text ∷ texts) = with_first (job_of text) (jobs_of texts)
+abbrev pub jobs_of : List Text → Option (List ℕ)
+jobs_of texts = jobs_on [] texts

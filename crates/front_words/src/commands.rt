@@ -1,12 +1,13 @@
 //! The commands of the tasks of `spool`, as clap knows them.
 ghost use Rattle.std.specs.Prelude.{◌≡◌, IfOk};
 ghost use Rattle.clap.specs.Words.{app_of};
-ghost use Rattle.front_words.specs.Apps.{add_app, app_for, hold_app, jobs_app, other_app, page_app, queue_app, queues_app, set_app, status_app, submit_app};
+ghost use Rattle.front_words.specs.Apps.{add_app, app_for, hold_app, jobs_app, other_app, page_app, queue_app, queues_app, set_app, status_app, submit_app, submit_words};
 ghost use Rattle.front_words.specs.Apps.{with_document, with_handling};
 
 use crate::forms::Form;
 use crate::options::{
-    flag_option, letter_option, needed, several, task_command, text_option, word,
+    flag_option, letter_option, letter_options, needed_word, needed_words, task_command,
+    text_option, word,
 };
 use crate::programs;
 use clap::Command;
@@ -73,8 +74,17 @@ pub fn command_for<'a>(alloc: Global, form: Form) -> Result<Command<'a>, AllocEr
 fn submit_command<'a>(alloc: Global) -> Result<Command<'a>, AllocError>
     ensures { IfOk result (λ command. app_of command ≡ submit_app) }
 {
-    let queue = needed(word(alloc, "queue", "QUEUE", "The queue that prints"));
-    let file = word(
+    let command = submit_words(alloc)?;
+    let command = document_options(alloc, command)?;
+    handling_options(alloc, command)
+}
+
+// What is printed, and by which queue.
+fn submit_words<'a>(alloc: Global) -> Result<Command<'a>, AllocError>
+    ensures { IfOk result (λ command. app_of command ≡ submit_words) }
+{
+    let queue = needed_word(alloc, "queue", "QUEUE", "The queue that prints");
+    let file = needed_words(
         alloc,
         "file",
         "FILE",
@@ -85,13 +95,12 @@ fn submit_command<'a>(alloc: Global) -> Result<Command<'a>, AllocError>
         "spool submit",
         "Prints files, each as a job of its own",
     )?;
-    let command = command.arg(queue)?.arg(needed(several(file)))?;
-    handling_options(alloc, document_options(alloc, command)?)
+    command.arg(queue)?.arg(file)
 }
 
 // What a job is: its title, its owner and how it is printed.
 fn document_options<'a>(alloc: Global, command: Command<'a>) -> Result<Command<'a>, AllocError>
-    ensures { IfOk result (λ more. app_of more ≡ with_document (app_of command.entry)) }
+    ensures { IfOk result (λ command. app_of command ≡ with_document (app_of command.entry)) }
 {
     let title = text_option(
         alloc,
@@ -108,7 +117,7 @@ fn document_options<'a>(alloc: Global, command: Command<'a>) -> Result<Command<'
     );
     let priority = text_option(alloc, "priority", "P", "From 1 to 100 [default: 50]");
     let pages = text_option(alloc, "pages", "PAGES", "These pages alone, as 1-4,7");
-    let option = letter_option(
+    let option = letter_options(
         alloc,
         'o',
         "option",
@@ -121,12 +130,12 @@ fn document_options<'a>(alloc: Global, command: Command<'a>) -> Result<Command<'
         .arg(copies)?
         .arg(priority)?
         .arg(pages)?
-        .arg(several(option))
+        .arg(option)
 }
 
 // When it is printed, and what is told of it.
 fn handling_options<'a>(alloc: Global, command: Command<'a>) -> Result<Command<'a>, AllocError>
-    ensures { IfOk result (λ more. app_of more ≡ with_handling (app_of command.entry)) }
+    ensures { IfOk result (λ command. app_of command ≡ with_handling (app_of command.entry)) }
 {
     let hold = flag_option(alloc, "hold", "Let it wait until it is released");
     let at = text_option(
@@ -152,24 +161,24 @@ fn status_command<'a>(alloc: Global) -> Result<Command<'a>, AllocError>
     let job = word(alloc, "job", "JOB", "This job alone");
     let queue = letter_option(alloc, 'q', "queue", "QUEUE", "The jobs of this queue alone");
     let json = flag_option(alloc, "json", "As JSON");
-    task_command(alloc, "spool status", "Shows jobs")?
-        .arg(job)?
-        .arg(queue)?
-        .arg(json)
+    let command = task_command(alloc, "spool status", "Shows jobs")?;
+    command.arg(job)?.arg(queue)?.arg(json)
 }
 
 fn queues_command<'a>(alloc: Global) -> Result<Command<'a>, AllocError>
     ensures { IfOk result (λ command. app_of command ≡ queues_app) }
 {
     let json = flag_option(alloc, "json", "As JSON");
-    task_command(alloc, "spool queues", "Shows the queues")?.arg(json)
+    let command = task_command(alloc, "spool queues", "Shows the queues")?;
+    command.arg(json)
 }
 
 fn jobs_command<'a>(alloc: Global, name: &'a str, about: &'a str) -> Result<Command<'a>, AllocError>
     ensures { IfOk result (λ command. app_of command ≡ jobs_app name.entry.now) }
 {
-    let job = word(alloc, "job", "JOB", "The jobs, as 12 or office-12");
-    task_command(alloc, name, about)?.arg(needed(several(job)))
+    let job = needed_words(alloc, "job", "JOB", "The jobs, as 12 or office-12");
+    let command = task_command(alloc, name, about)?;
+    command.arg(job)
 }
 
 fn hold_command<'a>(alloc: Global) -> Result<Command<'a>, AllocError>
@@ -181,7 +190,8 @@ fn hold_command<'a>(alloc: Global) -> Result<Command<'a>, AllocError>
         "MOMENT",
         "Until then: seconds of the epoch, or +SECONDS from now",
     );
-    jobs_command(alloc, "spool hold", "Lets jobs wait")?.arg(until)
+    let command = jobs_command(alloc, "spool hold", "Lets jobs wait")?;
+    command.arg(until)
 }
 
 fn queue_command<'a>(
@@ -191,14 +201,15 @@ fn queue_command<'a>(
 ) -> Result<Command<'a>, AllocError>
     ensures { IfOk result (λ command. app_of command ≡ queue_app name.entry.now) }
 {
-    let queue = word(alloc, "name", "NAME", "The queue");
-    task_command(alloc, name, about)?.arg(needed(queue))
+    let queue = needed_word(alloc, "name", "NAME", "The queue");
+    let command = task_command(alloc, name, about)?;
+    command.arg(queue)
 }
 
 fn add_command<'a>(alloc: Global) -> Result<Command<'a>, AllocError>
     ensures { IfOk result (λ command. app_of command ≡ add_app) }
 {
-    let uri = word(alloc, "uri", "URI", "Its device");
+    let uri = needed_word(alloc, "uri", "URI", "Its device");
     let media = text_option(
         alloc,
         "media",
@@ -223,8 +234,9 @@ fn add_command<'a>(alloc: Global) -> Result<Command<'a>, AllocError>
         "N",
         "How many tries, up to 65535 [default: 5]",
     );
-    queue_command(alloc, "spool queue add", "Makes a queue")?
-        .arg(needed(uri))?
+    let command = queue_command(alloc, "spool queue add", "Makes a queue")?;
+    command
+        .arg(uri)?
         .arg(media)?
         .arg(policy)?
         .arg(interval)?
@@ -236,31 +248,30 @@ fn set_command<'a>(alloc: Global) -> Result<Command<'a>, AllocError>
 {
     let info = text_option(alloc, "info", "TEXT", "What it is [default: nothing]");
     let location = text_option(alloc, "location", "TEXT", "Where it is [default: nothing]");
-    queue_command(
+    let command = queue_command(
         alloc,
         "spool queue set",
         "Sets what people read about a queue",
-    )?
-    .arg(info)?
-    .arg(location)
+    )?;
+    command.arg(info)?.arg(location)
 }
 
 fn page_command<'a>(alloc: Global) -> Result<Command<'a>, AllocError>
     ensures { IfOk result (λ command. app_of command ≡ page_app) }
 {
-    let file = word(alloc, "file", "FILE", "The page's file");
+    let file = needed_word(alloc, "file", "FILE", "The page's file");
     let follow = flag_option(alloc, "follow", "Write it anew as things change");
-    task_command(alloc, "spool page", "Writes the queues and jobs as a page")?
-        .arg(needed(file))?
-        .arg(follow)
+    let command = task_command(alloc, "spool page", "Writes the queues and jobs as a page")?;
+    command.arg(file)?.arg(follow)
 }
 
+// With no task that there is.
 fn other_command<'a>(alloc: Global) -> Result<Command<'a>, AllocError>
     ensures { IfOk result (λ command. app_of command ≡ other_app) }
 {
-    let task = word(alloc, "task", "TASK", "One of these tasks");
+    let task = needed_words(alloc, "task", "TASK", "One of these tasks");
     Command::new(alloc, "spool")
         .about("Prints, and shows what prints")
         .after_help(TASKS)
-        .arg(needed(several(task)))
+        .arg(task)
 }

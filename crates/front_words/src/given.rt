@@ -1,9 +1,9 @@
 //! The values that clap found.
-ghost use Rattle.std.specs.Prelude.{◌≡◌, ◌<◌, ◌^◌, IfOk, MatchResult, Some, map};
+ghost use Rattle.std.specs.Prelude.{◌≡◌, ◌<◌, ◌^◌, IfOk, IsSome, MatchResult, Some, map};
 ghost use Rattle.std.specs.Option.{option_map};
 ghost use Rattle.clap.specs.Words.{first_of, found_of, rows_of};
 ghost use Rattle.front_words.specs.Faults.{BlamesOnly};
-ghost use Rattle.front_words.specs.Values.{all_in, is_told, job_of, jobs_of, last_part, moment_of, moment_or_none, number_in, number_or};
+ghost use Rattle.front_words.specs.Values.{all_in, is_told, is_word, job_of, job_or_none, jobs_of, last_part, moment_of, moment_or_none, number_in, number_or};
 
 use crate::asked::Moment;
 use crate::fault::Wrong;
@@ -38,8 +38,15 @@ pub fn text_needed<'a>(matches: &ArgMatches<'a>, name: &str) -> Result<&'a str, 
 pub fn flag_given(matches: &ArgMatches<'_>, name: &str) -> bool
     ensures { result ≡ is_told (first_of name.now (rows_of (found_of matches.now))) }
 {
+    word_given(matches, name, "true")
+}
+
+// Whether this word is given.
+pub fn word_given(matches: &ArgMatches<'_>, name: &str, word: &str) -> bool
+    ensures { result ≡ is_word word.now (first_of name.now (rows_of (found_of matches.now))) }
+{
     match text_given(matches, name) {
-        Some(text) => text == "true",
+        Some(text) => text == word,
         None => false,
     }
 }
@@ -52,10 +59,18 @@ pub fn texts_given<'a>(
 ) -> Result<Vec<&'a str>, AllocError>
     ensures { IfOk result (λ texts. map (λ text. text.now) texts.items ≡ all_in name.now (rows_of (found_of matches.now))) }
 {
-    let mut texts = Vec::new(alloc);
-    if let Some(found) = matches.get_strs(name) {
-        texts.extend_from_slice(found)?;
+    let found = matches.get_strs(name);
+    match found {
+        Some(found) => copy_of(alloc, found),
+        None => Ok(Vec::new(alloc)),
     }
+}
+
+fn copy_of<'a>(alloc: Global, found: &[&'a str]) -> Result<Vec<&'a str>, AllocError>
+    ensures { IfOk result (λ texts. texts.items ≡ found.now) }
+{
+    let mut texts = Vec::new(alloc);
+    texts.extend_from_slice(found)?;
     Ok(texts)
 }
 
@@ -148,11 +163,13 @@ fn jobs_of(alloc: Global, texts: &[&str]) -> Result<Option<Vec<u32>>, AllocError
     ensures { IfOk result (λ jobs. option_map (λ jobs. jobs.items) jobs ≡ jobs_of (map (λ text. text.now) texts.now)) }
 {
     let mut jobs = Vec::new(alloc);
-    for text in texts {
-        match job_of(text.as_bytes()) {
-            Some(job) => jobs.push(job)?,
-            None => return Ok(None),
-        }
+    let mut rest = texts;
+    while let Some((text, behind)) = rest.split_first() {
+        let Some(job) = job_of(text.as_bytes()) else {
+            return Ok(None);
+        };
+        jobs.push(job)?;
+        rest = behind;
     }
     Ok(Some(jobs))
 }

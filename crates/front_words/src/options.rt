@@ -1,8 +1,8 @@
 //! The options and the words of a command.
-ghost use Rattle.std.specs.Prelude.{◌≡◌, ◌++◌, ◌∷◌, [], IfOk, MatchResult, Some, codes, false, map, true};
+ghost use Rattle.std.specs.Prelude.{◌≡◌, ◌++◌, ◌∷◌, [], IfOk, MatchResult, Some, false, map, true};
 ghost use Rattle.clap.specs.Words.{app_of, found_of, is_simple_and_free, matches_of, rows_of, rule_of};
 ghost use Rattle.front_words.specs.Faults.{RefusesOnly};
-ghost use Rattle.front_words.specs.Options.{AreFaultlessFor, flag_rule, letter_flag_rule, letter_rule, listed, named_app, needed, several, task_app, text_rule, word_rule};
+ghost use Rattle.front_words.specs.Options.{AreFaultlessFor, flag_rule, letter_flag_rule, letter_rule, listed, named_app, needed, several, socket_rule, task_app, text_rule, word_rule};
 
 use crate::fault::{WordsFault, words_fault};
 use clap::builder::ValueParser;
@@ -46,15 +46,16 @@ pub fn named_command<'a>(
 }
 
 fn socket_option<'a>(alloc: Global) -> Arg<'a>
-    ensures rule { rule_of result ≡ several (text_rule (codes "socket")) }
+    ensures rule { rule_of result ≡ socket_rule }
     ensures local { result.global ≡ false }
 {
-    several(text_option(
+    text_option(
         alloc,
         "socket",
         "SOCKET",
         "Ask the service on this socket; given twice, the second where the first is gone",
-    ))
+    )
+    .action(ArgAction::Append)
 }
 
 // An option with a text that isn't empty.
@@ -112,28 +113,51 @@ pub fn word<'a>(alloc: Global, name: &'a str, value: &'a str, help: &'a str) -> 
         .help(help)
 }
 
-// One that has to be there.
-pub fn needed(arg: Arg<'_>) -> Arg<'_>
-    ensures rule { rule_of result ≡ needed (rule_of arg.entry) }
-    ensures local { result.global ≡ arg.entry.global }
+// A word that has to be there.
+pub fn needed_word<'a>(alloc: Global, name: &'a str, value: &'a str, help: &'a str) -> Arg<'a>
+    ensures rule { rule_of result ≡ needed (word_rule name.entry.now) }
+    ensures local { result.global ≡ false }
 {
-    arg.required(true)
+    word(alloc, name, value, help).required(true)
 }
 
-// One that may be there several times.
-pub fn several(arg: Arg<'_>) -> Arg<'_>
-    ensures rule { rule_of result ≡ several (rule_of arg.entry) }
-    ensures local { result.global ≡ arg.entry.global }
+// Words, any number of them.
+pub fn words<'a>(alloc: Global, name: &'a str, value: &'a str, help: &'a str) -> Arg<'a>
+    ensures rule { rule_of result ≡ several (word_rule name.entry.now) }
+    ensures local { result.global ≡ false }
 {
-    arg.action(ArgAction::Append)
+    word(alloc, name, value, help).action(ArgAction::Append)
 }
 
-// One whose value may be left out, and is then empty.
-pub fn listed(arg: Arg<'_>) -> Arg<'_>
-    ensures rule { rule_of result ≡ listed (rule_of arg.entry) }
-    ensures local { result.global ≡ arg.entry.global }
+// Words, of which one at least has to be there.
+pub fn needed_words<'a>(alloc: Global, name: &'a str, value: &'a str, help: &'a str) -> Arg<'a>
+    ensures rule { rule_of result ≡ needed (several (word_rule name.entry.now)) }
+    ensures local { result.global ≡ false }
 {
-    arg.num_args(0..=1)
+    words(alloc, name, value, help).required(true)
+}
+
+// An option by a letter that may be there several times.
+pub fn letter_options<'a>(
+    alloc: Global,
+    letter: char,
+    name: &'a str,
+    value: &'a str,
+    help: &'a str,
+) -> Arg<'a>
+    ensures rule { rule_of result ≡ several (letter_rule letter name.entry.now) }
+    ensures local { result.global ≡ false }
+{
+    letter_option(alloc, letter, name, value, help).action(ArgAction::Append)
+}
+
+// An option by a letter whose value may be left out, and is then empty.
+pub fn letter_list<'a>(alloc: Global, letter: char, name: &'a str, help: &'a str) -> Arg<'a>
+    ensures rule { rule_of result ≡ listed (letter_rule letter name.entry.now) }
+    ensures local { result.global ≡ false }
+{
+    letter_option(alloc, letter, name, "LIST", help)
+        .num_args(0..=1)
         .default_missing_value("")
         .value_parser(ValueParser::String)
 }

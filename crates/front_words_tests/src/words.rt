@@ -1,4 +1,4 @@
-use crate::{Asked, Hold, JobAct, Moment, QueueAct, Submission, Task, WordsFault, read_words};
+use front_words::{Asked, Hold, JobAct, Moment, QueueAct, Submission, Task, WordsFault, read_words};
 use std::test::Fail;
 
 fn task_of<'a>(rt: &HostRuntime, words: &'a [&'a str]) -> Result<Task<'a>, Fail> {
