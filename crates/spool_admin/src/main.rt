@@ -47,14 +47,17 @@
 
 mod copying;
 mod fault;
+mod folder;
 mod found;
 mod grow;
 mod look;
+mod split;
 mod words;
 
 use crate::fault::{AdminFault, tell_admin_end};
 use crate::grow::grow;
 use crate::look::look;
+use crate::split::split;
 use crate::words::{Asked, read_words};
 use spool_host::{given_words, no_words, tell_words_fault};
 use std::process::ExitCode;
@@ -76,5 +79,6 @@ fn done(rt: &HostRuntime, asked: Asked<'_>) -> Result<(), AdminFault> {
     match asked {
         Asked::Look(dir) => Ok(look(rt, dir, &mut rt.stdout())?),
         Asked::Grow(dir, size) => grow(rt, dir, size),
+        Asked::Split(parts) => split(rt, &parts),
     }
 }
