@@ -61,7 +61,11 @@ pub fn are_jobs(
 fn borrowed<'a>(alloc: Global, rows: &'a Rows) -> Result<Vec<&'a JobRow>, AllocError>
     ensures { IfOk result (λ list. map (λ row. row.now) list.items ≡ rows.now.items) }
 {
-    rows.iter().collect(alloc)
+    let mut list = Vec::new(alloc);
+    for row in rows.iter() {
+        list.push(row)?;
+    }
+    Ok(list)
 }
 
 // The same for lists of rows.
@@ -96,9 +100,9 @@ fn is_same_queue(alloc: Global, a: &QueueRow, b: &QueueRow) -> Result<bool, Allo
     ensures { IfOk result (λ same. IsTrue same → b.now ≡ a.now) }
 {
     one_row();
-    let spelled_a = spelled_queue(alloc, a)?;
-    let spelled_b = spelled_queue(alloc, b)?;
-    Ok(spelled_a.as_slice() == spelled_b.as_slice())
+    let queue_a = spelled_queue(alloc, a)?;
+    let queue_b = spelled_queue(alloc, b)?;
+    Ok(queue_a.as_slice() == queue_b.as_slice())
 }
 
 fn is_same_job(alloc: Global, a: &Job, b: &Job) -> Result<bool, AllocError>
@@ -107,9 +111,9 @@ fn is_same_job(alloc: Global, a: &Job, b: &Job) -> Result<bool, AllocError>
     ensures { IfOk result (λ same. IsTrue same → b.now ≡ a.now) }
 {
     one_row();
-    let spelled_a = spelled_job(alloc, a)?;
-    let spelled_b = spelled_job(alloc, b)?;
-    Ok(spelled_a.as_slice() == spelled_b.as_slice())
+    let job_a = spelled_job(alloc, a)?;
+    let job_b = spelled_job(alloc, b)?;
+    Ok(job_a.as_slice() == job_b.as_slice())
 }
 
 fn spelled_queue(alloc: Global, queue: &QueueRow) -> Result<Vec<u8>, AllocError>

@@ -60,11 +60,14 @@ fn is_read_back<S: Disk, T: Disk>(
     ensures still { ChangesNothing S.device whole.old.disk whole.new.disk }
 {
     one_reading();
-    if !is_half(alloc, whole.table(), part.table(), half)? {
-        return Ok(false);
-    }
-    let jobs = numbers_of(alloc, part.table().jobs())?;
-    if !are_same_documents(alloc, whole, part, &jobs)? || part.is_dead() {
+    let whole_table = whole.table();
+    let part_table = part.table();
+    let has_rows = is_half(alloc, whole_table, part_table, half)?;
+    let _whole_jobs = whole_table.jobs();
+    let part_jobs = part_table.jobs();
+    let numbers = numbers_of(alloc, part_jobs)?;
+    let has_documents = are_same_documents(alloc, whole, part, &numbers)?;
+    if !has_rows || !has_documents || part.is_dead() {
         return Ok(false);
     }
     let _table = part.table();

@@ -17,14 +17,17 @@ pub(crate) fn is_half(
     ensures { IfOk result (λ is. IsTrue is → IsHalf half.entry.named half.entry.names.now whole.now.state part.now.state) }
 {
     listings_are_loaded();
-    if part.version() != Version::Two
-        || part.highest() != whole.highest()
-        || part.now() != whole.now()
-    {
+    let highest = whole.highest();
+    let part_highest = part.highest();
+    let same_moment = part.now() == whole.now();
+    if part.version() != Version::Two || part_highest != highest || !same_moment {
         return Ok(false);
     }
-    if !are_queues(alloc, whole.queues(), part.queues(), half)? {
-        return Ok(false);
-    }
-    are_jobs(alloc, whole.jobs(), part.jobs(), half)
+    let queues = whole.queues();
+    let part_queues = part.queues();
+    let has_queues = are_queues(alloc, queues, part_queues, half)?;
+    let jobs = whole.jobs();
+    let part_jobs = part.jobs();
+    let has_jobs = are_jobs(alloc, jobs, part_jobs, half)?;
+    Ok(has_queues && has_jobs)
 }
