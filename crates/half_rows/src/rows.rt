@@ -26,19 +26,20 @@ pub fn are_queues(
     requires part { AllByRecursion IsOrderedQueue part.now }
     ensures { IfOk result (λ are. IsTrue are → part.now ≡ filter (λ (q : QueueOf). takes half.entry.named half.entry.names.now q.name) whole.now) }
 {
-    let mut rest = part;
+    let mut at = 0;
     for queue in whole {
         if half.takes(&queue.name) {
-            let Some((first, others)) = rest.split_first() else {
-                return Ok(false);
-            };
-            if !is_same_queue(alloc, queue, first)? {
+            if at == part.len() {
                 return Ok(false);
             }
-            rest = others;
+            let other = &part[at];
+            if !is_same_queue(alloc, queue, other)? {
+                return Ok(false);
+            }
+            at += 1;
         }
     }
-    Ok(rest.is_empty())
+    Ok(at == part.len())
 }
 
 /// Whether the part are the jobs of the half, in order, without their documents.
@@ -79,19 +80,21 @@ fn are_jobs_in(
     requires part { AllByRecursion IsTellable (jobs_in part.now) }
     ensures { IfOk result (λ are. IsTrue are → jobs_in part.now ≡ filter (λ (r : JobOf). takes half.entry.named half.entry.names.now r.queue) (jobs_in whole.now)) }
 {
-    let mut rest = part;
+    let mut at = 0;
     for row in whole {
         if half.takes(&row.job.queue) {
-            let Some((first, others)) = rest.split_first() else {
-                return Ok(false);
-            };
-            if !is_same_job(alloc, &row.job, &first.job)? {
+            if at == part.len() {
                 return Ok(false);
             }
-            rest = others;
+            let other = part[at];
+            let same = is_same_job(alloc, &row.job, &other.job)?;
+            if !same {
+                return Ok(false);
+            }
+            at += 1;
         }
     }
-    Ok(rest.is_empty())
+    Ok(at == part.len())
 }
 
 fn is_same_queue(alloc: Global, a: &QueueRow, b: &QueueRow) -> Result<bool, AllocError>

@@ -138,7 +138,10 @@ impl<T: Disk + Drop> Writing<T> {
 fn has_room(gate: u64, len: usize, end: u64) -> bool
     ensures { IsTrue result → gate + len + 1 ≤ end }
 {
-    gate.saturating_add(len as u64).saturating_add(LEFT) <= end
+    match end.checked_sub(gate) {
+        Some(rest) => LEFT <= rest && len as u64 <= rest - LEFT,
+        None => false,
+    }
 }
 
 // Writes the last rows, and opens the area.

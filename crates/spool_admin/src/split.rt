@@ -232,12 +232,16 @@ fn names_of(alloc: Global, queues: &[&str]) -> Result<Vec<QueueName>, AdminFault
     let mut names = Vec::new(alloc);
     for queue in queues {
         match QueueName::read(alloc, queue) {
-            Ok(name) => names.push(name)?,
+            Ok(name) => push_name(&mut names, name)?,
             Err(TextFault::Bad) => return Err(AdminFault::Queue),
             Err(TextFault::Memory) => return Err(AdminFault::from(AllocError)),
         }
     }
     Ok(names)
+}
+
+fn push_name(names: &mut Vec<QueueName>, name: QueueName) -> Result<(), AllocError> {
+    Ok(names.push(name)?)
 }
 
 // Whether the table has a queue of each of these names.

@@ -1,5 +1,5 @@
 //! Making a half of a spool on a disk of its own.
-ghost use Rattle.std.specs.Prelude.{◌≡◌, List, ℕ, Some, IfOk, IsSome, IsTrue, map};
+ghost use Rattle.std.specs.Prelude.{◌≡◌, List, ℕ, Some, IfOk, IsSome, OnOk, map};
 ghost use Rattle.spool_disk.specs.Disk.{ChangesNothing, IsSynced};
 ghost use Rattle.spool_halves.specs.Halves.{HasHalf, KeepsDocuments};
 
@@ -37,25 +37,22 @@ pub fn list_half<S: Disk, T: Disk + Drop>(
     let Ok(mut part) = Spool::load(alloc, written) else {
         return Err(HalfFault::Disk);
     };
-    if is_read_back(alloc, whole, &mut part, half)? {
-        Ok(part.into_disk())
-    } else {
-        Err(HalfFault::Disk)
-    }
+    look_back(alloc, whole, &mut part, half)?;
+    Ok(part.into_disk())
 }
 
-// Whether the part is the half of the whole spool, with the same documents.
-fn is_read_back<S: Disk, T: Disk>(
+// Sees that the part is the half of the whole spool, with the same documents. Where it isn't this is `Disk`.
+fn look_back<S: Disk, T: Disk>(
     alloc: Global,
     whole: &mut Spool<S>,
     part: &mut Spool<T>,
     half: Half<'_>,
-) -> Result<bool, HalfFault>
-    ensures half { IfOk result (λ is. IsTrue is → IsSome (T.device.bytes part.new.disk) → (c : List ℕ) → T.device.image part.new.disk c →
+) -> Result<(), HalfFault>
+    ensures half { OnOk result (IsSome (T.device.bytes part.new.disk) → (c : List ℕ) → T.device.image part.new.disk c →
         HasHalf half.entry.named half.entry.names.now whole.old.state c) }
-    ensures documents { IfOk result (λ is. IsTrue is → (r : List ℕ) → S.device.bytes whole.old.disk ≡ Some r → IsSome (T.device.bytes part.new.disk) → (c : List ℕ) → T.device.image part.new.disk c →
+    ensures documents { OnOk result ((r : List ℕ) → S.device.bytes whole.old.disk ≡ Some r → IsSome (T.device.bytes part.new.disk) → (c : List ℕ) → T.device.image part.new.disk c →
         KeepsDocuments half.entry.named half.entry.names.now whole.old.state r c) }
-    ensures synced { IfOk result (λ is. IsTrue is → IsSynced T.device part.new.disk) }
+    ensures synced { OnOk result (IsSynced T.device part.new.disk) }
     ensures state { whole.new.state ≡ whole.old.state }
     ensures still { ChangesNothing S.device whole.old.disk whole.new.disk }
 {
@@ -63,15 +60,18 @@ fn is_read_back<S: Disk, T: Disk>(
     let whole_table = whole.table();
     let part_table = part.table();
     let has_rows = is_half(alloc, whole_table, part_table, half)?;
+    if !has_rows {
+        return Err(HalfFault::Disk);
+    }
     let _whole_jobs = whole_table.jobs();
     let part_jobs = part_table.jobs();
     let numbers = numbers_of(alloc, part_jobs)?;
     let has_documents = are_same_documents(alloc, whole, part, &numbers)?;
-    if !has_rows || !has_documents || part.is_dead() {
-        return Ok(false);
+    if !has_documents || part.is_dead() {
+        return Err(HalfFault::Disk);
     }
     let _table = part.table();
-    Ok(true)
+    Ok(())
 }
 
 // The numbers of all jobs.
