@@ -15,8 +15,8 @@ use Rattle.spool_halves.proofs.Halves.{job_from, job_to, queue_same}
 module _ (named : Bool) (names : List (List ℕ)) (s t p : State) (legal_s : IsLegal s) (legal_t : IsLegal t) (half : IsHalf named names s t)
     (name : List ℕ) (own : takes named names name ≡ true) (part : IsPart name s p) where
   some_or_none : {X : Type 0} (o : Option X) → ((x : X) → o ≡ Some x → ⊥) → o ≡ None
-  some_or_none None no = refl
-  some_or_none (Some x) no = absurd (no x refl)
+  some_or_none None never = refl
+  some_or_none (Some x) never = absurd (never x refl)
 
   own_name : (r : Job) → is_of name r ≡ true → r.queue ≡ name
   own_name r is = (bytes_decides r.queue name).0 is

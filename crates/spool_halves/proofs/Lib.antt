@@ -2,3 +2,4 @@ pub mod Elements
 pub mod Halves
 pub mod Going
 pub mod Told
+pub mod ReadBack

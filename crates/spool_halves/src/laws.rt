@@ -1,5 +1,5 @@
 //! What is so of the halves of every table. The functions do nothing: their clauses are the laws.
-ghost use Rattle.std.specs.Prelude.{◌≡◌, ◌⊎◌, ℕ, true, Bool, List, None, Some};
+ghost use Rattle.std.specs.Prelude.{◌≡◌, ◌⊎◌, ℕ, true, false, Bool, List, None, Some};
 ghost use Rattle.spool_types.specs.declared.event.Event.{Event};
 ghost use Rattle.spool_types.specs.declared.rows.QueueRow.{QueueRow};
 ghost use Rattle.spool_types.specs.declared.version.Version.TheVariants.{Two};

@@ -48,7 +48,8 @@ pub(crate) fn are_same_documents<S: Disk, T: Disk>(
     for job in jobs {
         let there = document_of(alloc, whole, *job)?;
         let here = document_of(alloc, part, *job)?;
-        if there.as_slice() != here.as_slice() {
+        let same = there.as_slice() == here.as_slice();
+        if !same {
             return Ok(false);
         }
     }

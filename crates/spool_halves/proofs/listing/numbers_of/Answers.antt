@@ -8,7 +8,7 @@ use Rattle.spool_halves.proofs.listing.numbers_of.Goals as goal
 pub loop-row-preserved : goal.loop-row-preserved
 loop-row-preserved c =
     let number : Bor JobRow → ℕ = λ row. row.now.job.id in
-    c.push.ensures.items ∙ ap (λ (ns : List ℕ). ns ++ number c.in-Some.row ∷ []) c.loop-row.invariant ∙ sym (map_push number c.loop-row.yielded c.in-Some.row)
+    c.in_ok-push.ensures.items ∙ ap (λ (ns : List ℕ). ns ++ number c.in-Some.row ∷ []) c.loop-row.invariant ∙ sym (map_push number c.loop-row.yielded c.in-Some.row)
 
 -- the numbers of borrowed rows
 of_rows : (rows : List (Bor JobRow)) → map (λ row. row.now.job.id) rows ≡ map (λ (row : JobRow). row.job.id) (map (λ row. row.now) rows)

@@ -8,29 +8,29 @@ use Rattle.spool_core.proofs.AllLaws.{blank_fits}
 use Rattle.spool_halves.proofs.Told.{jobs_told, queues_told}
 use Rattle.spool_halves.proofs.tables.is_half.Goals as goal
 
-pub are_queues-has_queues-requires-clause-whole : goal.are_queues-has_queues-requires-clause-whole
-are_queues-has_queues-requires-clause-whole c =
+pub are_queues-requires-clause-whole : goal.are_queues-requires-clause-whole
+are_queues-requires-clause-whole c =
     let s = c.args.whole.now.state in
     let numbers : s.highest ≤ greatest_number = omega (arith, c.highest-highest.ensures.value, c.highest-highest.ensures.at_most) in
     subst (AllByRecursion IsOrderedQueue) (sym c.queues-queues.ensures.rows)
     (queues_told s (c.listings_are_loaded.ensures.listed s (blank s) c.queues-queues.ensures.legal numbers (blank_fits s)).0)
 
-pub are_queues-has_queues-requires-clause-part : goal.are_queues-has_queues-requires-clause-part
-are_queues-has_queues-requires-clause-part c =
+pub are_queues-requires-clause-part : goal.are_queues-requires-clause-part
+are_queues-requires-clause-part c =
     let s = c.args.part.now.state in
     let numbers : s.highest ≤ greatest_number = omega (arith, c.highest-part_highest.ensures.value, c.highest-part_highest.ensures.at_most) in
     subst (AllByRecursion IsOrderedQueue) (sym c.queues-part_queues.ensures.rows)
     (queues_told s (c.listings_are_loaded.ensures.listed s (blank s) c.queues-part_queues.ensures.legal numbers (blank_fits s)).0)
 
-pub are_jobs-has_jobs-requires-clause-whole : goal.are_jobs-has_jobs-requires-clause-whole
-are_jobs-has_jobs-requires-clause-whole c =
+pub are_jobs-requires-clause-whole : goal.are_jobs-requires-clause-whole
+are_jobs-requires-clause-whole c =
     let s = c.args.whole.now.state in
     let numbers : s.highest ≤ greatest_number = omega (arith, c.highest-highest.ensures.value, c.highest-highest.ensures.at_most) in
     subst (AllByRecursion IsTellable) (sym c.jobs-jobs.ensures.rows)
     (jobs_told s (c.listings_are_loaded.ensures.listed s (blank s) c.queues-queues.ensures.legal numbers (blank_fits s)).0)
 
-pub are_jobs-has_jobs-requires-clause-part : goal.are_jobs-has_jobs-requires-clause-part
-are_jobs-has_jobs-requires-clause-part c =
+pub are_jobs-requires-clause-part : goal.are_jobs-requires-clause-part
+are_jobs-requires-clause-part c =
     let s = c.args.part.now.state in
     let numbers : s.highest ≤ greatest_number = omega (arith, c.highest-part_highest.ensures.value, c.highest-part_highest.ensures.at_most) in
     subst (AllByRecursion IsTellable) (sym c.jobs-part_jobs.ensures.rows)
