@@ -22,5 +22,5 @@ all_append P [] y all last = (last, tt)
 all_append P (x ∷ xs) y all last = (all.0, all_append P xs y all.1 last)
 
 pub one_more : {X : Type 0} (P : X → Type 0) (xs : List X) (i : ℕ) (x : X) → i < length xs → x ≡ get_or xs i x → AllByRecursion P (take i xs) → P x → AllByRecursion P (take (i + 1) xs)
-one_more P xs i x lt is all last =
+one_more {X = X} P xs i x lt is all last =
     subst (AllByRecursion P) (sym (take_more xs i x lt ∙ ap (λ (y : X). take i xs ++ y ∷ []) (sym is))) (all_append P (take i xs) x all last)
