@@ -27,11 +27,11 @@
 //! None: no call takes memory, and none fails.
 #![tactic(auto)]
 
-//mod laws;
+mod laws;
 mod moves;
 mod reply;
 mod step;
 
-//pub use laws::acts_once;
+pub use laws::acts_once;
 pub use reply::{Found, Own, Reply, Shown};
 pub use step::{Cause, End, Request, Step};

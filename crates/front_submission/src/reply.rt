@@ -1,21 +1,21 @@
 //! What the service told.
 
 /// A job that arrives and has the token.
-#[derive(Clone, Copy, Debug, PartialEq, Eq)]
+#[derive(Clone, Copy)]
 pub struct Own {
     pub job: u32,
     pub size: u64,
 }
 
 /// The jobs that arrive and have the token: one of them, and the number of another one, if there are two.
-#[derive(Clone, Copy, Debug, PartialEq, Eq)]
+#[derive(Clone, Copy)]
 pub struct Found {
     pub own: Option<Own>,
     pub another: Option<u32>,
 }
 
 /// What has become of a job.
-#[derive(Clone, Copy, Debug, PartialEq, Eq)]
+#[derive(Clone, Copy)]
 pub enum Shown {
     /// It arrives, and has so many bytes.
     Arriving { size: u64 },
@@ -28,7 +28,7 @@ pub enum Shown {
 }
 
 /// What came of a request.
-#[derive(Clone, Copy, Debug, PartialEq, Eq)]
+#[derive(Clone, Copy)]
 pub enum Reply {
     /// `ok job N`.
     Created { job: u32 },

@@ -1,7 +1,7 @@
 //! Where a submission stands, what it says next, and how it ends.
 
 /// What the front does next.
-#[derive(Clone, Copy, Debug, PartialEq, Eq)]
+#[derive(Clone, Copy)]
 pub enum Request {
     /// Says `create`, with the token.
     Create,
@@ -24,7 +24,7 @@ pub enum Request {
 }
 
 /// Why a document was refused.
-#[derive(Clone, Copy, Debug, PartialEq, Eq)]
+#[derive(Clone, Copy)]
 pub enum Cause {
     /// The service said so.
     Declined,
@@ -39,7 +39,7 @@ pub enum Cause {
 }
 
 /// How a submission ends.
-#[derive(Clone, Copy, Debug, PartialEq, Eq)]
+#[derive(Clone, Copy)]
 pub enum End {
     /// The job was closed.
     Accepted {
@@ -63,7 +63,7 @@ pub enum End {
 
 /// Where a submission stands. `tries` are those that are left where the service puts a request off, and `size` is what is known
 /// to have been sent.
-#[derive(Clone, Copy, Debug, PartialEq, Eq)]
+#[derive(Clone, Copy)]
 pub enum Step {
     /// No job is known.
     Creating {

@@ -1,0 +1,50 @@
+//! Why a task fails.
+
+use crate::line::LineFault;
+use std::alloc::AllocError;
+use std::io;
+
+/// Why a task fails.
+#[derive(Drop, thiserror::Error)]
+pub enum Fault {
+    #[error("memory")]
+    Memory,
+    /// Nobody serves at this socket.
+    #[error("nobody serves at {0}")]
+    Nobody(String),
+    /// The service went before it had replied.
+    #[error("the service went")]
+    Gone,
+    /// What the service refused, and its words.
+    #[error("{0}")]
+    Refused(String),
+    /// A file can't be read or written.
+    #[error("file {0}")]
+    File(String),
+    /// What can't be done as it was asked.
+    #[error("{0}")]
+    Words(&'static str),
+}
+
+impl From<AllocError> for Fault {
+    ghost from_gives = { λ _ fault. fault ≡ Fault.Memory };
+
+    fn from(_error: AllocError) -> Fault {
+        Fault::Memory
+    }
+}
+
+impl From<LineFault> for Fault {
+    fn from(fault: LineFault) -> Fault {
+        match fault {
+            LineFault::Gone => Fault::Gone,
+            LineFault::Memory => Fault::Memory,
+        }
+    }
+}
+
+impl From<io::Error> for Fault {
+    fn from(_error: io::Error) -> Fault {
+        Fault::Memory
+    }
+}
