@@ -207,10 +207,10 @@ course_in text =
     let state = after_field by (codes "by") in
     let reason = after_field state (codes "state") in
     course_of
-      (counts_in (field text (codes "size")) (field pages (codes "pages")) (field attempts (codes "attempts")))
-      (marks_in (field media (codes "type")) (field by (codes "by")))
-      (standing_in (field state (codes "state")) (field reason (codes "reason")))
-      (moments_in (after_field reason (codes "reason")))
+    (counts_in (field text (codes "size")) (field pages (codes "pages")) (field attempts (codes "attempts")))
+    (marks_in (field media (codes "type")) (field by (codes "by")))
+    (standing_in (field state (codes "state")) (field reason (codes "reason")))
+    (moments_in (after_field reason (codes "reason")))
 
 -- ## The job
 

@@ -11,3 +11,4 @@ pub mod Escape
 pub mod Page
 pub mod Lpstat
 pub mod Lpq
+pub mod ReadBack

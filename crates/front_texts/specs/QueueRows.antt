@@ -1,5 +1,6 @@
 -- Rows of `queues`.
 use Rattle.std.specs.Prelude.{ℕ, Bool, cond, nat_le, ◌==◌, List, [], ◌∷◌, length, codes, Option, None, Some}
+use denote.Ref.{Bor}
 use Rattle.std.specs.List.{slice_split}
 use Rattle.std.specs.Option.{option_and_then}
 use Rattle.line_words.specs.Blanks.{first_word, after_word}
@@ -36,6 +37,9 @@ with_text text texts = None
 abbrev pub texts_in : (List ℕ → Bool) → List (List ℕ) → Option (List (List ℕ))
 texts_in allowed [] = Some []
 texts_in allowed (word ∷ words) = with_text (text_in allowed word) (texts_in allowed words)
+
+abbrev pub now_of : Bor (List ℕ) → List ℕ
+now_of part = part.now
 
 abbrev pub is_comma : ℕ → Bool
 is_comma b = b == 44
@@ -82,9 +86,9 @@ queue_words line =
     let interval = after_word policy in
     let limit = after_word interval in
     joined
-      (head_row (first_word line) (first_word state) (first_word accepting) (first_word target))
-      (rules_row (first_word policy) (first_word interval) (first_word limit))
-      (notes_row (after_word limit))
+    (head_row (first_word line) (first_word state) (first_word accepting) (first_word target))
+    (rules_row (first_word policy) (first_word interval) (first_word limit))
+    (notes_row (after_word limit))
 
 -- a row without its line feed
 abbrev pub queue_row : List ℕ → Option QueueLine

@@ -113,7 +113,13 @@ fn push_moments(
 {
     push_moment(alloc, lines, "start by", course.by, width)?;
     push_moment(alloc, lines, "held until", course.hold_until, width)?;
-    push_moment(alloc, lines, "not before", shown_moment(course.not_before), width)?;
+    push_moment(
+        alloc,
+        lines,
+        "not before",
+        shown_moment(course.not_before),
+        width,
+    )?;
     push_stage(alloc, lines, course.stage, width)
 }
 
@@ -153,11 +159,13 @@ fn push_stage(
     requires fit { AllFit width lines.old.items }
     ensures { OnOk result (AllFit width lines.new.items) }
 {
-    let Some(StageShown {
-        stage,
-        stages,
-        attempt,
-    }) = stage
+    let Some(
+        StageShown {
+            stage,
+            stages,
+            attempt,
+        },
+    ) = stage
     else {
         return Ok(());
     };

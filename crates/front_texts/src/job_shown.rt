@@ -3,16 +3,14 @@ ghost use Rattle.std.specs.Prelude.{◌≡◌, IfOk, option_copied};
 ghost use Rattle.front_texts.specs.States.{shown_word};
 ghost use Rattle.front_texts.specs.JobPage.{copies_in, priority_in, line_here, behind_line, field, after_field, whole_text, names_in, wishes_in, asked_of, asked_in, after_asked, counts_in, media_of, moment_of, marks_in, standing_in, stage_of, moments_in, course_of, course_in, shown_job};
 
-use crate::fields::{
-    count, is_end, is_word, job_state, moment, quoted_text, reason, text_of_word,
-};
+use crate::fields::{count, is_end, is_word, job_state, moment, quoted_text, reason, text_of_word};
 use crate::job_line::is_arriving;
 use crate::states::JobState;
 use command_lines::job_number;
 use line_words::{after_blanks, first_word};
 use spool_types::{
-    Copies, JobId, MediaType, Moment, OptionText, Priority, QueueName, Reason, Text, TextKind, Title,
-    UserName,
+    Copies, JobId, MediaType, Moment, OptionText, Priority, QueueName, Reason, Text, TextKind,
+    Title, UserName,
 };
 use std::alloc::{AllocError, Global};
 
@@ -184,9 +182,9 @@ fn wishes(
 ) -> Result<Option<Wishes>, AllocError>
     ensures { IfOk result (λ wishes. wishes ≡ wishes_in (option_copied title.entry) (option_copied options.entry) (option_copied copies.entry) (option_copied priority.entry)) }
 {
-    let (Some(title), Some(options), Some(copies), Some(priority)) =
-        (title, options, copies, priority)
-    else {
+    let (Some(title), Some(options), Some(copies), Some(priority)) = (
+        title, options, copies, priority,
+    ) else {
         return Ok(None);
     };
     let title = whole_text(alloc, title)?;
@@ -219,11 +217,7 @@ fn course(alloc: Global, text: &[u8]) -> Result<Option<JobCourse>, AllocError>
     Ok(course_of(counts, marks, standing, moments(rest)))
 }
 
-fn counts(
-    size: Option<&[u8]>,
-    pages: Option<&[u8]>,
-    attempts: Option<&[u8]>,
-) -> Option<Counts>
+fn counts(size: Option<&[u8]>, pages: Option<&[u8]>, attempts: Option<&[u8]>) -> Option<Counts>
     ensures { result ≡ counts_in (option_copied size.entry) (option_copied pages.entry) (option_copied attempts.entry) }
 {
     Some(Counts {

@@ -1,13 +1,13 @@
 //! Jobs and queues as JSON.
 ghost use Rattle.std.specs.Prelude.{◌≡◌, IfOk, option_copied};
 ghost use Rattle.serde_json.specs.View.{view};
-ghost use Rattle.front_texts.specs.Json.{reason_data, job_data, queue_data, asked_data, moment_data};
+ghost use Rattle.front_texts.specs.Json.{text_data, text_item, texts_data, job_data, jobs_data, queue_data, queues_data, asked_data, course_data, shown_data, moment_data, stage_data};
 
 use crate::job_line::JobLine;
 use crate::job_shown::{JobAsked, JobCourse, JobShown, StageShown};
 use crate::queue_line::QueueLine;
 use serde_json::{Value, json};
-use spool_types::{Moment, Reason};
+use spool_types::{MediaType, Moment, Reason};
 use std::alloc::{AllocError, Global};
 
 /// A job as an object.
@@ -29,16 +29,18 @@ pub fn job_json(alloc: Global, job: &JobLine) -> Result<Value, AllocError>
 
 // A reason, or null.
 fn reason_json(alloc: Global, reason: Option<&Reason>) -> Result<Value, AllocError>
-    ensures { IfOk result (λ value. view value ≡ reason_data (option_copied reason.entry)) }
+    ensures { IfOk result (λ value. view value ≡ text_data (option_copied reason.entry)) }
 {
     match reason {
-        Some(reason) => json!(in alloc; reason.as_str()),
+        Some(reason) => text_json(alloc, reason.as_str()),
         None => Ok(Value::Null),
     }
 }
 
 /// The jobs as an array of objects, in their order.
-pub fn jobs_json(alloc: Global, jobs: &[JobLine]) -> Result<Value, AllocError> {
+pub fn jobs_json(alloc: Global, jobs: &[JobLine]) -> Result<Value, AllocError>
+    ensures value { IfOk result (λ array. view array ≡ jobs_data jobs.now) }
+{
     let mut array = Vec::new(alloc);
     for job in jobs {
         array.push(job_json(alloc, job)?)?;
@@ -64,16 +66,26 @@ pub fn queue_json(alloc: Global, queue: &QueueLine) -> Result<Value, AllocError>
     })
 }
 
-fn reasons_json(alloc: Global, reasons: &[Reason]) -> Result<Value, AllocError> {
+fn reasons_json(alloc: Global, reasons: &[Reason]) -> Result<Value, AllocError>
+    ensures { IfOk result (λ array. view array ≡ texts_data reasons.now) }
+{
     let mut array = Vec::new(alloc);
     for reason in reasons {
-        array.push(json!(in alloc; reason.as_str())?)?;
+        array.push(text_json(alloc, reason.as_str())?)?;
     }
     Ok(Value::Array(array))
 }
 
+fn text_json(alloc: Global, text: &str) -> Result<Value, AllocError>
+    ensures { IfOk result (λ value. view value ≡ text_item text.now) }
+{
+    Ok(Value::String(String::from_str(alloc, text)?))
+}
+
 /// The queues as an array of objects, in their order.
-pub fn queues_json(alloc: Global, queues: &[QueueLine]) -> Result<Value, AllocError> {
+pub fn queues_json(alloc: Global, queues: &[QueueLine]) -> Result<Value, AllocError>
+    ensures value { IfOk result (λ array. view array ≡ queues_data queues.now) }
+{
     let mut array = Vec::new(alloc);
     for queue in queues {
         array.push(queue_json(alloc, queue)?)?;
@@ -82,7 +94,9 @@ pub fn queues_json(alloc: Global, queues: &[QueueLine]) -> Result<Value, AllocEr
 }
 
 /// A job with all its fields as an object. What isn't there is null.
-pub fn job_shown_json(alloc: Global, job: &JobShown) -> Result<Value, AllocError> {
+pub fn job_shown_json(alloc: Global, job: &JobShown) -> Result<Value, AllocError>
+    ensures value { IfOk result (λ object. view object ≡ shown_data job.now) }
+{
     let asked = asked_json(alloc, &job.asked)?;
     let course = course_json(alloc, &job.course)?;
     json!(in alloc; {"asked": &asked, "course": &course})
@@ -102,11 +116,10 @@ fn asked_json(alloc: Global, asked: &JobAsked) -> Result<Value, AllocError>
     })
 }
 
-fn course_json(alloc: Global, course: &JobCourse) -> Result<Value, AllocError> {
-    let media = match &course.media {
-        Some(media) => json!(in alloc; media.as_str())?,
-        None => Value::Null,
-    };
+fn course_json(alloc: Global, course: &JobCourse) -> Result<Value, AllocError>
+    ensures { IfOk result (λ object. view object ≡ course_data course.now) }
+{
+    let media = media_json(alloc, course.media.as_ref())?;
     let reason = reason_json(alloc, course.reason.as_ref())?;
     let by = moment_json(course.by);
     let hold_until = moment_json(course.hold_until);
@@ -126,6 +139,16 @@ fn course_json(alloc: Global, course: &JobCourse) -> Result<Value, AllocError> {
     })
 }
 
+// A media type, or null.
+fn media_json(alloc: Global, media: Option<&MediaType>) -> Result<Value, AllocError>
+    ensures { IfOk result (λ value. view value ≡ text_data (option_copied media.entry)) }
+{
+    match media {
+        Some(media) => text_json(alloc, media.as_str()),
+        None => Ok(Value::Null),
+    }
+}
+
 // A moment's seconds, or null.
 fn moment_json(moment: Option<Moment>) -> Value
     ensures { view result ≡ moment_data moment }
@@ -136,7 +159,9 @@ fn moment_json(moment: Option<Moment>) -> Value
     }
 }
 
-fn stage_json(alloc: Global, stage: Option<StageShown>) -> Result<Value, AllocError> {
+fn stage_json(alloc: Global, stage: Option<StageShown>) -> Result<Value, AllocError>
+    ensures { IfOk result (λ object. view object ≡ stage_data stage) }
+{
     match stage {
         Some(stage) => json!(in alloc; {
             "stage": stage.stage,

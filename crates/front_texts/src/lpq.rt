@@ -18,7 +18,9 @@ pub fn lpq(alloc: Global, queue: &QueueLine, jobs: &[JobLine]) -> Result<Vec<u8>
     let mut text = Vec::new(alloc);
     push_ready(&mut text, queue)?;
     if has_entry(jobs, &queue.name) {
-        text.extend_from_slice(b"Rank    Owner   Job     File(s)                         Total Size\n")?;
+        text.extend_from_slice(
+            b"Rank    Owner   Job     File(s)                         Total Size\n",
+        )?;
         push_entries(alloc, &mut text, jobs, &queue.name)?;
     } else {
         text.extend_from_slice(b"no entries\n")?;

@@ -46,11 +46,7 @@ fn is_printing(job: &JobLine, queue: &QueueName) -> bool
     job.state == JobState::Processing && job.queue == *queue
 }
 
-fn push_printer(
-    text: &mut Vec<u8>,
-    queue: &QueueLine,
-    job: Option<JobId>,
-) -> Result<(), AllocError>
+fn push_printer(text: &mut Vec<u8>, queue: &QueueLine, job: Option<JobId>) -> Result<(), AllocError>
     ensures { OnOk result (text.new.items ≡ text.old.items ++ printer_line queue.now job) }
 {
     let name = queue.name.as_str();
@@ -60,8 +56,11 @@ fn push_printer(
         }
         (PrinterState::Processing, Some(job)) => {
             let number = job.get();
-            write!(text, "printer {name} now printing {name}-{number}.  enabled since -\n")
-                .map_err(|_| AllocError)
+            write!(
+                text,
+                "printer {name} now printing {name}-{number}.  enabled since -\n"
+            )
+            .map_err(|_| AllocError)
         }
         (PrinterState::Processing, None) => {
             write!(text, "printer {name} now printing.  enabled since -\n").map_err(|_| AllocError)
@@ -169,8 +168,10 @@ pub(crate) fn push_padded(text: &mut Vec<u8>, value: &str, columns: usize) -> Re
 fn push_blanks(text: &mut Vec<u8>, count: usize) -> Result<(), AllocError>
     ensures { OnOk result (text.new.items ≡ text.old.items ++ replicate count 32) }
 {
-    for _ in 0..count {
+    let mut left = count;
+    while 0 < left {
         text.push(b' ')?;
+        left -= 1;
     }
     Ok(())
 }

@@ -11,16 +11,20 @@ use std::alloc::{AllocError, Global};
 use std::io::Write;
 
 // What stands before the page's title, without the line that asks for it anew.
-const OPENING: &str = "<!doctype html>\n<html lang=\"en\">\n<head>\n<meta charset=\"utf-8\">\n<meta name=\"viewport\" content=\"width=device-width, initial-scale=1\">\n";
+const OPENING: &str =
+    "<!doctype html>\n<html lang=\"en\">\n<head>\n<meta charset=\"utf-8\">\n<meta name=\"viewport\" content=\"width=device-width, initial-scale=1\">\n";
 
 // A browser reads the page again after five seconds.
 const REFRESH: &str = "<meta http-equiv=\"refresh\" content=\"5\">\n";
 
-const STYLE: &str = "<title>Printers and jobs</title>\n<style>\n:root { color-scheme: light dark; --ink: #1c1c1e; --paper: #ffffff; --line: #d7d7dc; --faint: #63636a; --go: #0b6e3a; --wait: #7a5200; --stop: #b3261e; --done: #44546a }\n@media (prefers-color-scheme: dark) { :root { --ink: #ececf0; --paper: #17181b; --line: #3a3b41; --faint: #a3a3ab; --go: #63d297; --wait: #f0c063; --stop: #ff8d85; --done: #a9bcd6 } }\nbody { margin: 2rem auto; max-width: 64rem; padding: 0 1rem; font: 16px/1.5 system-ui, sans-serif; color: var(--ink); background: var(--paper) }\nh1 { font-size: 1.5rem } h2 { font-size: 1.15rem; margin: 2rem 0 .5rem }\ntable { width: 100%; border-collapse: collapse } th, td { padding: .4rem .6rem; text-align: left; vertical-align: top; border-bottom: 1px solid var(--line); overflow-wrap: anywhere }\nth { font-weight: 600; color: var(--faint) } .n { text-align: right; font-variant-numeric: tabular-nums } .faint { color: var(--faint) }\n.state { font-weight: 600 } .idle, .completed { color: var(--done) } .processing { color: var(--go) } .pending, .arriving, .held { color: var(--wait) } .stopped, .aborted, .canceled { color: var(--stop) }\n</style>\n</head>\n<body>\n<h1>Printers and jobs</h1>\n";
+const STYLE: &str =
+    "<title>Printers and jobs</title>\n<style>\n:root { color-scheme: light dark; --ink: #1c1c1e; --paper: #ffffff; --line: #d7d7dc; --faint: #63636a; --go: #0b6e3a; --wait: #7a5200; --stop: #b3261e; --done: #44546a }\n@media (prefers-color-scheme: dark) { :root { --ink: #ececf0; --paper: #17181b; --line: #3a3b41; --faint: #a3a3ab; --go: #63d297; --wait: #f0c063; --stop: #ff8d85; --done: #a9bcd6 } }\nbody { margin: 2rem auto; max-width: 64rem; padding: 0 1rem; font: 16px/1.5 system-ui, sans-serif; color: var(--ink); background: var(--paper) }\nh1 { font-size: 1.5rem } h2 { font-size: 1.15rem; margin: 2rem 0 .5rem }\ntable { width: 100%; border-collapse: collapse } th, td { padding: .4rem .6rem; text-align: left; vertical-align: top; border-bottom: 1px solid var(--line); overflow-wrap: anywhere }\nth { font-weight: 600; color: var(--faint) } .n { text-align: right; font-variant-numeric: tabular-nums } .faint { color: var(--faint) }\n.state { font-weight: 600 } .idle, .completed { color: var(--done) } .processing { color: var(--go) } .pending, .arriving, .held { color: var(--wait) } .stopped, .aborted, .canceled { color: var(--stop) }\n</style>\n</head>\n<body>\n<h1>Printers and jobs</h1>\n";
 
-const QUEUES: &str = "<h2>Printers</h2>\n<table>\n<thead><tr><th>Printer</th><th>State</th><th>Takes jobs</th><th>Prints</th><th>Notes</th></tr></thead>\n<tbody>\n";
+const QUEUES: &str =
+    "<h2>Printers</h2>\n<table>\n<thead><tr><th>Printer</th><th>State</th><th>Takes jobs</th><th>Prints</th><th>Notes</th></tr></thead>\n<tbody>\n";
 
-const JOBS: &str = "</tbody>\n</table>\n<h2>Jobs</h2>\n<table>\n<thead><tr><th class=\"n\">Job</th><th>Printer</th><th>State</th><th>User</th><th class=\"n\">Bytes</th><th class=\"n\">Pages</th><th>Title</th></tr></thead>\n<tbody>\n";
+const JOBS: &str =
+    "</tbody>\n</table>\n<h2>Jobs</h2>\n<table>\n<thead><tr><th class=\"n\">Job</th><th>Printer</th><th>State</th><th>User</th><th class=\"n\">Bytes</th><th class=\"n\">Pages</th><th>Title</th></tr></thead>\n<tbody>\n";
 
 const CLOSING: &str = "</tbody>\n</table>\n</body>\n</html>\n";
 
@@ -177,7 +181,11 @@ fn push_job_numbers(page: &mut Vec<u8>, job: &JobLine) -> Result<(), AllocError>
 {
     let size = job.size;
     let pages = job.pages;
-    write!(page, "<td class=\"n\">{size}</td><td class=\"n\">{pages}</td>").map_err(|_| AllocError)
+    write!(
+        page,
+        "<td class=\"n\">{size}</td><td class=\"n\">{pages}</td>"
+    )
+    .map_err(|_| AllocError)
 }
 
 // Its title, and the reason beside its state.

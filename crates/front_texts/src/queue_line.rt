@@ -1,8 +1,8 @@
 //! Rows of `queues`.
-ghost use Rattle.std.specs.Prelude.{◌≡◌, IfOk};
+ghost use Rattle.std.specs.Prelude.{◌≡◌, IfOk, map};
 ghost use Rattle.std.specs.Option.{option_map};
 ghost use Rattle.line_words.specs.Blanks.{first_word, after_word};
-ghost use Rattle.front_texts.specs.QueueRows.{queue_row, queue_words, head_row, rules_row, notes_row, joined, reasons_in, texts_in};
+ghost use Rattle.front_texts.specs.QueueRows.{queue_row, queue_words, head_row, rules_row, notes_row, joined, reasons_in, texts_in, now_of};
 ghost use Rattle.spool_types.specs.Values.{is_reason};
 ghost use Rattle.front_texts.specs.States.{yes_or_no};
 ghost use Rattle.std.specs.List.{slice_split};
@@ -168,17 +168,25 @@ fn reasons(alloc: Global, word: &[u8]) -> Result<Option<Reasons>, AllocError>
     if is_word(word, b"none") {
         return Ok(Some(Reasons::empty(alloc)));
     }
-    match reason_list(alloc, word)? {
+    let parts = parts(alloc, word)?;
+    match reason_list(alloc, &parts)? {
         Some(list) => Ok(Reasons::new(list).ok()),
         None => Ok(None),
     }
 }
 
-fn reason_list(alloc: Global, word: &[u8]) -> Result<Option<Vec<Reason>>, AllocError>
-    ensures { IfOk result (λ list. option_map (λ v. v.items) list ≡ texts_in is_reason (slice_split is_comma word.now)) }
+// What stands between the commas of a word.
+fn parts(alloc: Global, word: &[u8]) -> Result<Vec<&[u8]>, AllocError>
+    ensures { IfOk result (λ parts. map now_of parts.items ≡ slice_split is_comma word.now) }
+{
+    word.split(|b| *b == b',').collect(alloc)
+}
+
+fn reason_list(alloc: Global, parts: &[&[u8]]) -> Result<Option<Vec<Reason>>, AllocError>
+    ensures { IfOk result (λ list. option_map (λ v. v.items) list ≡ texts_in is_reason (map now_of parts.now)) }
 {
     let mut list = Vec::new(alloc);
-    for part in word.split(|b| *b == b',') {
+    for part in parts {
         let Some(reason) = Reason::from_word(alloc, part)? else {
             return Ok(None);
         };

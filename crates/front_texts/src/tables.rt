@@ -11,13 +11,18 @@ use unicode_width::UnicodeWidthStr;
 
 // The columns of what is as wide in each table.
 const NUMBER_COLUMNS: usize = 6;
+
 const STATE_COLUMNS: usize = 10;
+
 const SIZE_COLUMNS: usize = 8;
+
 const PAGES_COLUMNS: usize = 5;
+
 const ACCEPTS_COLUMNS: usize = 7;
 
 // From so many columns on, each of these is shown.
 const WITH_USER: usize = 60;
+
 const WITH_SIZES: usize = 76;
 
 // The columns of a table whose names are as wide as these, in a terminal of so many columns.
@@ -95,7 +100,11 @@ fn job_row(alloc: Global, job: &JobLine, columns: Columns) -> Result<String, All
 {
     let number = job.number.get();
     let mut line = String::new(alloc);
-    push_right(&mut line, format!(in alloc; "{number}")?.as_str(), NUMBER_COLUMNS)?;
+    push_right(
+        &mut line,
+        format!(in alloc; "{number}")?.as_str(),
+        NUMBER_COLUMNS,
+    )?;
     push_cell(alloc, &mut line, job.queue.as_str(), columns.queue)?;
     push_cell(alloc, &mut line, job.state_word(), STATE_COLUMNS)?;
     if WITH_USER <= columns.whole {
@@ -103,8 +112,16 @@ fn job_row(alloc: Global, job: &JobLine, columns: Columns) -> Result<String, All
     }
     if WITH_SIZES <= columns.whole {
         let pages = job.pages;
-        push_right(&mut line, size_text(alloc, job.size)?.as_str(), SIZE_COLUMNS)?;
-        push_right(&mut line, format!(in alloc; "{pages}")?.as_str(), PAGES_COLUMNS)?;
+        push_right(
+            &mut line,
+            size_text(alloc, job.size)?.as_str(),
+            SIZE_COLUMNS,
+        )?;
+        push_right(
+            &mut line,
+            format!(in alloc; "{pages}")?.as_str(),
+            PAGES_COLUMNS,
+        )?;
     }
     line.push_str(job.title.as_str())?;
     ended(alloc, line.as_str(), columns.whole)
