@@ -8,23 +8,20 @@ use std::rt::Env;
 use std::time::Clock;
 
 /// Files, sockets, the environment, the clock and the standard streams.
-pub trait Host:
-    Files<File = File> + Net + Env + Clock + Print + Eprint + Input + RandomSource + AllocGlobal
-{
-}
+pub trait Host: Files<File = File>
+    + Net
+    + Env
+    + Clock
+    + Print
+    + Eprint
+    + Input
+    + RandomSource
+    + AllocGlobal {}
 
-impl<R> Host for R where
-    R: Files<File = File>
-        + Net
-        + Env
-        + Clock
-        + Print
-        + Eprint
-        + Input
-        + RandomSource
-        + AllocGlobal
-{
-}
+impl<R> Host for R
+where
+    R: Files<File = File> + Net + Env + Clock + Print + Eprint + Input + RandomSource + AllocGlobal,
+{}
 
 /// What standard error is.
 #[derive(Clone, Copy)]

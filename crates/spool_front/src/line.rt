@@ -1,10 +1,10 @@
 //! One connection to a service: commands are said, and lines are heard.
 
 use std::alloc::{AllocError, Global};
+use std::io;
 use std::io::{BufRead, BufReader, ErrorKind, Read, Write};
 use std::net::Net;
 use std::os::unix::net::UnixStream;
-use std::io;
 
 // The longest line that is heard.
 const LONGEST_LINE: u64 = 65_536;

@@ -114,7 +114,9 @@ fn run_task<R: Host>(
         Task::Jobs { act, jobs } => tasks::act_on_jobs(rt, places, act, jobs.as_slice()),
         Task::Clear { queues } => tasks::clear(rt, places, queues.as_slice()),
         Task::Queue { name, act } => tasks::act_on_queue(rt, places, name, act),
-        Task::Devices => Err(Fault::Words("run `spool_shell --devices`: the service doesn't list devices")),
+        Task::Devices => Err(Fault::Words(
+            "run `spool_shell --devices`: the service doesn't list devices",
+        )),
         Task::Check => shown::check(rt, places),
         Task::Page { file, follow } => shown::write_page(rt, places, file, follow),
         Task::Lpstat(asked) => shown::show_lpstat(rt, places, &asked),

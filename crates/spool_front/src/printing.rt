@@ -13,10 +13,9 @@ use front_submission::{Cause, End, Reply};
 use front_texts::{JobShown, JobState, read_job_shown};
 use front_words::{Hold, Moment, Submission};
 use std::alloc::{AllocError, Global};
-use std::fs;
 use std::io::{Read, Write};
 use std::time::SystemTime;
-use std::{env, io};
+use std::{env, fs, io};
 
 // The status where what was waited for ended otherwise than completed.
 const NOT_COMPLETED: u8 = 5;
@@ -315,10 +314,7 @@ fn end_of<R: Host>(rt: &R, shown: &JobShown) -> io::Result<Option<u8>> {
 fn shown<R: Host>(rt: &R, talk: &mut Talk<'_, R>, job: u32) -> Result<Option<JobShown>, Fault> {
     let line = job_line(rt.alloc(), "job", job)?;
     match talk.ask(line.as_slice()) {
-        Ok(told) => Ok(read_job_shown(
-            rt.alloc(),
-            told.text(rt.alloc())?.as_slice(),
-        )?),
+        Ok(told) => Ok(read_job_shown(rt.alloc(), told.text(rt.alloc())?.as_slice())?),
         Err(Fault::Refused(text)) if matches!(reply_in(text.as_str()), Reply::Gone) => Ok(None),
         Err(fault) => Err(fault),
     }

@@ -5,8 +5,9 @@ use crate::host::Host;
 use crate::places::{Places, queue_of};
 use crate::printing::now;
 use crate::tasks::all_of;
-use front_texts::{JobLine, QueueLine, lpq, lpstat_accepting, lpstat_jobs, lpstat_printers};
-use front_texts::{moment_text, page};
+use front_texts::{
+    JobLine, QueueLine, lpq, lpstat_accepting, lpstat_jobs, lpstat_printers, moment_text, page,
+};
 use front_words::{Lpq, Lpstat};
 use std::alloc::{AllocError, Global};
 use std::io::Write;
@@ -30,11 +31,7 @@ pub fn print_bytes<R: Print>(rt: &R, bytes: &[u8]) -> io::Result<()> {
 }
 
 /// Prints what lpstat was asked for. With nothing asked these are the jobs.
-pub fn show_lpstat<R: Host>(
-    rt: &R,
-    places: &Places<'_>,
-    asked: &Lpstat<'_>,
-) -> Result<u8, Fault> {
+pub fn show_lpstat<R: Host>(rt: &R, places: &Places<'_>, asked: &Lpstat<'_>) -> Result<u8, Fault> {
     let alloc = rt.alloc();
     if asked.scheduler || asked.all {
         all_of(rt, places)?;
@@ -124,10 +121,7 @@ fn is_named(alloc: Global, asked: &Lpstat<'_>, job: &JobLine) -> Result<bool, Al
         let names = asked.jobs.unwrap_or("");
         return Ok(has_name(names, queue) || has_name(names, id.as_str()));
     }
-    Ok(asked
-        .names
-        .iter()
-        .any(|names| has_name(names, queue) || has_name(names, id.as_str())))
+    Ok(asked.names.iter().any(|names| has_name(names, queue) || has_name(names, id.as_str())))
 }
 
 fn tell_usual<R: Host>(rt: &R, places: &Places<'_>) -> Result<(), Fault> {
@@ -170,7 +164,11 @@ fn is_queue(name: &Option<String>, queue: &QueueLine) -> bool {
 }
 
 // The jobs of these numbers, and all where there is none.
-fn numbered(alloc: Global, jobs: Vec<JobLine>, numbers: &[u32]) -> Result<Vec<JobLine>, AllocError> {
+fn numbered(
+    alloc: Global,
+    jobs: Vec<JobLine>,
+    numbers: &[u32],
+) -> Result<Vec<JobLine>, AllocError> {
     if numbers.is_empty() {
         return Ok(jobs);
     }

@@ -68,7 +68,12 @@ impl<'a, R: Host> Submitting<'a, R> {
         })
     }
 
-    fn read_piece<S: Read + Drop>(&self, step: Step, document: &mut Document<S>, size: u64) -> Step {
+    fn read_piece<S: Read + Drop>(
+        &self,
+        step: Step,
+        document: &mut Document<S>,
+        size: u64,
+    ) -> Step {
         if self.screen.shows {
             let _ = eprint!(self.rt; "\rspool: {size} bytes sent ");
         }
@@ -156,7 +161,10 @@ impl<'a, R: Host> Submitting<'a, R> {
 
     fn reply_of(&mut self, told: Told) -> Reply {
         let reply = reply_in(told.last.as_str());
-        if matches!(reply, Reply::Denied | Reply::NotIncoming | Reply::Later | Reply::Gone) {
+        if matches!(
+            reply,
+            Reply::Denied | Reply::NotIncoming | Reply::Later | Reply::Gone
+        ) {
             self.refusal = Some(told.last);
         }
         reply

@@ -8,8 +8,10 @@ use crate::says::{Until, hold_line, job_line};
 use crate::shown::{print_bytes, print_lines};
 use crate::talk::Talk;
 use command_lines::push_quoted;
-use front_texts::{JobLine, QueueLine, job_page, job_shown_json, jobs_json, jobs_table};
-use front_texts::{queues_json, queues_table, read_job_shown};
+use front_texts::{
+    JobLine, QueueLine, job_page, job_shown_json, jobs_json, jobs_table, queues_json, queues_table,
+    read_job_shown,
+};
 use front_words::{JobAct, NewQueue, QueueAct, Status};
 use std::alloc::{AllocError, Global};
 use std::io::Write;
@@ -226,12 +228,7 @@ fn name_line(alloc: Global, word: &str, name: &str) -> Result<Vec<u8>, AllocErro
     Ok(line)
 }
 
-fn info_line(
-    alloc: Global,
-    name: &str,
-    info: &str,
-    location: &str,
-) -> Result<Vec<u8>, AllocError> {
+fn info_line(alloc: Global, name: &str, info: &str, location: &str) -> Result<Vec<u8>, AllocError> {
     let mut line = Vec::new(alloc);
     line.extend_from_slice(b"info ")?;
     push_quoted(&mut line, name)?;
