@@ -1,11 +1,13 @@
 //! Why a task fails.
+ghost use Rattle.std.specs.Prelude.{◌≡◌};
 
 use crate::line::LineFault;
-use std::alloc::AllocError;
+use std::alloc::{AllocError, AllocFailed};
 use std::io;
+use thiserror::Error;
 
 /// Why a task fails.
-#[derive(Drop, thiserror::Error)]
+#[derive(Debug, Drop, Error)]
 pub enum Fault {
     #[error("memory")]
     Memory,
@@ -27,9 +29,21 @@ pub enum Fault {
 }
 
 impl From<AllocError> for Fault {
-    ghost from_gives = { λ _ fault. fault ≡ Fault.Memory };
+    ghost use Rattle.spool_front.specs.declared.fault.Fault.TheVariants.{Memory};
+
+    ghost from_gives = { λ _ fault. fault ≡ Memory };
 
     fn from(_error: AllocError) -> Fault {
+        Fault::Memory
+    }
+}
+
+impl<T: Drop> From<AllocFailed<T>> for Fault {
+    ghost use Rattle.spool_front.specs.declared.fault.Fault.TheVariants.{Memory};
+
+    ghost from_gives = { λ _ fault. fault ≡ Memory };
+
+    fn from(_error: AllocFailed<T>) -> Fault {
         Fault::Memory
     }
 }

@@ -1,5 +1,4 @@
 //! What the lines of a service say of a submission.
-ghost use Rattle.std.specs.Prelude.{◌≡◌};
 
 use front_submission::{Reply, Shown};
 use front_texts::{JobShown, JobState, LastLine, read_last_line};

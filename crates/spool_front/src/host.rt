@@ -1,7 +1,6 @@
 //! What the program asks of its system.
 
 use std::fs::{File, Files};
-use std::io::{Eprint, Input, Print};
 use std::net::Net;
 use std::random::RandomSource;
 use std::rt::Env;
@@ -16,11 +15,21 @@ pub trait Host: Files<File = File>
     + Eprint
     + Input
     + RandomSource
-    + AllocGlobal {}
+    + AllocGlobal
+    + Drop {}
 
 impl<R> Host for R
 where
-    R: Files<File = File> + Net + Env + Clock + Print + Eprint + Input + RandomSource + AllocGlobal,
+    R: Files<File = File>
+        + Net
+        + Env
+        + Clock
+        + Print
+        + Eprint
+        + Input
+        + RandomSource
+        + AllocGlobal
+        + Drop,
 {}
 
 /// What standard error is.

@@ -1,6 +1,7 @@
 //! One connection to a service: commands are said, and lines are heard.
+ghost use Rattle.std.specs.Prelude.{◌≡◌};
 
-use std::alloc::{AllocError, Global};
+use std::alloc::{AllocError, AllocFailed, Global};
 use std::io;
 use std::io::{BufRead, BufReader, ErrorKind, Read, Write};
 use std::net::Net;
@@ -19,9 +20,21 @@ pub enum LineFault {
 }
 
 impl From<AllocError> for LineFault {
-    ghost from_gives = { λ _ fault. fault ≡ LineFault.Memory };
+    ghost use Rattle.spool_front.specs.declared.line.LineFault.TheVariants.{Memory};
+
+    ghost from_gives = { λ _ fault. fault ≡ Memory };
 
     fn from(_error: AllocError) -> LineFault {
+        LineFault::Memory
+    }
+}
+
+impl<T: Drop> From<AllocFailed<T>> for LineFault {
+    ghost use Rattle.spool_front.specs.declared.line.LineFault.TheVariants.{Memory};
+
+    ghost from_gives = { λ _ fault. fault ≡ Memory };
+
+    fn from(_error: AllocFailed<T>) -> LineFault {
         LineFault::Memory
     }
 }

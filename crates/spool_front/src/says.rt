@@ -1,6 +1,4 @@
 //! The lines that are said to a service.
-ghost use Rattle.std.specs.Prelude.{◌≡◌, ◌++◌, IfOk, string_bytes};
-ghost use Rattle.spool_front.specs.Says.{cancel_line, close_line, create_line, hold_line, send_line, shown_line, hold_word};
 
 use command_lines::push_quoted;
 use std::alloc::{AllocError, Global};
