@@ -2,6 +2,7 @@
 use Rattle.std.proofs.Common.{◌≡◌, ℕ, ◌+◌, ◌≤◌, ◌<◌, zero, suc, ◌⊎◌, inl, inr, Bool, true, false, cond, ◌==◌, List, [], ◌∷◌, ◌++◌, length, Option, None, Some, refl, ap, sym, ◌∙◌, subst, arith, eq-eqb}
 use Rattle.std.specs.Prelude.{sum}
 use Rattle.std.proofs.lemmas.Bool.{eqb-true}
+use Rattle.std.proofs.lemmas.List.Sums.{sum_by-cons}
 use Rattle.front_submission.specs.declared.step.Step.{Step}
 use Rattle.front_submission.specs.declared.step.Step.TheVariants.{Creating, Finding, Clearing, Reading, Sending, Measuring, Holding, Closing, Checking, Canceling, Ended}
 use Rattle.front_submission.specs.declared.step.End.{End}
@@ -476,7 +477,10 @@ unclear_lost (Ended end) = refl
 -- ## The document
 
 pieces_more : (total size piece : ℕ) (rest : List ℕ) → IsLeft total size (piece ∷ rest) → IsLeft total (size + piece) rest
-pieces_more total size piece rest left = record { all = let e : size + (piece + sum rest) ≡ total = left.all in omega arith; pieces = left.pieces.1 }
+pieces_more total size piece rest left =
+    let more : sum (piece ∷ rest) ≡ piece + sum rest = sum_by-cons (λ (x : ℕ). x) piece rest in
+    let e : size + sum (piece ∷ rest) ≡ total = left.all in
+    record { all = omega arith; pieces = left.pieces.1 }
 
 all_sent : (total size : ℕ) → IsLeft total size [] → size ≡ total
 all_sent total size left = let e : size + 0 ≡ total = left.all in omega arith

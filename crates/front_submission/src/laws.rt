@@ -3,6 +3,7 @@ ghost use Rattle.std.specs.Prelude.{◌≡◌, ℕ, ◌≤◌, Bool, true, false
 ghost use Rattle.front_submission.specs.Moves.{status};
 ghost use Rattle.front_submission.specs.Runs.{Event, ArePieces, end_of};
 ghost use Rattle.front_submission.specs.declared.step.End.{End};
+ghost use Rattle.front_submission.specs.declared.step.Step.{Step};
 
 /// *ActsOnce*: whatever happens to the requests of a submission and to their replies, and whatever others do meanwhile.
 pub fn acts_once()

@@ -9,6 +9,7 @@ use front_texts::{
     JobLine, QueueLine, lpq, lpstat_accepting, lpstat_jobs, lpstat_printers, moment_text, page,
 };
 use front_words::{Lpq, Lpstat};
+use spool_types::Moment;
 use std::alloc::{AllocError, Global};
 use std::io::Write;
 use std::time::Duration;
@@ -206,7 +207,7 @@ fn write_one_page<R: Host>(
 ) -> Result<(), Fault> {
     let alloc = rt.alloc();
     let (queues, jobs) = all_of(rt, places)?;
-    let stamp = moment_text(alloc, now(rt)?)?;
+    let stamp = moment_text(alloc, Moment::ZERO.plus(now(rt)?))?;
     let text = page(alloc, &queues, &jobs, stamp.as_str(), follow)?;
     let unfinished = format!(in alloc; "{file}.new")?;
     if fs::write(rt, unfinished.as_str(), text.as_slice()).is_err()
