@@ -1,83 +1,139 @@
 //! What the lines of a service say of a submission.
+ghost use Rattle.std.specs.Prelude.{◌≡◌};
+ghost use Rattle.std.specs.List.{after_first, before_first};
+ghost use Rattle.front_texts.specs.ReplyLines.{is_space};
+ghost use Rattle.spool_front.specs.Hears.{bytes_as, closed_as, done_as, failed_as, job_as, reply_as, reply_in, shown_as, type_as};
 
+use command_lines::job_number;
 use front_submission::{Reply, Shown};
 use front_texts::{JobShown, JobState, LastLine, read_last_line};
+use line_words::decimal;
+
+// The greatest size of a job that is read.
+const GREATEST_SIZE: u64 = 1 << 40;
 
 /// What the last line of a reply says.
-pub fn reply_in(line: &str) -> Reply {
+pub fn reply_in(line: &str) -> Reply
+    ensures { result ≡ reply_in line.now }
+{
     match read_last_line(line) {
-        Some(LastLine::Done { words }) => done_in(words),
-        Some(LastLine::Refused { number: 6, .. }) => Reply::NotIncoming,
-        Some(LastLine::Refused { .. }) => Reply::Denied,
-        Some(LastLine::Failed { word }) => failed_in(word),
+        Some(LastLine::Done { words }) => done_as(words),
+        Some(LastLine::Refused { number, .. }) => {
+            if number == 6 {
+                Reply::NotIncoming
+            } else {
+                Reply::Denied
+            }
+        }
+        Some(LastLine::Failed { word }) => failed_as(word),
         None => Reply::Unclear,
     }
 }
 
 // What follows `ok`.
-fn done_in(words: &str) -> Reply {
+fn done_as(words: &str) -> Reply
+    ensures { result ≡ done_as words.now }
+{
     if words.is_empty() {
         return Reply::Done;
     }
-    let Some((word, rest)) = words.split_once(' ') else {
-        return Reply::Unclear;
-    };
+    let (word, rest) = parted(words);
     if word == "job" {
-        return created_in(rest);
+        return job_as(rest);
     }
     if word == "bytes" {
-        return sent_in(rest);
+        return bytes_as(rest);
     }
     if word == "type" {
-        return closed_in(rest);
+        return type_as(rest);
     }
     Reply::Unclear
 }
 
-fn created_in(text: &str) -> Reply {
-    match text.parse::<u32>() {
-        Ok(job) => Reply::Created { job },
-        Err(_) => Reply::Unclear,
+// What stands before the first blank, and what follows it.
+fn parted(line: &str) -> (&str, &str)
+    ensures word { result.0.now ≡ before_first is_space line.now }
+    ensures rest { result.1.now ≡ after_first is_space line.now }
+{
+    match line.split_once(' ') {
+        Some(parts) => parts,
+        None => (line, ""),
     }
 }
 
-fn sent_in(text: &str) -> Reply {
-    match text.parse::<u64>() {
-        Ok(size) => Reply::Sent { size },
-        Err(_) => Reply::Unclear,
-    }
-}
-
-// What follows `ok type`: the type, and the stages or that there are none.
-fn closed_in(text: &str) -> Reply {
-    match text.split_once(' ') {
-        Some((_, rest)) => Reply::Closed {
-            printable: rest != "unprintable",
-        },
+fn job_as(text: &str) -> Reply
+    ensures { result ≡ job_as text.now }
+{
+    match job_number(text.as_bytes()) {
+        Some(job) => Reply::Created { job: job.get() },
         None => Reply::Unclear,
     }
 }
 
-// What follows `error`, where it is a word.
-fn failed_in(word: &str) -> Reply {
-    match word {
-        "job" => Reply::Gone,
-        "memory" | "full" => Reply::Later,
-        "disk" | "dead" | "busy" => Reply::Unclear,
-        _ => Reply::Denied,
+fn bytes_as(text: &str) -> Reply
+    ensures { result ≡ bytes_as text.now }
+{
+    match decimal(text.as_bytes(), GREATEST_SIZE) {
+        Some(size) => Reply::Sent { size },
+        None => Reply::Unclear,
     }
+}
+
+// What follows `ok type`: the type, and then the stages, or that there are none.
+fn type_as(text: &str) -> Reply
+    ensures { result ≡ type_as text.now }
+{
+    let (_, rest) = parted(text);
+    let (word, _) = parted(rest);
+    if word == "stages" {
+        return Reply::Closed { printable: true };
+    }
+    if word == "unprintable" {
+        return Reply::Closed { printable: false };
+    }
+    Reply::Unclear
+}
+
+// What follows `error`, where it is a word.
+fn failed_as(word: &str) -> Reply
+    ensures { result ≡ failed_as word.now }
+{
+    if word == "job" {
+        return Reply::Gone;
+    }
+    if word == "memory" || word == "full" {
+        return Reply::Later;
+    }
+    if word == "disk" || word == "dead" || word == "busy" {
+        return Reply::Unclear;
+    }
+    Reply::Denied
 }
 
 /// What has become of a job. One that was closed has a type.
 pub fn shown_of(job: &JobShown) -> Shown {
-    if job.course.media.is_some() {
-        return match job.course.state {
-            JobState::Aborted if has_reason(job, "no-filter") => Shown::NoFilters,
+    let course = &job.course;
+    shown_as(
+        course.media.is_some(),
+        course.state,
+        has_reason(job, "no-filter"),
+        has_reason(job, "job-incoming"),
+        course.size,
+    )
+}
+
+// What has become of a job, by whether it was closed, its state, and whether its reason is one of two.
+fn shown_as(closed: bool, state: JobState, no_filter: bool, incoming: bool, size: u32) -> Shown
+    ensures { result ≡ shown_as closed state no_filter incoming size }
+{
+    if closed {
+        return match state {
+            JobState::Aborted if no_filter => Shown::NoFilters,
             _ => Shown::WasClosed,
         };
     }
-    if has_reason(job, "job-incoming") {
-        let size = u64::from(job.course.size);
+    if incoming {
+        let size = u64::from(size);
         return Shown::Arriving { size };
     }
     Shown::NeverClosed

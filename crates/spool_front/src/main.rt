@@ -34,6 +34,7 @@ use fault::Fault;
 use front_words::{Asked, Task, WordsFault, read_words};
 use host::{Host, Screen};
 use places::{Places, patience, usual_socket};
+use says::has_control;
 use std::env;
 use std::io::IsTerminal;
 use std::process::ExitCode;
@@ -53,6 +54,10 @@ fn main(rt: HostRuntime) -> ExitCode {
             return ExitCode::from(2);
         }
     };
+    if words.iter().any(|word| has_control(word.as_str())) {
+        let _ = eprintln!(rt; "error: a word of the command line has a control character");
+        return ExitCode::from(2);
+    }
     match read_words(rt.alloc(), words.as_slice()) {
         Ok(asked) => ended(&rt, run(&rt, asked, screen)),
         Err(WordsFault::Refused(error)) => {

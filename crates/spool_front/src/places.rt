@@ -2,6 +2,7 @@
 
 use crate::fault::Fault;
 use crate::host::Host;
+use crate::says::has_control;
 use crate::talk::Talk;
 use std::alloc::AllocError;
 use std::env;
@@ -46,6 +47,9 @@ pub fn queue_of<'a, R: Host>(
     }
     for name in ["LPDEST", "PRINTER"] {
         if let Ok(queue) = env::var(rt, name) {
+            if has_control(queue.as_str()) {
+                return Err(Fault::Words("the environment's queue has a control character"));
+            }
             return place_of(rt, places, queue);
         }
     }

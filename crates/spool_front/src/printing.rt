@@ -13,7 +13,7 @@ use front_submission::{Cause, End, Reply};
 use front_texts::{JobShown, JobState, read_job_shown};
 use front_words::{Hold, Moment, Submission};
 use std::alloc::{AllocError, Global};
-use std::io::{Read, Write};
+use std::io::Read;
 use std::time::SystemTime;
 use std::{env, fs, io};
 
@@ -108,7 +108,7 @@ fn draft_of<R: Host>(
         hold: match asked.hold {
             Hold::No => None,
             Hold::Indefinite => Some(Until::Released),
-            Hold::Until(moment) => Some(Until::Moment(seconds_of(rt, moment)?)),
+            Hold::Until(moment) => Some(Until::Reached(seconds_of(rt, moment)?)),
         },
         name: plain_text(alloc, name)?,
     })
@@ -126,11 +126,10 @@ fn user_of<R: Host>(rt: &R, user: Option<&str>) -> Result<String, AllocError> {
     if let Some(user) = user {
         return String::from_str(rt.alloc(), user);
     }
-    if let Ok(user) = env::var(rt, "USER") {
-        return Ok(user);
-    }
-    if let Ok(user) = env::var(rt, "LOGNAME") {
-        return Ok(user);
+    for name in ["USER", "LOGNAME"] {
+        if let Ok(user) = env::var(rt, name) {
+            return plain_text(rt.alloc(), user.as_str());
+        }
     }
     String::from_str(rt.alloc(), "anonymous")
 }

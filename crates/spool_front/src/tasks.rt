@@ -4,17 +4,15 @@ use crate::fault::Fault;
 use crate::host::{Host, Screen};
 use crate::places::{Places, queue_of};
 use crate::printing::seconds_of;
-use crate::says::{Until, hold_line, job_line};
+use crate::says::{Until, hold_line, info_line, job_line, name_line, queue_line};
 use crate::shown::{print_bytes, print_lines};
 use crate::talk::Talk;
-use command_lines::push_quoted;
 use front_texts::{
     JobLine, QueueLine, job_page, job_shown_json, jobs_json, jobs_table, queues_json, queues_table,
     read_job_shown,
 };
-use front_words::{JobAct, NewQueue, QueueAct, Status};
+use front_words::{JobAct, QueueAct, Status};
 use std::alloc::{AllocError, Global};
-use std::io::Write;
 
 /// All jobs of all services, and their queues.
 pub fn all_of<R: Host>(
@@ -171,7 +169,7 @@ fn act_line<R: Host>(rt: &R, act: JobAct, job: u32) -> Result<Vec<u8>, Fault> {
         JobAct::End => job_line(alloc, "end", job)?,
         JobAct::Hold(None) => hold_line(alloc, job, Until::Released)?,
         JobAct::Hold(Some(moment)) => {
-            hold_line(alloc, job, Until::Moment(seconds_of(rt, moment)?))?
+            hold_line(alloc, job, Until::Reached(seconds_of(rt, moment)?))?
         }
     };
     Ok(line)
@@ -196,7 +194,7 @@ pub fn act_on_queue<R: Host>(
     name: &str,
     act: QueueAct<'_>,
 ) -> Result<u8, Fault> {
-    let line = queue_line(rt.alloc(), name, act)?;
+    let line = act_text(rt.alloc(), name, act)?;
     let mut talk = match act {
         QueueAct::Add(_) => first_talk(rt, places)?,
         _ => {
@@ -208,49 +206,13 @@ pub fn act_on_queue<R: Host>(
     Ok(0)
 }
 
-fn queue_line(alloc: Global, name: &str, act: QueueAct<'_>) -> Result<Vec<u8>, AllocError> {
+fn act_text(alloc: Global, name: &str, act: QueueAct<'_>) -> Result<Vec<u8>, AllocError> {
     match act {
-        QueueAct::Add(queue) => new_queue_line(alloc, name, queue),
+        QueueAct::Add(queue) => queue_line(alloc, name, queue),
         QueueAct::Set { info, location } => info_line(alloc, name, info, location),
         QueueAct::Accept => name_line(alloc, "accept", name),
         QueueAct::Reject => name_line(alloc, "reject", name),
         QueueAct::Enable => name_line(alloc, "enable", name),
         QueueAct::Disable => name_line(alloc, "disable", name),
     }
-}
-
-fn name_line(alloc: Global, word: &str, name: &str) -> Result<Vec<u8>, AllocError> {
-    let mut line = Vec::new(alloc);
-    line.extend_from_slice(word.as_bytes())?;
-    line.extend_from_slice(b" ")?;
-    push_quoted(&mut line, name)?;
-    line.extend_from_slice(b"\n")?;
-    Ok(line)
-}
-
-fn info_line(alloc: Global, name: &str, info: &str, location: &str) -> Result<Vec<u8>, AllocError> {
-    let mut line = Vec::new(alloc);
-    line.extend_from_slice(b"info ")?;
-    push_quoted(&mut line, name)?;
-    line.extend_from_slice(b" ")?;
-    push_quoted(&mut line, info)?;
-    line.extend_from_slice(b" ")?;
-    push_quoted(&mut line, location)?;
-    line.extend_from_slice(b"\n")?;
-    Ok(line)
-}
-
-fn new_queue_line(alloc: Global, name: &str, queue: NewQueue<'_>) -> Result<Vec<u8>, AllocError> {
-    let mut line = Vec::new(alloc);
-    line.extend_from_slice(b"queue ")?;
-    push_quoted(&mut line, name)?;
-    line.extend_from_slice(b" ")?;
-    push_quoted(&mut line, queue.uri)?;
-    line.extend_from_slice(b" ")?;
-    push_quoted(&mut line, queue.media)?;
-    let policy = queue.policy;
-    let interval = queue.interval;
-    let limit = queue.limit;
-    write!(line, " {policy} {interval} {limit}\n").map_err(|_| AllocError)?;
-    Ok(line)
 }
