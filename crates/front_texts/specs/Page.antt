@@ -6,7 +6,7 @@ use Rattle.front_texts.specs.Escape.{escaped}
 use Rattle.front_texts.specs.States.{printer_state_word, shown_word, yes_or_no}
 use Rattle.front_texts.specs.declared.job_line.JobLine.{JobLine}
 use Rattle.front_texts.specs.declared.queue_line.QueueLine.{QueueLine}
-use Rattle.front_texts.specs.declared.page.TheConstants.{OPENING, REFRESH, STYLE, QUEUES, JOBS, CLOSING}
+use Rattle.front_texts.specs.declared.web_page.TheConstants.{OPENING, REFRESH, STYLE, QUEUES, JOBS, CLOSING}
 
 abbrev pub cell : List ℕ → List ℕ
 cell text = codes "<td>" ++ escaped text ++ codes "</td>"
