@@ -24,9 +24,9 @@ const QUEUE_ROWS: [&str; 2] = [
 const SHOWN: &str =
     "job 7\nqueue lab\nuser \"ann\"\ntitle \"P \\\"1\\\"\"\noptions \"media=A4\"\ncopies 2\npriority 50\nsize 65536\npages 1\nattempts 1\ntype text/plain\nby 1700000000\nstate 5\nreason job-printing\nstage 1 of 2 attempt 1\n";
 
-fn jobs(alloc: Global) -> Result<Vec<JobLine>, AllocError> {
+fn jobs(alloc: Global, rows: &[&str]) -> Result<Vec<JobLine>, AllocError> {
     let mut jobs = Vec::new(alloc);
-    for row in ROWS {
+    for row in rows {
         if let Some(job) = read_job_line(alloc, row.as_bytes())? {
             jobs.push(job)?;
         }
@@ -34,9 +34,9 @@ fn jobs(alloc: Global) -> Result<Vec<JobLine>, AllocError> {
     Ok(jobs)
 }
 
-fn queues(alloc: Global) -> Result<Vec<QueueLine>, AllocError> {
+fn queues(alloc: Global, rows: &[&str]) -> Result<Vec<QueueLine>, AllocError> {
     let mut queues = Vec::new(alloc);
-    for row in QUEUE_ROWS {
+    for row in rows {
         if let Some(queue) = read_queue_line(alloc, row.as_bytes())? {
             queues.push(queue)?;
         }
@@ -62,8 +62,8 @@ fn joined(alloc: Global, lines: &[String]) -> Result<String, AllocError> {
 #[test]
 fn reads_rows(rt: HostRuntime) -> Result<(), Fail> {
     let alloc = rt.alloc();
-    assert_eq!(rt; jobs(alloc)?.len(), 4);
-    assert_eq!(rt; queues(alloc)?.len(), 2);
+    assert_eq!(rt; jobs(alloc, &ROWS)?.len(), 4);
+    assert_eq!(rt; queues(alloc, &QUEUE_ROWS)?.len(), 2);
     assert!(rt; read_job_line(alloc, b"job 0 lab 3 none \"bob\" 3 0 \"t\"")?.is_none());
     assert!(rt; read_job_line(alloc, b"job 8 lab 3 none bob 3 0 \"t\"")?.is_none());
     assert!(rt; read_job_line(alloc, b"job 8 lab 3 none \"bob\" 3 0 \"t\" more")?.is_none());
@@ -128,18 +128,18 @@ fn reads_news(rt: HostRuntime) -> Result<(), Fail> {
 #[test]
 fn prints_jobs(rt: HostRuntime) -> Result<(), Fail> {
     let alloc = rt.alloc();
-    let jobs = jobs(alloc)?;
-    let wide = joined(alloc, &jobs_table(alloc, &jobs[..1], 80)?)?;
+    let jobs = jobs(alloc, &ROWS[..1])?;
+    let wide = joined(alloc, &jobs_table(alloc, &jobs, 80)?)?;
     assert_eq!(rt;
         wide.as_str(),
         "   JOB  QUEUE  STATE       USER      SIZE  PAGES  TITLE\n     7  lab    processing  ann     64 KiB      2  Report \"Q1\"\n"
     );
-    let narrow = joined(alloc, &jobs_table(alloc, &jobs[..1], 40)?)?;
+    let narrow = joined(alloc, &jobs_table(alloc, &jobs, 40)?)?;
     assert_eq!(rt;
         narrow.as_str(),
         "   JOB  QUEUE  STATE       TITLE\n     7  lab    processing  Report \"Q1\"\n"
     );
-    let queues = queues(alloc)?;
+    let queues = queues(alloc, &QUEUE_ROWS)?;
     let table = joined(alloc, &queues_table(alloc, &queues, 80)?)?;
     assert_eq!(rt;
         table.as_str(),
@@ -151,8 +151,8 @@ fn prints_jobs(rt: HostRuntime) -> Result<(), Fail> {
 #[test]
 fn fits_each_width(rt: HostRuntime) -> Result<(), Fail> {
     let alloc = rt.alloc();
-    let jobs = jobs(alloc)?;
-    let queues = queues(alloc)?;
+    let jobs = jobs(alloc, &ROWS)?;
+    let queues = queues(alloc, &QUEUE_ROWS)?;
     for width in 40usize..201 {
         for line in &jobs_table(alloc, &jobs, width)? {
             assert!(rt; line.as_str().width() <= width);
@@ -179,7 +179,7 @@ fn shows_one_job(rt: HostRuntime) -> Result<(), Fail> {
     let json = job_shown_json(alloc, &job)?.to_string(alloc)?;
     assert_eq!(rt;
         json.as_str(),
-        "{\"asked\":{\"copies\":2,\"number\":7,\"options\":\"media=A4\",\"priority\":50,\"queue\":\"lab\",\"title\":\"P \\\"1\\\"\",\"user\":\"ann\"},\"course\":{\"attempts\":1,\"by\":1700000000,\"hold_until\":null,\"not_before\":null,\"pages\":1,\"reason\":\"job-printing\",\"size\":65536,\"stage\":{\"attempt\":1,\"stage\":1,\"stages\":2},\"state\":\"processing\",\"type\":\"text/plain\"}}"
+        "{\"asked\":{\"copies\":2,\"number\":7,\"options\":\"media=A4\",\"priority\":50,\"queue\":\"lab\",\"title\":\"P \\\"1\\\"\",\"user\":\"ann\"},\"course\":{\"attempts\":1,\"moments\":{\"by\":1700000000,\"hold_until\":null,\"not_before\":null},\"pages\":1,\"reason\":\"job-printing\",\"size\":65536,\"stage\":{\"attempt\":1,\"stage\":1,\"stages\":2},\"state\":\"processing\",\"type\":\"text/plain\"}}"
     );
     Ok(())
 }
@@ -187,12 +187,12 @@ fn shows_one_job(rt: HostRuntime) -> Result<(), Fail> {
 #[test]
 fn writes_json(rt: HostRuntime) -> Result<(), Fail> {
     let alloc = rt.alloc();
-    let jobs = jobs_json(alloc, &jobs(alloc)?[1..2])?.to_string(alloc)?;
+    let jobs = jobs_json(alloc, &jobs(alloc, &ROWS[1..2])?)?.to_string(alloc)?;
     assert_eq!(rt;
         jobs.as_str(),
         "[{\"number\":8,\"pages\":0,\"queue\":\"lab\",\"reason\":null,\"size\":3,\"state\":\"pending\",\"title\":\"<b>&'x'\",\"user\":\"bob\"}]"
     );
-    let queues = queues_json(alloc, &queues(alloc)?[1..])?.to_string(alloc)?;
+    let queues = queues_json(alloc, &queues(alloc, &QUEUE_ROWS[1..])?)?.to_string(alloc)?;
     assert_eq!(rt;
         queues.as_str(),
         "[{\"accepting\":false,\"interval\":0,\"limit\":0,\"message\":\"tray \\\"2\\\" is empty\",\"name\":\"den\",\"policy\":\"retry-job\",\"reasons\":[\"media-empty\",\"toner-low\"],\"state\":\"stopped\",\"type\":\"text/plain\"}]"
@@ -203,8 +203,8 @@ fn writes_json(rt: HostRuntime) -> Result<(), Fail> {
 #[test]
 fn prints_as_lpstat(rt: HostRuntime) -> Result<(), Fail> {
     let alloc = rt.alloc();
-    let jobs = jobs(alloc)?;
-    let queues = queues(alloc)?;
+    let jobs = jobs(alloc, &ROWS)?;
+    let queues = queues(alloc, &QUEUE_ROWS)?;
     assert!(rt;
         lpstat_printers(alloc, &queues, &jobs)?.as_slice()
             == b"printer lab now printing lab-7.  enabled since -\nprinter den disabled since - -\n\ttray \"2\" is empty\n".as_slice()
@@ -223,15 +223,17 @@ fn prints_as_lpstat(rt: HostRuntime) -> Result<(), Fail> {
 #[test]
 fn prints_as_lpq(rt: HostRuntime) -> Result<(), Fail> {
     let alloc = rt.alloc();
-    let jobs = jobs(alloc)?;
-    let queues = queues(alloc)?;
+    let jobs = jobs(alloc, &ROWS)?;
+    let queues = queues(alloc, &QUEUE_ROWS)?;
+    let [lab, den] = queues.as_slice() else {
+        assert!(rt; false);
+        return Ok(());
+    };
     assert!(rt;
-        lpq(alloc, &queues[0], &jobs)?.as_slice()
+        lpq(alloc, lab, &jobs)?.as_slice()
             == b"lab is ready and printing\nRank    Owner   Job     File(s)                         Total Size\nactive  ann     7       Report \"Q1\"                     65536 bytes\n1st     bob     8       <b>&'x'                         3 bytes\n2nd     ann     10                                      0 bytes\n".as_slice()
     );
-    assert!(rt;
-        lpq(alloc, &queues[1], &jobs)?.as_slice() == b"den is not ready\nno entries\n".as_slice()
-    );
+    assert!(rt; lpq(alloc, den, &jobs)?.as_slice() == b"den is not ready\nno entries\n".as_slice());
     Ok(())
 }
 
@@ -284,7 +286,13 @@ fn escapes_in_the_page(rt: HostRuntime) -> Result<(), Fail> {
         escape(alloc, "<a href=\"x\">'&'</a>")?.as_slice()
             == b"&lt;a href=&quot;x&quot;&gt;&#39;&amp;&#39;&lt;/a&gt;".as_slice()
     );
-    let page = page(alloc, &queues(alloc)?, &jobs(alloc)?, "now", true)?;
+    let page = page(
+        alloc,
+        &queues(alloc, &QUEUE_ROWS)?,
+        &jobs(alloc, &ROWS)?,
+        "now",
+        true,
+    )?;
     assert!(rt; has(&page, b"<td>&lt;b&gt;&amp;&#39;x&#39;</td>"));
     assert!(rt; has(&page, b"<td class=\"state arriving\">arriving</td>"));
     assert!(rt; has(&page, b"<meta http-equiv=\"refresh\" content=\"5\">"));

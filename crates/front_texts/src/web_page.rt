@@ -1,7 +1,7 @@
 //! The page of queues and jobs.
 ghost use Rattle.std.specs.Prelude.{◌≡◌, ◌++◌, OnOk, IfOk, option_copied};
 ghost use Rattle.std.specs.List.{flat_map};
-ghost use Rattle.front_texts.specs.Page.{cell, state_cell, reason_part, word_part, queue_front, queue_notes, queue_html, job_front, job_numbers, job_notes, job_html, head_html, queues_html, jobs_html, page_html};
+ghost use Rattle.front_texts.specs.Page.{cell, number_cell, state_class, state_cell, reason_part, word_part, queue_front, queue_notes, queue_html, job_front, job_numbers, job_notes, job_html, refresh, stamp_html, head_html, queues_html, jobs_html, page_html};
 
 use crate::escaping::push_escaped;
 use crate::job_line::JobLine;
@@ -51,10 +51,24 @@ fn push_head(page: &mut Vec<u8>, stamp: &str, follows: bool) -> Result<(), Alloc
     ensures { OnOk result (page.new.items ≡ page.old.items ++ head_html stamp.now follows) }
 {
     page.extend_from_slice(OPENING.as_bytes())?;
-    if follows {
-        page.extend_from_slice(REFRESH.as_bytes())?;
-    }
+    push_refresh(page, follows)?;
     page.extend_from_slice(STYLE.as_bytes())?;
+    push_stamp(page, stamp)
+}
+
+fn push_refresh(page: &mut Vec<u8>, follows: bool) -> Result<(), AllocError>
+    ensures { OnOk result (page.new.items ≡ page.old.items ++ refresh follows) }
+{
+    if follows {
+        page.extend_from_slice(REFRESH.as_bytes())
+    } else {
+        Ok(())
+    }
+}
+
+fn push_stamp(page: &mut Vec<u8>, stamp: &str) -> Result<(), AllocError>
+    ensures { OnOk result (page.new.items ≡ page.old.items ++ stamp_html stamp.now) }
+{
     page.extend_from_slice(b"<p class=\"faint\">")?;
     push_escaped(page, stamp)?;
     page.extend_from_slice(b"</p>\n")
@@ -105,11 +119,17 @@ fn push_cell(page: &mut Vec<u8>, text: &str) -> Result<(), AllocError>
 fn push_state(page: &mut Vec<u8>, word: &str) -> Result<(), AllocError>
     ensures { OnOk result (page.new.items ≡ page.old.items ++ state_cell word.now) }
 {
-    page.extend_from_slice(b"<td class=\"state ")?;
-    push_escaped(page, word)?;
-    page.extend_from_slice(b"\">")?;
+    push_class(page, word)?;
     push_escaped(page, word)?;
     page.extend_from_slice(b"</td>")
+}
+
+fn push_class(page: &mut Vec<u8>, word: &str) -> Result<(), AllocError>
+    ensures { OnOk result (page.new.items ≡ page.old.items ++ state_class word.now) }
+{
+    page.extend_from_slice(b"<td class=\"state ")?;
+    push_escaped(page, word)?;
+    page.extend_from_slice(b"\">")
 }
 
 fn push_queue(page: &mut Vec<u8>, queue: &QueueLine) -> Result<(), AllocError>
@@ -170,8 +190,8 @@ fn push_job(page: &mut Vec<u8>, job: &JobLine) -> Result<(), AllocError>
 fn push_job_front(page: &mut Vec<u8>, job: &JobLine) -> Result<(), AllocError>
     ensures { OnOk result (page.new.items ≡ page.old.items ++ job_front job.now) }
 {
-    let number = job.number.get();
-    write!(page, "<tr><td class=\"n\">{number}</td>").map_err(|_| AllocError)?;
+    page.extend_from_slice(b"<tr>")?;
+    push_number(page, job.number.get())?;
     push_cell(page, job.queue.as_str())?;
     push_state(page, job.state_word())
 }
@@ -179,13 +199,15 @@ fn push_job_front(page: &mut Vec<u8>, job: &JobLine) -> Result<(), AllocError>
 fn push_job_numbers(page: &mut Vec<u8>, job: &JobLine) -> Result<(), AllocError>
     ensures { OnOk result (page.new.items ≡ page.old.items ++ job_numbers job.now) }
 {
-    let size = job.size;
-    let pages = job.pages;
-    write!(
-        page,
-        "<td class=\"n\">{size}</td><td class=\"n\">{pages}</td>"
-    )
-    .map_err(|_| AllocError)
+    push_number(page, job.size)?;
+    push_number(page, job.pages)
+}
+
+// A cell of a number.
+fn push_number(page: &mut Vec<u8>, number: u32) -> Result<(), AllocError>
+    ensures { OnOk result (page.new.items ≡ page.old.items ++ number_cell number) }
+{
+    write!(page, "<td class=\"n\">{number}</td>").map_err(|_| AllocError)
 }
 
 // Its title, and the reason beside its state.
