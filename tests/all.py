@@ -38,6 +38,7 @@ CUPS_TYPES = "/usr/share/cups/mime/mime.types"
 # The scripts, longest first, each with the words that it is given.
 SCRIPTS = {
     "service.py": [],
+    "front.py": [],
     "lives.py": [],
     "failover.py": [],
     "killed.py": [],
@@ -93,6 +94,7 @@ PARTS = [
     "large_run.py",
     "large_tables.py",
     "real_children.py",
+    "front_parts.py",
     "service_children.py",
     "service_clients.py",
     "service_crashes.py",
