@@ -1,0 +1,5 @@
+pub mod WordLaws
+pub mod TextLaws
+pub mod EscapeLaws
+pub mod JsonLaws
+pub mod ReadBack
