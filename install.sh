@@ -148,8 +148,8 @@ put() {
 # A file of the repository with the places of this install in it.
 adapted() {
     mkdir -p "$work/texts"
-    sed -e "s|TOOLS|$library/spool_tools|g" -e "s|HERE/|$library/|g" -e "s|/usr/local/lib/cegmandi/spool_service|$prefix/sbin/spool_service|g" \
-        -e "s|/usr/local/lib/cegmandi|$library|g" -e "s|/usr/local/bin/spool|$prefix/bin/spool|g" -e "s|/etc/cegmandi|$etc|g" \
+    sed -e "s|TOOLS|$library/spool_tools|g" -e "s|HERE/|$library/|g" -e "s|/usr/local/sbin/|$prefix/sbin/|g" \
+        -e "s|/usr/local/lib/cegmandi|$library|g" -e "s|/usr/local/bin/|$prefix/bin/|g" -e "s|/etc/cegmandi|$etc|g" \
         "$here/$1" > "$work/texts/$(basename "$1")"
     echo "$work/texts/$(basename "$1")"
 }
@@ -216,7 +216,10 @@ texts() {
         mode=644
         [ ! -x "$file" ] || mode=755
         text=$file
-        [ "${file%.sh}" = "$file" ] || text=$(script "$file")
+        case $file in
+        *.sh) text=$(script "$file") ;;
+        *.service) text=$(adapted "${file#"$here/"}") ;;
+        esac
         "$1" file $mode "$text" "$prefix/share/doc/cegmandi/examples${file#"$here/examples"}"
     done < "$work/examples"
 }

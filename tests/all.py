@@ -36,6 +36,7 @@ CUPS_TYPES = "/usr/share/cups/mime/mime.types"
 # The scripts, longest first, each with the words that it is given.
 SCRIPTS = {
     "service.py": [],
+    "failover.py": [],
     "lives.py": [],
     "killed.py": [],
     "install.py": [],
@@ -75,6 +76,7 @@ PARTS = [
     "child_folder.py",
     "children_harm.py",
     "count_allocations.c",
+    "failover_volume.py",
     "fast_clock.c",
     "journal.py",
     "large_children.py",
@@ -124,6 +126,8 @@ def wants():
     elif os.geteuid():
         missing["children.py"] = (False, "a full folder (as root)")
         missing["service.py"] = (False, "a full folder, and another user (as root)")
+    if not all(shutil.which(name) for name in ("glusterd", "glusterfs", "setfattr")) or os.geteuid() or not installed("/dev/fuse"):
+        missing["failover.py"] = (True, "a replicated volume (as root; Debian's packages glusterfs-server, glusterfs-client and attr)")
     if not shutil.which("mandoc"):
         missing["manuals.py"] = (False, "the lint of man pages (Debian's package mandoc)")
     if not shutil.which("shellcheck") or not shutil.which("debootstrap") or os.geteuid():

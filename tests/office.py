@@ -94,7 +94,7 @@ def serve_an_office(room):
     check("the replies of the service", ran.stdout.decode(), SERVED)
     with open(os.path.join(folder, "hall"), "rb") as file:
         check("the letter that the service printed", file.read(), 2 * LETTER)
-    check("what is left in its folder", os.listdir(os.path.join(folder, "spool")), ["spool.disk"])
+    check("what is left in its folder", sorted(os.listdir(os.path.join(folder, "spool"))), ["spool.disk", "spool.lock"])
 
 
 def served(room, name, programs, script):
