@@ -178,6 +178,9 @@ programs() {
             "$1" file 755 "$here/examples/office/$name" "$library/$name"
         fi
     done
+    if [ -f "$here/examples/office/paper.ppd" ]; then
+        "$1" file 644 "$here/examples/office/paper.ppd" "$library/paper.ppd"
+    fi
     for name in lp lpr lpstat cancel lpq lprm; do
         if [ -n "$lp" ]; then
             "$1" link - spool "$prefix/bin/$name"

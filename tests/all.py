@@ -22,6 +22,8 @@ import sys
 import tempfile
 import time
 
+import failover_volume
+
 HERE = os.path.dirname(os.path.realpath(__file__))
 ROOT = os.path.dirname(HERE)
 
@@ -36,8 +38,8 @@ CUPS_TYPES = "/usr/share/cups/mime/mime.types"
 # The scripts, longest first, each with the words that it is given.
 SCRIPTS = {
     "service.py": [],
-    "failover.py": [],
     "lives.py": [],
+    "failover.py": [],
     "killed.py": [],
     "install.py": [],
     "first_start.py": [],
@@ -76,6 +78,7 @@ PARTS = [
     "child_folder.py",
     "children_harm.py",
     "count_allocations.c",
+    "cups_beside.py",
     "failover_volume.py",
     "fast_clock.c",
     "journal.py",
@@ -96,6 +99,10 @@ PARTS = [
     "service_parts.py",
     "service_words.py",
     "spool_model.py",
+    "stock_backends.py",
+    "stock_chains.py",
+    "stock_documents.py",
+    "stock_runs.py",
     "stored_scripts.py",
     "stories.py",
     "traces.py",
@@ -114,6 +121,8 @@ def wants():
     missing = {}
     if not installed(FILTERS):
         missing["stock.py"] = (True, "stock filters (Debian's packages cups and cups-filters)")
+    elif os.geteuid():
+        missing["stock.py"] = (False, "backends that only root runs (as root)")
     if not installed(BACKEND):
         missing["office.py"] = (False, "CUPS's own backend socket (Debian's package cups)")
     if not installed(CUPS_TYPES):
@@ -126,8 +135,9 @@ def wants():
     elif os.geteuid():
         missing["children.py"] = (False, "a full folder (as root)")
         missing["service.py"] = (False, "a full folder, and another user (as root)")
-    if not all(shutil.which(name) for name in ("glusterd", "glusterfs", "setfattr")) or os.geteuid() or not installed("/dev/fuse"):
-        missing["failover.py"] = (True, "a replicated volume (as root; Debian's packages glusterfs-server, glusterfs-client and attr)")
+    lacking = failover_volume.lacks()
+    if lacking:
+        missing["failover.py"] = (True, f"a replicated volume: {lacking}")
     if not shutil.which("mandoc"):
         missing["manuals.py"] = (False, "the lint of man pages (Debian's package mandoc)")
     if not shutil.which("shellcheck") or not shutil.which("debootstrap") or os.geteuid():

@@ -41,8 +41,6 @@ DefaultAuthType None
 MaxJobs 0
 MaxClients 200
 DirtyCleanInterval {interval}
-JobPrivateAccess all
-JobPrivateValues none
 <Location />
   Order allow,deny
   Allow all
@@ -81,11 +79,7 @@ class Cups:
         for name in ("etc", "spool", "spool/tmp", "cache", "run", "ssl"):
             os.mkdir(os.path.join(self.folder, name))
             shutil.chown(os.path.join(self.folder, name), "lp", "lp")
-        paths = []
-        for name, text in (("cupsd.conf", CONFIG), ("cups-files.conf", FILES)):
-            paths.append(os.path.join(self.folder, "etc", name))
-            with open(paths[-1], "w") as file:
-                file.write(text.format(**self.words))
+        paths = [self.write(f"etc/{name}", text.format(**self.words)) for name, text in (("cupsd.conf", CONFIG), ("cups-files.conf", FILES))]
         words = [CUPSD, "-f", "-c", paths[0], "-s", paths[1]]
         self.program = subprocess.Popen(words, stdout=subprocess.DEVNULL, stderr=subprocess.DEVNULL)
         end = time.time() + SECONDS
@@ -105,6 +99,12 @@ class Cups:
                 self.program.kill()
                 self.program.wait()
         shutil.rmtree(self.folder, ignore_errors=True)
+
+    def write(self, name, text):
+        path = os.path.join(self.folder, name)
+        with open(path, "w") as file:
+            file.write(text)
+        return path
 
     def serves(self):
         try:

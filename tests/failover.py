@@ -41,13 +41,15 @@ from service_parts import Client, Difference, holds, same, until
 
 HERE = os.path.dirname(os.path.abspath(__file__))
 SHELL = os.path.join(HERE, "..", "crates", "spool_shell", "out", "spool_shell")
-SIZE = 33_554_432
+SIZE = 8_388_608
 TYPE = service_parts.TYPE
 OWNED = "spool: disk\nspool: cause: owned\n"
 QUEUES = {"slow": 0.3, "quick": 0}
 
-# What the volume is told: a client whose connection was lost may not write where it had a lock.
-OPTIONS = [("client.strict-locks", "on")]
+# What the volume is told: a client whose connection was lost may not write where it had a lock; after how many seconds one that says
+# nothing has lost it; and that no client answers from what it kept.
+OPTIONS = [("client.strict-locks", "on"), ("server.tcp-user-timeout", "10"), ("performance.quick-read", "off"),
+           ("performance.stat-prefetch", "off"), ("performance.open-behind", "off")]
 
 # The printers of both hosts are one file: the job, its attempt and the document.
 BACKEND = """#!/bin/sh
@@ -193,9 +195,10 @@ class Office:
         try:
             while self.open:
                 text = f"page-{len(self.accepted):05}."
+                clerk.queue = list(QUEUES)[len(self.accepted) % len(QUEUES)]
                 self.accepted[clerk.submit(text)] = text
-                # About as many as are printed.
-                time.sleep(0.05)
+                # Not many more than are printed meanwhile.
+                time.sleep(0.1)
         except (Difference, OSError, ValueError) as fault:
             self.fault = fault
 
@@ -314,6 +317,24 @@ def failovers(volume, times):
     print(f"  starts that were refused as owned, and made again: {sum(seat.refused for seat in world.seats)}")
 
 
+def turns_in_haste(volume, times):
+    """The hosts take turns as fast as they can: each opens what the other one has just written, though it had the file itself a moment
+    ago. A host that reads what it kept is without what was acknowledged since."""
+    world = World(volume, "haste")
+    world.open()
+    world.make_queues()
+    made, lost, seconds = [], 0, []
+    for turn in range(2 * times):
+        client = Client(world)
+        there = {int(row.split()[1]) for row in client.listing("jobs\n")}
+        lost += len(set(made) - there)
+        made = sorted(there) + [client.create("quick", f"turn-{turn}") for _ in range(3)]
+        seconds.append(fail_over(world, service_dies))
+    world.end()
+    told_seconds("until the other host answered", seconds)
+    same("acknowledged jobs that a host didn't find", lost, 0)
+
+
 # ---- both hosts at once
 
 def one_host_has_it(volume, _times):
@@ -369,11 +390,11 @@ def no_quorum(volume, _times):
     world.end()
 
 
-def ask_until_gone(client, command):
-    """The replies to a command that is given again and again, until the service closes the line."""
+def ask_until_gone(client, command, most=5):
+    """The replies to a command that is given so many times, or until the service closes the line."""
     replies = []
     try:
-        while len(replies) < 5:
+        while len(replies) < most:
             replies.append(client.ask(command))
     except (OSError, Difference):
         pass
@@ -381,16 +402,25 @@ def ask_until_gone(client, command):
 
 
 def a_host_that_is_cut_off(volume, _times):
-    """A host that has no network keeps the spool, until the volume gives up its locks. Then it is the other one's, and when the first
-    one is back its writes are refused: it ends, and nothing of it is in the spool."""
-    world = World(volume, "cut")
-    world.open()
-    world.make_queues()
-    first, client = world.current, Client(world)
+    """A host that has no network keeps the spool, until the volume gives up its locks. Then it is the other one's. The first one has an
+    event under way, or none, and when it is back its writes are refused: it ends, and nothing of it is in the spool."""
+    for is_asked in (True, False):
+        world = World(volume, f"cut-{is_asked}")
+        world.open()
+        world.make_queues()
+        cut_off(world, is_asked)
+        world.end()
+
+
+def cut_off(world, is_asked):
+    first, client, replies = world.current, Client(world), []
     jobs = [client.create("quick", "before")]
+    asks = threading.Thread(target=lambda: replies.extend(ask_until_gone(client, 'create quick u "late" 1 50 ""\n')))
     began = time.monotonic()
     first.host.cut()
     try:
+        if is_asked:
+            asks.start()
         world.current = world.other()
         world.current.launch()
         until("the other host", world.current.serves, 180)
@@ -399,17 +429,20 @@ def a_host_that_is_cut_off(volume, _times):
         jobs += [second.create("quick", "after") for _ in range(5)]
     finally:
         first.host.mend()
-    time.sleep(5)
-    replies = ask_until_gone(client, 'create quick u "late" 1 50 ""\n')
+    until("the first host's mount", first.host.is_mounted)
+    if not is_asked:
+        asks.start()
+    asks.join(120)
     until("the end of the first host's service", lambda: first.running.poll() is not None)
+    same("what the first host told", first.told(), "spool: disk\nspool: cause: failed\n")
     holds(f"the first host answered {replies}", not [reply for reply in replies if reply.startswith("ok")])
     jobs.append(second.create("quick", "last"))
     world.current.kill()
     world.open()
     rows = [line.split() for line in Client(world).listing("jobs\n")]
     same("the jobs", [int(row[1]) for row in rows], jobs)
-    print(f"  the other host answered after {seconds:.1f} s, with {world.current.refused} refusals before; the first one, when it was back, {replies}")
-    world.end()
+    under_way = "an event" if is_asked else "nothing"
+    print(f"  with {under_way} under way: the other host answered after {seconds:.1f} s, {world.current.refused} times owned before; the first one {replies}")
     first.host.kill_client()
     first.host.mount_again()
 
@@ -421,26 +454,25 @@ def bricks_that_are_started_anew(volume, _times):
     world.open()
     world.make_queues()
     client = Client(world)
-    jobs, replies = [], []
+    jobs = []
     for number in range(3):
         volume.kill_brick(number)
         volume.start_bricks()
         # The clients come back to a brick after some seconds.
         time.sleep(5)
-        if not replies:
-            reply = client.ask(f'create quick u "brick-{number}" 1 50 ""\n')
-            if reply.startswith("ok job "):
-                jobs.append(int(reply.split()[2]))
-                same("a start on the other host", world.other().refusal(), (1, OWNED))
-            else:
-                replies.append(reply)
-    holds(f"it answered {replies} behind {len(jobs)} bricks", not replies or replies[0] in FAILED)
+        reply = next(iter(ask_until_gone(client, f'create quick u "brick-{number}" 1 50 ""\n', 1)), "")
+        if not reply.startswith("ok job "):
+            break
+        jobs.append(int(reply.split()[2]))
+        same("a start on the other host", world.other().refusal(), (1, OWNED))
+    holds(f"it answered {reply} behind {len(jobs)} bricks", reply in ("", *FAILED))
+    volume.start_bricks()
     world.current.end()
     world.current = world.other()
     world.open()
     rows = [line.split() for line in Client(world).listing("jobs\n")]
     holds(f"the jobs {jobs} are there", set(jobs) <= {int(row[1]) for row in rows})
-    print(f"  it went on behind {len(jobs)} of 3 bricks that were started anew, and then answered {replies}")
+    print(f"  it went on behind {len(jobs)} of 3 bricks that were started anew, and then answered {reply!r}")
     world.end()
 
 
@@ -467,7 +499,7 @@ def events_a_second(volume, times):
     print("  events a second: " + ", ".join(f"{rate:.0f} on {name}" for name, rate in rates.items()))
 
 
-TESTS = [one_host_has_it, failovers, first_starts_on_two_hosts, no_quorum, bricks_that_are_started_anew, a_host_that_is_cut_off, events_a_second]
+TESTS = [one_host_has_it, failovers, turns_in_haste, first_starts_on_two_hosts, no_quorum, bricks_that_are_started_anew, a_host_that_is_cut_off, events_a_second]
 
 
 def run_test(test, volume, times):

@@ -20,6 +20,10 @@ from service_parts import Difference, until
 # The bricks' address, which is reached within these namespaces alone: the system refuses bricks of the address 127.0.0.1.
 BRICKS = "10.77.0.1"
 NAME = "spool"
+
+# How a host mounts it: it reads what the volume has, and nothing that it kept itself.
+MOUNT = ["--direct-io-mode=enable", "--attribute-timeout=0", "--entry-timeout=0"]
+
 INSIDE = "FAILOVER_INSIDE"
 
 PROGRAMS = {
@@ -99,7 +103,8 @@ class Host:
 
     def mount(self):
         before = set(processes("--volfile-id=" + NAME, self.path))
-        run("glusterfs", f"--volfile-server={BRICKS}", "--volfile-id=" + NAME, f"--log-file={self.volume.at('log', self.name)}", self.path, within=self.keeper.pid)
+        words = [f"--volfile-server={BRICKS}", "--volfile-id=" + NAME, f"--log-file={self.volume.at('log', self.name)}", *MOUNT, self.path]
+        run("glusterfs", *words, within=self.keeper.pid)
         until(f"the mount of {self.name}", self.is_mounted)
         (self.client,) = set(processes("--volfile-id=" + NAME, self.path)) - before
 

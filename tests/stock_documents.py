@@ -1,7 +1,10 @@
 """Documents of each kind for tests/stock.py, made here: what an office prints, and what some filters want."""
 import base64
 import gzip
+import os
+import shutil
 import struct
+import subprocess
 import zlib
 
 TEXT = b"Dear Bo,\ncome. Ann\n"
@@ -101,3 +104,23 @@ DOCUMENTS = {
     "image/x-portable-bitmap": bitmap(),
     "image/svg+xml": DRAWING,
 }
+
+
+def boxes(room, output):
+    """What of each page of a PDF, or of PostScript, has something on it, or None where Ghostscript isn't installed."""
+    if shutil.which("gs") is None:
+        return None
+    path = os.path.join(room, "page")
+    with open(path, "wb") as file:
+        file.write(output)
+    words = ["gs", "-q", "-dNOPAUSE", "-dBATCH", "-dSAFER", "-sDEVICE=bbox", path]
+    lines = subprocess.run(words, capture_output=True, timeout=300).stderr.splitlines()
+    return [line.split()[1:] for line in lines if line.startswith(b"%%BoundingBox:")]
+
+
+def is_blank(room, output):
+    """Whether a PDF, or PostScript, has no page with something on it."""
+    if b"%PDF" not in output[:1_024] and not output.startswith(b"%!"):
+        return False
+    found = boxes(room, output)
+    return found is not None and all(box == [b"0"] * 4 for box in found)
