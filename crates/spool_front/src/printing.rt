@@ -136,12 +136,17 @@ fn user_of<R: Host>(rt: &R, user: Option<&str>) -> Result<String, AllocError> {
 
 // 32 hexadecimal digits that no other submission has.
 fn token_text<R: Host>(rt: &R) -> Result<String, Fault> {
-    let mut bytes = [0u8; 16];
-    if rt.fill_bytes(&mut bytes).is_err() {
-        return Err(Fault::Words("the system has no random bytes"));
+    let high = random_number(rt)?;
+    let low = random_number(rt)?;
+    Ok(format!(in rt.alloc(); "{high:016x}{low:016x}")?)
+}
+
+fn random_number<R: Host>(rt: &R) -> Result<u64, Fault> {
+    let mut bytes = [0u8; 8];
+    match rt.fill_bytes(&mut bytes) {
+        Ok(()) => Ok(u64::from_be_bytes(bytes)),
+        Err(_) => Err(Fault::Words("the system has no random bytes")),
     }
-    let number = u128::from_be_bytes(bytes);
-    Ok(format!(in rt.alloc(); "{number:032x}")?)
 }
 
 // The options with blanks between them, the ranges of pages, and the token.

@@ -126,14 +126,6 @@ impl<'a, R: Host> Talk<'a, R> {
         }
     }
 
-    /// Says a command that is answered by lines as they come.
-    pub fn say(&mut self, text: &[u8]) -> Result<(), LineFault> {
-        match &mut self.line {
-            Some(line) => line.say(text),
-            None => Err(LineFault::Gone),
-        }
-    }
-
     /// Asks what changes nothing, or what may be said twice, and again where the connection is lost. The reply is no refusal.
     pub fn ask(&mut self, text: &[u8]) -> Result<Told, Fault> {
         for _ in 0..=self.pauses {

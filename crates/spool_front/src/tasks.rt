@@ -117,10 +117,7 @@ pub fn show_queues<R: Host>(
 /// Prints each line that the service tells of what changes, until it goes.
 pub fn watch<R: Host>(rt: &R, places: &Places<'_>) -> Result<u8, Fault> {
     let mut talk = first_talk(rt, places)?;
-    if !talk.connect()? {
-        return Err(Fault::Gone);
-    }
-    talk.say(b"watch\n")?;
+    talk.order(b"watch\n")?;
     for _ in 0..u64::MAX {
         let mut line = talk.hear()?;
         line.push(b'\n')?;
