@@ -1,5 +1,5 @@
 #!/usr/bin/env python3
-"""Lets a service fail over between two hosts of a replicated volume: failover.py [--times N] [--list] [SERVICE [TEST..]]
+"""Lets a service fail over between two hosts of a replicated volume: failover.py [--times N] [--careless] [--list] [SERVICE [TEST..]]
 
 SERVICE is the program, and crates/spool_service/out/spool_service (made by `rt run` in that folder) where none is given; the
 spool_shell beside it is used too. N is how many failovers there are: 20, or as many as are asked for. Each TEST is the name of a
@@ -21,6 +21,9 @@ and told in a line.
   another.
 
 Seconds until the other host answers, and events a second, are told, and not judged.
+
+With --careless the volume and its mounts are told nothing of what examples/office/failover asks for. Then `turns_in_haste`,
+`a_host_that_is_cut_off` and `bricks_that_are_started_anew` have to be seen to fail: each is to be run alone.
 
 The last line is `N of N`, with status 0; or how many failed, with status 1. The folder of a test that failed stays then, and is
 named.
@@ -45,6 +48,9 @@ SIZE = 8_388_608
 TYPE = service_parts.TYPE
 OWNED = "spool: disk\nspool: cause: owned\n"
 QUEUES = {"slow": 0.3, "quick": 0}
+
+# How many jobs are made before as many are printed.
+AHEAD = 20
 
 # What the volume is told: a client whose connection was lost may not write where it had a lock; after how many seconds one that says
 # nothing has lost it; and that no client answers from what it kept.
@@ -197,8 +203,9 @@ class Office:
                 text = f"page-{len(self.accepted):05}."
                 clerk.queue = list(QUEUES)[len(self.accepted) % len(QUEUES)]
                 self.accepted[clerk.submit(text)] = text
-                # Not many more than are printed meanwhile.
-                time.sleep(0.1)
+                # Not many more than are printed.
+                while self.open and len(self.world.printed()) + AHEAD < len(self.accepted):
+                    time.sleep(0.1)
         except (Difference, OSError, ValueError) as fault:
             self.fault = fault
 
@@ -519,6 +526,10 @@ def main():
         at = words.index("--times")
         times = int(words[at + 1])
         del words[at : at + 2]
+    if "--careless" in words:
+        words.remove("--careless")
+        OPTIONS[:] = [option for option in OPTIONS if option[0].startswith("server.")]
+        failover_volume.MOUNT.clear()
     if "--list" in words:
         print("\n".join(test.__name__ for test in TESTS))
         return 0
