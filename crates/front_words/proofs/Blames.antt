@@ -1,7 +1,6 @@
 -- Why values and words are refused.
 use Rattle.std.proofs.Common.{◌≡◌, sym, subst}
-use Rattle.std.specs.Prelude.{Ok, Err, Result, MatchResult}
-use Rattle.std.specs.Result.{IsErrAnd}
+use Rattle.std.specs.Prelude.{Ok, Err, Result, IsErrAnd, MatchResult}
 use Rattle.front_words.specs.Faults.{BlamesOnly, IsMistake, RefusesOnly}
 use Rattle.front_words.specs.declared.fault.WordsFault.{WordsFault}
 use Rattle.front_words.specs.declared.fault.WordsFault.TheVariants.{Refused, Memory}

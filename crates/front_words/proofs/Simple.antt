@@ -3,31 +3,31 @@ use Rattle.std.proofs.Common.{◌≡◌, refl, true}
 use Rattle.clap.specs.Words.{is_simple_and_free}
 use Rattle.front_words.specs.Apps.{app_for}
 use Rattle.front_words.specs.declared.forms.Form.{Form}
-use Rattle.front_words.specs.declared.forms.Form.TheVariants as form
+use Rattle.front_words.specs.declared.forms.Form.TheVariants as form_is
 
 pub is_simple : (f : Form) → is_simple_and_free (app_for f) ≡ true
-is_simple form.Submit = refl
-is_simple form.Status = refl
-is_simple form.Queues = refl
-is_simple form.Watch = refl
-is_simple form.Cancel = refl
-is_simple form.Hold = refl
-is_simple form.Release = refl
-is_simple form.Purge = refl
-is_simple form.End = refl
-is_simple form.QueueAdd = refl
-is_simple form.QueueSet = refl
-is_simple form.QueueAccept = refl
-is_simple form.QueueReject = refl
-is_simple form.QueueEnable = refl
-is_simple form.QueueDisable = refl
-is_simple form.Devices = refl
-is_simple form.Check = refl
-is_simple form.Page = refl
-is_simple form.Lp = refl
-is_simple form.Lpr = refl
-is_simple form.Lpstat = refl
-is_simple form.CancelJobs = refl
-is_simple form.Lpq = refl
-is_simple form.Lprm = refl
-is_simple form.Other = refl
+is_simple form_is.Submit = refl
+is_simple form_is.Status = refl
+is_simple form_is.Queues = refl
+is_simple form_is.Watch = refl
+is_simple form_is.Cancel = refl
+is_simple form_is.Hold = refl
+is_simple form_is.Release = refl
+is_simple form_is.Purge = refl
+is_simple form_is.End = refl
+is_simple form_is.QueueAdd = refl
+is_simple form_is.QueueSet = refl
+is_simple form_is.QueueAccept = refl
+is_simple form_is.QueueReject = refl
+is_simple form_is.QueueEnable = refl
+is_simple form_is.QueueDisable = refl
+is_simple form_is.Devices = refl
+is_simple form_is.Check = refl
+is_simple form_is.Page = refl
+is_simple form_is.Lp = refl
+is_simple form_is.Lpr = refl
+is_simple form_is.Lpstat = refl
+is_simple form_is.CancelJobs = refl
+is_simple form_is.Lpq = refl
+is_simple form_is.Lprm = refl
+is_simple form_is.Other = refl

@@ -9,11 +9,14 @@ use Rattle.front_words.specs.declared.forms.Form.TheVariants.{Devices, Check, Pa
 
 -- ---- the tasks of `spool`
 
--- `[--title TITLE] [--user USER] [--copies N] [--priority P] [--pages PAGES] [-o NAME=VALUE]..`
+-- `[--title TITLE] [--user USER]`
+abbrev pub with_titles : App → App
+with_titles app = with_rule (with_rule app (text_rule (codes "title"))) (text_rule (codes "user"))
+
+-- these, and `[--copies N] [--priority P] [--pages PAGES] [-o NAME=VALUE]..`
 abbrev pub with_document : App → App
 with_document app =
-    with_rule (with_rule (with_rule (with_rule (with_rule (with_rule app
-    (text_rule (codes "title"))) (text_rule (codes "user"))) (text_rule (codes "copies"))) (text_rule (codes "priority")))
+    with_rule (with_rule (with_rule (with_rule (with_titles app) (text_rule (codes "copies"))) (text_rule (codes "priority")))
     (text_rule (codes "pages"))) (several (letter_rule 111 (codes "option")))
 
 -- `[--hold] [--at MOMENT] [--by MOMENT] [--wait] [--quiet]`
@@ -73,13 +76,15 @@ other_app = with_rule (new_app (codes "spool")) (needed (several (word_rule (cod
 -- `lp [-d DEST] [-t TITLE] [-U USER] [-n N] [-q P] [-o NAME=VALUE].. [-P PAGES] [-H WHEN] [-c] [-s] [FILE]..`
 abbrev pub lp_words : App
 lp_words =
-    with_rule (with_rule (with_rule (with_rule (with_rule (with_rule (named_app (codes "lp"))
-    (several (word_rule (codes "file")))) (letter_rule 100 (codes "queue"))) (letter_rule 116 (codes "title"))) (letter_rule 85 (codes "user")))
-    (letter_rule 110 (codes "copies"))) (letter_rule 113 (codes "priority"))
+    with_rule (with_rule (with_rule (with_rule (named_app (codes "lp"))
+    (several (word_rule (codes "file")))) (letter_rule 100 (codes "queue"))) (letter_rule 116 (codes "title"))) (letter_rule 85 (codes "user"))
+
+abbrev pub with_numbers : App → App
+with_numbers app = with_rule (with_rule app (letter_rule 110 (codes "copies"))) (letter_rule 113 (codes "priority"))
 
 abbrev pub lp_app : App
 lp_app =
-    with_rule (with_rule (with_rule (with_rule (with_rule lp_words
+    with_rule (with_rule (with_rule (with_rule (with_rule (with_numbers lp_words)
     (several (letter_rule 111 (codes "option")))) (letter_rule 80 (codes "pages"))) (letter_rule 72 (codes "handling"))) (letter_flag_rule 99 (codes "copy")))
     (letter_flag_rule 115 (codes "quiet"))
 
@@ -88,19 +93,25 @@ abbrev pub title_rule : Rule
 title_rule = record (letter_rule 84 (codes "title")) { short_aliases = 74 ∷ 67 ∷ [] }
 
 -- `lpr [-P DEST] [-T TITLE] [-U USER] [-# N] [-o NAME=VALUE].. [-q] [-h] [FILE]..`
+abbrev pub lpr_words : App
+lpr_words =
+    with_rule (with_rule (with_rule (with_rule (named_app (codes "lpr"))
+    (several (word_rule (codes "file")))) (letter_rule 80 (codes "queue"))) title_rule) (letter_rule 85 (codes "user"))
+
 abbrev pub lpr_app : App
 lpr_app =
-    with_rule (with_rule (with_rule (with_rule (with_rule (with_rule (with_rule (with_rule (named_app (codes "lpr"))
-    (several (word_rule (codes "file")))) (letter_rule 80 (codes "queue"))) title_rule) (letter_rule 85 (codes "user")))
-    (letter_rule 35 (codes "copies"))) (several (letter_rule 111 (codes "option")))) (letter_flag_rule 113 (codes "hold")))
-    (letter_flag_rule 104 (codes "no-banner"))
+    with_rule (with_rule (with_rule (with_rule lpr_words (letter_rule 35 (codes "copies"))) (several (letter_rule 111 (codes "option"))))
+    (letter_flag_rule 113 (codes "hold"))) (letter_flag_rule 104 (codes "no-banner"))
 
 -- `lpstat [-r] [-d] [-t] [-p [LIST]] [-a [LIST]] [-v [LIST]] [-o [LIST]] [NAME]..`
+abbrev pub lpstat_words : App
+lpstat_words =
+    with_rule (with_rule (with_rule (with_rule (named_app (codes "lpstat"))
+    (several (word_rule (codes "name")))) (letter_flag_rule 114 (codes "scheduler"))) (letter_flag_rule 100 (codes "usual"))) (letter_flag_rule 116 (codes "all"))
+
 abbrev pub lpstat_app : App
 lpstat_app =
-    with_rule (with_rule (with_rule (with_rule (with_rule (with_rule (with_rule (with_rule (named_app (codes "lpstat"))
-    (several (word_rule (codes "name")))) (letter_flag_rule 114 (codes "scheduler"))) (letter_flag_rule 100 (codes "usual")))
-    (letter_flag_rule 116 (codes "all"))) (listed (letter_rule 112 (codes "printers")))) (listed (letter_rule 97 (codes "accepting"))))
+    with_rule (with_rule (with_rule (with_rule lpstat_words (listed (letter_rule 112 (codes "printers")))) (listed (letter_rule 97 (codes "accepting"))))
     (listed (letter_rule 118 (codes "devices")))) (listed (letter_rule 111 (codes "jobs")))
 
 -- `cancel [-a] [JOB]..`

@@ -1,5 +1,5 @@
 -- What the words ask for, by the values that clap finds in them.
-use Rattle.std.specs.Prelude.{◌≡◌, ⊤, ⊥, Bool, true, false, ◌&&◌, ◌||◌, List, [], ◌∷◌, Option, None, Some, IsSome, codes, drop, if◌then◌else◌, is_some, map, unwrap_or}
+use Rattle.std.specs.Prelude.{◌≡◌, ⊤, Bool, true, false, ◌&&◌, ◌||◌, List, [], ◌∷◌, Option, None, Some, IsSome, codes, drop, if◌then◌else◌, is_some, map, unwrap_or}
 use Rattle.std.specs.Option.{option_map}
 use Rattle.std.specs.Str.{bytes_eq}
 use Rattle.clap.specs.Words.{Row, Text, first_of, matches_of}
@@ -8,22 +8,22 @@ use Rattle.front_words.specs.Forms.{form_in, skipped}
 use Rattle.front_words.specs.Options.{AreFaultlessFor}
 use Rattle.front_words.specs.Values.{all_in, is_told, is_word, job_or_none, jobs_of, moment_of, moment_or_none, number_or}
 use Rattle.front_words.specs.declared.forms.Form.{Form}
-use Rattle.front_words.specs.declared.forms.Form.TheVariants as form
+use Rattle.front_words.specs.declared.forms.Form.TheVariants as form_is
 use Rattle.front_words.specs.declared.asked.Asked.{Asked}
 use Rattle.front_words.specs.declared.asked.Hold.{Hold}
 use Rattle.front_words.specs.declared.asked.Hold.TheVariants.{No, Indefinite, Until}
 use Rattle.front_words.specs.declared.asked.JobAct.{JobAct}
-use Rattle.front_words.specs.declared.asked.JobAct.TheVariants as act
+use Rattle.front_words.specs.declared.asked.JobAct.TheVariants as act_is
 use Rattle.front_words.specs.declared.asked.Lpq.{Lpq}
 use Rattle.front_words.specs.declared.asked.Lpstat.{Lpstat}
 use Rattle.front_words.specs.declared.asked.Moment.{Moment}
 use Rattle.front_words.specs.declared.asked.NewQueue.{NewQueue}
 use Rattle.front_words.specs.declared.asked.QueueAct.{QueueAct}
-use Rattle.front_words.specs.declared.asked.QueueAct.TheVariants as queue
+use Rattle.front_words.specs.declared.asked.QueueAct.TheVariants as queue_is
 use Rattle.front_words.specs.declared.asked.Status.{Status}
 use Rattle.front_words.specs.declared.asked.Submission.{Submission}
 use Rattle.front_words.specs.declared.asked.Task.{Task}
-use Rattle.front_words.specs.declared.asked.Task.TheVariants as task
+use Rattle.front_words.specs.declared.asked.Task.TheVariants as task_is
 
 -- ---- documents
 
@@ -70,8 +70,8 @@ pub record FitSubmission (found : List Row) : Type 0 where
   pub by : IsSome (moment_or_none (first_of (codes "by") found))
 
 abbrev pub IsSubmit : List Row → Task → Type 0
-IsSubmit found (task.Submit s) = IsSubmission found s
-IsSubmit found task = ⊥
+IsSubmit found (task_is.Submit s) = IsSubmission found s
+IsSubmit found other = ⊥
 
 -- ---- jobs
 
@@ -81,8 +81,8 @@ pub record IsStatus (found : List Row) (s : Status) : Type 0 where
   pub json : s.json ≡ is_told (first_of (codes "json") found)
 
 abbrev pub IsStatusTask : List Row → Task → Type 0
-IsStatusTask found (task.Status s) = IsStatus found s
-IsStatusTask found task = ⊥
+IsStatusTask found (task_is.Status s) = IsStatus found s
+IsStatusTask found other = ⊥
 
 -- JOB is one, and doesn't go with -q
 abbrev pub FitStatus : List Row → Type 0
@@ -91,27 +91,27 @@ FitStatus found =
 
 -- this is done to the jobs, in their order
 abbrev pub IsJobs : Option JobAct → List Row → Task → Type 0
-IsJobs done found (task.Jobs act jobs) = (done ≡ Some act) × (jobs_of (all_in (codes "job") found) ≡ Some jobs.items)
-IsJobs done found task = ⊥
+IsJobs act found (task_is.Jobs this jobs) = (act ≡ Some this) × (jobs_of (all_in (codes "job") found) ≡ Some jobs.items)
+IsJobs act found other = ⊥
 
 abbrev pub FitJobs : List Row → Type 0
 FitJobs found = IsSome (jobs_of (all_in (codes "job") found))
 
 abbrev pub until_of : List Row → Option JobAct
-until_of found = option_map act.Hold (moment_or_none (first_of (codes "until") found))
+until_of found = option_map act_is.Hold (moment_or_none (first_of (codes "until") found))
 
 abbrev pub FitHold : List Row → Type 0
 FitHold found = IsSome (moment_or_none (first_of (codes "until") found)) × FitJobs found
 
 -- the jobs of these queues are canceled
 abbrev pub IsClear : List Text → Task → Type 0
-IsClear names (task.Clear queues) = map (λ text. text.now) queues.items ≡ names
-IsClear names task = ⊥
+IsClear names (task_is.Clear queues) = map (λ text. text.now) queues.items ≡ names
+IsClear names other = ⊥
 
 -- `cancel`: with -a the words are queues, and otherwise there is one at least
 abbrev pub IsCancelBy : Bool → List Row → Task → Type 0
 IsCancelBy true found asked = IsClear (all_in (codes "job") found) asked
-IsCancelBy false found asked = IsJobs (Some act.Cancel) found asked
+IsCancelBy false found asked = IsJobs (Some act_is.Cancel) found asked
 
 abbrev pub IsCancel : List Row → Task → Type 0
 IsCancel found asked = IsCancelBy (is_told (first_of (codes "all") found)) found asked
@@ -130,7 +130,7 @@ only (Some text) = text ∷ []
 
 abbrev pub IsRemovalBy : Bool → List Row → Task → Type 0
 IsRemovalBy true found asked = IsSome (first_of (codes "queue") found) × IsClear (only (first_of (codes "queue") found)) asked
-IsRemovalBy false found asked = IsJobs (Some act.Cancel) found asked
+IsRemovalBy false found asked = IsJobs (Some act_is.Cancel) found asked
 
 abbrev pub IsRemoval : List Row → Task → Type 0
 IsRemoval found asked = IsRemovalBy (is_word (codes "-") (first_of (codes "job") found)) found asked
@@ -148,8 +148,8 @@ pub record IsLpq (found : List Row) (l : Lpq) : Type 0 where
   pub jobs : jobs_of (all_in (codes "job") found) ≡ Some l.jobs.items
 
 abbrev pub IsLpqTask : List Row → Task → Type 0
-IsLpqTask found (task.Lpq l) = IsLpq found l
-IsLpqTask found task = ⊥
+IsLpqTask found (task_is.Lpq l) = IsLpq found l
+IsLpqTask found other = ⊥
 
 pub record IsLpstat (found : List Row) (l : Lpstat) : Type 0 where
   pub scheduler : l.scheduler ≡ is_told (first_of (codes "scheduler") found)
@@ -162,15 +162,15 @@ pub record IsLpstat (found : List Row) (l : Lpstat) : Type 0 where
   pub names : map (λ text. text.now) l.names.items ≡ all_in (codes "name") found
 
 abbrev pub IsLpstatTask : List Row → Task → Type 0
-IsLpstatTask found (task.Lpstat l) = IsLpstat found l
-IsLpstatTask found task = ⊥
+IsLpstatTask found (task_is.Lpstat l) = IsLpstat found l
+IsLpstatTask found other = ⊥
 
 -- ---- queues
 
 -- this is done to the queue of NAME
 abbrev pub IsQueue : (QueueAct → Type 0) → List Row → Task → Type 0
-IsQueue IsDone found (task.Queue name done) = (first_of (codes "name") found ≡ Some name.now) × IsDone done
-IsQueue IsDone found task = ⊥
+IsQueue IsDone found (task_is.Queue name act) = (first_of (codes "name") found ≡ Some name.now) × IsDone act
+IsQueue IsDone found other = ⊥
 
 abbrev pub FitQueue : List Row → Type 0
 FitQueue found = IsSome (first_of (codes "name") found)
@@ -192,8 +192,8 @@ pub record IsNew (found : List Row) (q : NewQueue) : Type 0 where
   pub limit : number_or 0 65535 5 (first_of (codes "limit") found) ≡ Some q.limit
 
 abbrev pub IsAdd : List Row → QueueAct → Type 0
-IsAdd found (queue.Add q) = IsNew found q
-IsAdd found done = ⊥
+IsAdd found (queue_is.Add q) = IsNew found q
+IsAdd found act = ⊥
 
 pub record FitNew (found : List Row) : Type 0 where
   pub uri : IsSome (first_of (codes "uri") found)
@@ -203,71 +203,71 @@ pub record FitNew (found : List Row) : Type 0 where
   pub name : FitQueue found
 
 abbrev pub IsSet : List Row → QueueAct → Type 0
-IsSet found (queue.Set info location) =
+IsSet found (queue_is.Set info location) =
     (info.now ≡ unwrap_or (first_of (codes "info") found) []) × (location.now ≡ unwrap_or (first_of (codes "location") found) [])
-IsSet found done = ⊥
+IsSet found act = ⊥
 
 abbrev pub IsPage : List Row → Task → Type 0
-IsPage found (task.Page file follow) = (first_of (codes "file") found ≡ Some file.now) × (follow ≡ is_told (first_of (codes "follow") found))
-IsPage found task = ⊥
+IsPage found (task_is.Page file follow) = (first_of (codes "file") found ≡ Some file.now) × (follow ≡ is_told (first_of (codes "follow") found))
+IsPage found other = ⊥
 
 -- ---- all of them
 
 -- what the values that were found ask for
 abbrev pub IsTask : Form → List Row → Task → Type 0
-IsTask form.Submit found asked = IsSubmit found asked
-IsTask form.Status found asked = IsStatusTask found asked
-IsTask form.Queues found asked = asked ≡ task.Queues (is_told (first_of (codes "json") found))
-IsTask form.Watch found asked = asked ≡ task.Watch
-IsTask form.Cancel found asked = IsJobs (Some act.Cancel) found asked
-IsTask form.Hold found asked = IsJobs (until_of found) found asked
-IsTask form.Release found asked = IsJobs (Some act.Release) found asked
-IsTask form.Purge found asked = IsJobs (Some act.Purge) found asked
-IsTask form.End found asked = IsJobs (Some act.End) found asked
-IsTask form.QueueAdd found asked = IsQueue (IsAdd found) found asked
-IsTask form.QueueSet found asked = IsQueue (IsSet found) found asked
-IsTask form.QueueAccept found asked = IsQueue (λ done. done ≡ queue.Accept) found asked
-IsTask form.QueueReject found asked = IsQueue (λ done. done ≡ queue.Reject) found asked
-IsTask form.QueueEnable found asked = IsQueue (λ done. done ≡ queue.Enable) found asked
-IsTask form.QueueDisable found asked = IsQueue (λ done. done ≡ queue.Disable) found asked
-IsTask form.Devices found asked = asked ≡ task.Devices
-IsTask form.Check found asked = asked ≡ task.Check
-IsTask form.Page found asked = IsPage found asked
-IsTask form.Lp found asked = IsSubmit found asked
-IsTask form.Lpr found asked = IsSubmit found asked
-IsTask form.Lpstat found asked = IsLpstatTask found asked
-IsTask form.CancelJobs found asked = IsCancel found asked
-IsTask form.Lpq found asked = IsLpqTask found asked
-IsTask form.Lprm found asked = IsRemoval found asked
-IsTask form.Other found asked = ⊥
+IsTask form_is.Submit found asked = IsSubmit found asked
+IsTask form_is.Status found asked = IsStatusTask found asked
+IsTask form_is.Queues found asked = asked ≡ task_is.Queues (is_told (first_of (codes "json") found))
+IsTask form_is.Watch found asked = asked ≡ task_is.Watch
+IsTask form_is.Cancel found asked = IsJobs (Some act_is.Cancel) found asked
+IsTask form_is.Hold found asked = IsJobs (until_of found) found asked
+IsTask form_is.Release found asked = IsJobs (Some act_is.Release) found asked
+IsTask form_is.Purge found asked = IsJobs (Some act_is.Purge) found asked
+IsTask form_is.End found asked = IsJobs (Some act_is.End) found asked
+IsTask form_is.QueueAdd found asked = IsQueue (IsAdd found) found asked
+IsTask form_is.QueueSet found asked = IsQueue (IsSet found) found asked
+IsTask form_is.QueueAccept found asked = IsQueue (λ act. act ≡ queue_is.Accept) found asked
+IsTask form_is.QueueReject found asked = IsQueue (λ act. act ≡ queue_is.Reject) found asked
+IsTask form_is.QueueEnable found asked = IsQueue (λ act. act ≡ queue_is.Enable) found asked
+IsTask form_is.QueueDisable found asked = IsQueue (λ act. act ≡ queue_is.Disable) found asked
+IsTask form_is.Devices found asked = asked ≡ task_is.Devices
+IsTask form_is.Check found asked = asked ≡ task_is.Check
+IsTask form_is.Page found asked = IsPage found asked
+IsTask form_is.Lp found asked = IsSubmit found asked
+IsTask form_is.Lpr found asked = IsSubmit found asked
+IsTask form_is.Lpstat found asked = IsLpstatTask found asked
+IsTask form_is.CancelJobs found asked = IsCancel found asked
+IsTask form_is.Lpq found asked = IsLpqTask found asked
+IsTask form_is.Lprm found asked = IsRemoval found asked
+IsTask form_is.Other found asked = ⊥
 
 -- the values that were found are those of a task
 abbrev pub Fit : Form → List Row → Type 0
-Fit form.Submit found = FitSubmission found
-Fit form.Status found = FitStatus found
-Fit form.Queues found = ⊤
-Fit form.Watch found = ⊤
-Fit form.Cancel found = FitJobs found
-Fit form.Hold found = FitHold found
-Fit form.Release found = FitJobs found
-Fit form.Purge found = FitJobs found
-Fit form.End found = FitJobs found
-Fit form.QueueAdd found = FitNew found
-Fit form.QueueSet found = FitQueue found
-Fit form.QueueAccept found = FitQueue found
-Fit form.QueueReject found = FitQueue found
-Fit form.QueueEnable found = FitQueue found
-Fit form.QueueDisable found = FitQueue found
-Fit form.Devices found = ⊤
-Fit form.Check found = ⊤
-Fit form.Page found = IsSome (first_of (codes "file") found)
-Fit form.Lp found = FitSubmission found
-Fit form.Lpr found = FitSubmission found
-Fit form.Lpstat found = ⊤
-Fit form.CancelJobs found = FitCancel found
-Fit form.Lpq found = FitJobs found
-Fit form.Lprm found = FitRemoval found
-Fit form.Other found = ⊥
+Fit form_is.Submit found = FitSubmission found
+Fit form_is.Status found = FitStatus found
+Fit form_is.Queues found = ⊤
+Fit form_is.Watch found = ⊤
+Fit form_is.Cancel found = FitJobs found
+Fit form_is.Hold found = FitHold found
+Fit form_is.Release found = FitJobs found
+Fit form_is.Purge found = FitJobs found
+Fit form_is.End found = FitJobs found
+Fit form_is.QueueAdd found = FitNew found
+Fit form_is.QueueSet found = FitQueue found
+Fit form_is.QueueAccept found = FitQueue found
+Fit form_is.QueueReject found = FitQueue found
+Fit form_is.QueueEnable found = FitQueue found
+Fit form_is.QueueDisable found = FitQueue found
+Fit form_is.Devices found = ⊤
+Fit form_is.Check found = ⊤
+Fit form_is.Page found = IsSome (first_of (codes "file") found)
+Fit form_is.Lp found = FitSubmission found
+Fit form_is.Lpr found = FitSubmission found
+Fit form_is.Lpstat found = ⊤
+Fit form_is.CancelJobs found = FitCancel found
+Fit form_is.Lpq found = FitJobs found
+Fit form_is.Lprm found = FitRemoval found
+Fit form_is.Other found = ⊥
 
 -- a task, and the sockets where it is asked for
 abbrev pub IsAskedIn : Form → List Row → Asked → Type 0

@@ -1,5 +1,5 @@
 -- Why words are refused.
-use Rattle.std.specs.Prelude.{◌≡◌, ⊤, ⊥}
+use Rattle.std.specs.Prelude.{◌≡◌, ⊤}
 use Rattle.clap.specs.Words.{kind_of}
 use Rattle.clap.specs.declared.error.kind.ErrorKind.TheVariants.{ValueValidation}
 use Rattle.front_words.specs.declared.fault.WordsFault.{WordsFault}

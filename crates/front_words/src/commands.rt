@@ -2,7 +2,7 @@
 ghost use Rattle.std.specs.Prelude.{◌≡◌, IfOk};
 ghost use Rattle.clap.specs.Words.{app_of};
 ghost use Rattle.front_words.specs.Apps.{add_app, app_for, hold_app, jobs_app, other_app, page_app, queue_app, queues_app, set_app, status_app, submit_app, submit_words};
-ghost use Rattle.front_words.specs.Apps.{with_document, with_handling};
+ghost use Rattle.front_words.specs.Apps.{with_document, with_handling, with_titles};
 
 use crate::forms::Form;
 use crate::options::{
@@ -98,9 +98,9 @@ fn submit_words<'a>(alloc: Global) -> Result<Command<'a>, AllocError>
     command.arg(queue)?.arg(file)
 }
 
-// What a job is: its title, its owner and how it is printed.
-fn document_options<'a>(alloc: Global, command: Command<'a>) -> Result<Command<'a>, AllocError>
-    ensures { IfOk result (λ command. app_of command ≡ with_document (app_of command.entry)) }
+// What a job is called, and whose it is.
+fn title_options<'a>(alloc: Global, command: Command<'a>) -> Result<Command<'a>, AllocError>
+    ensures { IfOk result (λ more. app_of more ≡ with_titles (app_of command.entry)) }
 {
     let title = text_option(
         alloc,
@@ -109,6 +109,13 @@ fn document_options<'a>(alloc: Global, command: Command<'a>) -> Result<Command<'
         "The title [default: the file's name]",
     );
     let user = text_option(alloc, "user", "USER", "In whose name [default: yours]");
+    command.arg(title)?.arg(user)
+}
+
+// What a job is: its title, its owner and how it is printed.
+fn document_options<'a>(alloc: Global, command: Command<'a>) -> Result<Command<'a>, AllocError>
+    ensures { IfOk result (λ more. app_of more ≡ with_document (app_of command.entry)) }
+{
     let copies = text_option(
         alloc,
         "copies",
@@ -124,18 +131,13 @@ fn document_options<'a>(alloc: Global, command: Command<'a>) -> Result<Command<'
         "NAME=VALUE",
         "An option of the printer or a filter",
     );
-    command
-        .arg(title)?
-        .arg(user)?
-        .arg(copies)?
-        .arg(priority)?
-        .arg(pages)?
-        .arg(option)
+    let command = title_options(alloc, command)?;
+    command.arg(copies)?.arg(priority)?.arg(pages)?.arg(option)
 }
 
 // When it is printed, and what is told of it.
 fn handling_options<'a>(alloc: Global, command: Command<'a>) -> Result<Command<'a>, AllocError>
-    ensures { IfOk result (λ command. app_of command ≡ with_handling (app_of command.entry)) }
+    ensures { IfOk result (λ more. app_of more ≡ with_handling (app_of command.entry)) }
 {
     let hold = flag_option(alloc, "hold", "Let it wait until it is released");
     let at = text_option(

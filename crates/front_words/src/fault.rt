@@ -2,6 +2,7 @@
 ghost use Rattle.std.specs.Prelude.{◌≡◌};
 ghost use Rattle.clap.specs.Words.{kind_of};
 ghost use Rattle.clap.specs.declared.error.kind.ErrorKind.TheVariants.{OutOfMemory};
+ghost use Rattle.front_words.specs.declared.fault.Wrong.TheVariants.{Memory};
 ghost use Rattle.front_words.specs.Faults.{IsMistake, RefusesOnly};
 
 use clap::error::ErrorKind;
@@ -27,7 +28,7 @@ pub enum Wrong {
 }
 
 impl From<AllocError> for Wrong {
-    ghost from_gives = { λ _ wrong. wrong ≡ Wrong.Memory };
+    ghost from_gives = { λ _ wrong. wrong ≡ Memory };
 
     fn from(_error: AllocError) -> Wrong {
         Wrong::Memory

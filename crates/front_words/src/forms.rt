@@ -1,7 +1,6 @@
 //! Which command line the words are: a task of `spool`, or a program by its own name.
 ghost use Rattle.std.specs.Prelude.{◌≡◌, drop, map};
-ghost use Rattle.front_words.specs.Forms.{base_name, form_in, form_of_act, form_of_program, form_of_task, skipped, spool_form};
-ghost use Rattle.front_words.specs.Forms.{last_from, queue_form};
+ghost use Rattle.front_words.specs.Forms.{form_in, form_of_act, form_of_program, form_of_task, queue_form, skipped, spool_form};
 
 use crate::given::last_part;
 use std::convert::AsStr;

@@ -124,9 +124,11 @@ pub fn moment_given(
 pub fn moment_of(text: &[u8]) -> Option<Moment>
     ensures { result ≡ moment_of text.now }
 {
-    match text.split_first() {
-        Some((b'+', seconds)) => Some(Moment::FromNow(decimal(seconds, GREATEST_MOMENT)?)),
-        _ => Some(Moment::Epoch(decimal(text, GREATEST_MOMENT)?)),
+    let (first, seconds) = text.split_first()?;
+    if *first == b'+' {
+        Some(Moment::FromNow(decimal(seconds, GREATEST_MOMENT)?))
+    } else {
+        Some(Moment::Epoch(decimal(text, GREATEST_MOMENT)?))
     }
 }
 
@@ -163,13 +165,11 @@ fn jobs_of(alloc: Global, texts: &[&str]) -> Result<Option<Vec<u32>>, AllocError
     ensures { IfOk result (λ jobs. option_map (λ jobs. jobs.items) jobs ≡ jobs_of (map (λ text. text.now) texts.now)) }
 {
     let mut jobs = Vec::new(alloc);
-    let mut rest = texts;
-    while let Some((text, behind)) = rest.split_first() {
+    for text in texts {
         let Some(job) = job_of(text.as_bytes()) else {
             return Ok(None);
         };
         jobs.push(job)?;
-        rest = behind;
     }
     Ok(Some(jobs))
 }

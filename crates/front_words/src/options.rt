@@ -2,7 +2,7 @@
 ghost use Rattle.std.specs.Prelude.{◌≡◌, ◌++◌, ◌∷◌, [], IfOk, MatchResult, Some, false, map, true};
 ghost use Rattle.clap.specs.Words.{app_of, found_of, is_simple_and_free, matches_of, rows_of, rule_of};
 ghost use Rattle.front_words.specs.Faults.{RefusesOnly};
-ghost use Rattle.front_words.specs.Options.{AreFaultlessFor, flag_rule, letter_flag_rule, letter_rule, listed, named_app, needed, several, socket_rule, task_app, text_rule, word_rule};
+ghost use Rattle.front_words.specs.Options.{AreFaultlessFor, flag_rule, help_rule, letter_flag_rule, letter_rule, listed, named_app, needed, several, socket_rule, task_app, text_rule, word_rule};
 
 use crate::fault::{WordsFault, words_fault};
 use clap::builder::ValueParser;
@@ -34,15 +34,23 @@ pub fn named_command<'a>(
     ensures { IfOk result (λ command. app_of command ≡ named_app name.entry.now) }
 {
     let socket = socket_option(alloc);
-    let help = Arg::new(alloc, "help")
-        .long("help")
-        .action(ArgAction::Help)
-        .help("Print help");
+    let help = help_option(alloc);
     Command::new(alloc, name)
         .about(about)
         .disable_help_flag(true)
         .arg(help)?
         .arg(socket)
+}
+
+// `--help` alone.
+fn help_option<'a>(alloc: Global) -> Arg<'a>
+    ensures rule { rule_of result ≡ help_rule }
+    ensures local { result.global ≡ false }
+{
+    Arg::new(alloc, "help")
+        .long("help")
+        .action(ArgAction::Help)
+        .help("Print help")
 }
 
 fn socket_option<'a>(alloc: Global) -> Arg<'a>

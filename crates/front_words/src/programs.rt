@@ -1,7 +1,7 @@
 //! The commands of lp and its like, as clap knows them.
 ghost use Rattle.std.specs.Prelude.{◌≡◌, IfOk, false};
 ghost use Rattle.clap.specs.Words.{app_of, rule_of};
-ghost use Rattle.front_words.specs.Apps.{cancel_app, lp_app, lp_words, lpq_app, lpr_app, lprm_app, lpstat_app, title_rule};
+ghost use Rattle.front_words.specs.Apps.{cancel_app, lp_app, lp_words, lpq_app, lpr_app, lpr_words, lprm_app, lpstat_app, lpstat_words, title_rule, with_numbers};
 
 use crate::options::{
     letter_flag, letter_list, letter_option, letter_options, lettered, named_command, needed_words,
@@ -36,6 +36,7 @@ pub fn lp_command<'a>(alloc: Global) -> Result<Command<'a>, AllocError>
     );
     let quiet = letter_flag(alloc, 's', "quiet", "Don't say which number the job has");
     let command = lp_words(alloc)?;
+    let command = lp_numbers(alloc, command)?;
     command
         .arg(option)?
         .arg(pages)?
@@ -44,7 +45,7 @@ pub fn lp_command<'a>(alloc: Global) -> Result<Command<'a>, AllocError>
         .arg(quiet)
 }
 
-// What is printed, by which queue and how often.
+// What is printed, and by which queue.
 fn lp_words<'a>(alloc: Global) -> Result<Command<'a>, AllocError>
     ensures { IfOk result (λ command. app_of command ≡ lp_words) }
 {
@@ -63,6 +64,14 @@ fn lp_words<'a>(alloc: Global) -> Result<Command<'a>, AllocError>
         "The title [default: the file's name]",
     );
     let user = letter_option(alloc, 'U', "user", "USER", "In whose name [default: yours]");
+    let command = named_command(alloc, "lp", "Prints files")?;
+    command.arg(file)?.arg(queue)?.arg(title)?.arg(user)
+}
+
+// How often it is printed, and how soon.
+fn lp_numbers<'a>(alloc: Global, command: Command<'a>) -> Result<Command<'a>, AllocError>
+    ensures { IfOk result (λ more. app_of more ≡ with_numbers (app_of command.entry)) }
+{
     let copies = letter_option(
         alloc,
         'n',
@@ -71,28 +80,12 @@ fn lp_words<'a>(alloc: Global) -> Result<Command<'a>, AllocError>
         "How many, from 1 to 9999 [default: 1]",
     );
     let priority = letter_option(alloc, 'q', "priority", "P", "From 1 to 100 [default: 50]");
-    let command = named_command(alloc, "lp", "Prints files")?;
-    command
-        .arg(file)?
-        .arg(queue)?
-        .arg(title)?
-        .arg(user)?
-        .arg(copies)?
-        .arg(priority)
+    command.arg(copies)?.arg(priority)
 }
 
 pub fn lpr_command<'a>(alloc: Global) -> Result<Command<'a>, AllocError>
     ensures { IfOk result (λ command. app_of command ≡ lpr_app) }
 {
-    let file = words(
-        alloc,
-        "file",
-        "FILE",
-        "The files; with none, or as `-`, the standard input",
-    );
-    let queue = letter_option(alloc, 'P', "queue", "DEST", "The queue that prints");
-    let title = title_option(alloc)?;
-    let user = letter_option(alloc, 'U', "user", "USER", "In whose name [default: yours]");
     let copies = letter_option(
         alloc,
         '#',
@@ -114,39 +107,52 @@ pub fn lpr_command<'a>(alloc: Global) -> Result<Command<'a>, AllocError>
         "no-banner",
         "Print no banner, as there never is one",
     );
+    let command = lpr_words(alloc)?;
+    command.arg(copies)?.arg(option)?.arg(hold)?.arg(banner)
+}
+
+// What is printed, and by which queue.
+fn lpr_words<'a>(alloc: Global) -> Result<Command<'a>, AllocError>
+    ensures { IfOk result (λ command. app_of command ≡ lpr_words) }
+{
+    let file = words(
+        alloc,
+        "file",
+        "FILE",
+        "The files; with none, or as `-`, the standard input",
+    );
+    let queue = letter_option(alloc, 'P', "queue", "DEST", "The queue that prints");
+    let title = title_option(alloc)?;
+    let user = letter_option(alloc, 'U', "user", "USER", "In whose name [default: yours]");
     let command = named_command(alloc, "lpr", "Prints files")?;
-    command
-        .arg(file)?
-        .arg(queue)?
-        .arg(title)?
-        .arg(user)?
-        .arg(copies)?
-        .arg(option)?
-        .arg(hold)?
-        .arg(banner)
+    command.arg(file)?.arg(queue)?.arg(title)?.arg(user)
 }
 
 pub fn lpstat_command<'a>(alloc: Global) -> Result<Command<'a>, AllocError>
     ensures { IfOk result (λ command. app_of command ≡ lpstat_app) }
 {
-    let name = words(alloc, "name", "NAME", "Queues and jobs whose jobs are told");
-    let scheduler = letter_flag(alloc, 'r', "scheduler", "Whether the service runs");
-    let usual = letter_flag(alloc, 'd', "usual", "Which queue is the usual one");
-    let all = letter_flag(alloc, 't', "all", "All that there is to tell");
     let printers = letter_list(alloc, 'p', "printers", "Which of these queues print");
     let accepting = letter_list(alloc, 'a', "accepting", "Which of these queues take jobs");
     let devices = letter_list(alloc, 'v', "devices", "The devices of these queues");
     let jobs = letter_list(alloc, 'o', "jobs", "The jobs of these queues");
-    let command = named_command(alloc, "lpstat", "Tells of queues and jobs")?;
+    let command = lpstat_words(alloc)?;
     command
-        .arg(name)?
-        .arg(scheduler)?
-        .arg(usual)?
-        .arg(all)?
         .arg(printers)?
         .arg(accepting)?
         .arg(devices)?
         .arg(jobs)
+}
+
+// What is told of the service, and of whose jobs.
+fn lpstat_words<'a>(alloc: Global) -> Result<Command<'a>, AllocError>
+    ensures { IfOk result (λ command. app_of command ≡ lpstat_words) }
+{
+    let name = words(alloc, "name", "NAME", "Queues and jobs whose jobs are told");
+    let scheduler = letter_flag(alloc, 'r', "scheduler", "Whether the service runs");
+    let usual = letter_flag(alloc, 'd', "usual", "Which queue is the usual one");
+    let all = letter_flag(alloc, 't', "all", "All that there is to tell");
+    let command = named_command(alloc, "lpstat", "Tells of queues and jobs")?;
+    command.arg(name)?.arg(scheduler)?.arg(usual)?.arg(all)
 }
 
 pub fn cancel_command<'a>(alloc: Global) -> Result<Command<'a>, AllocError>

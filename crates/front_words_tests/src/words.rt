@@ -63,8 +63,8 @@ fn submits(rt: HostRuntime) -> Result<(), Fail> {
     assert!(rt; asked.title == Some("Letter") && asked.user.is_none());
     assert!(rt; asked.copies == 3 && asked.priority == 7);
     assert!(rt; asked.options.as_slice() == ["sides=two", "media=A4 fit"].as_slice());
-    assert!(rt; asked.hold == Hold::Until(Moment::FromNow(60)));
-    assert!(rt; asked.by == Some(Moment::Epoch(4000)) && asked.wait && !asked.quiet);
+    assert!(rt; matches!(asked.hold, Hold::Until(Moment::FromNow(60))));
+    assert!(rt; matches!(asked.by, Some(Moment::Epoch(4000))) && asked.wait && !asked.quiet);
     Ok(())
 }
 
@@ -79,7 +79,7 @@ fn submits_as_lp(rt: HostRuntime) -> Result<(), Fail> {
     )?;
     assert!(rt; asked.queue == Some("office") && asked.files.as_slice() == ["x"].as_slice());
     assert!(rt; asked.copies == 2 && asked.priority == 100 && asked.title == Some("T"));
-    assert!(rt; asked.pages == Some("1-2") && asked.quiet && asked.hold == Hold::Indefinite);
+    assert!(rt; asked.pages == Some("1-2") && asked.quiet && matches!(asked.hold, Hold::Indefinite));
     let asked = submission(&rt, &["/bin/lp"])?;
     assert!(rt;
         asked.queue.is_none() && asked.files.is_empty() && asked.copies == 1 && asked.priority == 50
@@ -89,7 +89,7 @@ fn submits_as_lp(rt: HostRuntime) -> Result<(), Fail> {
         &["lpr", "-Poffice", "-#3", "-J", "T", "-q", "--", "-x"],
     )?;
     assert!(rt; asked.queue == Some("office") && asked.copies == 3 && asked.title == Some("T"));
-    assert!(rt; asked.hold == Hold::Indefinite && asked.files.as_slice() == ["-x"].as_slice());
+    assert!(rt; matches!(asked.hold, Hold::Indefinite) && asked.files.as_slice() == ["-x"].as_slice());
     Ok(())
 }
 
@@ -142,12 +142,12 @@ fn names_jobs(rt: HostRuntime) -> Result<(), Fail> {
         return Err("another task")?;
     };
     assert!(rt;
-        act == JobAct::Hold(Some(Moment::Epoch(9))) && jobs.as_slice() == [1, 12].as_slice()
+        matches!(act, JobAct::Hold(Some(Moment::Epoch(9)))) && jobs.as_slice() == [1, 12].as_slice()
     );
     let Task::Jobs { act, jobs } = task_of(&rt, &["cancel", "a-b-7"])? else {
         return Err("another task")?;
     };
-    assert!(rt; act == JobAct::Cancel && jobs.as_slice() == [7].as_slice());
+    assert!(rt; matches!(act, JobAct::Cancel) && jobs.as_slice() == [7].as_slice());
     let Task::Clear { queues } = task_of(&rt, &["cancel", "-a", "office"])? else {
         return Err("another task")?;
     };

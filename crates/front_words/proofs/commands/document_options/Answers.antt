@@ -4,10 +4,8 @@ use Rattle.clap.specs.Words.{with_rule}
 use Rattle.front_words.proofs.commands.document_options.Goals as goal
 
 pub returns : goal.returns
-returns c = IfOk-weaker c.arg-6.result _ _ (λ command added. added.shape (search rules)
-    ∙ ap₂ with_rule (c.in_ok-arg-5.ensures.shape (search rules)
-    ∙ ap₂ with_rule (c.in_ok-arg-4.ensures.shape (search rules)
+returns c = IfOk-weaker c.arg-4.result _ _ (λ command added. added.shape (search rules)
     ∙ ap₂ with_rule (c.in_ok-arg-3.ensures.shape (search rules)
     ∙ ap₂ with_rule (c.in_ok-arg-2.ensures.shape (search rules)
     ∙ ap₂ with_rule (c.in_ok-arg.ensures.shape (search rules)
-    ∙ ap₂ with_rule refl c.text_option-title.ensures.rule) c.text_option-user.ensures.rule) c.text_option-copies.ensures.rule) c.text_option-priority.ensures.rule) c.text_option-pages.ensures.rule) c.letter_options-option.ensures.rule) c.arg-6.ensures
+    ∙ ap₂ with_rule c.in_ok-command.ensures c.text_option-copies.ensures.rule) c.text_option-priority.ensures.rule) c.text_option-pages.ensures.rule) c.letter_options-option.ensures.rule) c.arg-4.ensures
