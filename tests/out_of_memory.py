@@ -36,6 +36,14 @@ PASSED_ON = {
     ("device_uri", "options"): 1,
     # Counts of jobs that are held past the greatest usize: no memory holds so many.
     ("job_table", "reserve"): 2,
+    ("front_texts", "push_accepting"): 2,
+    ("front_texts", "push_bytes"): 1,
+    ("front_texts", "push_number"): 1,
+    ("front_texts", "push_job_name"): 1,
+    ("front_texts", "push_printer"): 2,
+    ("front_texts", "push_printing"): 1,
+    ("front_texts", "push_ready"): 3,
+    ("front_texts", "push_stopped"): 1,
     ("print_rounds", "launch"): 1,
     ("print_rounds", "pass"): 1,
     ("print_rounds", "start"): 1,
@@ -116,6 +124,8 @@ CAPACITIES = {
 # The great numbers in bodies: bounds of loops, of counts and of fields. None is a capacity.
 NUMBERS = {
     ("backend_codes", "unless_spent"): ["u32::MAX"],
+    ("front_texts", "count"): ["4_294_967_295"],
+    ("front_texts", "size_text"): ["1_048_576"],
     ("job_table", "is_startable"): ["u32::MAX"],
     ("job_table", "is_untyped"): ["u32::MAX"],
     ("mime_rules", "int_bytes"): ["16_777_216"],

@@ -1,3 +1,4 @@
+pub mod CellLaws
 pub mod WordLaws
 pub mod TextLaws
 pub mod EscapeLaws

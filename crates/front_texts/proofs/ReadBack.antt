@@ -30,6 +30,8 @@ use Rattle.front_texts.specs.Fields.{quoted_text, after_quoted, text_of, rest_of
 use Rattle.front_texts.specs.JobRows.{head_of, head_row, tail_of, tail_from, tail_row, joined, job_words, job_row}
 use Rattle.front_texts.specs.ReadBack.{IsJob, state_of, reason_of, line_of, JobRowsReadBack}
 use Rattle.front_texts.specs.declared.states.JobState.{JobState}
+use Rattle.front_texts.specs.declared.states.JobState.TheVariants as states
+use Rattle.front_texts.specs.States.{job_state_in}
 use Rattle.front_texts.specs.declared.job_line.JobHead.{JobHead}
 use Rattle.front_texts.specs.declared.job_line.JobTail.{JobTail}
 use Rattle.front_texts.proofs.WordLaws.{is_solid, IsWhole, first_word-front, after_word-front, whole_from, decimal_whole, number_back, escaped_text, quoted_back}
@@ -77,26 +79,42 @@ word_waiting now hold not_before =
       | false ↦ elim (nat_lt now not_before) as (λ v. IsReasonWord (cond v (codes "retry-later") (codes "none"))) [ true ↦ later_word | false ↦ no_word ]
     ]
 
-reason_word : (now : ℕ) (phase : Phase) → IsReasonWord (job_reason now phase)
+incoming_word : IsReasonWord (codes "job-incoming")
 unfolding is_utf8
-reason_word now (Incoming hold) = record { whole = whole _ refl refl; reads = refl }
+incoming_word = record { whole = whole _ refl refl; reads = refl }
+
+printing_word : IsReasonWord (codes "job-printing")
+unfolding is_utf8
+printing_word = record { whole = whole _ refl refl; reads = refl }
+
+completed_word : IsReasonWord (codes "job-completed-successfully")
+unfolding is_utf8
+completed_word = record { whole = whole _ refl refl; reads = refl }
+
+canceled_word : IsReasonWord (codes "canceled")
+unfolding is_utf8
+canceled_word = record { whole = whole _ refl refl; reads = refl }
+
+reason_word : (now : ℕ) (phase : Phase) → IsReasonWord (job_reason now phase)
+reason_word now (Incoming hold) = incoming_word
 reason_word now (Waiting hold not_before first) = word_waiting now hold not_before
-reason_word now (Processing attempt stage stages) = record { whole = whole _ refl refl; reads = refl }
-reason_word now Completed = record { whole = whole _ refl refl; reads = refl }
-reason_word now Canceled = record { whole = whole _ refl refl; reads = refl }
+reason_word now (Processing attempt stage stages) = printing_word
+reason_word now Completed = completed_word
+reason_word now Canceled = canceled_word
 reason_word now (Aborted reason) = word_of_abort reason
 
+-- the decimals of a number up to 9
+read_as : (n : ℕ) → n ≤ 9 → job_state_of (decimal n) ≡ job_state_in n
+read_as n le = ap (option_and_then job_state_in) (number_back 9 n le (omega arith))
+
 state_reads : (now : ℕ) (phase : Phase) → job_state_of (decimal (job_state now phase)) ≡ Some (state_of now phase)
-state_reads now (Incoming hold) = refl
+state_reads now (Incoming hold) = read_as 4 (omega arith)
 state_reads now (Waiting hold not_before first) =
-    elim (is_in_force now hold) as (λ v. job_state_of (decimal (cond v 4 3)) ≡ Some (state_of_cond v)) [ true ↦ refl | false ↦ refl ]
-  where
-    state_of_cond : Bool → JobState
-    state_of_cond v = cond v (state_of now (Incoming hold)) (state_of 0 (Waiting Free 0 first))
-state_reads now (Processing attempt stage stages) = refl
-state_reads now Completed = refl
-state_reads now Canceled = refl
-state_reads now (Aborted reason) = refl
+    elim (is_in_force now hold) as (λ v. job_state_of (decimal (cond v 4 3)) ≡ Some (cond v states.Held states.Pending)) [ true ↦ read_as 4 (omega arith) | false ↦ read_as 3 (omega arith) ]
+state_reads now (Processing attempt stage stages) = read_as 5 (omega arith)
+state_reads now Completed = read_as 9 (omega arith)
+state_reads now Canceled = read_as 7 (omega arith)
+state_reads now (Aborted reason) = read_as 8 (omega arith)
 
 state_small : (now : ℕ) (phase : Phase) → job_state now phase < 2 ^ 64
 state_small now (Incoming hold) = omega arith
@@ -146,8 +164,12 @@ abbrev row : List ℕ → List ℕ → List ℕ → List ℕ → List ℕ → Li
 row number queue state word user size pages title =
     codes "job" ++ 32 ∷ (number ++ 32 ∷ (queue ++ 32 ∷ (state ++ 32 ∷ (word ++ 32 ∷ (34 ∷ (user ++ 34 ∷ (32 ∷ (size ++ 32 ∷ (pages ++ 32 ∷ (34 ∷ (title ++ 34 ∷ [])))))))))))
 
+-- the same row as it is printed, with its line feed
+printed : (d q s w u z p t : List ℕ) → (codes "job " ++ d ++ codes " " ++ q ++ codes " " ++ s ++ codes " " ++ w ++ codes " ") ++ (34 ∷ (u ++ 34 ∷ [])) ++ (codes " " ++ z ++ codes " " ++ p ++ codes " ") ++ (34 ∷ (t ++ 34 ∷ [])) ++ codes "\n" ≡ row d q s w u z p t ++ codes "\n"
+printed d q s w u z p t = simp append_assoc
+
 regroup : (d q s w u z p t line : List ℕ) → line ++ codes "\n" ≡ (codes "job " ++ d ++ codes " " ++ q ++ codes " " ++ s ++ codes " " ++ w ++ codes " ") ++ (34 ∷ (u ++ 34 ∷ [])) ++ (codes " " ++ z ++ codes " " ++ p ++ codes " ") ++ (34 ∷ (t ++ 34 ∷ [])) ++ codes "\n" → line ≡ row d q s w u z p t
-regroup d q s w u z p t line e = append_cancel_right line _ (codes "\n") (e ∙ simp append_assoc)
+regroup d q s w u z p t line e = append_cancel_right line (row d q s w u z p t) (codes "\n") (e ∙ printed d q s w u z p t)
 
 words_read : (d q s w tail : List ℕ) → IsWhole d → IsWhole q → IsWhole s → IsWhole w → job_words (32 ∷ (d ++ 32 ∷ (q ++ 32 ∷ (s ++ 32 ∷ (w ++ 32 ∷ tail))))) ≡ joined (head_row d q s w) (tail_row (32 ∷ tail))
 words_read d q s w tail wd wq ws ww =

@@ -1,6 +1,6 @@
 -- Words, numbers and quoted texts that were printed, read again.
-use Rattle.std.proofs.Common.{◌≡◌, ℕ, zero, suc, ◌+◌, ◌-◌, ◌*◌, ◌/◌, ◌%◌, ◌<◌, ◌≤◌, ◌^◌, Bool, true, false, not, ◌&&◌, ◌||◌, cond, nat_le, List, [], ◌∷◌, ◌++◌, length, refl, ap, sym, ◌∙◌, arith, Option, None, Some, append_assoc}
-use Rattle.std.proofs.lemmas.Bool.{and_from, le-leb}
+use Rattle.std.proofs.Common.{◌≡◌, ℕ, zero, suc, ◌+◌, ◌-◌, ◌*◌, ◌/◌, ◌%◌, ◌<◌, ◌≤◌, ◌^◌, ◌⊎◌, inl, inr, Bool, true, false, not, ◌&&◌, ◌||◌, cond, nat_le, List, [], ◌∷◌, ◌++◌, length, refl, ap, sym, ◌∙◌, arith, Option, None, Some, append_assoc}
+use Rattle.std.proofs.lemmas.Bool.{and_from, le-leb, cases_lt}
 use Rattle.std.proofs.lemmas.Bool.Decides.{nat_tests}
 use Rattle.std.proofs.lemmas.Fmt.{decimal_digit, decimal_step, decimal_nonempty}
 use Rattle.std.proofs.lemmas.List.Folds.{list_all-append}
@@ -93,16 +93,20 @@ digit_more n w is =
       value = read_on-append 0 w (48 + n % 10) ∙ omega arith;
     }
 
+same_reads : (n : ℕ) (v w : List ℕ) → w ≡ v → ReadsAs n v → ReadsAs n w
+same_reads n v w e is = record { digits = ap (list_all is_ascii_digit) e ∙ is.digits; value = ap (read_on 0) e ∙ is.value }
+
+-- by whether it has one digit
+by_size : (n : ℕ) → n < 2 ^ 64 → (10 ≤ n → ReadsAs (n / 10) (decimal (n / 10))) → ReadsAs n (decimal n)
+by_size n s less = by (cases_lt n 10)
+  where
+    by : (n < 10) ⊎ (10 ≤ n) → ReadsAs n (decimal n)
+    by (inl few) = same_reads n ((48 + n) ∷ []) (decimal n) (decimal_digit n few) (one_digit n few)
+    by (inr many) = same_reads n (decimal (n / 10) ++ (48 + n % 10) ∷ []) (decimal n) (decimal_step n many s) (digit_more n (decimal (n / 10)) (less many))
+
 reads_within : (k n : ℕ) → n < k → n < 2 ^ 64 → ReadsAs n (decimal n)
 reads_within zero n h s = absurd (omega arith)
-reads_within (suc k) n h s = by (nat_le 10 n) refl
-  where
-    moved : {v w : List ℕ} → w ≡ v → ReadsAs n v → ReadsAs n w
-    moved e is = record { digits = ap (list_all is_ascii_digit) e ∙ is.digits; value = ap (read_on 0) e ∙ is.value }
-
-    by : (v : Bool) → nat_le 10 n ≡ v → ReadsAs n (decimal n)
-    by true e = let many : 10 ≤ n = grind (arith, nat_tests) in moved (decimal_step n many s) (digit_more n (decimal (n / 10)) (reads_within k (n / 10) (omega arith) (omega arith)))
-    by false e = let few : n < 10 = grind (arith, nat_tests) in moved (decimal_digit n few) (one_digit n few)
+reads_within (suc k) n h s = by_size n s (λ many. reads_within k (n / 10) (omega arith) (omega arith))
 
 pub decimal_reads : (n : ℕ) → n < 2 ^ 64 → ReadsAs n (decimal n)
 decimal_reads n s = reads_within (suc n) n (omega arith) s

@@ -19,5 +19,5 @@ abbrev pub Fits : ℕ → List ℕ → Type 0
 Fits columns text = str_width false (chars text) ≤ columns
 
 -- each of these lines does
-abbrev pub AllFit : ℕ → List String → Type 0
-AllFit columns lines = All (λ (line : String). Fits columns (string_bytes line)) lines
+abbrev pub AllFit : {Z : Type 0} → ℕ → List (String Z) → Type 0
+AllFit {Z = Z} columns lines = All (λ (line : String Z). Fits columns (string_bytes line)) lines

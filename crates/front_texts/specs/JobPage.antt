@@ -10,12 +10,12 @@ use Rattle.front_texts.specs.declared.job_shown.JobShown.{JobShown}
 use Rattle.front_texts.specs.declared.job_shown.JobAsked.{JobAsked}
 use Rattle.front_texts.specs.declared.job_shown.JobCourse.{JobCourse}
 use Rattle.front_texts.specs.declared.job_shown.StageShown.{StageShown}
-use Rattle.front_texts.specs.declared.job_shown.Names.{Names}
-use Rattle.front_texts.specs.declared.job_shown.Wishes.{Wishes}
-use Rattle.front_texts.specs.declared.job_shown.Counts.{Counts}
-use Rattle.front_texts.specs.declared.job_shown.Marks.{Marks}
-use Rattle.front_texts.specs.declared.job_shown.Standing.{Standing}
-use Rattle.front_texts.specs.declared.job_shown.Moments.{Moments}
+use Rattle.front_texts.specs.declared.job_shown.JobNames.{JobNames}
+use Rattle.front_texts.specs.declared.job_shown.JobWishes.{JobWishes}
+use Rattle.front_texts.specs.declared.job_shown.JobCounts.{JobCounts}
+use Rattle.front_texts.specs.declared.job_shown.JobMarks.{JobMarks}
+use Rattle.front_texts.specs.declared.job_shown.JobStanding.{JobStanding}
+use Rattle.front_texts.specs.declared.job_shown.JobMoments.{JobMoments}
 
 -- ## Lines
 
@@ -61,24 +61,24 @@ priority_in word = option_and_then (within 1 100) (count_in word)
 
 -- ## What was asked for
 
-abbrev pub names_of : Option ℕ → Option (List ℕ) → Option (List ℕ) → Option Names
+abbrev pub names_of : Option ℕ → Option (List ℕ) → Option (List ℕ) → Option JobNames
 names_of (Some number) (Some queue) (Some user) = Some (record { number = number; queue = queue; user = user })
 names_of number queue user = None
 
-abbrev pub names_in : Option (List ℕ) → Option (List ℕ) → Option (List ℕ) → Option Names
+abbrev pub names_in : Option (List ℕ) → Option (List ℕ) → Option (List ℕ) → Option JobNames
 names_in (Some number) (Some queue) (Some user) = names_of (job_in number) (text_in is_queue_name queue) (whole_text is_user_name user)
 names_in number queue user = None
 
-abbrev pub wishes_of : Option (List ℕ) → Option (List ℕ) → Option ℕ → Option ℕ → Option Wishes
+abbrev pub wishes_of : Option (List ℕ) → Option (List ℕ) → Option ℕ → Option ℕ → Option JobWishes
 wishes_of (Some title) (Some options) (Some copies) (Some priority) = Some (record { title = title; options = options; copies = copies; priority = priority })
 wishes_of title options copies priority = None
 
-abbrev pub wishes_in : Option (List ℕ) → Option (List ℕ) → Option (List ℕ) → Option (List ℕ) → Option Wishes
+abbrev pub wishes_in : Option (List ℕ) → Option (List ℕ) → Option (List ℕ) → Option (List ℕ) → Option JobWishes
 wishes_in (Some title) (Some options) (Some copies) (Some priority) =
     wishes_of (whole_text is_title title) (whole_text is_options options) (copies_in copies) (priority_in priority)
 wishes_in title options copies priority = None
 
-abbrev pub asked_of : Option Names → Option Wishes → Option JobAsked
+abbrev pub asked_of : Option JobNames → Option JobWishes → Option JobAsked
 asked_of (Some names) (Some wishes) = Some (record {
   number = names.number;
   queue = names.queue;
@@ -97,13 +97,13 @@ after_names text = after_field (after_field (after_field text (codes "job")) (co
 abbrev pub after_wishes : List ℕ → List ℕ
 after_wishes text = after_field (after_field (after_field (after_field text (codes "title")) (codes "options")) (codes "copies")) (codes "priority")
 
-abbrev pub names_at : List ℕ → Option Names
+abbrev pub names_at : List ℕ → Option JobNames
 names_at text =
     let queue = after_field text (codes "job") in
     let user = after_field queue (codes "queue") in
     names_in (field text (codes "job")) (field queue (codes "queue")) (field user (codes "user"))
 
-abbrev pub wishes_at : List ℕ → Option Wishes
+abbrev pub wishes_at : List ℕ → Option JobWishes
 wishes_at text =
     let options = after_field text (codes "title") in
     let copies = after_field options (codes "options") in
@@ -118,11 +118,11 @@ after_asked text = after_wishes (after_names text)
 
 -- ## What became of it
 
-abbrev pub counts_of : Option ℕ → Option ℕ → Option ℕ → Option Counts
+abbrev pub counts_of : Option ℕ → Option ℕ → Option ℕ → Option JobCounts
 counts_of (Some size) (Some pages) (Some attempts) = Some (record { size = size; pages = pages; attempts = attempts })
 counts_of size pages attempts = None
 
-abbrev pub counts_in : Option (List ℕ) → Option (List ℕ) → Option (List ℕ) → Option Counts
+abbrev pub counts_in : Option (List ℕ) → Option (List ℕ) → Option (List ℕ) → Option JobCounts
 counts_in size pages attempts = counts_of (option_and_then count_in size) (option_and_then count_in pages) (option_and_then count_in attempts)
 
 -- no media type where no line tells one
@@ -135,18 +135,18 @@ abbrev pub moment_of : Option (List ℕ) → Option (Option ℕ)
 moment_of None = Some None
 moment_of (Some word) = option_map (λ moment. Some moment) (moment_in word)
 
-abbrev pub marks_of : Option (Option (List ℕ)) → Option (Option ℕ) → Option Marks
+abbrev pub marks_of : Option (Option (List ℕ)) → Option (Option ℕ) → Option JobMarks
 marks_of (Some media) (Some by) = Some (record { media = media; by = by })
 marks_of media by = None
 
-abbrev pub marks_in : Option (List ℕ) → Option (List ℕ) → Option Marks
+abbrev pub marks_in : Option (List ℕ) → Option (List ℕ) → Option JobMarks
 marks_in media by = marks_of (media_of media) (moment_of by)
 
-abbrev pub standing_of : Option JobState → Option (Option (List ℕ)) → Option Standing
+abbrev pub standing_of : Option JobState → Option (Option (List ℕ)) → Option JobStanding
 standing_of (Some state) (Some reason) = Some (record { state = state; reason = reason })
 standing_of state reason = None
 
-abbrev pub standing_in : Option (List ℕ) → Option (List ℕ) → Option Standing
+abbrev pub standing_in : Option (List ℕ) → Option (List ℕ) → Option JobStanding
 standing_in (Some state) (Some reason) = standing_of (job_state_of state) (reason_in reason)
 standing_in state reason = None
 
@@ -170,12 +170,12 @@ abbrev pub stage_of : Option (List ℕ) → Option (Option StageShown)
 stage_of None = Some None
 stage_of (Some line) = stage_words line
 
-abbrev pub moments_of : Option (Option ℕ) → Option (Option ℕ) → Option (Option StageShown) → Option Moments
+abbrev pub moments_of : Option (Option ℕ) → Option (Option ℕ) → Option (Option StageShown) → Option JobMoments
 moments_of (Some until) (Some before) (Some stage) = Some (record { hold_until = until; not_before = before; stage = stage })
 moments_of until before stage = None
 
 -- up to the text's end
-abbrev pub moments_in : List ℕ → Option Moments
+abbrev pub moments_in : List ℕ → Option JobMoments
 moments_in text =
     let before = after_field text (codes "hold-until") in
     let stage = after_field before (codes "not-before") in
@@ -183,7 +183,7 @@ moments_in text =
     (moments_of (moment_of (field text (codes "hold-until"))) (moment_of (field before (codes "not-before"))) (stage_of (field stage (codes "stage"))))
     None
 
-abbrev pub course_of : Option Counts → Option Marks → Option Standing → Option Moments → Option JobCourse
+abbrev pub course_of : Option JobCounts → Option JobMarks → Option JobStanding → Option JobMoments → Option JobCourse
 course_of (Some counts) (Some marks) (Some standing) (Some moments) = Some (record {
   size = counts.size;
   pages = counts.pages;

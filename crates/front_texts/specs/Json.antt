@@ -56,20 +56,26 @@ stage_data (Some s) =
     (member (codes "stages") (number (unsigned s.stages))
     no_members)))
 
+abbrev pub moments_data : JobCourse → Data
+moments_data c =
+    object
+    (member (codes "by") (moment_data c.by)
+    (member (codes "hold_until") (moment_data c.hold_until)
+    (member (codes "not_before") (moment_data c.not_before)
+    no_members)))
+
 abbrev pub course_data : JobCourse → Data
 course_data c =
     object
     (member (codes "attempts") (number (unsigned c.attempts))
-    (member (codes "by") (moment_data c.by)
-    (member (codes "hold_until") (moment_data c.hold_until)
-    (member (codes "not_before") (moment_data c.not_before)
+    (member (codes "moments") (moments_data c)
     (member (codes "pages") (number (unsigned c.pages))
     (member (codes "reason") (text_data c.reason)
     (member (codes "size") (number (unsigned c.size))
     (member (codes "stage") (stage_data c.stage)
     (member (codes "state") (string (job_state_word c.state))
     (member (codes "type") (text_data c.media)
-    no_members))))))))))
+    no_members))))))))
 
 abbrev pub shown_data : JobShown → Data
 shown_data j = object (member (codes "asked") (asked_data j.asked) (member (codes "course") (course_data j.course) no_members))

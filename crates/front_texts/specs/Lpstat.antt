@@ -41,12 +41,21 @@ abbrev pub message_of : List ℕ → List ℕ
 message_of [] = codes "reason unknown"
 message_of (b ∷ bs) = b ∷ bs
 
+-- the name of a job
+abbrev pub job_name : List ℕ → ℕ → List ℕ
+job_name queue job = queue ++ codes "-" ++ decimal job
+
+abbrev pub printing_line : List ℕ → ℕ → List ℕ
+printing_line name job = (codes "printer " ++ name ++ codes " now printing ") ++ job_name name job ++ codes ".  enabled since -\n"
+
+abbrev pub stopped_line : List ℕ → List ℕ → List ℕ
+stopped_line name why = (codes "printer " ++ name ++ codes " disabled since - -\n\t") ++ why ++ codes "\n"
+
 abbrev pub state_line : List ℕ → List ℕ → PrinterState → Option ℕ → List ℕ
 state_line name message printers.Idle job = codes "printer " ++ name ++ codes " is idle.  enabled since -\n"
-state_line name message printers.Processing (Some job) =
-    codes "printer " ++ name ++ codes " now printing " ++ name ++ codes "-" ++ decimal job ++ codes ".  enabled since -\n"
+state_line name message printers.Processing (Some job) = printing_line name job
 state_line name message printers.Processing None = codes "printer " ++ name ++ codes " now printing.  enabled since -\n"
-state_line name message printers.Stopped job = codes "printer " ++ name ++ codes " disabled since - -\n\t" ++ message_of message ++ codes "\n"
+state_line name message printers.Stopped job = stopped_line name (message_of message)
 
 abbrev pub printer_line : QueueLine → Option ℕ → List ℕ
 printer_line q job = state_line q.name q.message q.state job
@@ -65,7 +74,7 @@ accepting_line q =
 -- ## Jobs that haven't ended (-o)
 
 abbrev pub request_cell : JobLine → List ℕ
-request_cell j = padded 23 (j.queue ++ codes "-" ++ decimal j.number)
+request_cell j = padded 23 (job_name j.queue j.number)
 
 abbrev pub owner_cell : JobLine → List ℕ
 owner_cell j = padded 13 (safe_text j.user)

@@ -6,14 +6,20 @@ use Rattle.front_texts.specs.Escape.{escaped}
 use Rattle.front_texts.specs.States.{printer_state_word, shown_word, yes_or_no}
 use Rattle.front_texts.specs.declared.job_line.JobLine.{JobLine}
 use Rattle.front_texts.specs.declared.queue_line.QueueLine.{QueueLine}
-use Rattle.front_texts.specs.declared.page.TheConstants.{OPENING, REFRESH, STYLE, QUEUES, JOBS, CLOSING}
+use Rattle.front_texts.specs.declared.web_page.TheConstants.{OPENING, REFRESH, STYLE, QUEUES, JOBS, CLOSING}
 
 abbrev pub cell : List ℕ → List ℕ
 cell text = codes "<td>" ++ escaped text ++ codes "</td>"
 
+abbrev pub number_cell : ℕ → List ℕ
+number_cell number = codes "<td class=\"n\">" ++ decimal number ++ codes "</td>"
+
 -- the state's word is also its class, and so its colour
+abbrev pub state_class : List ℕ → List ℕ
+state_class word = codes "<td class=\"state " ++ escaped word ++ codes "\">"
+
 abbrev pub state_cell : List ℕ → List ℕ
-state_cell word = codes "<td class=\"state " ++ escaped word ++ codes "\">" ++ escaped word ++ codes "</td>"
+state_cell word = state_class word ++ escaped word ++ codes "</td>"
 
 -- ## A queue
 
@@ -32,10 +38,10 @@ queue_html q = queue_front q ++ cell q.target ++ queue_notes q ++ codes "</tr>\n
 -- ## A job
 
 abbrev pub job_front : JobLine → List ℕ
-job_front j = codes "<tr><td class=\"n\">" ++ decimal j.number ++ codes "</td>" ++ cell j.queue ++ state_cell (shown_word j.state j.reason)
+job_front j = codes "<tr>" ++ number_cell j.number ++ cell j.queue ++ state_cell (shown_word j.state j.reason)
 
 abbrev pub job_numbers : JobLine → List ℕ
-job_numbers j = codes "<td class=\"n\">" ++ decimal j.size ++ codes "</td><td class=\"n\">" ++ decimal j.pages ++ codes "</td>"
+job_numbers j = number_cell j.size ++ number_cell j.pages
 
 -- the reason beside its state, if there is one
 abbrev pub word_part : Option (List ℕ) → List ℕ
@@ -54,8 +60,11 @@ job_html j = job_front j ++ cell j.user ++ job_numbers j ++ job_notes j ++ codes
 abbrev pub refresh : Bool → List ℕ
 refresh follows = cond follows REFRESH.now []
 
+abbrev pub stamp_html : List ℕ → List ℕ
+stamp_html stamp = codes "<p class=\"faint\">" ++ escaped stamp ++ codes "</p>\n"
+
 abbrev pub head_html : List ℕ → Bool → List ℕ
-head_html stamp follows = OPENING.now ++ refresh follows ++ STYLE.now ++ codes "<p class=\"faint\">" ++ escaped stamp ++ codes "</p>\n"
+head_html stamp follows = OPENING.now ++ refresh follows ++ STYLE.now ++ stamp_html stamp
 
 abbrev pub queues_html : List QueueLine → List ℕ
 queues_html queues = QUEUES.now ++ flat_map queue_html queues

@@ -72,4 +72,4 @@ printer_state_word printers.Processing = codes "processing"
 printer_state_word printers.Stopped = codes "stopped"
 
 abbrev pub yes_or_no : Bool → List ℕ
-yes_or_no yes = cond yes (codes "yes") (codes "no")
+yes_or_no is = cond is (codes "yes") (codes "no")

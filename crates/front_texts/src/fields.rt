@@ -135,7 +135,7 @@ pub(crate) fn accepting(word: &[u8]) -> Option<bool>
 pub(crate) fn interval(word: &[u8]) -> Option<Interval>
     ensures { result ≡ interval_in word.now }
 {
-    Interval::new(count(word)?)
+    Interval::new(u32::try_from(decimal(word, 86_400)?).ok()?)
 }
 
 /// A moment.

@@ -63,14 +63,14 @@ pub struct StageShown {
 
 // Parts of the two.
 #[derive(Drop)]
-pub(crate) struct Names {
+pub(crate) struct JobNames {
     pub number: JobId,
     pub queue: QueueName,
     pub user: UserName,
 }
 
 #[derive(Drop)]
-pub(crate) struct Wishes {
+pub(crate) struct JobWishes {
     pub title: Title,
     pub options: OptionText,
     pub copies: Copies,
@@ -78,26 +78,26 @@ pub(crate) struct Wishes {
 }
 
 #[derive(Clone, Copy)]
-pub(crate) struct Counts {
+pub(crate) struct JobCounts {
     pub size: u32,
     pub pages: u32,
     pub attempts: u32,
 }
 
 #[derive(Drop)]
-pub(crate) struct Marks {
+pub(crate) struct JobMarks {
     pub media: Option<MediaType>,
     pub by: Option<Moment>,
 }
 
 #[derive(Drop)]
-pub(crate) struct Standing {
+pub(crate) struct JobStanding {
     pub state: JobState,
     pub reason: Option<Reason>,
 }
 
 #[derive(Clone, Copy)]
-pub(crate) struct Moments {
+pub(crate) struct JobMoments {
     pub hold_until: Option<Moment>,
     pub not_before: Option<Moment>,
     pub stage: Option<StageShown>,
@@ -133,7 +133,7 @@ fn asked(alloc: Global, text: &[u8]) -> Result<(Option<JobAsked>, &[u8]), AllocE
     Ok((asked_of(names, wishes), rest))
 }
 
-fn asked_of(names: Option<Names>, wishes: Option<Wishes>) -> Option<JobAsked>
+fn asked_of(names: Option<JobNames>, wishes: Option<JobWishes>) -> Option<JobAsked>
     ensures { result ≡ asked_of names wishes }
 {
     match (names, wishes) {
@@ -155,7 +155,7 @@ fn names(
     number: Option<&[u8]>,
     queue: Option<&[u8]>,
     user: Option<&[u8]>,
-) -> Result<Option<Names>, AllocError>
+) -> Result<Option<JobNames>, AllocError>
     ensures { IfOk result (λ names. names ≡ names_in (option_copied number.entry) (option_copied queue.entry) (option_copied user.entry)) }
 {
     let (Some(number), Some(queue), Some(user)) = (number, queue, user) else {
@@ -164,7 +164,7 @@ fn names(
     let queue = QueueName::from_word(alloc, queue)?;
     let user = whole_text(alloc, user)?;
     match (job_number(number), queue, user) {
-        (Some(number), Some(queue), Some(user)) => Ok(Some(Names {
+        (Some(number), Some(queue), Some(user)) => Ok(Some(JobNames {
             number,
             queue,
             user,
@@ -179,7 +179,7 @@ fn wishes(
     options: Option<&[u8]>,
     copies: Option<&[u8]>,
     priority: Option<&[u8]>,
-) -> Result<Option<Wishes>, AllocError>
+) -> Result<Option<JobWishes>, AllocError>
     ensures { IfOk result (λ wishes. wishes ≡ wishes_in (option_copied title.entry) (option_copied options.entry) (option_copied copies.entry) (option_copied priority.entry)) }
 {
     let (Some(title), Some(options), Some(copies), Some(priority)) = (
@@ -190,7 +190,7 @@ fn wishes(
     let title = whole_text(alloc, title)?;
     let options = whole_text(alloc, options)?;
     match (title, options, copies_of(copies), priority_of(priority)) {
-        (Some(title), Some(options), Some(copies), Some(priority)) => Ok(Some(Wishes {
+        (Some(title), Some(options), Some(copies), Some(priority)) => Ok(Some(JobWishes {
             title,
             options,
             copies,
@@ -217,10 +217,10 @@ fn course(alloc: Global, text: &[u8]) -> Result<Option<JobCourse>, AllocError>
     Ok(course_of(counts, marks, standing, moments(rest)))
 }
 
-fn counts(size: Option<&[u8]>, pages: Option<&[u8]>, attempts: Option<&[u8]>) -> Option<Counts>
+fn counts(size: Option<&[u8]>, pages: Option<&[u8]>, attempts: Option<&[u8]>) -> Option<JobCounts>
     ensures { result ≡ counts_in (option_copied size.entry) (option_copied pages.entry) (option_copied attempts.entry) }
 {
-    Some(Counts {
+    Some(JobCounts {
         size: count(size?)?,
         pages: count(pages?)?,
         attempts: count(attempts?)?,
@@ -231,12 +231,12 @@ fn marks(
     alloc: Global,
     media: Option<&[u8]>,
     by: Option<&[u8]>,
-) -> Result<Option<Marks>, AllocError>
+) -> Result<Option<JobMarks>, AllocError>
     ensures { IfOk result (λ marks. marks ≡ marks_in (option_copied media.entry) (option_copied by.entry)) }
 {
     let media = media_of(alloc, media)?;
     match (media, moment_of(by)) {
-        (Some(media), Some(by)) => Ok(Some(Marks { media, by })),
+        (Some(media), Some(by)) => Ok(Some(JobMarks { media, by })),
         _ => Ok(None),
     }
 }
@@ -268,20 +268,20 @@ fn standing(
     alloc: Global,
     state: Option<&[u8]>,
     word: Option<&[u8]>,
-) -> Result<Option<Standing>, AllocError>
+) -> Result<Option<JobStanding>, AllocError>
     ensures { IfOk result (λ standing. standing ≡ standing_in (option_copied state.entry) (option_copied word.entry)) }
 {
     let (Some(state), Some(word)) = (state, word) else {
         return Ok(None);
     };
     match (job_state(state), reason(alloc, word)?) {
-        (Some(state), Some(reason)) => Ok(Some(Standing { state, reason })),
+        (Some(state), Some(reason)) => Ok(Some(JobStanding { state, reason })),
         _ => Ok(None),
     }
 }
 
 // The moments that a job waits for, and the stage that runs, up to the text's end.
-fn moments(text: &[u8]) -> Option<Moments>
+fn moments(text: &[u8]) -> Option<JobMoments>
     ensures { result ≡ moments_in text.now }
 {
     let (until, rest) = field(text, b"hold-until");
@@ -291,7 +291,7 @@ fn moments(text: &[u8]) -> Option<Moments>
         return None;
     }
     match (moment_of(until), moment_of(before), stage_of(stage)) {
-        (Some(hold_until), Some(not_before), Some(stage)) => Some(Moments {
+        (Some(hold_until), Some(not_before), Some(stage)) => Some(JobMoments {
             hold_until,
             not_before,
             stage,
@@ -323,10 +323,10 @@ fn stage_of(words: Option<&[u8]>) -> Option<Option<StageShown>>
 }
 
 fn course_of(
-    counts: Option<Counts>,
-    marks: Option<Marks>,
-    standing: Option<Standing>,
-    moments: Option<Moments>,
+    counts: Option<JobCounts>,
+    marks: Option<JobMarks>,
+    standing: Option<JobStanding>,
+    moments: Option<JobMoments>,
 ) -> Option<JobCourse>
     ensures { result ≡ course_of counts marks standing moments }
 {
@@ -371,6 +371,7 @@ fn priority_of(word: &[u8]) -> Option<Priority>
 }
 
 // The value of the first line, if it is of this name, and the text behind it; no value, and the same text, where it isn't.
+#[tactic(auto, unfolding(crate::specs::JobPage::field, crate::specs::JobPage::after_field))]
 fn field<'a>(text: &'a [u8], name: &[u8]) -> (Option<&'a [u8]>, &'a [u8])
     ensures value { option_copied result.0 ≡ field text.now name.now }
     ensures rest { result.1.now ≡ after_field text.now name.now }

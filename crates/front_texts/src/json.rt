@@ -1,7 +1,7 @@
 //! Jobs and queues as JSON.
 ghost use Rattle.std.specs.Prelude.{◌≡◌, IfOk, option_copied};
 ghost use Rattle.serde_json.specs.View.{view};
-ghost use Rattle.front_texts.specs.Json.{text_data, text_item, texts_data, job_data, jobs_data, queue_data, queues_data, asked_data, course_data, shown_data, moment_data, stage_data};
+ghost use Rattle.front_texts.specs.Json.{text_data, text_item, texts_data, job_data, jobs_data, queue_data, queues_data, asked_data, course_data, shown_data, moment_data, moments_data, stage_data};
 
 use crate::job_line::JobLine;
 use crate::job_shown::{JobAsked, JobCourse, JobShown, StageShown};
@@ -121,9 +121,7 @@ fn course_json(alloc: Global, course: &JobCourse) -> Result<Value, AllocError>
 {
     let media = media_json(alloc, course.media.as_ref())?;
     let reason = reason_json(alloc, course.reason.as_ref())?;
-    let by = moment_json(course.by);
-    let hold_until = moment_json(course.hold_until);
-    let not_before = moment_json(course.not_before);
+    let moments = moments_json(alloc, course)?;
     let stage = stage_json(alloc, course.stage)?;
     json!(in alloc; {
         "size": course.size,
@@ -132,10 +130,21 @@ fn course_json(alloc: Global, course: &JobCourse) -> Result<Value, AllocError>
         "type": &media,
         "state": course.state.word(),
         "reason": &reason,
+        "moments": &moments,
+        "stage": &stage
+    })
+}
+
+fn moments_json(alloc: Global, course: &JobCourse) -> Result<Value, AllocError>
+    ensures { IfOk result (λ object. view object ≡ moments_data course.now) }
+{
+    let by = moment_json(course.by);
+    let hold_until = moment_json(course.hold_until);
+    let not_before = moment_json(course.not_before);
+    json!(in alloc; {
         "by": &by,
         "hold_until": &hold_until,
-        "not_before": &not_before,
-        "stage": &stage
+        "not_before": &not_before
     })
 }
 

@@ -1,7 +1,7 @@
 //! What `lpstat` prints.
 ghost use Rattle.std.specs.Prelude.{◌≡◌, ◌++◌, OnOk, IfOk, replicate};
 ghost use Rattle.std.specs.List.{flat_map};
-ghost use Rattle.front_texts.specs.Lpstat.{padded, is_printing, printing_job, message_of, printer_line, printers_text, accepting_line, pending_part, request_cell, owner_cell, bytes_cell};
+ghost use Rattle.front_texts.specs.Lpstat.{padded, is_printing, printing_job, message_of, job_name, printing_line, stopped_line, printer_line, printers_text, accepting_line, pending_part, request_cell, owner_cell, bytes_cell};
 
 use crate::cells::safe_text;
 use crate::job_line::JobLine;
@@ -54,22 +54,36 @@ fn push_printer(text: &mut Vec<u8>, queue: &QueueLine, job: Option<JobId>) -> Re
         (PrinterState::Idle, _) => {
             write!(text, "printer {name} is idle.  enabled since -\n").map_err(|_| AllocError)
         }
-        (PrinterState::Processing, Some(job)) => {
-            let number = job.get();
-            write!(
-                text,
-                "printer {name} now printing {name}-{number}.  enabled since -\n"
-            )
-            .map_err(|_| AllocError)
-        }
+        (PrinterState::Processing, Some(job)) => push_printing(text, name, job),
         (PrinterState::Processing, None) => {
             write!(text, "printer {name} now printing.  enabled since -\n").map_err(|_| AllocError)
         }
-        (PrinterState::Stopped, _) => {
-            let why = message_of(queue);
-            write!(text, "printer {name} disabled since - -\n\t{why}\n").map_err(|_| AllocError)
-        }
+        (PrinterState::Stopped, _) => push_stopped(text, name, message_of(queue)),
     }
+}
+
+fn push_printing(text: &mut Vec<u8>, name: &str, job: JobId) -> Result<(), AllocError>
+    ensures { OnOk result (text.new.items ≡ text.old.items ++ printing_line name.now job) }
+{
+    write!(text, "printer {name} now printing ").map_err(|_| AllocError)?;
+    push_job_name(text, name, job)?;
+    text.extend_from_slice(b".  enabled since -\n")
+}
+
+// The name of a job: its queue and its number.
+fn push_job_name(text: &mut Vec<u8>, queue: &str, job: JobId) -> Result<(), AllocError>
+    ensures { OnOk result (text.new.items ≡ text.old.items ++ job_name queue.now job) }
+{
+    let number = job.get();
+    write!(text, "{queue}-{number}").map_err(|_| AllocError)
+}
+
+fn push_stopped(text: &mut Vec<u8>, name: &str, why: &str) -> Result<(), AllocError>
+    ensures { OnOk result (text.new.items ≡ text.old.items ++ stopped_line name.now why.now) }
+{
+    write!(text, "printer {name} disabled since - -\n\t").map_err(|_| AllocError)?;
+    text.extend_from_slice(why.as_bytes())?;
+    text.extend_from_slice(b"\n")
 }
 
 // What is told of a queue, or that nothing is.

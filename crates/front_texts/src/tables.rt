@@ -27,7 +27,7 @@ const WITH_SIZES: usize = 76;
 
 // The columns of a table whose names are as wide as these, in a terminal of so many columns.
 #[derive(Clone, Copy)]
-struct Columns {
+struct TableColumns {
     whole: usize,
     queue: usize,
     user: usize,
@@ -52,7 +52,7 @@ pub fn jobs_table(alloc: Global, jobs: &[JobLine], width: usize) -> Result<Vec<S
 }
 
 // The columns: those of queues and users are as wide as the widest, up to a share of the width.
-fn job_columns(jobs: &[JobLine], width: usize) -> Columns
+fn job_columns(jobs: &[JobLine], width: usize) -> TableColumns
     requires { 1 ≤ width }
     ensures { result.whole ≡ width }
 {
@@ -65,19 +65,19 @@ fn job_columns(jobs: &[JobLine], width: usize) -> Columns
     columns(width, queue, user)
 }
 
-fn columns(width: usize, queue: usize, user: usize) -> Columns
+fn columns(width: usize, queue: usize, user: usize) -> TableColumns
     requires { 1 ≤ width }
     ensures { result.whole ≡ width }
 {
     let share = (width / 5).max(8);
-    Columns {
+    TableColumns {
         whole: width,
         queue: queue.min(share).max(1),
         user: user.min(share).max(1),
     }
 }
 
-fn job_names(alloc: Global, columns: Columns) -> Result<String, AllocError>
+fn job_names(alloc: Global, columns: TableColumns) -> Result<String, AllocError>
     ensures { IfOk result (λ line. Fits columns.whole (string_bytes line)) }
 {
     let mut line = String::new(alloc);
@@ -95,7 +95,7 @@ fn job_names(alloc: Global, columns: Columns) -> Result<String, AllocError>
     ended(alloc, line.as_str(), columns.whole)
 }
 
-fn job_row(alloc: Global, job: &JobLine, columns: Columns) -> Result<String, AllocError>
+fn job_row(alloc: Global, job: &JobLine, columns: TableColumns) -> Result<String, AllocError>
     ensures { IfOk result (λ line. Fits columns.whole (string_bytes line)) }
 {
     let number = job.number.get();
@@ -156,7 +156,7 @@ pub fn queues_table(
     Ok(lines)
 }
 
-fn queue_columns(queues: &[QueueLine], width: usize) -> Columns
+fn queue_columns(queues: &[QueueLine], width: usize) -> TableColumns
     requires { 1 ≤ width }
     ensures { result.whole ≡ width }
 {
@@ -167,7 +167,7 @@ fn queue_columns(queues: &[QueueLine], width: usize) -> Columns
     columns(width, name, 1)
 }
 
-fn queue_names(alloc: Global, columns: Columns) -> Result<String, AllocError>
+fn queue_names(alloc: Global, columns: TableColumns) -> Result<String, AllocError>
     ensures { IfOk result (λ line. Fits columns.whole (string_bytes line)) }
 {
     let mut line = String::new(alloc);
@@ -178,7 +178,7 @@ fn queue_names(alloc: Global, columns: Columns) -> Result<String, AllocError>
     ended(alloc, line.as_str(), columns.whole)
 }
 
-fn queue_row(alloc: Global, queue: &QueueLine, columns: Columns) -> Result<String, AllocError>
+fn queue_row(alloc: Global, queue: &QueueLine, columns: TableColumns) -> Result<String, AllocError>
     ensures { IfOk result (λ line. Fits columns.whole (string_bytes line)) }
 {
     let mut line = String::new(alloc);
