@@ -19,8 +19,8 @@
 //!   `deserted`), and [`End::status`] the status of the program (`status`).
 //! - [`acts_once`]: whatever is served, refused, put off or lost, and whatever others cancel, purge and create meanwhile, at
 //!   most one job of the submission is ever closed. Where it ends with status 0 or 4 exactly one was, with exactly the
-//!   document's length; where it ends with status 1 none was. It is said of a service that does each request wholly or not at
-//!   all (`Service`), and of every list of what happens (`Runs`).
+//!   document's bytes, and no job of it is left that arrives; where it ends with status 1 none was closed. It is said of a
+//!   service that does each request wholly or not at all (`Service`), and of every list of what happens (`Runs`).
 //!
 //! # Faults
 //!
