@@ -168,7 +168,9 @@ program() {
 }
 
 programs() {
-    program "$1" spool_front "$prefix/bin/spool"
+    if [ -n "$front" ]; then
+        front "$1"
+    fi
     for name in spool_shell spool_service spool_admin; do
         program "$1" $name "$prefix/sbin/$name"
     done
@@ -181,6 +183,11 @@ programs() {
     if [ -f "$here/examples/office/paper.ppd" ]; then
         "$1" file 644 "$here/examples/office/paper.ppd" "$library/paper.ppd"
     fi
+}
+
+front() {
+    program "$1" spool_front "$prefix/bin/spool"
+    "$1" file 644 "$here/completions/spool.bash" "$prefix/share/bash-completion/completions/spool"
     for name in lp lpr lpstat cancel lpq lprm; do
         if [ -n "$lp" ]; then
             "$1" link - spool "$prefix/bin/$name"
@@ -208,7 +215,6 @@ texts() {
     for page in "$here"/docs/man/*.[1-9]; do
         "$1" file 644 "$page" "$prefix/share/man/man${page##*.}/$(basename "$page")"
     done
-    "$1" file 644 "$here/completions/spool.bash" "$prefix/share/bash-completion/completions/spool"
     for name in README.md docs/STOCK.md docs/first-page.png; do
         if [ -f "$here/$name" ]; then
             "$1" file 644 "$here/$name" "$prefix/share/doc/cegmandi/$name"
@@ -239,7 +245,10 @@ if [ -n "$remove" ]; then
     exit 0
 fi
 
-for name in spool_front spool_shell spool_service spool_admin spool_tools; do
+# Where the front isn't one of the crates the others go without it.
+front=
+[ ! -d "$here/crates/spool_front" ] || front=spool_front
+for name in $front spool_shell spool_service spool_admin spool_tools; do
     [ -x "$here/crates/$name/out/$name" ] || fail "crates/$name/out has no program: run \`rt run\` in crates/$name first"
 done
 : > "$work/made"

@@ -9,7 +9,8 @@ page with something on it, is how the filter runs. That is compared with the row
 
 The backends of the folder `backend` beside FOLDER print to a socket, to a CUPS of this script's own (tests/cups_beside.py), and to a terminal in
 the place of a device. The backend `socket` also prints what a filter gives to a printer that answers: what comes there is the job,
-byte for byte. Then the office's chains are tried (tests/stock_chains.py), by the service.
+byte for byte. Then the office's chains are tried (tests/stock_chains.py), by SERVICE or the built
+crates/spool_service/out/spool_service, or by the shell where that isn't built.
 
 A line tells each row. What isn't installed is left out, and said to be. The last line counts the rows that were seen, and those that
 aren't as the page says; the status is 1 where there are any, or where a filter or backend is installed that the page doesn't have.

@@ -98,10 +98,13 @@ class Place:
         self.runs = 0
 
     def missing(self):
-        for program in (self.shell, self.service, self.tools):
+        for program in (self.shell, self.tools):
             if not os.path.isfile(program):
                 return f"the built program {program}: run `rt run` in its crate first"
         return None
+
+    def serves(self):
+        return os.path.isfile(self.service)
 
     def set_up(self, room, office):
         self.room, self.office = room, office

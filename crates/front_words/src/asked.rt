@@ -67,7 +67,7 @@ pub struct Submission<'a> {
 }
 
 /// A moment.
-#[derive(Clone, Copy, Debug, PartialEq, Eq)]
+#[derive(Clone, Copy)]
 pub enum Moment {
     /// So many seconds since the epoch.
     Epoch(u64),
@@ -76,7 +76,7 @@ pub enum Moment {
 }
 
 /// Whether a job waits before it may start.
-#[derive(Clone, Copy, Debug, PartialEq, Eq)]
+#[derive(Clone, Copy)]
 pub enum Hold {
     /// It doesn't.
     No,
@@ -87,7 +87,7 @@ pub enum Hold {
 }
 
 /// What is done to a job.
-#[derive(Clone, Copy, Debug, PartialEq, Eq)]
+#[derive(Clone, Copy)]
 pub enum JobAct {
     /// It is canceled.
     Cancel,

@@ -6,7 +6,7 @@ use crate::given::last_part;
 use std::convert::AsStr;
 
 /// A command line, by its words. Each has options of its own.
-#[derive(Clone, Copy, Debug)]
+#[derive(Clone, Copy)]
 pub enum Form {
     Submit,
     Status,

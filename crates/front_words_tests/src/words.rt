@@ -1,4 +1,6 @@
-use front_words::{Asked, Hold, JobAct, Moment, QueueAct, Submission, Task, WordsFault, read_words};
+use front_words::{
+    Asked, Hold, JobAct, Moment, QueueAct, Submission, Task, WordsFault, read_words,
+};
 use std::test::Fail;
 
 fn task_of<'a>(rt: &HostRuntime, words: &'a [&'a str]) -> Result<Task<'a>, Fail> {
@@ -79,7 +81,9 @@ fn submits_as_lp(rt: HostRuntime) -> Result<(), Fail> {
     )?;
     assert!(rt; asked.queue == Some("office") && asked.files.as_slice() == ["x"].as_slice());
     assert!(rt; asked.copies == 2 && asked.priority == 100 && asked.title == Some("T"));
-    assert!(rt; asked.pages == Some("1-2") && asked.quiet && matches!(asked.hold, Hold::Indefinite));
+    assert!(rt;
+        asked.pages == Some("1-2") && asked.quiet && matches!(asked.hold, Hold::Indefinite)
+    );
     let asked = submission(&rt, &["/bin/lp"])?;
     assert!(rt;
         asked.queue.is_none() && asked.files.is_empty() && asked.copies == 1 && asked.priority == 50
@@ -89,7 +93,9 @@ fn submits_as_lp(rt: HostRuntime) -> Result<(), Fail> {
         &["lpr", "-Poffice", "-#3", "-J", "T", "-q", "--", "-x"],
     )?;
     assert!(rt; asked.queue == Some("office") && asked.copies == 3 && asked.title == Some("T"));
-    assert!(rt; matches!(asked.hold, Hold::Indefinite) && asked.files.as_slice() == ["-x"].as_slice());
+    assert!(rt;
+        matches!(asked.hold, Hold::Indefinite) && asked.files.as_slice() == ["-x"].as_slice()
+    );
     Ok(())
 }
 

@@ -1,5 +1,5 @@
 -- what is copied is all that was found
-use Rattle.std.proofs.Common.{◌≡◌, ◌∙◌, List, [], Option, Some, None, ap, map, sym}
+use Rattle.std.proofs.Common.{◌≡◌, ◌∙◌, List, [], Option, ap, map, sym}
 use Rattle.std.specs.Borrow.{Bor}
 use Rattle.std.specs.Prelude.{unwrap_or}
 use Rattle.std.specs.Option.{option_map}

@@ -1,4 +1,4 @@
-use Rattle.std.proofs.Common.{rules, true, ap, ap₂, codes, ◌≡◌, ◌∙◌}
+use Rattle.std.proofs.Common.{rules, true, ap, ap₂, ◌≡◌, ◌∙◌}
 use Rattle.std.proofs.lemmas.Result.{IfOk-weaker}
 use Rattle.clap.specs.Words.{new_app, with_rule}
 use Rattle.clap.specs.Simple.{app_of, app_of_fields, on_top}

@@ -1,4 +1,4 @@
-use Rattle.std.proofs.Common.{rules, ap, refl, ap₂, ◌∙◌}
+use Rattle.std.proofs.Common.{rules, ap, ap₂, ◌∙◌}
 use Rattle.std.proofs.lemmas.Result.{IfOk-weaker}
 use Rattle.clap.specs.Words.{with_rule}
 use Rattle.front_words.specs.Apps.{with_numbers}
