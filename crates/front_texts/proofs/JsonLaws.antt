@@ -24,4 +24,4 @@ pub all_seen : {A : Type 0} (shown : A → Data) (items : List A) (i : ℕ) (val
 all_seen shown items i values le so_far =
     view-Array values
     ∙ ap (λ l. array (items_of l)) so_far
-    ∙ ap (λ l. array (items_of (map shown l))) (take_all items i le)
+    ∙ ap (λ l. array (items_of (map shown l))) (take_all i items le)

@@ -1,4 +1,6 @@
+pub mod AddLaws
 pub mod CellLaws
+pub mod EntryLaws
 pub mod WordLaws
 pub mod TextLaws
 pub mod EscapeLaws

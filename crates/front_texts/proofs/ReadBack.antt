@@ -7,7 +7,8 @@ use Rattle.std.proofs.lemmas.List.{append_cancel_right}
 use Rattle.std.specs.Fmt.{decimal}
 use Rattle.std.specs.List.{list_all}
 use Rattle.std.specs.Option.{option_and_then}
-use Rattle.std.specs.Str.{is_utf8}
+use Rattle.std.specs.Str.{is_utf8, chars}
+use Rattle.std.specs.Char.{encode_utf8}
 use Rattle.line_words.specs.Blanks.{first_word, after_word}
 use Rattle.line_words.specs.Numbers.{decimal as number_in}
 use Rattle.line_words.specs.Quotes.{quoted as quoted_front}
@@ -47,7 +48,7 @@ whole : (w : List ℕ) → nat_le 1 (length w) ≡ true → list_all is_solid w 
 whole w e all = record { some = grind (arith, nat_tests); solid = all }
 
 word_of_hold : (r : HoldReason) → IsReasonWord (hold_reason_word r)
-unfolding is_utf8
+unfolding is_utf8 chars encode_utf8
 word_of_hold Unspecified = record { whole = whole _ refl refl; reads = refl }
 word_of_hold Authentication = record { whole = whole _ refl refl; reads = refl }
 word_of_hold Backend = record { whole = whole _ refl refl; reads = refl }
@@ -61,7 +62,7 @@ word_of (Indefinite reason) = word_of_hold reason
 word_of (Until moment) = word_of_hold Unspecified
 
 word_of_abort : (r : AbortReason) → IsReasonWord (abort_reason_word r)
-unfolding is_utf8
+unfolding is_utf8 chars encode_utf8
 word_of_abort FilterFailed = record { whole = whole _ refl refl; reads = refl }
 word_of_abort BackendFailed = record { whole = whole _ refl refl; reads = refl }
 word_of_abort RetryLimit = record { whole = whole _ refl refl; reads = refl }
@@ -69,7 +70,7 @@ word_of_abort AttemptLost = record { whole = whole _ refl refl; reads = refl }
 word_of_abort NoFilter = record { whole = whole _ refl refl; reads = refl }
 
 later_word : IsReasonWord (codes "retry-later")
-unfolding is_utf8
+unfolding is_utf8 chars encode_utf8
 later_word = record { whole = whole _ refl refl; reads = refl }
 
 word_waiting : (now : ℕ) (hold : Hold) (not_before : ℕ) → IsReasonWord (waiting_word now hold not_before)
@@ -80,19 +81,19 @@ word_waiting now hold not_before =
     ]
 
 incoming_word : IsReasonWord (codes "job-incoming")
-unfolding is_utf8
+unfolding is_utf8 chars encode_utf8
 incoming_word = record { whole = whole _ refl refl; reads = refl }
 
 printing_word : IsReasonWord (codes "job-printing")
-unfolding is_utf8
+unfolding is_utf8 chars encode_utf8
 printing_word = record { whole = whole _ refl refl; reads = refl }
 
 completed_word : IsReasonWord (codes "job-completed-successfully")
-unfolding is_utf8
+unfolding is_utf8 chars encode_utf8
 completed_word = record { whole = whole _ refl refl; reads = refl }
 
 canceled_word : IsReasonWord (codes "canceled")
-unfolding is_utf8
+unfolding is_utf8 chars encode_utf8
 canceled_word = record { whole = whole _ refl refl; reads = refl }
 
 reason_word : (now : ℕ) (phase : Phase) → IsReasonWord (job_reason now phase)
@@ -164,9 +165,12 @@ abbrev row : List ℕ → List ℕ → List ℕ → List ℕ → List ℕ → Li
 row number queue state word user size pages title =
     codes "job" ++ 32 ∷ (number ++ 32 ∷ (queue ++ 32 ∷ (state ++ 32 ∷ (word ++ 32 ∷ (34 ∷ (user ++ 34 ∷ (32 ∷ (size ++ 32 ∷ (pages ++ 32 ∷ (34 ∷ (title ++ 34 ∷ [])))))))))))
 
--- the same row as it is printed, with its line feed
+-- the same row as it is printed, with its line feed, whatever stands between the words
+joined_pieces : (j sp qt lf d q s w u z p t : List ℕ) → (j ++ d ++ sp ++ q ++ sp ++ s ++ sp ++ w ++ sp) ++ (qt ++ (u ++ qt)) ++ (sp ++ z ++ sp ++ p ++ sp) ++ (qt ++ (t ++ qt)) ++ lf ≡ (j ++ (d ++ (sp ++ (q ++ (sp ++ (s ++ (sp ++ (w ++ (sp ++ (qt ++ (u ++ (qt ++ (sp ++ (z ++ (sp ++ (p ++ (sp ++ (qt ++ (t ++ qt))))))))))))))))))) ++ lf
+joined_pieces j sp qt lf d q s w u z p t = simp append_assoc
+
 printed : (d q s w u z p t : List ℕ) → (codes "job " ++ d ++ codes " " ++ q ++ codes " " ++ s ++ codes " " ++ w ++ codes " ") ++ (34 ∷ (u ++ 34 ∷ [])) ++ (codes " " ++ z ++ codes " " ++ p ++ codes " ") ++ (34 ∷ (t ++ 34 ∷ [])) ++ codes "\n" ≡ row d q s w u z p t ++ codes "\n"
-printed d q s w u z p t = simp append_assoc
+printed d q s w u z p t = joined_pieces (codes "job ") (codes " ") (34 ∷ []) (codes "\n") d q s w u z p t
 
 regroup : (d q s w u z p t line : List ℕ) → line ++ codes "\n" ≡ (codes "job " ++ d ++ codes " " ++ q ++ codes " " ++ s ++ codes " " ++ w ++ codes " ") ++ (34 ∷ (u ++ 34 ∷ [])) ++ (codes " " ++ z ++ codes " " ++ p ++ codes " ") ++ (34 ∷ (t ++ 34 ∷ [])) ++ codes "\n" → line ≡ row d q s w u z p t
 regroup d q s w u z p t line e = append_cancel_right line (row d q s w u z p t) (codes "\n") (e ∙ printed d q s w u z p t)

@@ -1,7 +1,7 @@
 -- Jobs and queues as JSON. The members of an object are in the order of their keys.
 use Rattle.std.specs.Prelude.{ℕ, List, codes, map, Option, None, Some}
 use Rattle.serde_json.specs.View.{items_of}
-use Rattle.serde_json.specs.Data.{Data, null, boolean, number, unsigned, string, array, object, member, no_members}
+use Rattle.serde_json.specs.Data.{Data, null, boolean, number, unsigned, string, array, object, put, Members, member, no_members}
 use Rattle.spool_types.specs.Phases.{policy_word}
 use Rattle.front_texts.specs.States.{job_state_word, printer_state_word}
 use Rattle.front_texts.specs.declared.job_line.JobLine.{JobLine}
@@ -64,18 +64,20 @@ moments_data c =
     (member (codes "not_before") (moment_data c.not_before)
     no_members)))
 
+-- members, each put in at its key
+abbrev pub with_counts : JobCourse → Members → Members
+with_counts c ms =
+    put (codes "attempts") (number (unsigned c.attempts)) (put (codes "pages") (number (unsigned c.pages)) (put (codes "size") (number (unsigned c.size)) ms))
+
+abbrev pub with_standing : JobCourse → Members → Members
+with_standing c ms =
+    put (codes "reason") (text_data c.reason) (put (codes "state") (string (job_state_word c.state)) (put (codes "type") (text_data c.media) ms))
+
+abbrev pub with_waits : JobCourse → Members → Members
+with_waits c ms = put (codes "stage") (stage_data c.stage) (put (codes "moments") (moments_data c) ms)
+
 abbrev pub course_data : JobCourse → Data
-course_data c =
-    object
-    (member (codes "attempts") (number (unsigned c.attempts))
-    (member (codes "moments") (moments_data c)
-    (member (codes "pages") (number (unsigned c.pages))
-    (member (codes "reason") (text_data c.reason)
-    (member (codes "size") (number (unsigned c.size))
-    (member (codes "stage") (stage_data c.stage)
-    (member (codes "state") (string (job_state_word c.state))
-    (member (codes "type") (text_data c.media)
-    no_members))))))))
+course_data c = object (with_waits c (with_standing c (with_counts c no_members)))
 
 abbrev pub shown_data : JobShown → Data
 shown_data j = object (member (codes "asked") (asked_data j.asked) (member (codes "course") (course_data j.course) no_members))
@@ -91,19 +93,20 @@ text_item text = string text
 abbrev pub texts_data : List (List ℕ) → Data
 texts_data texts = array (items_of (map text_item texts))
 
+abbrev pub with_queue_state : QueueLine → Members → Members
+with_queue_state q ms =
+    put (codes "accepting") (boolean q.accepting) (put (codes "state") (string (printer_state_word q.state)) (put (codes "name") (string q.name) ms))
+
+abbrev pub with_queue_rules : QueueLine → Members → Members
+with_queue_rules q ms =
+    put (codes "limit") (number (unsigned q.limit)) (put (codes "interval") (number (unsigned q.interval)) (put (codes "policy") (string (policy_word q.policy)) ms))
+
+abbrev pub with_queue_notes : QueueLine → Members → Members
+with_queue_notes q ms =
+    put (codes "message") (string q.message) (put (codes "reasons") (texts_data q.reasons) (put (codes "type") (string q.target) ms))
+
 abbrev pub queue_data : QueueLine → Data
-queue_data q =
-    object
-    (member (codes "accepting") (boolean q.accepting)
-    (member (codes "interval") (number (unsigned q.interval))
-    (member (codes "limit") (number (unsigned q.limit))
-    (member (codes "message") (string q.message)
-    (member (codes "name") (string q.name)
-    (member (codes "policy") (string (policy_word q.policy))
-    (member (codes "reasons") (texts_data q.reasons)
-    (member (codes "state") (string (printer_state_word q.state))
-    (member (codes "type") (string q.target)
-    no_members)))))))))
+queue_data q = object (with_queue_notes q (with_queue_rules q (with_queue_state q no_members)))
 
 abbrev pub queues_data : List QueueLine → Data
 queues_data queues = array (items_of (map queue_data queues))

@@ -7,6 +7,7 @@ use Rattle.front_texts.specs.Cells.{safe_text}
 use Rattle.front_texts.specs.Lpstat.{padded, is_processing}
 use Rattle.front_texts.specs.States.{is_ended}
 use Rattle.front_texts.specs.declared.job_line.JobLine.{JobLine}
+use Rattle.front_texts.specs.declared.lpq_form.TheConstants.{HEADING}
 use Rattle.front_texts.specs.declared.queue_line.QueueLine.{QueueLine}
 use Rattle.front_texts.specs.declared.states.PrinterState.{PrinterState}
 use Rattle.front_texts.specs.declared.states.PrinterState.TheVariants as printers
@@ -58,15 +59,19 @@ entry_line rank j = rank_cell rank j ++ owner_cell j ++ number_cell j ++ title_c
 abbrev pub next_rank : ℕ → JobLine → ℕ
 next_rank rank j = cond (is_processing j.state) rank (rank + 1)
 
+-- a job if it is shown, and the rank of the one behind it
+abbrev pub entry_part : List ℕ → ℕ → JobLine → List ℕ
+entry_part queue rank j = cond (is_entry queue j) (entry_line rank j) []
+
+abbrev pub rank_after : List ℕ → ℕ → JobLine → ℕ
+rank_after queue rank j = cond (is_entry queue j) (next_rank rank j) rank
+
 abbrev pub entries : List ℕ → ℕ → List JobLine → List ℕ
 entries queue rank [] = []
-entries queue rank (j ∷ js) = cond (is_entry queue j) (entry_line rank j ++ entries queue (next_rank rank j) js) (entries queue rank js)
+entries queue rank (j ∷ js) = entry_part queue rank j ++ entries queue (rank_after queue rank j) js
 
 abbrev pub entries_text : List ℕ → List JobLine → List ℕ
-entries_text queue js =
-    cond (has_entry queue js)
-    (codes "Rank    Owner   Job     File(s)                         Total Size\n" ++ entries queue 1 js)
-    (codes "no entries\n")
+entries_text queue js = cond (has_entry queue js) (HEADING.now ++ entries queue 1 js) (codes "no entries\n")
 
 abbrev pub queue_text : QueueLine → List JobLine → List ℕ
 queue_text q js = ready_line q ++ entries_text q.name js

@@ -43,6 +43,9 @@ job_front j = codes "<tr>" ++ number_cell j.number ++ cell j.queue ++ state_cell
 abbrev pub job_numbers : JobLine → List ℕ
 job_numbers j = number_cell j.size ++ number_cell j.pages
 
+abbrev pub job_middle : JobLine → List ℕ
+job_middle j = cell j.user ++ job_numbers j
+
 -- the reason beside its state, if there is one
 abbrev pub word_part : Option (List ℕ) → List ℕ
 word_part None = []
@@ -52,7 +55,7 @@ abbrev pub job_notes : JobLine → List ℕ
 job_notes j = codes "<td>" ++ escaped j.title ++ word_part j.reason ++ codes "</td>"
 
 abbrev pub job_html : JobLine → List ℕ
-job_html j = job_front j ++ cell j.user ++ job_numbers j ++ job_notes j ++ codes "</tr>\n"
+job_html j = job_front j ++ job_middle j ++ job_notes j ++ codes "</tr>\n"
 
 -- ## The page
 

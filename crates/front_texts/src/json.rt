@@ -1,14 +1,17 @@
 //! Jobs and queues as JSON.
-ghost use Rattle.std.specs.Prelude.{◌≡◌, IfOk, option_copied};
-ghost use Rattle.serde_json.specs.View.{view};
-ghost use Rattle.front_texts.specs.Json.{text_data, text_item, texts_data, job_data, jobs_data, queue_data, queues_data, asked_data, course_data, shown_data, moment_data, moments_data, stage_data};
+ghost use Rattle.std.specs.Prelude.{◌≡◌, IfOk, OnOk, option_copied};
+ghost use Rattle.serde_json.specs.View.{view, members_view};
+ghost use Rattle.front_texts.specs.Json.{text_data, text_item, texts_data, job_data, jobs_data, queue_data, queues_data, with_queue_state, with_queue_rules, with_queue_notes, with_counts, with_standing, with_waits, asked_data, course_data, shown_data, moment_data, moments_data, stage_data};
 
 use crate::job_line::JobLine;
 use crate::job_shown::{JobAsked, JobCourse, JobShown, StageShown};
 use crate::queue_line::QueueLine;
-use serde_json::{Value, json};
+use serde_json::{Map, Value, json, put};
 use spool_types::{MediaType, Moment, Reason};
 use std::alloc::{AllocError, Global};
+
+// The members of an object.
+type JsonMembers = Map<String, Value>;
 
 /// A job as an object.
 pub fn job_json(alloc: Global, job: &JobLine) -> Result<Value, AllocError>
@@ -52,18 +55,82 @@ pub fn jobs_json(alloc: Global, jobs: &[JobLine]) -> Result<Value, AllocError>
 pub fn queue_json(alloc: Global, queue: &QueueLine) -> Result<Value, AllocError>
     ensures value { IfOk result (λ object. view object ≡ queue_data queue.now) }
 {
-    let reasons = reasons_json(alloc, queue.reasons.as_slice())?;
-    json!(in alloc; {
-        "name": queue.name.as_str(),
-        "state": queue.state.word(),
-        "accepting": queue.accepting,
-        "type": queue.target.as_str(),
-        "policy": queue.policy.word(),
-        "interval": queue.interval.get(),
-        "limit": queue.limit,
-        "reasons": &reasons,
-        "message": queue.message.as_str()
-    })
+    let mut members = Map::new(alloc);
+    put_queue_state(alloc, &mut members, queue)?;
+    put_queue_rules(alloc, &mut members, queue)?;
+    put_queue_notes(alloc, &mut members, queue)?;
+    Ok(Value::Object(members))
+}
+
+fn put_queue_state(
+    alloc: Global,
+    members: &mut JsonMembers,
+    queue: &QueueLine,
+) -> Result<(), AllocError>
+    ensures { OnOk result (members_view members.new.entries ≡ with_queue_state queue.now (members_view members.old.entries)) }
+{
+    put(
+        members,
+        alloc,
+        "name",
+        text_json(alloc, queue.name.as_str())?,
+    )?;
+    put(
+        members,
+        alloc,
+        "state",
+        text_json(alloc, queue.state.word())?,
+    )?;
+    put(members, alloc, "accepting", Value::Bool(queue.accepting))
+}
+
+fn put_queue_rules(
+    alloc: Global,
+    members: &mut JsonMembers,
+    queue: &QueueLine,
+) -> Result<(), AllocError>
+    ensures { OnOk result (members_view members.new.entries ≡ with_queue_rules queue.now (members_view members.old.entries)) }
+{
+    put(
+        members,
+        alloc,
+        "policy",
+        text_json(alloc, queue.policy.word())?,
+    )?;
+    put(
+        members,
+        alloc,
+        "interval",
+        Value::from(queue.interval.get()),
+    )?;
+    put(members, alloc, "limit", Value::from(queue.limit))
+}
+
+fn put_queue_notes(
+    alloc: Global,
+    members: &mut JsonMembers,
+    queue: &QueueLine,
+) -> Result<(), AllocError>
+    ensures { OnOk result (members_view members.new.entries ≡ with_queue_notes queue.now (members_view members.old.entries)) }
+{
+    put(
+        members,
+        alloc,
+        "type",
+        text_json(alloc, queue.target.as_str())?,
+    )?;
+    put(
+        members,
+        alloc,
+        "reasons",
+        reasons_json(alloc, queue.reasons.as_slice())?,
+    )?;
+    put(
+        members,
+        alloc,
+        "message",
+        text_json(alloc, queue.message.as_str())?,
+    )
 }
 
 fn reasons_json(alloc: Global, reasons: &[Reason]) -> Result<Value, AllocError>
@@ -119,20 +186,57 @@ fn asked_json(alloc: Global, asked: &JobAsked) -> Result<Value, AllocError>
 fn course_json(alloc: Global, course: &JobCourse) -> Result<Value, AllocError>
     ensures { IfOk result (λ object. view object ≡ course_data course.now) }
 {
-    let media = media_json(alloc, course.media.as_ref())?;
-    let reason = reason_json(alloc, course.reason.as_ref())?;
-    let moments = moments_json(alloc, course)?;
-    let stage = stage_json(alloc, course.stage)?;
-    json!(in alloc; {
-        "size": course.size,
-        "pages": course.pages,
-        "attempts": course.attempts,
-        "type": &media,
-        "state": course.state.word(),
-        "reason": &reason,
-        "moments": &moments,
-        "stage": &stage
-    })
+    let mut members = Map::new(alloc);
+    put_counts(alloc, &mut members, course)?;
+    put_standing(alloc, &mut members, course)?;
+    put_waits(alloc, &mut members, course)?;
+    Ok(Value::Object(members))
+}
+
+fn put_counts(
+    alloc: Global,
+    members: &mut JsonMembers,
+    course: &JobCourse,
+) -> Result<(), AllocError>
+    ensures { OnOk result (members_view members.new.entries ≡ with_counts course.now (members_view members.old.entries)) }
+{
+    put(members, alloc, "size", Value::from(course.size))?;
+    put(members, alloc, "pages", Value::from(course.pages))?;
+    put(members, alloc, "attempts", Value::from(course.attempts))
+}
+
+fn put_standing(
+    alloc: Global,
+    members: &mut JsonMembers,
+    course: &JobCourse,
+) -> Result<(), AllocError>
+    ensures { OnOk result (members_view members.new.entries ≡ with_standing course.now (members_view members.old.entries)) }
+{
+    put(
+        members,
+        alloc,
+        "type",
+        media_json(alloc, course.media.as_ref())?,
+    )?;
+    put(
+        members,
+        alloc,
+        "state",
+        text_json(alloc, course.state.word())?,
+    )?;
+    put(
+        members,
+        alloc,
+        "reason",
+        reason_json(alloc, course.reason.as_ref())?,
+    )
+}
+
+fn put_waits(alloc: Global, members: &mut JsonMembers, course: &JobCourse) -> Result<(), AllocError>
+    ensures { OnOk result (members_view members.new.entries ≡ with_waits course.now (members_view members.old.entries)) }
+{
+    put(members, alloc, "moments", moments_json(alloc, course)?)?;
+    put(members, alloc, "stage", stage_json(alloc, course.stage)?)
 }
 
 fn moments_json(alloc: Global, course: &JobCourse) -> Result<Value, AllocError>

@@ -1,6 +1,6 @@
 //! What `lpq` prints.
-ghost use Rattle.std.specs.Prelude.{◌≡◌, ◌++◌, OnOk, IfOk};
-ghost use Rattle.front_texts.specs.Lpq.{is_entry, has_entry, ready_line, rank_ending, rank_cell, owner_cell, number_cell, title_cell, bytes_part, entry_line, entries, queue_text};
+ghost use Rattle.std.specs.Prelude.{◌≡◌, ◌++◌, ◌+◌, ◌<◌, ◌≤◌, OnOk, IfOk};
+ghost use Rattle.front_texts.specs.Lpq.{is_entry, has_entry, ready_line, rank_ending, rank_cell, owner_cell, number_cell, title_cell, bytes_part, entry_line, entry_part, next_rank, rank_after, entries, entries_text, queue_text};
 
 use crate::cells::safe_text;
 use crate::job_line::JobLine;
@@ -11,21 +11,32 @@ use spool_types::QueueName;
 use std::alloc::{AllocError, Global};
 use std::io::Write;
 
+// The names of the columns.
+const HEADING: &str = "Rank    Owner   Job     File(s)                         Total Size\n";
+
 /// What `lpq` prints of a queue: how it stands, and its jobs that haven't ended in their order, those of other queues left out.
 pub fn lpq(alloc: Global, queue: &QueueLine, jobs: &[JobLine]) -> Result<Vec<u8>, AllocError>
     ensures value { IfOk result (λ text. text.items ≡ queue_text queue.now jobs.now) }
 {
     let mut text = Vec::new(alloc);
     push_ready(&mut text, queue)?;
-    if has_entry(jobs, &queue.name) {
-        text.extend_from_slice(
-            b"Rank    Owner   Job     File(s)                         Total Size\n",
-        )?;
-        push_entries(alloc, &mut text, jobs, &queue.name)?;
-    } else {
-        text.extend_from_slice(b"no entries\n")?;
-    }
+    push_listing(alloc, &mut text, jobs, &queue.name)?;
     Ok(text)
+}
+
+fn push_listing(
+    alloc: Global,
+    text: &mut Vec<u8>,
+    jobs: &[JobLine],
+    queue: &QueueName,
+) -> Result<(), AllocError>
+    ensures { OnOk result (text.new.items ≡ text.old.items ++ entries_text queue.now jobs.now) }
+{
+    if !has_entry(jobs, queue) {
+        return text.extend_from_slice(b"no entries\n");
+    }
+    text.extend_from_slice(HEADING.as_bytes())?;
+    push_entries(alloc, text, jobs, queue)
 }
 
 fn has_entry(jobs: &[JobLine], queue: &QueueName) -> bool
@@ -63,14 +74,42 @@ fn push_entries(
 {
     let mut rank: usize = 1;
     for job in jobs {
-        if is_entry(job, queue) {
-            push_entry(alloc, text, job, rank)?;
-            if job.state != JobState::Processing {
-                rank += 1;
-            }
-        }
+        rank = push_if_entry(alloc, text, job, queue, rank)?;
     }
     Ok(())
+}
+
+// Adds a job if it is shown, and gives the rank of the next one.
+fn push_if_entry(
+    alloc: Global,
+    text: &mut Vec<u8>,
+    job: &JobLine,
+    queue: &QueueName,
+    rank: usize,
+) -> Result<usize, AllocError>
+    requires { rank < usize.MAX }
+    ensures added { OnOk result (text.new.items ≡ text.old.items ++ entry_part queue.now rank job.now) }
+    ensures rank { IfOk result (λ next. next ≡ rank_after queue.now rank job.now) }
+    ensures low { IfOk result (λ next. next ≤ rank + 1) }
+{
+    if !is_entry(job, queue) {
+        return Ok(rank);
+    }
+    push_entry(alloc, text, job, rank)?;
+    Ok(next_rank(job, rank))
+}
+
+// A job that prints has no rank.
+fn next_rank(job: &JobLine, rank: usize) -> usize
+    requires { rank < usize.MAX }
+    ensures value { result ≡ next_rank rank job.now }
+    ensures low { result ≤ rank + 1 }
+{
+    if job.state == JobState::Processing {
+        rank
+    } else {
+        rank + 1
+    }
 }
 
 fn push_entry(

@@ -1,7 +1,7 @@
 //! The page of queues and jobs.
 ghost use Rattle.std.specs.Prelude.{◌≡◌, ◌++◌, OnOk, IfOk, option_copied};
 ghost use Rattle.std.specs.List.{flat_map};
-ghost use Rattle.front_texts.specs.Page.{cell, number_cell, state_class, state_cell, reason_part, word_part, queue_front, queue_notes, queue_html, job_front, job_numbers, job_notes, job_html, refresh, stamp_html, head_html, queues_html, jobs_html, page_html};
+ghost use Rattle.front_texts.specs.Page.{cell, number_cell, state_class, state_cell, reason_part, word_part, queue_front, queue_notes, queue_html, job_front, job_middle, job_numbers, job_notes, job_html, refresh, stamp_html, head_html, queues_html, jobs_html, page_html};
 
 use crate::escaping::push_escaped;
 use crate::job_line::JobLine;
@@ -50,10 +50,18 @@ pub fn page(
 fn push_head(page: &mut Vec<u8>, stamp: &str, follows: bool) -> Result<(), AllocError>
     ensures { OnOk result (page.new.items ≡ page.old.items ++ head_html stamp.now follows) }
 {
-    page.extend_from_slice(OPENING.as_bytes())?;
+    push_text(page, OPENING)?;
     push_refresh(page, follows)?;
-    page.extend_from_slice(STYLE.as_bytes())?;
-    push_stamp(page, stamp)
+    push_text(page, STYLE)?;
+    push_stamp(page, stamp)?;
+    Ok(())
+}
+
+// A text of the page itself.
+fn push_text(page: &mut Vec<u8>, text: &str) -> Result<(), AllocError>
+    ensures { OnOk result (page.new.items ≡ page.old.items ++ text.now) }
+{
+    page.extend_from_slice(text.as_bytes())
 }
 
 fn push_refresh(page: &mut Vec<u8>, follows: bool) -> Result<(), AllocError>
@@ -69,9 +77,10 @@ fn push_refresh(page: &mut Vec<u8>, follows: bool) -> Result<(), AllocError>
 fn push_stamp(page: &mut Vec<u8>, stamp: &str) -> Result<(), AllocError>
     ensures { OnOk result (page.new.items ≡ page.old.items ++ stamp_html stamp.now) }
 {
-    page.extend_from_slice(b"<p class=\"faint\">")?;
+    push_text(page, "<p class=\"faint\">")?;
     push_escaped(page, stamp)?;
-    page.extend_from_slice(b"</p>\n")
+    push_text(page, "</p>\n")?;
+    Ok(())
 }
 
 fn push_queues(page: &mut Vec<u8>, queues: &[QueueLine]) -> Result<(), AllocError>
@@ -127,9 +136,10 @@ fn push_state(page: &mut Vec<u8>, word: &str) -> Result<(), AllocError>
 fn push_class(page: &mut Vec<u8>, word: &str) -> Result<(), AllocError>
     ensures { OnOk result (page.new.items ≡ page.old.items ++ state_class word.now) }
 {
-    page.extend_from_slice(b"<td class=\"state ")?;
+    push_text(page, "<td class=\"state ")?;
     push_escaped(page, word)?;
-    page.extend_from_slice(b"\">")
+    push_text(page, "\">")?;
+    Ok(())
 }
 
 fn push_queue(page: &mut Vec<u8>, queue: &QueueLine) -> Result<(), AllocError>
@@ -181,10 +191,16 @@ fn push_job(page: &mut Vec<u8>, job: &JobLine) -> Result<(), AllocError>
     ensures { OnOk result (page.new.items ≡ page.old.items ++ job_html job.now) }
 {
     push_job_front(page, job)?;
-    push_cell(page, job.user.as_str())?;
-    push_job_numbers(page, job)?;
+    push_job_middle(page, job)?;
     push_job_notes(page, job)?;
     page.extend_from_slice(b"</tr>\n")
+}
+
+fn push_job_middle(page: &mut Vec<u8>, job: &JobLine) -> Result<(), AllocError>
+    ensures { OnOk result (page.new.items ≡ page.old.items ++ job_middle job.now) }
+{
+    push_cell(page, job.user.as_str())?;
+    push_job_numbers(page, job)
 }
 
 fn push_job_front(page: &mut Vec<u8>, job: &JobLine) -> Result<(), AllocError>
