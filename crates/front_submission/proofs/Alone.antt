@@ -1,14 +1,14 @@
 -- Which jobs of a submission arrive, at each step. So no job is left behind one that was accepted.
-use Rattle.std.proofs.Common.{◌≡◌, ℕ, ◌+◌, ◌≤◌, ◌<◌, zero, suc, ◌⊎◌, inl, inr, Bool, true, false, cond, ◌==◌, List, [], ◌∷◌, ◌++◌, length, Option, None, Some, refl, ap, sym, ◌∙◌, subst, arith, eq-eqb}
-use Rattle.std.proofs.lemmas.Bool.{cases_eq, cases_lt, eqb-true, ne_eqb}
+use Rattle.std.proofs.Common.{◌≡◌, ℕ, ◌+◌, ◌≤◌, ◌<◌, zero, suc, ◌⊎◌, inl, inr, Bool, true, false, cond, ◌==◌, List, [], ◌∷◌, ◌++◌, length, refl, ap, sym, ◌∙◌, subst, arith, eq-eqb}
+use Rattle.std.proofs.lemmas.Bool.{cases_eq, cases_lt, ne_eqb}
 use Rattle.front_submission.specs.declared.step.Step.{Step}
 use Rattle.front_submission.specs.declared.step.Step.TheVariants.{Creating, Finding, Clearing, Reading, Sending, Measuring, Holding, Closing, Checking, Canceling, Ended}
 use Rattle.front_submission.specs.declared.step.Cause.{Cause}
 use Rattle.front_submission.specs.declared.step.End.{End}
 use Rattle.front_submission.specs.declared.step.End.TheVariants.{Accepted, Unprintable, Refused, Unknown}
 use Rattle.front_submission.specs.declared.reply.Own.{Own}
-use Rattle.front_submission.specs.declared.reply.Reply.TheVariants.{Later, Denied, Unclear}
-use Rattle.front_submission.specs.Moves.{status, request, heard, lost, unread, deserted, taken, own_found, measured, after_send, after_measure, after_hold, after_close, after_check, after_cancel, accepted}
+use Rattle.front_submission.specs.declared.reply.Reply.TheVariants.{Later, Denied}
+use Rattle.front_submission.specs.Moves.{status, request, heard, lost, unread, deserted, own_found, after_send, after_measure, after_hold, after_close, after_check, after_cancel, accepted}
 use Rattle.front_submission.specs.Service.{Standing, NotOwn, Arrives, Stopped, StoppedGone, Stands, StandsGone, Service, changed, grown, closed, stopped, purged, with_standing, served, arriving_at, arriving, found, sent_reply, shown_reply, held_reply, closed_reply, canceled_reply, reply_to, Other, Makes, Cancels, Purges, after_other}
 use Rattle.front_submission.specs.Runs.{World, Event, Served, ServedUnheard, ServedUnclear, Lost, LeftUnclear, PutOff, TurnedDown, Reads, CannotRead, GivesUp, Meanwhile, read_at, happens, run, start, end_of}
 use Rattle.front_submission.proofs.Keeping.{by_test, unclear_lost}

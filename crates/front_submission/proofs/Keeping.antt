@@ -1,5 +1,5 @@
 -- What is known at each step of a submission, whatever has happened.
-use Rattle.std.proofs.Common.{◌≡◌, ℕ, ◌+◌, ◌≤◌, ◌<◌, zero, suc, ◌⊎◌, inl, inr, Bool, true, false, cond, ◌==◌, List, [], ◌∷◌, ◌++◌, length, Option, None, Some, refl, ap, sym, ◌∙◌, subst, arith, eq-eqb, length-append, append_assoc, append-nil}
+use Rattle.std.proofs.Common.{◌≡◌, ℕ, ◌+◌, ◌≤◌, ◌<◌, zero, suc, ◌⊎◌, inl, inr, Bool, true, false, cond, ◌==◌, List, [], ◌∷◌, ◌++◌, length, refl, ap, sym, ◌∙◌, subst, arith, eq-eqb, length-append, append_assoc, append-nil}
 use Rattle.std.proofs.lemmas.Bool.{eqb-true}
 use Rattle.front_submission.specs.declared.step.Step.{Step}
 use Rattle.front_submission.specs.declared.step.Step.TheVariants.{Creating, Finding, Clearing, Reading, Sending, Measuring, Holding, Closing, Checking, Canceling, Ended}
@@ -7,7 +7,7 @@ use Rattle.front_submission.specs.declared.step.End.{End}
 use Rattle.front_submission.specs.declared.step.End.TheVariants.{Accepted, Unprintable, Refused, Unknown}
 use Rattle.front_submission.specs.declared.reply.Own.{Own}
 use Rattle.front_submission.specs.declared.reply.Reply.TheVariants.{Later, Denied, Unclear}
-use Rattle.front_submission.specs.Moves.{status, most_tries, request, heard, lost, supplied, unread, deserted, at_end, taken, own_found, measured, after_send, after_measure, after_hold, after_close, after_check, after_cancel, accepted}
+use Rattle.front_submission.specs.Moves.{status, request, heard, lost, unread, deserted, taken, own_found, measured, after_send, after_measure, after_hold, after_close, after_check, after_cancel, accepted}
 use Rattle.front_submission.specs.Service.{Standing, NotOwn, Arrives, Stopped, StoppedGone, Stands, StandsGone, Service, changed, grown, closed, stopped, purged, with_close, with_standing, served, arriving_at, arriving, found, sent_reply, shown_reply, held_reply, closed_reply, canceled_reply, reply_to, Other, Makes, Cancels, Purges, after_other}
 use Rattle.front_submission.specs.Runs.{World, Event, Served, ServedUnheard, ServedUnclear, Lost, LeftUnclear, PutOff, TurnedDown, Reads, CannotRead, GivesUp, Meanwhile, read_at, happens, run, ArePieces, joined, start, end_of}
 

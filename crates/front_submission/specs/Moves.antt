@@ -1,5 +1,5 @@
 -- What a submission says next, and what becomes of it: a row for each step, and for each step and reply.
-use Rattle.std.specs.Prelude.{ℕ, ◌+◌, ◌-◌, Bool, true, false, cond, ◌==◌, zero, suc, Option, None, Some}
+use Rattle.std.specs.Prelude.{ℕ, ◌+◌, ◌-◌, Bool, true, false, cond, ◌==◌, Option, None, Some}
 use Rattle.front_submission.specs.declared.step.Step.{Step}
 use Rattle.front_submission.specs.declared.step.Step.TheVariants.{Creating, Finding, Clearing, Reading, Sending, Measuring, Holding, Closing, Checking, Canceling, Ended}
 use Rattle.front_submission.specs.declared.step.Request.{Request}
@@ -13,7 +13,7 @@ use Rattle.front_submission.specs.declared.reply.Found.{Found}
 use Rattle.front_submission.specs.declared.reply.Shown.{Shown}
 use Rattle.front_submission.specs.declared.reply.Shown.TheVariants.{Arriving, WasClosed, NoFilters, NeverClosed}
 use Rattle.front_submission.specs.declared.reply.Reply.{Reply}
-use Rattle.front_submission.specs.declared.reply.Reply.TheVariants.{Created, Sent, Closed, Done, Jobs, Job, Gone, Later, NotIncoming, Denied, Unclear}
+use Rattle.front_submission.specs.declared.reply.Reply.TheVariants.{Created, Sent, Closed, Done, Jobs, Job, Gone, Later, NotIncoming, Denied}
 
 -- how often a request is said again where the service puts it off
 abbrev pub most_tries : ℕ

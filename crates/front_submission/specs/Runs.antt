@@ -1,10 +1,10 @@
 -- Whole runs: a document, a submission, a service, and everything that may happen to them.
 use Rattle.std.specs.Prelude.{ℕ, ◌<◌, Bool, List, [], ◌∷◌, ◌++◌, length}
 use Rattle.front_submission.specs.declared.step.Step.{Step}
-use Rattle.front_submission.specs.declared.step.Step.TheVariants.{Creating, Finding, Clearing, Reading, Sending, Measuring, Holding, Closing, Checking, Canceling, Ended}
+use Rattle.front_submission.specs.declared.step.Step.TheVariants.{Creating, Reading}
 use Rattle.front_submission.specs.declared.reply.Reply.TheVariants.{Later, Denied, Unclear}
 use Rattle.front_submission.specs.Moves.{most_tries, request, heard, lost, supplied, unread, deserted}
-use Rattle.front_submission.specs.Service.{Standing, NotOwn, Service, served, reply_to, Other, after_other}
+use Rattle.front_submission.specs.Service.{NotOwn, Service, served, reply_to, Other, after_other}
 
 pub record World : Type 0 where
   pub service : Service

@@ -1,11 +1,10 @@
 -- A service that does each request wholly or not at all, as far as one submission sees it: what it makes of a request, and what
 -- it replies.
-use Rattle.std.specs.Prelude.{ℕ, zero, suc, Bool, true, false, cond, ◌==◌, List, [], ◌∷◌, ◌++◌, length, Option, None, Some}
+use Rattle.std.specs.Prelude.{ℕ, zero, suc, Bool, cond, ◌==◌, List, [], ◌∷◌, ◌++◌, length, None, Some}
 use Rattle.front_submission.specs.declared.step.Request.{Request}
 use Rattle.front_submission.specs.declared.step.Request.TheVariants.{Create, Find, Read, Send, Show, Hold, Close, Cancel, Nothing}
 use Rattle.front_submission.specs.declared.reply.Own.{Own}
 use Rattle.front_submission.specs.declared.reply.Found.{Found}
-use Rattle.front_submission.specs.declared.reply.Shown.{Shown}
 use Rattle.front_submission.specs.declared.reply.Shown.TheVariants.{Arriving, WasClosed, NoFilters, NeverClosed}
 use Rattle.front_submission.specs.declared.reply.Reply.{Reply}
 use Rattle.front_submission.specs.declared.reply.Reply.TheVariants.{Created, Sent, Closed, Done, Jobs, Job, Gone, NotIncoming, Denied, Unclear}
