@@ -41,7 +41,7 @@ def shown(size, state="4 job-incoming", media="", token="TOKEN"):
 
 LISTED = 'job 5 q 4 job-incoming "ann" 0 0 "t"\nok 1\n'
 CLOSED = "ok type application/octet-stream stages 1\n"
-SENDS = [("create q ", "ok job 5\n"), ("send 5 3", "ok bytes 3\n")]
+SENDS = [('create "q" ', "ok job 5\n"), ("send 5 3", "ok bytes 3\n")]
 
 
 def played(folder, connections, status, told="", patience=3):
@@ -65,7 +65,7 @@ def played_unprintable(folder):
 
 
 def played_refused_create(folder):
-    played(folder, [[("create q ", "error 1 NoQueue\n")]], 1, "spool: error 1 NoQueue\n")
+    played(folder, [[('create "q" ', "error 1 NoQueue\n")]], 1, "spool: error 1 NoQueue\n")
 
 
 def played_refused_send(folder):
@@ -83,7 +83,7 @@ def played_other_size(folder):
 
 
 def played_put_off(folder):
-    steps = [("create q ", "error full\n"), SENDS[0], ("send 5 3", "error memory\n"), SENDS[1], ("close 5 ", "error full\n"), ("close 5 ", CLOSED)]
+    steps = [('create "q" ', "error full\n"), SENDS[0], ("send 5 3", "error memory\n"), SENDS[1], ("close 5 ", "error full\n"), ("close 5 ", CLOSED)]
     played(folder, [steps], 0, "q-5")
 
 
@@ -95,19 +95,19 @@ def played_full_for_good(folder):
 def played_lost_create(folder):
     # It was made: the job with the token is gone on with.
     second = [("jobs", LISTED), ("job 5", shown(0)), SENDS[1], ("close 5 ", CLOSED)]
-    played(folder, [[("create q ", None)], second], 0, "q-5")
+    played(folder, [[('create "q" ', None)], second], 0, "q-5")
 
 
 def played_create_not_done(folder):
     second = [("jobs", "ok 0\n"), *SENDS, ("close 5 ", CLOSED)]
-    played(folder, [[("create q ", None)], second], 0, "q-5")
+    played(folder, [[('create "q" ', None)], second], 0, "q-5")
 
 
 def played_foreign_jobs(folder):
     # A job of another token, of another user and one that has ended are none of its own.
     rows = 'job 5 q 4 job-incoming "ann" 0 0 "t"\njob 6 q 4 job-incoming "bob" 0 0 "t"\njob 7 q 9 job-completed-successfully "ann" 0 0 "t"\nok 3\n'
     second = [("jobs", rows), ("job 5", shown(0, token="0" * 32)), *SENDS, ("close 5 ", CLOSED)]
-    played(folder, [[("create q ", None)], second], 0, "q-5")
+    played(folder, [[('create "q" ', None)], second], 0, "q-5")
 
 
 def played_lost_send(folder):

@@ -103,16 +103,19 @@ class Played:
         try:
             for steps in connections:
                 line, _ = self.listener.accept()
-                line.settimeout(LONGEST)
-                self.serve_one(line, steps)
-                line.close()
+                with line:
+                    line.settimeout(LONGEST)
+                    self.serve_one(line, steps)
         except (Difference, OSError, IndexError, ValueError) as fault:
             self.fault = fault
         self.listener.close()
         os.remove(self.path)
 
     def serve_one(self, line, steps):
-        stream = line.makefile("rb")
+        with line.makefile("rb") as stream:
+            self.serve_steps(line, stream, steps)
+
+    def serve_steps(self, line, stream, steps):
         for wanted, reply in steps:
             said = stream.readline().decode()
             if not said.startswith(wanted):
