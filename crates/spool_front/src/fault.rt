@@ -3,7 +3,7 @@ ghost use Rattle.std.specs.Prelude.{◌≡◌};
 
 use crate::line::LineFault;
 use std::alloc::{AllocError, AllocFailed};
-use std::io;
+use std::io::{self, ErrorKind};
 use thiserror::Error;
 
 /// Why a task fails.
@@ -20,6 +20,9 @@ pub enum Fault {
     /// What the service refused, and its words.
     #[error("{0}")]
     Refused(String),
+    /// Standard output, or standard error, takes no more.
+    #[error("write")]
+    Write,
     /// A file can't be read or written.
     #[error("file {0}")]
     File(String),
@@ -58,7 +61,11 @@ impl From<LineFault> for Fault {
 }
 
 impl From<io::Error> for Fault {
-    fn from(_error: io::Error) -> Fault {
-        Fault::Memory
+    fn from(error: io::Error) -> Fault {
+        if error.kind() == ErrorKind::OutOfMemory {
+            Fault::Memory
+        } else {
+            Fault::Write
+        }
     }
 }

@@ -168,7 +168,7 @@ pub fn info_line(
 
 /// `queue`.
 pub fn queue_line(alloc: Global, name: &str, queue: NewQueue<'_>) -> Result<Vec<u8>, AllocError>
-    ensures { IfOk result (λ line. line.items ≡ queue_line name.now queue) }
+    ensures { IfOk result (λ line. line.items ≡ queue_line name.now queue.entry) }
 {
     let mut line = Vec::from_slice(alloc, b"queue")?;
     push_text(&mut line, name)?;
