@@ -106,6 +106,34 @@ DOCUMENTS = {
 }
 
 
+# Documents that are to be typed by examples/office/types, each with a name.
+TYPED = [
+    ("a.txt", pdf(), "application/pdf"),
+    ("a", b"\n" + pdf(), "application/pdf"),
+    ("a.pdf", b"\xff" * 1_019 + pdf(), "application/pdf"),
+    ("a.pdf", b"\xff" * 1_020 + pdf(), "application/octet-stream"),
+    ("a", b"\xff" + pdf(), "application/octet-stream"),
+    ("a", b"text about %PDF-1.4\n", "text/plain"),
+    ("a", b"\x04" + postscript(), "application/postscript"),
+    ("a", b"\x1b%-12345X@PJL\n@PJL ENTER LANGUAGE=POSTSCRIPT\n" + postscript(), "application/postscript"),
+    ("a", b"\x1b%-12345X@PJL\n@PJL ENTER LANGUAGE=PCL\n\x1bE", "application/octet-stream"),
+    ("a.png", JPEG, "image/jpeg"),
+    ("a", png(), "image/png"),
+    ("a", gif(), "image/gif"),
+    ("a", tiff(), "image/tiff"),
+    ("a", b"MM\0*", "image/tiff"),
+    ("a.jpg", b"junk\0", "application/octet-stream"),
+    ("a", b"RaS2PwgRaster\0", "image/pwg-raster"),
+    ("a", b"RaS2\0\0", "application/vnd.cups-raster"),
+    ("A.HTM", b"<p>x", "text/html"),
+    ("a", b"<HTML>x", "text/html"),
+    ("a", b"<!doctype html>", "text/html"),
+    ("a.txt", "Grüße".encode(), "text/plain"),
+    ("a.txt", "Grüße".encode("utf-16"), "application/octet-stream"),
+    ("a", b"", "text/plain"),
+]
+
+
 def boxes(room, output):
     """What of each page of a PDF, or of PostScript, has something on it, or None where Ghostscript isn't installed."""
     if shutil.which("gs") is None:
