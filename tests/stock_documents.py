@@ -21,7 +21,7 @@ SIDE = 8
 
 def pdf():
     """A page with a line on it."""
-    stream = b"BT /F1 24 Tf 72 700 Td (Dear Bo) Tj ET"
+    stream = b"BT /F1 24 Tf 72 300 Td (Dear Bo) Tj ET"
     objects = [
         b"<< /Type /Catalog /Pages 2 0 R >>",
         b"<< /Type /Pages /Kids [3 0 R] /Count 1 >>",
@@ -41,7 +41,7 @@ def pdf():
 
 def postscript():
     """A page with a line on it."""
-    body = b"/Helvetica findfont 24 scalefont setfont 72 700 moveto (Dear Bo) show\nshowpage\n"
+    body = b"/Helvetica findfont 24 scalefont setfont 72 300 moveto (Dear Bo) show\nshowpage\n"
     head = b"%!PS-Adobe-3.0\n%%Pages: 1\n%%BoundingBox: 0 0 595 842\n%%EndComments\n%%EndProlog\n%%Page: 1 1\n"
     return head + body + b"%%Trailer\n%%EOF\n"
 
