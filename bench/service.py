@@ -165,7 +165,7 @@ def accepted():
         middle = {name: [statistics.median(runs) for runs in rates] for name, rates in found.items()}
         for name, rates in middle.items():
             said = ", ".join(f"{clients} {rate:.0f}" for clients, rate in zip(CLIENTS, rates))
-            above = ", ".join(f"{mine / rate:.1f}" for mine, rate in zip(middle["the service"], rates))
+            above = ", ".join(f"{mine / rate:.2f}" for mine, rate in zip(middle["the service"], rates))
             beside = "" if name == "the service" else f"; the service {above} times as many"
             print(f"  jobs accepted a second on {queues} queues by {name}, by clients: {said}{beside}", flush=True)
 

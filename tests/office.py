@@ -12,7 +12,8 @@ crates/spool_tools/out/spool_tools:
 4. examples/office/serve.sh runs the office as a service, with six queues, of which one prints a letter.
 5. A document of all bytes goes through CUPS's own backend `socket` to such a printer. Where that backend isn't installed
    (Debian's package `cups`) this part is left out, and said to be.
-6. examples/office/pages.sh prints a page on six kinds of printers, whose files begin as they are to. Where CUPS's filters aren't installed
+6. Documents of many kinds get their types by examples/office/types, mostly by their bytes.
+7. examples/office/pages.sh prints a page on six kinds of printers, whose files begin as they are to. Where CUPS's filters aren't installed
    (Debian's package `cups-filters`) this part is left out, and said to be.
 
 The last line is `N checks, 0 failed`, with status 0, or names how many failed, with status 1.
@@ -24,6 +25,8 @@ import subprocess
 import sys
 import tempfile
 import threading
+
+from stock_documents import TYPED
 
 HERE = os.path.dirname(os.path.realpath(__file__))
 ROOT = os.path.dirname(HERE)
@@ -244,6 +247,18 @@ def print_to_socket(room):
     check("what the printer took", printer.got(), page)
 
 
+def type_documents():
+    script = b"queue lab x:/ application/octet-stream abort-job\ndisable lab\n"
+    for job, (name, document, _) in enumerate(TYPED, 1):
+        script += b'create lab ann "" 1 50 ""\nsend %d %d\n%s\nclose %d %s\n' % (job, len(document), document, job, name.encode())
+    example = os.path.join(ROOT, "examples/office")
+    words = [SHELL, "--types", os.path.join(example, "types"), "--convs", os.path.join(example, "convs")]
+    ran = subprocess.run(words, input=script, capture_output=True, timeout=60)
+    check("the warnings of the office's types and conversions", (ran.returncode, ran.stderr), (0, b""))
+    found = [line.split()[2] for line in ran.stdout.decode().splitlines() if line.startswith("ok type ")]
+    check("the types", found, [media for _, _, media in TYPED])
+
+
 def print_pages(room):
     folder = os.path.join(room, "pages")
     example = os.path.join(ROOT, "examples/office")
@@ -270,6 +285,7 @@ def main():
         print_letter_to_printer(room)
         print_again_after_a_reset(room)
         serve_an_office(room)
+        type_documents()
         if os.path.isfile(SOCKET):
             print_to_socket(room)
         else:

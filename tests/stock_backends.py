@@ -25,6 +25,8 @@ DEVICES = {"parallel": "parallel:DEVICE", "serial": "serial:DEVICE?baud=9600+bit
 LISTERS = ("driverless", "driverless-fax", "snmp")
 
 SECONDS = 20
+# How long a backend has that is to find no device.
+FEW_SECONDS = 6
 
 
 class Taken:
@@ -122,7 +124,7 @@ def ended(words, environment):
     """The status of a program that has a few seconds, or None where it takes longer."""
     program = subprocess.Popen(words, env=environment, stdin=subprocess.DEVNULL, stdout=subprocess.DEVNULL, stderr=subprocess.DEVNULL)
     try:
-        return program.wait(SECONDS)
+        return program.wait(FEW_SECONDS)
     except subprocess.TimeoutExpired:
         program.kill()
         program.wait()
@@ -133,7 +135,7 @@ def seen(place, name):
     """How a backend runs, and what was told; no way where it can't be tried here."""
     if name in LISTERS:
         status = ended([os.path.join(place.backends, name)], {"PATH": "/usr/bin:/bin"})
-        return LISTS, f"its list ends with {status}" if status is not None else f"its list takes more than {SECONDS} s"
+        return LISTS, f"its list ends with {status}" if status is not None else f"its list takes more than {FEW_SECONDS} s"
     if name in PRINTERS:
         if Cups.missing():
             return None, Cups.missing()

@@ -163,8 +163,9 @@ def try_chains(place, rows):
     lines = conversions(place)
     used = {name for _, cells in rows.chains for cell in cells for name in re.findall(r"`([^`]*)`", cell)}
     rows.check("convs", sorted(used), sorted({name for _, _, name in lines} - {"-"}), "the page's filters are those of convs")
-    ask_cups(place, rows, lines)
     missing = sorted(name for name in used - {"texttoprn"} if not os.path.isfile(os.path.join(place.filters, name)))
+    if not missing:
+        ask_cups(place, rows, lines)
     for kind, column in kinds():
         if missing:
             rows.left_out(kind, f"{', '.join(missing)} isn't installed")

@@ -21,7 +21,7 @@ SIDE = 8
 
 def pdf():
     """A page with a line on it."""
-    stream = b"BT /F1 24 Tf 72 700 Td (Dear Bo) Tj ET"
+    stream = b"BT /F1 24 Tf 72 300 Td (Dear Bo) Tj ET"
     objects = [
         b"<< /Type /Catalog /Pages 2 0 R >>",
         b"<< /Type /Pages /Kids [3 0 R] /Count 1 >>",
@@ -41,7 +41,7 @@ def pdf():
 
 def postscript():
     """A page with a line on it."""
-    body = b"/Helvetica findfont 24 scalefont setfont 72 700 moveto (Dear Bo) show\nshowpage\n"
+    body = b"/Helvetica findfont 24 scalefont setfont 72 300 moveto (Dear Bo) show\nshowpage\n"
     head = b"%!PS-Adobe-3.0\n%%Pages: 1\n%%BoundingBox: 0 0 595 842\n%%EndComments\n%%EndProlog\n%%Page: 1 1\n"
     return head + body + b"%%Trailer\n%%EOF\n"
 
@@ -104,6 +104,34 @@ DOCUMENTS = {
     "image/x-portable-bitmap": bitmap(),
     "image/svg+xml": DRAWING,
 }
+
+
+# Documents that are to be typed by examples/office/types, each with a name.
+TYPED = [
+    ("a.txt", pdf(), "application/pdf"),
+    ("a", b"\n" + pdf(), "application/pdf"),
+    ("a.pdf", b"\xff" * 1_019 + pdf(), "application/pdf"),
+    ("a.pdf", b"\xff" * 1_020 + pdf(), "application/octet-stream"),
+    ("a", b"\xff" + pdf(), "application/octet-stream"),
+    ("a", b"text about %PDF-1.4\n", "text/plain"),
+    ("a", b"\x04" + postscript(), "application/postscript"),
+    ("a", b"\x1b%-12345X@PJL\n@PJL ENTER LANGUAGE=POSTSCRIPT\n" + postscript(), "application/postscript"),
+    ("a", b"\x1b%-12345X@PJL\n@PJL ENTER LANGUAGE=PCL\n\x1bE", "application/octet-stream"),
+    ("a.png", JPEG, "image/jpeg"),
+    ("a", png(), "image/png"),
+    ("a", gif(), "image/gif"),
+    ("a", tiff(), "image/tiff"),
+    ("a", b"MM\0*", "image/tiff"),
+    ("a.jpg", b"junk\0", "application/octet-stream"),
+    ("a", b"RaS2PwgRaster\0", "image/pwg-raster"),
+    ("a", b"RaS2\0\0", "application/vnd.cups-raster"),
+    ("A.HTM", b"<p>x", "text/html"),
+    ("a", b"<HTML>x", "text/html"),
+    ("a", b"<!doctype html>", "text/html"),
+    ("a.txt", "Grüße".encode(), "text/plain"),
+    ("a.txt", "Grüße".encode("utf-16"), "application/octet-stream"),
+    ("a", b"", "text/plain"),
+]
 
 
 def boxes(room, output):
