@@ -255,20 +255,28 @@ class Office:
 
 
 def service_dies(world):
+    began = time.monotonic()
     world.current.kill()
+    return began
 
 
 def client_dies(world):
+    began = time.monotonic()
     world.current.host.kill_client()
+    return began
 
 
 def brick_and_service_die(world):
+    world.volume.heal()
     world.volume.kill_brick(random.randrange(3))
     time.sleep(random.uniform(0, 0.4))
-    world.current.kill()
+    return service_dies(world)
 
 
 FAILURES = {"the service": service_dies, "the mount's client": client_dies, "a brick and the service": brick_and_service_die}
+
+# Which of them comes in turn. A brick takes seconds until it has what it missed.
+TURNS = (*list(FAILURES)[:2] * 3, list(FAILURES)[2])
 
 
 def told_seconds(what, seconds):
@@ -279,8 +287,8 @@ def told_seconds(what, seconds):
 def fail_over(world, fails):
     """The host that serves fails, and the other one opens the spool: the seconds until it answers."""
     old, new = world.current, world.other()
-    began = time.monotonic()
-    fails(world)
+    # A failure tells when it began: a brick is healed before.
+    began = fails(world)
     world.current = new
     new.launch()
     until("the other host", new.serves, 120)
@@ -307,13 +315,15 @@ def failovers(volume, times):
     taken = {name: [] for name in FAILURES}
     try:
         for turn in range(times):
-            name, fails = list(FAILURES.items())[turn % len(FAILURES)]
+            name = TURNS[turn % len(TURNS)]
+            fails = FAILURES[name]
             time.sleep(random.uniform(0.05, 0.9))
             taken[name].append(fail_over(world, fails))
             office.look()
             repair(world, fails)
         office.close()
         office.check(times)
+        volume.heal()
     finally:
         office.open = False
         world.end()
@@ -386,6 +396,7 @@ def no_quorum(volume, _times):
     status, told = world.other().refusal()
     holds(f"a start without a quorum ended with {status} and {told!r}", status == 1 and told.startswith("spool: disk\nspool: cause: "))
     volume.start_bricks()
+    volume.heal()
     world.current = world.other()
     world.open()
     rows = [line.split() for line in Client(world).listing("jobs\n")]
@@ -465,6 +476,7 @@ def bricks_that_are_started_anew(volume, _times):
     for number in range(3):
         volume.kill_brick(number)
         volume.start_bricks()
+        volume.heal()
         # The clients come back to a brick after some seconds.
         time.sleep(5)
         reply = next(iter(ask_until_gone(client, f'create quick u "brick-{number}" 1 50 ""\n', 1)), "")
@@ -473,7 +485,7 @@ def bricks_that_are_started_anew(volume, _times):
         jobs.append(int(reply.split()[2]))
         same("a start on the other host", world.other().refusal(), (1, OWNED))
     holds(f"it answered {reply} behind {len(jobs)} bricks", reply in ("", *FAILED))
-    volume.start_bricks()
+    volume.heal()
     world.current.end()
     world.current = world.other()
     world.open()

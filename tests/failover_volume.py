@@ -178,13 +178,20 @@ class Volume:
         until("the end of a brick", lambda: self.brick(number) is None)
 
     def start_bricks(self):
-        """Those that were killed, and waits until each has what it missed."""
+        """Those that were killed."""
         run("gluster", "--mode=script", "volume", "start", NAME, "force")
         until("the bricks", lambda: None not in self.bricks())
-        until("the volume's healing", self.is_whole, 120)
+
+    def heal(self):
+        """Waits until each brick has what it missed."""
+        end = time.time() + 180
+        while not self.is_whole():
+            if end < time.time():
+                raise Difference("the volume isn't healed within 180 s")
+            time.sleep(0.5)
 
     def is_whole(self):
-        """Whether no brick misses anything."""
+        """Whether no brick misses anything. It takes the system's command a second."""
         done = subprocess.run(["gluster", "--mode=script", "volume", "heal", NAME, "info", "summary"], capture_output=True, text=True)
         counts = [line.split(":")[1].strip() for line in done.stdout.splitlines() if line.startswith("Total Number of entries")]
         return done.returncode == 0 and counts == ["0"] * 3

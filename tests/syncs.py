@@ -399,7 +399,8 @@ def check_order(root, kept):
         gate, records = journal.gate, records + journal.records
         check_file(root, records)
         if turn == 0:
-            shutil.copy(os.path.join(root, FILE), kept)
+            for name in (FILE, LOCK):
+                shutil.copy(os.path.join(root, name), kept)
         before += script(turn)
         runs.append(run)
     return runs
