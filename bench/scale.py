@@ -27,7 +27,7 @@ sys.path.insert(0, os.path.join(here, "..", "tests"))
 
 import service_parts
 from service_parts import Client, Folder, at_once, same, timed
-from opening import QUEUE, rows, spool
+from opening import rows, spool
 
 BUILT = os.path.join(here, "..", "crates", "{0}", "out", "{0}")
 QUEUES = 64
@@ -94,17 +94,30 @@ def written(folder, contents):
 # ---- events
 
 
+def scripted(shell, root, script):
+    """The seconds of a script, which is read from a file."""
+    with tempfile.TemporaryFile(dir=root) as file:
+        file.write(script)
+        file.flush()
+        os.fsync(file.fileno())
+        file.seek(0)
+        start = time.perf_counter()
+        done = subprocess.run([shell, "--root", root], stdin=file, stdout=subprocess.PIPE, check=True)
+        took = time.perf_counter() - start
+    if b"error" in done.stdout:
+        sys.exit("a reply was an error")
+    return took
+
+
 def events(folder, shell, costs):
     found = []
     for _ in range(TURNS):
-        root = written(folder, spool([QUEUE]) + bytes(0))
-        os.unlink(os.path.join(root, "spool.disk"))
-        running = Shell(shell, root)
-        running.ask(b"queue lab spoolfile:/out application/octet-stream abort-job\n")
+        root = tempfile.mkdtemp(dir=folder)
+        scripted(shell, root, b"queue lab spoolfile:/out application/octet-stream abort-job\n")
+        opened = scripted(shell, root, b"")
         before = floor(folder, EVENTS, 60)
-        took = sum(running.ask(b'create lab ann "A title" 1 50 ""\n') for _ in range(EVENTS)) / EVENTS
+        took = (scripted(shell, root, EVENTS * b'create lab ann "A title" 1 50 ""\n') - opened) / EVENTS
         after = floor(folder, EVENTS, 60)
-        running.end()
         found.append((took, (before + after) / 2))
     took, least = (statistics.median(column) for column in zip(*found))
     print(f"  {1 / took:,.0f} events a second, the floor {1 / least:,.0f}, ratio {least / took:.2f}", flush=True)
