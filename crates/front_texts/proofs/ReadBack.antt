@@ -1,5 +1,5 @@
 -- The printed row of a job reads as the job.
-use Rattle.std.proofs.Common.{◌≡◌, ℕ, ◌+◌, ◌<◌, ◌≤◌, ◌^◌, Bool, true, false, ◌&&◌, cond, nat_le, nat_lt, List, [], ◌∷◌, ◌++◌, length, codes, refl, ap, sym, ◌∙◌, arith, Option, None, Some, append_assoc, IsTrue}
+use Rattle.std.proofs.Common.{◌≡◌, ℕ, ◌<◌, ◌≤◌, ◌^◌, Bool, true, false, ◌&&◌, cond, nat_le, nat_lt, List, [], ◌∷◌, ◌++◌, length, codes, refl, ap, ◌∙◌, arith, Option, None, Some, append_assoc, IsTrue}
 use Rattle.std.proofs.lemmas.Bool.{and_from, le-leb}
 use Rattle.std.proofs.lemmas.Bool.Decides.{nat_tests}
 use Rattle.std.proofs.lemmas.Fmt.{length-decimal-le}
@@ -11,10 +11,8 @@ use Rattle.std.specs.Str.{is_utf8, chars}
 use Rattle.std.specs.Char.{encode_utf8}
 use Rattle.line_words.specs.Blanks.{first_word, after_word}
 use Rattle.line_words.specs.Numbers.{decimal as number_in}
-use Rattle.line_words.specs.Quotes.{quoted as quoted_front}
 use Rattle.spool_types.specs.Limits.{greatest_number}
 use Rattle.spool_types.specs.Phases.{is_in_force, hold_word, hold_reason_word, waiting_word, abort_reason_word, job_state, job_reason}
-use Rattle.spool_types.specs.State.{Job}
 use Rattle.spool_types.specs.Values.{is_queue_byte, is_queue_name, is_user_name, is_title, text_in}
 use Rattle.spool_types.specs.declared.phase.Phase.{Phase}
 use Rattle.spool_types.specs.declared.phase.Phase.TheVariants.{Incoming, Waiting, Processing, Completed, Canceled, Aborted}
@@ -25,11 +23,10 @@ use Rattle.spool_types.specs.declared.phase.HoldReason.TheVariants.{Unspecified,
 use Rattle.spool_types.specs.declared.phase.AbortReason.{AbortReason}
 use Rattle.spool_types.specs.declared.phase.AbortReason.TheVariants.{FilterFailed, BackendFailed, RetryLimit, AttemptLost, NoFilter}
 use Rattle.command_lines.specs.Grammar.{job_in}
-use Rattle.command_lines.specs.Numbers.{number_of, ranged}
-use Rattle.command_lines.specs.Replies.{quoted, job_head, job_sizes, job_line}
+use Rattle.command_lines.specs.Numbers.{number_of}
 use Rattle.front_texts.specs.Fields.{quoted_text, after_quoted, text_of, rest_of, is_end, count_in, job_state_of, reason_in}
 use Rattle.front_texts.specs.JobRows.{head_of, head_row, tail_of, tail_from, tail_row, joined, job_words, job_row}
-use Rattle.front_texts.specs.ReadBack.{IsJob, state_of, reason_of, line_of, JobRowsReadBack}
+use Rattle.front_texts.specs.ReadBack.{state_of, reason_of, JobRowsReadBack}
 use Rattle.front_texts.specs.declared.states.JobState.{JobState}
 use Rattle.front_texts.specs.declared.states.JobState.TheVariants as states
 use Rattle.front_texts.specs.States.{job_state_in}

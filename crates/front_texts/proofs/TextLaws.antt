@@ -13,10 +13,6 @@ with_texts-more : (ws : List (List ℕ)) (t : List ℕ) (o : Option (List (List 
 with_texts-more ws t None = refl
 with_texts-more ws t (Some vs) = ap (λ l. Some l) (append_assoc ws (t ∷ []) vs)
 
-pub with_texts-nil : (o : Option (List (List ℕ))) → with_texts [] o ≡ o
-with_texts-nil None = refl
-with_texts-nil (Some vs) = refl
-
 module _ (allowed : List ℕ → Bool) (xs : List (Bor (List ℕ))) (ws : List (List ℕ)) (i : ℕ) (same : with_texts ws (texts_in allowed (map now_of (drop i xs))) ≡ texts_in allowed (map now_of xs)) where
   pub texts_end : length xs ≤ i → Some ws ≡ texts_in allowed (map now_of xs)
   texts_end le =

@@ -1,5 +1,5 @@
 -- The fields of a row: words, numbers, reasons, and texts in quotes.
-use Rattle.std.specs.Prelude.{ℕ, Bool, true, false, cond, nat_eq, List, [], ◌∷◌, codes, Option, None, Some}
+use Rattle.std.specs.Prelude.{ℕ, Bool, true, false, cond, List, [], ◌∷◌, codes, Option, None, Some}
 use Rattle.std.specs.Option.{option_map, option_and_then}
 use Rattle.line_words.specs.Blanks.{after_blanks}
 use Rattle.line_words.specs.Numbers.{decimal}

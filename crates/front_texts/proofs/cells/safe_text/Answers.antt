@@ -1,6 +1,5 @@
 use Rattle.std.proofs.Common.{rules, tests, ap, ◌∙◌}
 use Rattle.std.proofs.lemmas.Iterator.{text_from_collect, YieldsList-from_map, YieldsList-from_chars}
-use Rattle.std.specs.Iterator.Adapters.{map_source}
 use Rattle.std.specs.Str.Iter.{chars_rest}
 use Rattle.front_texts.specs.Cells.{safe_char}
 use Rattle.front_texts.proofs.cells.safe_text.Goals as goal
