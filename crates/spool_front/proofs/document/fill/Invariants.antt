@@ -3,7 +3,7 @@ use Rattle.std.proofs.Common.{◌≤◌, ◌-◌, length}
 use Rattle.spool_front.proofs.document.fill.Given as goal
 
 abbrev pub invariant-loop-filled : goal.invariant-loop-filled
-invariant-loop-filled l = l.filled ≤ length l.buffer
+invariant-loop-filled g l = l.filled ≤ length l.buffer
 
 abbrev pub decreases-loop-filled : goal.decreases-loop-filled
-decreases-loop-filled l = length l.initial.buffer - l.filled
+decreases-loop-filled g l = length l.initial.buffer - l.filled
