@@ -69,7 +69,7 @@ PASSED_ON = {
     ("spool_engine", "serve_whole"): 1,
     ("spool_engine", "take_piece"): 1,
     ("spool_admin", "no_task"): 1,
-    ("spool_admin", "read_words"): 1,
+    ("spool_admin", "read_words"): 2,
     # An error of the system whose kind says so.
     ("spool_host", "from"): 1,
     ("spool_host", "mistake"): 1,
@@ -96,6 +96,8 @@ CAPACITIES = {
     ("filter_args", "words"): ["6"],
     # 64 KiB, for as long as a spool is opened.
     ("gate_journal", "new"): ["BLOCK_LEN"],
+    ("half_rows", "end_row"): ["1"],
+    ("half_rows", "finish"): ["1"],
     ("job_rows", "reserve"): ["1"],
     ("job_table", "reserve_extent"): ["1"],
     ("job_table", "reserve_queue"): ["1", "1"],
@@ -148,6 +150,7 @@ NUMBERS = {
 CONSTANTS = {
     ("child_pipeline", "MOST_ERRORS"): 1,
     ("command_lines", "GREATEST"): 1,
+    ("half_rows", "LONGEST_BLOCK"): 1,
     ("mime_lines", "TOO_GREAT"): 1,
     ("mime_rules", "GREATEST"): 1,
     ("side_channel", "SESSION_READS"): 1,
