@@ -321,6 +321,8 @@ def failovers(volume, times):
             taken[name].append(fail_over(world, fails))
             office.look()
             repair(world, fails)
+            if (turn + 1) % 20 == 0:
+                print(f"  {turn + 1} so far, with {len(office.accepted)} jobs, of which none is lost", flush=True)
         office.close()
         office.check(times)
         volume.heal()
