@@ -90,8 +90,9 @@ class Seat:
             self.running = subprocess.Popen(self.command(), **streams)
 
     def told(self):
+        """Why it ended: the lines of a fault."""
         with open(self.log, encoding="utf-8") as file:
-            return "".join(line for line in file if not line.startswith("spool: job"))
+            return "".join(line for line in file if line.startswith(("spool: disk\n", "spool: cause: ")))
 
     def serves(self):
         """Whether it answers. One that is told that another program owns the folder is started again, as a unit of systemd is."""
@@ -321,6 +322,8 @@ def failovers(volume, times):
             taken[name].append(fail_over(world, fails))
             office.look()
             repair(world, fails)
+            if (turn + 1) % 20 == 0:
+                print(f"  {turn + 1} so far, with {len(office.accepted)} jobs, of which none is lost", flush=True)
         office.close()
         office.check(times)
         volume.heal()
