@@ -6,8 +6,8 @@ that on the built programs. This runs each of them, several side by side, each i
 each as it ends: its name, its seconds, and how it ended. With names it runs these alone, as `all.py syncs killed`.
 
 The programs have to be built before: `rt ci` leaves them in the folders of their crates. So do these commands there, but for
-what calls_without_memory.py runs: `rt run` in crates/spool_scripts, crates/spool_shell, crates/spool_admin, crates/spool_service,
-crates/spool_tools and crates/spool_front, and `rt test` in each crate that tests/allocations.py names. Which of them is missing is told first, with status 2.
+what calls_without_memory.py runs: `rt run` in crates/spool_scripts, crates/spool_shell, crates/spool_admin, crates/spool_service and
+crates/spool_tools, and `rt test` in each crate that tests/allocations.py names. Which of them is missing is told first, with status 2.
 
 A part that wants what isn't installed, or another user, is left out, and told as `skipped`. Each file of this folder has to
 be in one of the tables below. The last line is `all N passed`, with how much was skipped, and status 0; or `N failed`, with
@@ -109,7 +109,7 @@ PARTS = [
     "version_one.txt",
 ]
 
-PROGRAMS = ["spool_scripts", "spool_shell", "spool_admin", "spool_service", "spool_tools", "spool_front"]
+PROGRAMS = ["spool_scripts", "spool_shell", "spool_admin", "spool_service", "spool_tools"]
 
 
 def installed(path):
