@@ -9,7 +9,7 @@
 #   PREFIX/sbin                  spool_shell, spool_service, spool_admin
 #   PREFIX/lib/cegmandi          spool_tools, say.py, the wrappers of stock filters, and the list of all that was put
 #   PREFIX/lib/systemd/system    cegmandi.service
-#   PREFIX/share                 man pages, this text and the examples
+#   PREFIX/share                 man pages, the README and the examples
 #   /etc/cegmandi                the files that the unit names, with the stock filters of CUPS where /usr/lib/cups/filter is there;
 #                                PREFIX/etc/cegmandi where PREFIX is neither /usr nor /usr/local
 #
