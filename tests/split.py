@@ -47,6 +47,7 @@ SECONDS = 60
 SIZE = 8_192
 NAME = "spool.disk"
 PART = "spool.part."
+LOCK = "spool.lock"
 OWNED = "spool: disk\nspool: cause: owned\n"
 
 # The calls that may be killed at, and those of them that fail, with an error.
@@ -91,6 +92,9 @@ class Place:
         if content is not None:
             with open(os.path.join(self.source, NAME), "wb") as file:
                 file.write(content)
+            # Those of an earlier program.
+            for root in (self.source, self.target):
+                os.close(os.open(os.path.join(root, LOCK), os.O_CREAT, 0o600))
 
     def content(self, root, name=NAME):
         with open(os.path.join(root, name), "rb") as file:
@@ -104,7 +108,8 @@ class Place:
         same("the end of `split`", self.admin("split", self.source, self.target, *(queues or ("lab",))), (0, "", ""))
 
     def names(self):
-        return sorted(os.listdir(self.source)), sorted(os.listdir(self.target))
+        """The names in both folders, beside those of the locks' files, which stay."""
+        return tuple(sorted(name for name in os.listdir(root) if name != LOCK) for root in (self.source, self.target))
 
     def refuses(self, fault, *queues, words=None):
         """Both folders are as they were."""
