@@ -6,15 +6,22 @@ It runs crates/spool_service/out/spool_service (made by `rt run` in that folder)
 - `replies`: how long a client waits for a listing while eight queues print, each child for 5 s (aimed at: 99 of 100 under 50 ms),
   and while eight queues print jobs of 10 ms one after another;
 - `accepted`: jobs of a KiB a second that are made, sent and closed, by 1 to 16 clients on one queue and on eight, while nothing
-  prints. Each is three events, so six syncs;
+  prints. Each is three events, so six syncs. In turn with them, TIMES times, the same jobs by a CUPS of this script's own
+  (tests/cups_beside.py), where Debian's package `cups` is installed and this is run as root. The median of each is told, and by how much the
+  service is above it (aimed at: 5 times CUPS with syncs, and no less than CUPS without). CUPS's clients are as the service's: a connection that
+  is kept, and a job is one request, which is less than the service's three. What CUPS has written when it answers is its matter: `no syncs` is as
+  it comes; `syncs` is with `SyncOnClose Yes`, and then it still writes half a minute later what it knows of a job;
+  `syncs at once` has `DirtyCleanInterval 0` beside that, which comes nearest to what the service promises. No setting has it sync a
+  document. With the program `lp` a job is a process of its own, with two requests;
 - `printed`: jobs a second that one queue and eight print, whose backend does nothing, in TIMES runs. Beside each run the same
   launches and syncs by a C program (the whole floor of launches.c), before and after; the ratio of the median is aimed at 0.9. Ended
   jobs are kept, so no purge is in it;
 - `work`: processor time in ten seconds of the service, idle and with eight children that sleep;
 - `memory`: of the service when it is new, with eight documents of a MiB, and while all of them are printed.
 
-What a slow queue costs fast jobs is shown by `ticks.py real`. CUPS isn't run beside it, which a line tells. Times depend on the
-machine and its disk; only the ratios are of interest, and no test reads them. It takes some two minutes.
+What a slow queue costs fast jobs is shown by `ticks.py real`. Times depend on the machine and its disk; only the ratios are of interest,
+and no test reads them. The load of the machine is told before and behind: a busy one says little. It takes some four minutes.
+With words behind PROGRAM only those parts are run.
 """
 import os
 import statistics
@@ -27,6 +34,7 @@ import printing
 here = os.path.dirname(os.path.abspath(__file__))
 sys.path.insert(0, os.path.join(here, "..", "tests"))
 
+from cups_beside import Cups, Line
 from service_parts import BUILT, Client, Folder, at_once, same, timed, told
 
 CLIENTS = (1, 4, 16)
@@ -102,16 +110,64 @@ def submit_some(office, first, count):
     client.close()
 
 
+def accepted_by_service(queues, clients):
+    """Jobs a second that the service accepts."""
+    with Office(queues, 0) as office:
+        office.say_to_all("disable")
+        share = ACCEPTED // clients
+        return ACCEPTED / timed(lambda: at_once([lambda n=n: submit_some(office, n * share, share) for n in range(clients)]))
+
+
+def accepted_by_cups(queues, clients, syncs, interval, program=False):
+    """Jobs a second that CUPS accepts, or as many as the program lp makes of them."""
+    with Cups(syncs, interval) as cups:
+        for number in range(queues):
+            cups.queue(f"q{number}")
+            cups.hold(f"q{number}")
+        count = ACCEPTED // 4 if program else ACCEPTED
+        document = cups.write("document", DOCUMENT)
+
+        def submit_share(first):
+            line = None if program else Line(cups)
+            for number in range(first, first + count // clients):
+                queue = f"q{number % queues}"
+                if program:
+                    cups.run("lp", "-d", queue, document)
+                else:
+                    line.submit(queue, DOCUMENT.encode())
+
+        tasks = [lambda n=n: submit_share(n * (count // clients)) for n in range(clients)]
+        return count / timed(lambda: at_once(tasks))
+
+
+# What is compared: its name, and how many jobs a second it accepts of so many clients on so many queues.
+WAYS = {
+    "the service": accepted_by_service,
+    "CUPS, no syncs": lambda queues, clients: accepted_by_cups(queues, clients, False, 30),
+    "CUPS, syncs": lambda queues, clients: accepted_by_cups(queues, clients, True, 30),
+    "CUPS, syncs at once": lambda queues, clients: accepted_by_cups(queues, clients, True, 0),
+    "lp, no syncs": lambda queues, clients: accepted_by_cups(queues, clients, False, 30, True),
+    "lp, syncs at once": lambda queues, clients: accepted_by_cups(queues, clients, True, 0, True),
+}
+
+
 def accepted():
+    missing = Cups.missing()
+    if missing:
+        print(f"  left out: {missing}")
+    ways = {name: way for name, way in WAYS.items() if not missing or name == "the service"}
     for queues in QUEUES:
-        found = []
-        for clients in CLIENTS:
-            with Office(queues, 0) as office:
-                office.say_to_all("disable")
-                share = ACCEPTED // clients
-                tasks = [lambda n=n: submit_some(office, n * share, share) for n in range(clients)]
-                found.append(f"{clients} {ACCEPTED / timed(lambda: at_once(tasks)):.0f}")
-        print(f"  jobs accepted a second on {queues} queues, by clients: {', '.join(found)}", flush=True)
+        found = {name: [[] for _ in CLIENTS] for name in ways}
+        for _ in range(TIMES):
+            for place, clients in enumerate(CLIENTS):
+                for name, way in ways.items():
+                    found[name][place].append(way(queues, clients))
+        middle = {name: [statistics.median(runs) for runs in rates] for name, rates in found.items()}
+        for name, rates in middle.items():
+            said = ", ".join(f"{clients} {rate:.0f}" for clients, rate in zip(CLIENTS, rates))
+            above = ", ".join(f"{mine / rate:.2f}" for mine, rate in zip(middle["the service"], rates))
+            beside = "" if name == "the service" else f"; the service {above} times as many"
+            print(f"  jobs accepted a second on {queues} queues by {name}, by clients: {said}{beside}", flush=True)
 
 
 def printed():
@@ -185,10 +241,12 @@ def main():
     Folder.service = os.path.abspath(sys.argv[1] if len(sys.argv) > 1 else BUILT)
     if not os.path.exists(Folder.service):
         sys.exit("no program: run `rt run` in crates/spool_service first")
-    print("left out: CUPS beside it")
-    for part in (replies, accepted, printed, work, memory):
-        print(part.__name__, flush=True)
-        part()
+    parts = {part.__name__: part for part in (replies, accepted, printed, work, memory)}
+    print(f"load of the machine: {os.getloadavg()[0]:.1f}")
+    for name in sys.argv[2:] or parts:
+        print(name, flush=True)
+        parts[name]()
+    print(f"load of the machine: {os.getloadavg()[0]:.1f}")
 
 
 if __name__ == "__main__":

@@ -22,6 +22,8 @@ import sys
 import tempfile
 import time
 
+import failover_volume
+
 HERE = os.path.dirname(os.path.realpath(__file__))
 ROOT = os.path.dirname(HERE)
 
@@ -37,7 +39,9 @@ CUPS_TYPES = "/usr/share/cups/mime/mime.types"
 SCRIPTS = {
     "service.py": [],
     "lives.py": [],
+    "failover.py": [],
     "killed.py": [],
+    "install.py": [],
     "first_start.py": [],
     "syncs.py": [],
     "replies.py": [],
@@ -54,6 +58,9 @@ SCRIPTS = {
     "tools.py": [],
     "office.py": [],
     "stock.py": [],
+    "walk.py": [],
+    "manuals.py": [],
+    "promises.py": [],
     "cups_types.py": [CUPS_TYPES],
     "grow.py": [],
     "large.py": [],
@@ -71,6 +78,8 @@ PARTS = [
     "child_folder.py",
     "children_harm.py",
     "count_allocations.c",
+    "cups_beside.py",
+    "failover_volume.py",
     "fast_clock.c",
     "journal.py",
     "large_children.py",
@@ -90,6 +99,10 @@ PARTS = [
     "service_parts.py",
     "service_words.py",
     "spool_model.py",
+    "stock_backends.py",
+    "stock_chains.py",
+    "stock_documents.py",
+    "stock_runs.py",
     "stored_scripts.py",
     "stories.py",
     "traces.py",
@@ -108,6 +121,8 @@ def wants():
     missing = {}
     if not installed(FILTERS):
         missing["stock.py"] = (True, "stock filters (Debian's packages cups and cups-filters)")
+    elif os.geteuid():
+        missing["stock.py"] = (False, "backends that only root runs (as root)")
     if not installed(BACKEND):
         missing["office.py"] = (False, "CUPS's own backend socket (Debian's package cups)")
     if not installed(CUPS_TYPES):
@@ -120,6 +135,15 @@ def wants():
     elif os.geteuid():
         missing["children.py"] = (False, "a full folder (as root)")
         missing["service.py"] = (False, "a full folder, and another user (as root)")
+    lacking = failover_volume.lacks()
+    if lacking:
+        missing["failover.py"] = (True, f"a replicated volume: {lacking}")
+    if not shutil.which("mandoc"):
+        missing["manuals.py"] = (False, "the lint of man pages (Debian's package mandoc)")
+    if not shutil.which("shellcheck") or not shutil.which("debootstrap") or os.geteuid():
+        missing["install.py"] = (False, "a fresh Debian (as root; Debian's packages debootstrap and shellcheck)")
+    if not shutil.which("rt"):
+        missing["walk.py"] = (False, "the walk (the toolchain's rt)")
     if not shutil.which("valgrind"):
         missing["calls_without_memory.py"] = (True, "valgrind (Debian's package valgrind)")
     if not shutil.which("gcc"):

@@ -48,6 +48,9 @@ line.sendall(b"\\xff\\0\\0\\0")
 """
 
 
+# The file by whose lock a program owns the folder.
+LOCK = "spool.lock"
+
 # What is told of a stage, or of a program of the file.
 TOLD = re.compile(r"spool: (job \d+ attempt \d+ stage \d+( \S+)?|filter \S+|backend \S+|side program): .")
 
@@ -121,7 +124,8 @@ class Folder:
             return opened.read().splitlines()
 
     def left(self):
-        return sorted(os.listdir(self.at(self.root)))
+        """What the spool's folder has, beside the lock's file, which stays."""
+        return sorted(name for name in os.listdir(self.at(self.root)) if name != LOCK)
 
 
 def printed(queue, uri, target="a/a", policy="abort-job", number=1, document=b"", title='""', user="ann", options='""', copies=1):

@@ -212,8 +212,9 @@ def given(folder):
     same("descriptors", folder.report("descriptors"), ["[0, 1, 2, 3, 4]", "/dev/null /dev/null"] * 2)
     same("input", folder.report("input"), ["b''", repr(b"from one\n")])
     same("document", folder.report("document"), [repr(b"hello")])
+    own = ["spool.disk 600 True", "spool.lock 600 True"]
     files = [f"{name}-1-1-{stage} 600 True" for stage in (1, 2) for name in ("err", "in", "out")]
-    same("files", folder.report("files"), [*files[:3], "spool.disk 600 True", *files[3:], "spool.disk 600 True"])
+    same("files", folder.report("files"), [*files[:3], *own, *files[3:], *own])
     same("files left", folder.left(), ["spool.disk"])
 
 

@@ -11,7 +11,7 @@ import subprocess
 import threading
 import time
 
-from child_folder import CHANNEL, COPIES, EXIT, printed, PYTHON, same, shell, SIDE_END, stage_event, states, TYPES
+from child_folder import CHANNEL, COPIES, EXIT, LOCK, printed, PYTHON, same, shell, SIDE_END, stage_event, states, TYPES
 
 # ---- what a child can't do to the spooler
 
@@ -165,7 +165,7 @@ def names_taken_away(folder):
     replies = folder.run(script)
     same("jobs", states(replies), {1: "9 job-completed-successfully", 2: "4 job-hold-until-specified"})
     same("what it printed", folder.read("backend-keep.kept"), b"doc")
-    same("files", folder.left(), ["spool.disk"])
+    same("files", sorted(os.listdir(folder.at("spool"))), ["spool.disk", LOCK])
     found = os.stat(folder.at("spool", "spool.disk"))
     same("the file", (found.st_size, oct(found.st_mode)), (16777216, "0o100600"))
     again = folder.run(b"jobs\n")
@@ -176,14 +176,50 @@ def names_taken_away(folder):
 
 
 def locks_that_go(folder):
-    """A lock that goes in a moment, as that of a program that was killed, is waited for, and one that stays isn't."""
-    lock = os.open(folder.at(folder.root), os.O_RDONLY)
-    fcntl.flock(lock, fcntl.LOCK_EX)
-    begun = time.monotonic()
-    folder.run(b"jobs\n", status=1, told=["spool: disk", "spool: cause: owned"])
-    same("seconds", 0.8 < time.monotonic() - begun < 5, True)
-    threading.Timer(0.4, os.close, [lock]).start()
-    same("replies", folder.run(b"jobs\n"), ["ok 0"])
+    """A lock that goes in a moment, as that of a program that was killed, is waited for, and one that stays isn't: that of the folder,
+    and that of the lock's file, which another host sees."""
+    for name in ("", LOCK):
+        folder.run(b"jobs\n")
+        lock = os.open(folder.at(folder.root, name), os.O_RDWR if name else os.O_RDONLY)
+        fcntl.flock(lock, fcntl.LOCK_EX)
+        begun = time.monotonic()
+        folder.run(b"jobs\n", status=1, told=["spool: disk", "spool: cause: owned"])
+        same("seconds", 0.8 < time.monotonic() - begun < 5, True)
+        threading.Timer(0.4, os.close, [lock]).start()
+        same("replies", folder.run(b"jobs\n"), ["ok 0"])
+
+
+def locks_of_nobody(folder):
+    """Where a lock of the lock's file keeps no second one out, nothing is served or made. Where there is none of the folder, it is."""
+    strace = shutil.which("strace")
+    if not strace:
+        print("locks_of_nobody: left out, since it wants strace (Debian's package strace)")
+        return
+    lock = os.path.realpath(folder.at(folder.root)) + "/" + LOCK
+    folder.write(os.path.join(folder.root, LOCK), "", 0o600)
+
+    def served(*inject):
+        words = [strace, "-qq", "-o", folder.at("calls"), *inject, *folder.words()]
+        run = subprocess.run(words, input=b"jobs\n", cwd=folder.path, capture_output=True, timeout=60)
+        return run.returncode, run.stdout, run.stderr
+
+    refused = (1, b"", b"spool: disk\nspool: cause: owner unknown\n")
+    same("two locks at once", served("-P", lock, "-e", "inject=flock:retval=0"), refused)
+    same("what is made", os.listdir(folder.at(folder.root)), [LOCK])
+    same("no lock of the file", served("-P", lock, "-e", "inject=flock:error=ENOLCK"), (1, b"", b"spool: disk\nspool: cause: failed\n"))
+    same("no lock of the folder", served("-e", "inject=flock:error=EBADF:when=1"), (0, b"ok 0\n", b""))
+
+
+def locks_of_their_own(folder):
+    """The lock's file has the folder's owner: a program of root that comes first keeps no other user out."""
+    if os.geteuid():
+        print("locks_of_their_own: left out, since it wants root")
+        return
+    root = folder.at(folder.root)
+    os.chown(root, 65534, 65534)
+    folder.run(b"jobs\n")
+    found = os.stat(os.path.join(root, LOCK))
+    same("its owner and mode", (found.st_uid, found.st_gid, oct(found.st_mode), found.st_size), (65534, 65534, "0o100600", 0))
 
 
 def causes_of_the_disk(folder):
@@ -504,6 +540,8 @@ TESTS = [
     ends_that_nobody_knows,
     names_taken_away,
     locks_that_go,
+    locks_of_nobody,
+    locks_of_their_own,
     leftovers_of_kills,
     causes_of_the_disk,
     floods,

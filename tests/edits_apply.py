@@ -49,6 +49,7 @@ PROMISED = {
     "stops-all-queues",
     "takes-away-and-puts-back",
     "tick-ignores-the-look",
+    "title-goes-in-as-it-is",
     "waits-for-a-purged-job-forever",
 }
 

@@ -45,6 +45,9 @@ SECONDS = 60
 SIZE = 16_384
 AT_ONCE = 4
 DISK = ("spool.disk", "spool.disk.new")
+LOCK = "spool.lock"
+# The files and the folder of the program itself, as the folder is named here.
+OWN = (*DISK, LOCK, "r")
 OPTIONS = ("types", "convs", "programs")
 PROGRAMS = ("f", "s")
 
@@ -198,20 +201,20 @@ def outcome(call, is_serving, clients):
     name = name_of(call)
     # What a start is short of for a moment is waited for.
     is_reply = call.name == "write" and call.descriptor() == 1
-    if is_serving and not is_reply and call.error in SHORTAGES and (call.name in STARTS or call.name in TRIED_AGAIN and name not in (*DISK, "r")):
+    if is_serving and not is_reply and call.error in SHORTAGES and (call.name in STARTS or call.name in TRIED_AGAIN and name not in OWN):
         return "same"
     if call.name == "wait4":
         return "blind"
     if call.name in STARTS:
         return "stage"
-    if call.name in SOCKETS and name not in (*DISK, "r"):
+    if call.name in SOCKETS and name not in OWN:
         is_client = call.name in ("accept4", "recvfrom", "sendto") or call.name != "socket" and call.descriptor() in clients
         return "same" if is_client else "stage"
     if call.name == "read" and call.descriptor() == 0:
         return "read"
     if call.name == "write" and call.descriptor() == 1:
         return "write"
-    own = name in (*OPTIONS, *DISK, "r", *PROGRAMS, "null") or name.startswith(("in-", "out-", "err-", "side-"))
+    own = name in (*OPTIONS, *OWN, *PROGRAMS, "null") or name.startswith(("in-", "out-", "err-", "side-"))
     if not own:
         return None
     if call.name == "close" or call.name == "unlink" and name.startswith(("in-", "out-", "err-")):
@@ -227,12 +230,13 @@ def outcome(call, is_serving, clients):
     if name.startswith(("out-", "err-")) and call.name in ("statx", "pwrite64"):
         is_lost = call.name == "pwrite64" and call.error != "EIO" and not name.endswith("-2")
         return "stage" if is_lost else "same"
-    # Locks of the folder and of the disk are tried for a second.
-    if call.name == "flock" and call.error == "EAGAIN" and name in ("r", *DISK):
+    # Locks are tried for a second. Where there is no lock of a folder, that of the lock's file decides. And that file's second
+    # lock has to be refused.
+    if call.name == "flock" and name in OWN and (call.error == "EAGAIN" or name == "r"):
         return "same"
     if name in OPTIONS:
         return "file"
-    if name in DISK or name == "r":
+    if name in OWN:
         return "dead" if is_serving else "disk"
     # The name of a socket is freed before it is bound, and goes when the child was finished.
     return "unbound" if call.name == "unlink" else "stage"

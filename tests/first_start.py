@@ -1,19 +1,21 @@
 #!/usr/bin/env python3
-"""Starts several shells at once on a fresh folder, and looks for what each had answered: first_start.py [SHELL]
+"""Starts several shells at once on a fresh folder, and looks for what each had answered: first_start.py [SHELL] [--trials N] [--folders DIR..]
 
 SHELL is the program, and crates/spool_shell/out/spool_shell (made by `rt run` in that folder) where none is given. A
-trial starts 2, 4 or 8 of them together in one fresh folder, a hundred trials for each number, with spools of several
-sizes. Each makes the queue, if need be, and ten jobs whose titles tell program and number. In every second trial the
+trial starts 2, 4 or 8 of them together in one fresh folder, a hundred trials for each number or N, with spools of several
+sizes. Each DIR is one mount of the same volume, as another host has it: the programs take turns over them, and the fresh
+folder is in all (tests/failover.py gives two). Each makes the queue, if need be, and ten jobs whose titles tell program and number. In every second trial the
 input of all stays open until each program has answered or ended, so exactly one of them has to own the folder. In the
 others it ends at once, so one may own the folder after another.
 
 Each program either answers all its commands, or ends with status 1, answers nothing, and writes `spool: disk` and its
 cause `owned` on standard error. One more start has to list exactly the jobs that were answered, each by its number and with its title,
-and nothing but the spool's file is in the folder.
+and nothing but the spool's file and that of its lock is in the folder.
 
-The last line is `300 of 300`, with status 0, or the first difference, with status 1. Its folder stays then, and is
+The last line is `300 of 300`, or of 3 N, with status 0, or the first difference, with status 1. Its folder stays then, and is
 named.
 """
+import argparse
 import os
 import re
 import shutil
@@ -24,10 +26,16 @@ import tempfile
 
 here = os.path.dirname(os.path.abspath(__file__))
 built = os.path.join(here, "..", "crates", "spool_shell", "out", "spool_shell")
-shell = os.path.abspath(sys.argv[1] if len(sys.argv) > 1 else built)
+
+words = argparse.ArgumentParser()
+words.add_argument("shell", nargs="?", default=built)
+words.add_argument("--trials", type=int, default=100)
+words.add_argument("--folders", nargs="+", default=[None])
+given = words.parse_args()
+shell = os.path.abspath(given.shell)
 
 COUNTS = (2, 4, 8)
-TRIALS = 100  # for each of these counts
+TRIALS = given.trials  # for each of these counts
 JOBS = 10
 SECONDS = 60  # a trial that takes longer hangs
 
@@ -108,7 +116,7 @@ class Program:
 
 def started(root, count, size, held):
     """So many programs that were started together, once all have ended."""
-    programs = [Program(root, name, size) for name in range(count)]
+    programs = [Program(seen_by(name, root), name, size) for name in range(count)]
     try:
         for program in programs:
             program.give("open\n")
@@ -130,6 +138,12 @@ def started(root, count, size, held):
     return programs
 
 
+def seen_by(number, root):
+    """The folder as the host of this number has it: the hosts take turns."""
+    folder = given.folders[number % len(given.folders)]
+    return os.path.join(folder, os.path.basename(root)) if folder else root
+
+
 def listing(root):
     """The jobs that one more start lists, with their titles."""
     words = [shell, "--root", "."]
@@ -149,7 +163,7 @@ def trial(root, count, size, held):
         raise Difference(f"listed {listed}, answered {answered}")
     if [number for number, _ in listed] != list(range(1, len(listed) + 1)):
         raise Difference(f"numbers are given twice or left out: {listed}")
-    if os.listdir(root) != ["spool.disk"]:
+    if sorted(os.listdir(root)) != ["spool.disk", "spool.lock"]:
         raise Difference(f"the folder has {os.listdir(root)}")
 
 
@@ -165,7 +179,7 @@ def main():
     for done, (count, turn) in enumerate(plan):
         held = turn % 2 == 0
         size = SIZES[count][turn // 2 % 4]
-        root = tempfile.mkdtemp()
+        root = tempfile.mkdtemp(dir=given.folders[0])
         try:
             signal.alarm(SECONDS)
             trial(root, count, size, held)

@@ -46,6 +46,7 @@ SIZE = 8_192
 LARGER = 20_001
 NAME = "spool.disk"
 UNFINISHED = "spool.disk.new"
+LOCK = "spool.lock"
 OWNED = "spool: disk\nspool: cause: owned\n"
 
 # The calls that may be killed at, and those of them that fail, with an error.
@@ -71,14 +72,20 @@ def in_second_area(file, epoch=7):
     return journal.area(len(first), epoch - 1, [spelled(Q.event())]) + journal.header(epoch, version=first[1]) + first[journal.HEADER:] + rest
 
 
+def names_in(root):
+    """The names in a folder, beside that of the lock's file, which stays."""
+    return [name for name in os.listdir(root) if name != LOCK]
+
+
 class Place:
-    """A folder with a spool of these bytes."""
+    """A folder with a spool of these bytes, and the lock's file of an earlier program."""
 
     def __init__(self, folder, content=None):
         self.root = tempfile.mkdtemp(dir=folder)
         self.file = os.path.join(self.root, NAME)
         if content is not None:
             self.write(content)
+            os.close(os.open(os.path.join(self.root, LOCK), os.O_CREAT, 0o600))
 
     def write(self, content):
         with open(self.file, "wb") as file:
@@ -97,10 +104,10 @@ class Place:
 
     def refuses(self, fault, *words):
         """The file, and its folder, are as they were."""
-        before, names = self.content(), os.listdir(self.root)
+        before, names = self.content(), names_in(self.root)
         same("the end", self.admin(*(words or ("grow", self.root, str(LARGER)))), (1, "", fault))
         same("the file is as it was", self.content() == before, True)
-        same("the names", os.listdir(self.root), names)
+        same("the names", names_in(self.root), names)
 
     def serve(self, *commands):
         script = "".join(f"{command}\n" for command in commands)
@@ -152,7 +159,7 @@ def a_look_at_no_spool(folder):
     place.refuses("spool: not-a-spool\n", "look", place.root)
     absent = Place(folder)
     same("no file", absent.admin("look", absent.root), (1, "", "spool: disk\nspool: cause: absent\n"))
-    same("nothing is made", os.listdir(absent.root), [])
+    same("no spool is made", os.listdir(absent.root), [LOCK])
     same("no folder", absent.admin("look", f"{absent.root}/none"), (1, "", "spool: disk\nspool: cause: absent\n"))
 
 
@@ -166,7 +173,7 @@ def a_larger_file_has_the_table(folder):
             place.grow(size)
             same(f"the table in {size} bytes", is_grown(file, place.content(), size), True)
             same("the mode", stat.S_IMODE(os.stat(place.file).st_mode), 0o640)
-            same("the names", os.listdir(place.root), [NAME])
+            same("the names", names_in(place.root), [NAME])
             lists_grown(place, file)
 
 
@@ -188,7 +195,7 @@ def what_was_left_unfinished_goes(folder):
     with open(os.path.join(place.root, UNFINISHED), "wb") as file:
         file.write(b"left" * 9_000)
     place.grow()
-    same("the names", os.listdir(place.root), [NAME])
+    same("the names", names_in(place.root), [NAME])
     same("the table", is_grown(image_of(), place.content()), True)
 
 
@@ -269,7 +276,7 @@ def is_old_or_new(place, what):
     if content != image_of() and not is_grown(image_of(), content):
         raise Difference(f"{what}: the file is neither the old spool nor the new one")
     known = {NAME, UNFINISHED}
-    same(f"{what}: the names", set(os.listdir(place.root)) <= known, True)
+    same(f"{what}: the names", set(names_in(place.root)) <= known, True)
 
 
 def goes_on(place, what):
@@ -278,7 +285,7 @@ def goes_on(place, what):
     old = place.content()
     place.grow()
     same(f"{what}: the table", is_grown(old, place.content()), True)
-    same(f"{what}: the names", os.listdir(place.root), [NAME])
+    same(f"{what}: the names", names_in(place.root), [NAME])
 
 
 def all_calls(folder):

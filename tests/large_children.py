@@ -65,7 +65,7 @@ def queues_at_once(place):
     place.print_all(script, "--size", str(1 << 25))
     for turn, document in documents.items():
         same_file(place, f"printed-{turn}", document)
-    same("what is left", os.listdir(place.at("spool")), ["spool.disk"])
+    same("what is left", sorted(os.listdir(place.at("spool"))), ["spool.disk", "spool.lock"])
     ask_devices_at_once(place)
 
 

@@ -12,6 +12,9 @@ crates/spool_tools/out/spool_tools:
 4. examples/office/serve.sh runs the office as a service, with six queues, of which one prints a letter.
 5. A document of all bytes goes through CUPS's own backend `socket` to such a printer. Where that backend isn't installed
    (Debian's package `cups`) this part is left out, and said to be.
+6. Documents of many kinds get their types by examples/office/types, mostly by their bytes.
+7. examples/office/pages.sh prints a page on six kinds of printers, whose files begin as they are to. Where CUPS's filters aren't installed
+   (Debian's package `cups-filters`) this part is left out, and said to be.
 
 The last line is `N checks, 0 failed`, with status 0, or names how many failed, with status 1.
 """
@@ -23,12 +26,25 @@ import sys
 import tempfile
 import threading
 
+from stock_documents import TYPED
+
 HERE = os.path.dirname(os.path.realpath(__file__))
 ROOT = os.path.dirname(HERE)
 SHELL = os.path.join(ROOT, "crates/spool_shell/out/spool_shell")
 SERVICE = os.path.join(ROOT, "crates/spool_service/out/spool_service")
 TOOLS = os.path.join(ROOT, "crates/spool_tools/out/spool_tools")
 SOCKET = "/usr/lib/cups/backend/socket"
+FILTERS = [f"/usr/lib/cups/filter/{name}" for name in ("texttopdf", "pdftopdf", "pdftops", "gstoraster", "gstopxl")]
+
+# How the page begins that each kind of printer is sent.
+PAGES = {
+    "pdf": b"%PDF",
+    "ps": b"%!PS",
+    "pwg": b"RaS2PwgRaster\0",
+    "raster": b"RaS2",
+    "pclxl": b"\x1b%-12345X",
+    "raw": b"\n\n        The Office",
+}
 
 LETTER = b"Dear Bo,\r\ncome. Ann\r\n\x0c"
 
@@ -94,7 +110,7 @@ def serve_an_office(room):
     check("the replies of the service", ran.stdout.decode(), SERVED)
     with open(os.path.join(folder, "hall"), "rb") as file:
         check("the letter that the service printed", file.read(), 2 * LETTER)
-    check("what is left in its folder", os.listdir(os.path.join(folder, "spool")), ["spool.disk"])
+    check("what is left in its folder", sorted(os.listdir(os.path.join(folder, "spool"))), ["spool.disk", "spool.lock"])
 
 
 def served(room, name, programs, script):
@@ -231,6 +247,31 @@ def print_to_socket(room):
     check("what the printer took", printer.got(), page)
 
 
+def type_documents():
+    script = b"queue lab x:/ application/octet-stream abort-job\ndisable lab\n"
+    for job, (name, document, _) in enumerate(TYPED, 1):
+        script += b'create lab ann "" 1 50 ""\nsend %d %d\n%s\nclose %d %s\n' % (job, len(document), document, job, name.encode())
+    example = os.path.join(ROOT, "examples/office")
+    words = [SHELL, "--types", os.path.join(example, "types"), "--convs", os.path.join(example, "convs")]
+    ran = subprocess.run(words, input=script, capture_output=True, timeout=60)
+    check("the warnings of the office's types and conversions", (ran.returncode, ran.stderr), (0, b""))
+    found = [line.split()[2] for line in ran.stdout.decode().splitlines() if line.startswith("ok type ")]
+    check("the types", found, [media for _, _, media in TYPED])
+
+
+def print_pages(room):
+    folder = os.path.join(room, "pages")
+    example = os.path.join(ROOT, "examples/office")
+    words = [os.path.join(example, "pages.sh"), folder, os.path.join(example, "letter.txt"), "2"]
+    ran = subprocess.run(words, capture_output=True, timeout=300)
+    check("the status of pages.sh", (ran.returncode, ran.stderr), (0, b""))
+    ended = [line.split()[2:4] for line in ran.stdout.decode().splitlines() if line.startswith("job ")]
+    check("the jobs of pages.sh", ended, [[kind, "9"] for kind in PAGES])
+    for kind, begins in PAGES.items():
+        with open(os.path.join(folder, f"page.{kind}"), "rb") as file:
+            check(f"the page for {kind}", file.read(len(begins)), begins)
+
+
 def main():
     for program in (SHELL, SERVICE, TOOLS):
         if not os.path.isfile(program):
@@ -244,10 +285,16 @@ def main():
         print_letter_to_printer(room)
         print_again_after_a_reset(room)
         serve_an_office(room)
+        type_documents()
         if os.path.isfile(SOCKET):
             print_to_socket(room)
         else:
             print(f"left out: {SOCKET} isn't there (Debian's package cups)")
+        missing = [path for path in FILTERS if not os.path.isfile(path)]
+        if missing:
+            print(f"left out: {missing[0]} isn't there (Debian's package cups-filters)")
+        else:
+            print_pages(room)
     print(f"{checks} checks, {failed} failed")
     return 1 if failed else 0
 

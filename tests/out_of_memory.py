@@ -36,6 +36,17 @@ PASSED_ON = {
     ("device_uri", "options"): 1,
     # Counts of jobs that are held past the greatest usize: no memory holds so many.
     ("job_table", "reserve"): 2,
+    ("front_words", "mistake"): 2,
+    ("front_words", "read_words"): 1,
+    ("front_words", "words_fault"): 1,
+    ("front_texts", "push_accepting"): 2,
+    ("front_texts", "push_bytes"): 1,
+    ("front_texts", "push_number"): 1,
+    ("front_texts", "push_job_name"): 1,
+    ("front_texts", "push_printer"): 2,
+    ("front_texts", "push_printing"): 1,
+    ("front_texts", "push_ready"): 3,
+    ("front_texts", "push_stopped"): 1,
     ("print_rounds", "launch"): 1,
     ("print_rounds", "pass"): 1,
     ("print_rounds", "start"): 1,
@@ -96,6 +107,8 @@ CAPACITIES = {
     ("filter_args", "words"): ["6"],
     # 64 KiB, for as long as a spool is opened.
     ("gate_journal", "new"): ["BLOCK_LEN"],
+    ("half_rows", "end_row"): ["1"],
+    ("half_rows", "finish"): ["1"],
     ("job_rows", "reserve"): ["1"],
     ("job_table", "reserve_extent"): ["1"],
     ("job_table", "reserve_queue"): ["1", "1"],
@@ -116,6 +129,8 @@ CAPACITIES = {
 # The great numbers in bodies: bounds of loops, of counts and of fields. None is a capacity.
 NUMBERS = {
     ("backend_codes", "unless_spent"): ["u32::MAX"],
+    ("front_texts", "count"): ["4_294_967_295"],
+    ("front_texts", "size_text"): ["1_048_576"],
     ("job_table", "is_startable"): ["u32::MAX"],
     ("job_table", "is_untyped"): ["u32::MAX"],
     ("mime_rules", "int_bytes"): ["16_777_216"],
@@ -148,6 +163,9 @@ NUMBERS = {
 CONSTANTS = {
     ("child_pipeline", "MOST_ERRORS"): 1,
     ("command_lines", "GREATEST"): 1,
+    ("front_words", "GREATEST_JOB"): 1,
+    ("front_words", "GREATEST_MOMENT"): 1,
+    ("half_rows", "LONGEST_BLOCK"): 1,
     ("mime_lines", "TOO_GREAT"): 1,
     ("mime_rules", "GREATEST"): 1,
     ("side_channel", "SESSION_READS"): 1,
@@ -159,7 +177,8 @@ CONSTANTS = {
     ("spool_host", "MOST_ERRORS"): 1,
     ("spool_host", "MOST_LINES"): 1,
     ("spool_host", "STRIDE"): 1,
-    ("spool_service", "MOST_MILLIS"): 1,
+    ("service_loop", "LONGEST_IDLE"): 1,
+    ("spool_service", "MOST"): 1,
     ("spool_types", "GREATEST"): 2,
     ("spool_types", "LONGEST_DOCUMENT"): 1,
 }

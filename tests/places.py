@@ -4,8 +4,8 @@
 A section of CONTRIBUTING.md that says what a new event, a new field of a job or a new version takes shows one that is there, with
 each place that names it: `- `CRATE/PATH`: `NAME`, `NAME`. A remark.` A place is a function or a type of src/, a definition of
 specs/ or proofs/, a table in the head of a file (`the table`), or the answers of a function that is named after the event
-(`the goals`). Imports, other comments, tests, examples and edits aside; of a version also proofs, and the crates that have
-another thing of that name. A list lacks no place and has no other, and its section says how many there are.
+(`the goals`). Imports, other comments, tests, examples, edits and the front aside; of a version also proofs, and the crates that
+have another thing of that name. A list lacks no place and has no other, and its section says how many there are.
 
 It also sees that each path which CONTRIBUTING.md names is there, and that the edit which it shows applies.
 
@@ -33,8 +33,8 @@ LISTS = {
     "A version of the format": ("`One`", r"\bOne\b|(?i:\boldest_version\b)", r"-", PARTS[:2]),
     "What is of the newest version": ("`Two`", r"\bTwo\b|(?i:\bnewest_version\b)", r"-", PARTS[:2]),
 }
-# Crates of tests and of examples, and those in which `One` and `Two` are other things.
-ASIDE = re.compile(r".*_(tests|facts|scripts|rows)")
+# Crates of tests and of examples, those of the front, which knows texts alone, and those in which `One` and `Two` are other things.
+ASIDE = re.compile(r".*_(tests|facts|scripts|rows)|front_.*|spool_front")
 OTHERS = {"`One`": ("side_channel", "spool_host"), "`Two`": ("side_channel",)}
 
 IMPORT = {

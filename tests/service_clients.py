@@ -268,6 +268,29 @@ def the_65th_connection(folder):
     same("another one", clients[0].ask("queues\n"), "ok 0")
 
 
+def those_who_listen_stay(folder):
+    """One that waits for a job, or watches, and takes what it is told, doesn't go for another one."""
+    folder.start()
+    clients = [Client(folder) for _ in range(PLACES)]
+    folder.queue(clients[0], "q")
+    job = clients[0].create("q")
+    waiting, watching, silent = clients[20], clients[30], clients[40]
+    waiting.say(f"wait {job}\n")
+    same("watch", watching.ask("watch\n"), "ok")
+    time.sleep(10.2)
+    for client in clients:
+        if client not in (waiting, watching, silent):
+            same("a reply", len(client.listing("queues\n")), 1)
+    another = Client(folder)
+    same("the 65th", len(another.listing("queues\n")), 1)
+    same("the one that said nothing", silent.is_closed(), True)
+    late = Client(folder)
+    same("one more", (late.reply(), late.is_closed()), (BUSY, True))
+    same("cancel", clients[0].ask(f"cancel {job}\n"), "ok")
+    same("the one that waits", waiting.reply().split()[:2], ["job", str(job)])
+    same("the one that watches", watching.reply().split()[:2], ["job", str(job)])
+
+
 def a_crowd_at_the_door(folder):
     """Those who came while the service was stopped are all answered, though they are more than it lets in at a time."""
     folder.start()
@@ -468,6 +491,7 @@ TESTS = [
     left_at_each_byte,
     fifty_clients_at_once,
     the_65th_connection,
+    those_who_listen_stay,
     a_crowd_at_the_door,
     clients_that_come_and_go,
     a_thousand_connections,

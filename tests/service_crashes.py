@@ -52,6 +52,8 @@ class Submitter:
     """A client that makes a job of each title once, whatever line is lost on the way: what was never closed is given up or gone on
     with."""
 
+    queue = "q"
+
     def __init__(self, folder):
         self.folder = folder
         self.client = None
@@ -80,7 +82,7 @@ class Submitter:
             self.look_again()
         elif self.job is None:
             self.at = "create"
-            reply = self.ask(f'create q u "{self.title}" 1 50 ""\n')
+            reply = self.ask(f'create {self.queue} u "{self.title}" 1 50 ""\n')
             holds(f"create: {reply}", reply.startswith("ok job "))
             self.job = int(reply.split()[2])
         elif self.sent < len(self.text):

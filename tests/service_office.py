@@ -6,7 +6,7 @@ import subprocess
 import time
 from dataclasses import dataclass
 
-from service_parts import Client, HERE, Skipped, at_once, holds, patient_client, same, until
+from service_parts import Client, Difference, HERE, Skipped, at_once, holds, patient_client, same, until
 
 # ---- the clock and the housekeeping
 
@@ -146,6 +146,46 @@ def a_small_spool_goes_on(folder):
     print(f"  {count} jobs: {full[0]} replies were `error full`; {len(took)} checkpoints, {sum(took)} ms of {time.time() - began:.1f} s")
     same("printed", len(folder.printed().split()), count)
     holds("checkpoints cost no more than a tenth of the time", sum(took[:-1]) * 10 < (time.time() - began) * 1_000)
+
+
+# A moment that doesn't come.
+LATER = 4_000_000_000
+
+
+def checkpoints(folder):
+    return folder.log().count("a checkpoint took")
+
+
+def holds_until_checkpoint(folder, client, job):
+    """How many events are written until the next checkpoint."""
+    before = checkpoints(folder)
+    for count in range(1, 10_000):
+        same("hold", client.ask(f"hold {job} {LATER + count}\n"), "ok")
+        if before < checkpoints(folder):
+            return count
+    raise Difference("no checkpoint is made")
+
+
+def room_behind_a_restart(folder):
+    """What an earlier life has written counts too against the share of the journal that is to be free."""
+    folder.size = 16_384
+    folder.start()
+    client = Client(folder)
+    folder.queue(client, "q")
+    job = client.create("q")
+    holds_until_checkpoint(folder, client, job)
+    count, before = holds_until_checkpoint(folder, client, job), checkpoints(folder)
+    for number in range(count * 6 // 10):
+        same("hold", client.ask(f"hold {job} {LATER + number}\n"), "ok")
+    same("no checkpoint yet", checkpoints(folder), before)
+    client.close()
+    folder.kill()
+    folder.start()
+    client = Client(folder)
+    for number in range(count * 6 // 10):
+        same("hold", client.ask(f"hold {job} {LATER + number}\n"), "ok")
+    until("a checkpoint", lambda: before < checkpoints(folder))
+    print(f"  {count} events between two checkpoints; behind a restart {checkpoints(folder) - before} more")
 
 
 # ---- many jobs
@@ -318,6 +358,7 @@ TESTS = [
     a_job_is_tried_again,
     old_jobs_are_purged,
     a_small_spool_goes_on,
+    room_behind_a_restart,
     thousands_of_jobs,
     a_day_of_an_office,
 ]

@@ -6,7 +6,8 @@ No contract sees what a file's sync does. So this runs SHELL, or else crates/spo
 
 Calls in order, at a first start on a fresh folder and at a second one on the same:
 
-- the folder is locked before any other name in it is touched, and stays so to the end;
+- the folder is locked before any name in it is touched, and then the lock's file before any other; a second opening of that file is
+  refused its lock; both stay locked to the end, and that file has its name;
 - a first start writes the file with zeros to its whole length, makes it a spool, syncs it and renames it, and opens its
   first gate alone, after a sync of all else;
 - each start syncs the folder, after the rename, and the file, before it reads it, and writes nothing more, all before
@@ -20,7 +21,7 @@ Calls that fail, one in each run: strace answers EIO or ENOSPC in its place, and
 - of an event, and of a close also the read of its document: it is answered `error disk`, each later one `error dead`, `jobs`
   still answers, and the program ends with status 1 and `spool: disk`; the folder then opens, with the answered jobs, or
   these and the one under way;
-- of a start: `spool: disk`, status 1 and no reply; the folder has no `spool.disk` or a whole one, and no file at all
+- of a start: `spool: disk`, status 1 and no reply; the folder has no `spool.disk` or a whole one, and no file but the lock's
   where there was no room for its bytes; a later start serves it.
 
 The last line is `N of N` for the runs, with status 0, or the first difference, with status 1. Without strace, or where
@@ -44,6 +45,7 @@ SIZE = 150_000  # more than two of the blocks in which the file is filled
 HEADER = 16  # bytes of an area's header
 OPEN = b"\xa5"  # an open gate
 FILE = "spool.disk"
+LOCK = "spool.lock"
 TYPE = "application/octet-stream"
 # How a run ends whose device has failed, and how a start ends in which a call failed.
 DISK = [(1, "spool: disk\nspool: cause: failed\n")]
@@ -256,16 +258,26 @@ def has_sync(calls, name):
 
 
 def check_lock(calls):
-    """The folder is locked before any other name in it is touched, and to the end."""
-    at = first_index(calls, "lock", ".")
+    """The folder and the lock's file are locked before any other name is touched, and to the end."""
+    first = check_locked(calls, ".", ["."])
+    second = check_locked(calls, LOCK, [".", LOCK])
+    again = [call for call in calls[second + 1 :] if (call.kind, call.name) == ("lock", LOCK)]
+    refused = [call for call in again if "EAGAIN" in call.rest and call.descriptor() != calls[second].descriptor()]
+    demand(first < second and len(again) == len(refused) == 1, "no second lock of its file is refused")
+
+
+def check_locked(calls, name, known):
+    """This name is locked before any that isn't known is touched, and to the end. It gives the place of that call."""
+    at = first_index(calls, "lock", name)
     lock = calls[at]
-    demand("LOCK_EX" in lock.words[1] and lock.result == 0, f"the folder isn't locked by {lock}")
+    demand("LOCK_EX" in lock.words[1] and lock.result == 0, f"{name} isn't locked by {lock}")
     for call in calls[:at]:
-        demand(call.names == ["."], f"{call} comes before the folder's lock")
+        demand(set(call.names) <= set(known), f"{call} comes before the lock of {name}")
     last = max(index for index, call in enumerate(calls) if call.kind != "close")
     for call in calls[at:last]:
         let_go = call.kind == "close" or call.kind == "lock" and "LOCK_UN" in call.words[1]
-        demand(not let_go or call.descriptor() != lock.descriptor(), "the folder's lock is let go before the end")
+        demand(not let_go or call.descriptor() != lock.descriptor(), f"the lock of {name} is let go before the end")
+    return at
 
 
 def check_fill(writes):
@@ -367,7 +379,7 @@ def check_file(root, records):
     with open(os.path.join(root, FILE), "rb") as file:
         disk = file.read()
     demand(disk == (header + records).ljust(SIZE, b"\0"), "the file holds other bytes than those that were written")
-    demand(os.listdir(root) == [FILE], f"the folder has {os.listdir(root)}")
+    demand(sorted(os.listdir(root)) == [FILE, LOCK], f"the folder has {os.listdir(root)}")
 
 
 def check_order(root, kept):
@@ -387,7 +399,8 @@ def check_order(root, kept):
         gate, records = journal.gate, records + journal.records
         check_file(root, records)
         if turn == 0:
-            shutil.copy(os.path.join(root, FILE), kept)
+            for name in (FILE, LOCK):
+                shutil.copy(os.path.join(root, name), kept)
         before += script(turn)
         runs.append(run)
     return runs
@@ -424,7 +437,7 @@ def start_fails(root, before, failing, error):
     run = Run(root, with_listings(before, script(1 if before else 0)), failing, error)
     run.answers([], START)
     files = os.listdir(root)
-    demand(error != "ENOSPC" or not files, f"the folder has {files}")
+    demand(error != "ENOSPC" or files == [LOCK], f"the folder has {files}")
     if FILE in files:
         demand(os.path.getsize(os.path.join(root, FILE)) == SIZE, "the spool isn't whole")
     check_served(root, before)
@@ -456,6 +469,9 @@ def failing_starts(run):
     synced = first_index(run.calls, "sync", ".")
     for place, call in enumerate(run.calls[: first_index(run.calls, "reply")]):
         if call.kind == "close" or (call.kind, call.name) == ("look", "."):
+            continue
+        # Where there is no lock of a folder the one of the lock's file decides, so the start goes on.
+        if (call.kind, call.name) == ("lock", "."):
             continue
         # The folder is listed for what was left in it. Where that fails it stays.
         if synced < place and (call.kind, call.name) == ("open", "."):

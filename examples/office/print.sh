@@ -10,10 +10,11 @@ folder=$1
 printer=${2:-}
 here=$(cd "$(dirname "$0")" && pwd)
 crates=$(cd "$here/../../crates" && pwd)
-# A printer that is away for ten seconds is tried again by a later round.
+# A printer that is away for ten seconds leaves the job waiting (`retry-later`). This spool has no clock of its own: a later run tries it
+# again by `clock MOMENT`, 30 seconds further, and `drain 9`. The service (serve.sh) tells the time by itself.
 device=${printer:+appsocket://$printer/?contimeout=10}
 mkdir "$folder" "$folder/spool"
 sed "s|TOOLS|$crates/spool_tools/out/spool_tools|" "$here/programs" > "$folder/programs"
 sed "s|DEVICE|${device:-spoolfile:$folder/letter.prn}|" "$here/letter.spool" |
-    "$crates/spool_shell/out/spool_shell" --root "$folder/spool" --types "$here/office.types" \
-        --convs "$here/office.convs" --programs "$folder/programs"
+    "$crates/spool_shell/out/spool_shell" --root "$folder/spool" --types "$here/types" \
+        --convs "$here/convs" --programs "$folder/programs"

@@ -9,7 +9,7 @@ here=$(cd "$(dirname "$0")" && pwd)
 crates=$(cd "$here/../../crates" && pwd)
 mkdir "$folder" "$folder/spool"
 sed "s|TOOLS|$crates/spool_tools/out/spool_tools|" "$here/programs" > "$folder/programs"
-"$crates/spool_service/out/spool_service" --root "$folder/spool" --types "$here/office.types" --convs "$here/office.convs" \
+"$crates/spool_service/out/spool_service" --root "$folder/spool" --types "$here/types" --convs "$here/convs" \
     --programs "$folder/programs" --children 6 --quiet &
 service=$!
 socket=$folder/spool/spool.sock

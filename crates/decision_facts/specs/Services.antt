@@ -4,9 +4,10 @@ use Rattle.service_rules.specs.declared.checkpoints.Checkpoint.{Checkpoint}
 use Rattle.service_rules.specs.declared.checkpoints.Room.{Room}
 use Rattle.service_rules.specs.declared.clocks.Clocks.{Clocks}
 use Rattle.service_rules.specs.declared.purges.Candidate.{Candidate}
-use Rattle.service_rules.specs.Checkpoints.{is_wanted}
+use Rattle.service_rules.specs.Checkpoints.{is_wanted, room_in}
 use Rattle.service_rules.specs.Clocks.{clock_to_tell, clock_wait}
-use Rattle.service_rules.specs.Looks.{next_look, poll_wait}
+use Rattle.service_rules.specs.declared.looks.Pause.{Pause}
+use Rattle.service_rules.specs.Looks.{next_look, pause_for, poll_wait}
 use Rattle.service_rules.specs.Purges.{purge_count, purged, swept_to}
 use Rattle.service_rules.specs.Starts.{starts_left}
 use Rattle.service_rules.specs.Turns.{is_served_on}
@@ -16,11 +17,17 @@ abbrev pub ServedRows : Type 0
 ServedRows = is_served_on 0 0 ∷ is_served_on 31 0 ∷ is_served_on 32 0 ∷ is_served_on 0 65535 ∷ is_served_on 0 65536 ∷ []
     ≡ true ∷ true ∷ false ∷ true ∷ false ∷ []
 
--- no child; the first look; one while nothing happens; the longest; one when something has happened; a pause of nothing
+abbrev pub pause : ℕ → ℕ → Pause
+pause nap poll = record { nap = nap; poll = poll }
+
+-- no child; one that was just started; one that has run for 1.6 ms and for 16 ms, beside two more; the longest, and longer
 abbrev pub LookRows : Type 0
-LookRows = next_look (Some 8) true 0 ∷ next_look None false 1 ∷ next_look (Some 1) false 3 ∷ next_look (Some 32) false 1
-    ∷ next_look (Some 64) false 1 ∷ next_look (Some 64) true 1 ∷ next_look (Some 0) false 1 ∷ []
-    ≡ None ∷ Some 1 ∷ Some 2 ∷ Some 64 ∷ Some 64 ∷ Some 1 ∷ Some 1 ∷ []
+LookRows = next_look 9000 0 ∷ next_look 0 1 ∷ next_look 1600 1 ∷ next_look 16000 3 ∷ next_look 1024000 1 ∷ next_look 9000000 1 ∷ []
+    ≡ None ∷ Some 100 ∷ Some 100 ∷ Some 1000 ∷ Some 64000 ∷ Some 64000 ∷ []
+
+-- nothing, less than a millisecond, one, and a part more than two
+abbrev pub PauseRows : Type 0
+PauseRows = map pause_for (0 ∷ 999 ∷ 1000 ∷ 2500 ∷ []) ≡ pause 0 0 ∷ pause 999 0 ∷ pause 0 1 ∷ pause 0 2 ∷ []
 
 -- more to do; a look and the clock; one of them; neither
 abbrev pub WaitRows : Type 0
@@ -58,6 +65,11 @@ abbrev pub ShortRows : Type 0
 ShortRows = is_wanted (room 75 100) 25 false None 0 ∷ is_wanted (room 76 100) 25 false None 0 ∷ is_wanted (room 0 100) 25 true None 0
     ∷ is_wanted (room 0 0) 25 false None 0 ∷ []
     ≡ false ∷ true ∷ true ∷ false ∷ []
+
+-- of an area of 200 bytes before the first checkpoint; behind one that left 100; more is free than the one before left
+abbrev pub RoomRows : Type 0
+RoomRows = room_in 200 None 60 ∷ room_in 200 (Some 100) 60 ∷ room_in 200 (Some 100) 120 ∷ []
+    ≡ room 140 200 ∷ room 40 100 ∷ room 0 100 ∷ []
 
 -- ten times as long as the last one took is over, and a millisecond less, also when full; nothing was written behind it, also when
 -- full; it failed

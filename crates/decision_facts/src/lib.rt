@@ -32,7 +32,7 @@ ghost use Rattle.decision_facts.specs.ListedFaults.{ListedFaultRows, QueueFaultR
 ghost use Rattle.decision_facts.specs.Options.{OptionRows, OptionFaultRows, LastValueRows};
 ghost use Rattle.decision_facts.specs.Children.{FileRows, ArgumentRows, EnvironmentRows};
 ghost use Rattle.decision_facts.specs.Devices.{JournalRows, DamagedRows, ClosedRows, LeastAreaRows, MadeRows, MadeAnewRows, AreaRows, VersionRows, HeaderFaultRows, PlanRows};
-ghost use Rattle.decision_facts.specs.Services.{ServedRows, LookRows, WaitRows, ClockRows, ClockWaitRows, ShortRows, CheckpointRows, PurgeCountRows, PurgeRows, SweptRows, StartRows};
+ghost use Rattle.decision_facts.specs.Services.{ServedRows, LookRows, PauseRows, WaitRows, ClockRows, ClockWaitRows, RoomRows, ShortRows, CheckpointRows, PurgeCountRows, PurgeRows, SweptRows, StartRows};
 
 /// Limits, texts, media types and the size of effects.
 pub fn values()
@@ -157,9 +157,11 @@ pub fn devices()
 pub fn services()
     ensures served { ServedRows }
     ensures looks { LookRows }
+    ensures pauses { PauseRows }
     ensures waits { WaitRows }
     ensures clocks { ClockRows }
     ensures clock_waits { ClockWaitRows }
+    ensures room { RoomRows }
     ensures short { ShortRows }
     ensures checkpoints { CheckpointRows }
     ensures purge_counts { PurgeCountRows }

@@ -8,7 +8,11 @@ use std::test::Fail;
 fn clients(alloc: Global, count: usize, others: &[Client]) -> Result<Vec<Client>, Fail> {
     let mut clients = Vec::new(alloc);
     for key in 0..count {
-        let mut client = Client { key, heard: 50_000 };
+        let mut client = Client {
+            key,
+            heard: 50_000,
+            listens: false,
+        };
         for other in others {
             if other.key == key {
                 client = *other;
@@ -19,19 +23,27 @@ fn clients(alloc: Global, count: usize, others: &[Client]) -> Result<Vec<Client>
     Ok(clients)
 }
 
-// Of clients that were heard at these moments, those with the keys 7 and 9 first.
-const OTHERS: [Client; 3] = [
+// Of clients that were heard at these moments, those with the keys 7 and 9 first. The one with the key 5 waits for something.
+const OTHERS: [Client; 4] = [
     Client {
         key: 9,
         heard: 40_000,
+        listens: false,
     },
     Client {
         key: 7,
         heard: 40_000,
+        listens: false,
+    },
+    Client {
+        key: 5,
+        heard: 30_000,
+        listens: true,
     },
     Client {
         key: 3,
         heard: 41_000,
+        listens: false,
     },
 ];
 

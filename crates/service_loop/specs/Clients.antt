@@ -1,12 +1,24 @@
--- When the clients were heard last.
-use Rattle.std.specs.Prelude.{ℕ, List, map}
+-- What is known of the clients where a newcomer wants a place.
+use Rattle.std.specs.Prelude.{ℕ, ◌-◌, ◌==◌, Bool, not, ◌&&◌, ◌||◌, List, map, vec_len, is_some}
 use Rattle.slab.specs.Slab.{Slab, entries}
 use Rattle.service_rules.specs.declared.places.Client.{Client as Heard}
 use Rattle.service_loop.specs.declared.client.Client.{Client}
 
+-- how many bytes it hasn't taken of its replies
+abbrev pub unread : {L : Type 0} → Client L → ℕ
+unread c = vec_len c.replies - c.taken
+
+-- it is told what changes, until its text has ended
+abbrev pub watches : {L : Type 0} → Client L → Bool
+watches c = c.watches && not c.over
+
+-- It waits for the end of a job, or is told what changes, and has taken all that it was told. So it isn't idle.
+abbrev pub listens : {L : Type 0} → Client L → Bool
+listens c = (is_some c.waits || watches c) && (unread c == 0)
+
 -- a client, by its key
 abbrev pub heard_at : {L : Type 0} → ℕ × Client L → Heard
-heard_at place = record { key = place.0; heard = place.1.stirred }
+heard_at place = record { key = place.0; heard = place.1.stirred; listens = listens place.1 }
 
 -- all clients, in the order of their keys
 abbrev pub heard_of : {L : Type 0} → Slab (Client L) → List Heard

@@ -23,6 +23,8 @@ pub struct Run {
 pub struct Watch {
     runs: RefCell<Vec<Run>>,
     starts: Cell<usize>,
+    // Whether a child was started since somebody asked.
+    started: Cell<bool>,
     // The jobs that were begun since the turn of the queues was passed on, and the place of the queue whose turn it is.
     begun: RefCell<Vec<JobId>>,
     first: Cell<usize>,
@@ -34,6 +36,7 @@ impl Watch {
         Ok(Watch {
             runs: RefCell::new(Vec::with_capacity(alloc, most)?),
             starts: Cell::new(most),
+            started: Cell::new(false),
             begun: RefCell::new(Vec::with_capacity(alloc, most)?),
             first: Cell::new(0),
         })
@@ -61,6 +64,11 @@ impl Watch {
     /// Lets the next tick start no more than so many children.
     pub fn bound_starts(&self, starts: usize) {
         self.starts.set(starts);
+    }
+
+    /// Whether a child was started since the last call.
+    pub fn take_started(&self) -> bool {
+        self.started.replace(false)
     }
 
     /// The place among the queues of the one whose turn it is.
@@ -103,6 +111,7 @@ impl Watch {
     }
 
     fn add(&self, run: Run) {
+        self.started.set(true);
         if let Ok(mut runs) = self.runs.try_borrow_mut() {
             let _ = runs.push(run);
         }

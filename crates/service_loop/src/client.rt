@@ -2,7 +2,8 @@
 //!
 //! Of its text no more is read than a piece beyond a line's beginning, and the engine's reader gets it line by line, so that
 //! a word of the service is found where a line begins, and never inside a document.
-ghost use Rattle.std.specs.Prelude.{◌≡◌, ◌==◌, ◌-◌, vec_len, position};
+ghost use Rattle.std.specs.Prelude.{◌≡◌, ◌==◌, position};
+ghost use Rattle.service_loop.specs.Clients.{listens, unread, watches};
 
 use crate::bounds::{LONGEST_LINE, MOST_STEPS, PIECE};
 use crate::office::Office;
@@ -142,6 +143,13 @@ impl<L: Read + Write + Drop> Client<L> {
         self.stirred
     }
 
+    /// Whether it waits for a job's end, or watches, and has taken all that it was told.
+    pub fn listens(&self) -> bool
+        ensures { result ≡ listens self.now }
+    {
+        (self.waits.is_some() || self.watches()) && self.unread() == 0
+    }
+
     /// There may be something to read, and perhaps it takes more, or has gone.
     pub fn signal(&mut self, writable: bool, gone: bool) {
         self.readable = true;
@@ -150,7 +158,7 @@ impl<L: Read + Write + Drop> Client<L> {
     }
 
     fn unread(&self) -> usize
-        ensures { result ≡ vec_len self.now.replies - self.now.taken }
+        ensures { result ≡ unread self.now }
     {
         self.replies.len().saturating_sub(self.taken)
     }
@@ -336,7 +344,9 @@ impl<L: Read + Write + Drop> Client<L> {
     }
 
     /// Whether it is told what changes.
-    pub fn watches(&self) -> bool {
+    pub fn watches(&self) -> bool
+        ensures { result ≡ watches self.now }
+    {
         self.watches && !self.over
     }
 

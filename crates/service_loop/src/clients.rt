@@ -56,7 +56,7 @@ impl<L: Read + Write + Drop> Clients<L> {
     }
 
     /// Lets a client in, or tells it that there is no place. Where none is left the client goes that was idle longest, if it
-    /// was long enough. What became of it.
+    /// was long enough; one that listens isn't idle. What became of it.
     pub fn admit<R: Door<Line = L>>(
         &mut self,
         door: &mut R,
@@ -162,7 +162,12 @@ fn list_heard<L: Read + Write + Drop>(
     list.clear();
     for (key, client) in places.iter() {
         let heard = client.stirred();
-        list.push(Heard { key, heard })?;
+        let listens = client.listens();
+        list.push(Heard {
+            key,
+            heard,
+            listens,
+        })?;
     }
     Ok(())
 }

@@ -2,8 +2,8 @@
 //!
 //! The table is looked at once a second at most, and only where something was done since ([`House::look`]): then it is known
 //! what comes due next, and which ended jobs are to go. So an idle service looks at nothing, and tells nothing.
-ghost use Rattle.std.specs.Prelude.{◌≡◌, ◌-◌};
-ghost use Rattle.service_rules.specs.Checkpoints.{is_wanted};
+ghost use Rattle.std.specs.Prelude.{◌≡◌, None, Some, cond, IfOk};
+ghost use Rattle.service_rules.specs.Checkpoints.{is_wanted, room_in};
 ghost use Rattle.service_rules.specs.Looks.{earlier};
 ghost use Rattle.service_loop.specs.Due.{due_of, end_of_hold, has_come, is_changed_by, is_stopped, late_from, next_moment};
 
@@ -12,8 +12,8 @@ use child_pipeline::Children;
 use command_lines::Command;
 use job_table::Table;
 use service_rules::{
-    Candidate, Checkpoint, Clocks, Room, clock_to_tell, clock_wait, is_wanted, jobs_to_purge,
-    purge_count, swept_to,
+    Candidate, Checkpoint, Clocks, clock_to_tell, clock_wait, is_wanted, jobs_to_purge,
+    purge_count, room_in, swept_to,
 };
 use spool_disk::Disk;
 use spool_types::{Event, Hold, Job, JobId, Moment, Phase};
@@ -39,14 +39,23 @@ pub(crate) struct House {
     looked: Option<Moment>,
     told: Option<Moment>,
     due: Option<Moment>,
-    // A checkpoint is made where less than so many hundredths are left of the room behind the last one.
+    // A checkpoint is made where less than so many hundredths are left of the room behind the last one, which is known of one
+    // that this service has made. Before it the area counts.
     percent: u8,
-    fresh: u64,
+    area: u64,
+    left: Option<u64>,
     last: Option<Checkpoint>,
 }
 
 impl House {
-    pub fn new(alloc: Global, keep: usize, percent: u8, room: u64) -> Result<House, AllocError> {
+    /// A house of an engine whose journal is in an area of so many bytes.
+    pub fn new(alloc: Global, keep: usize, percent: u8, area: u64) -> Result<House, AllocError>
+        ensures keep { IfOk result (λ house. house.keep ≡ keep) }
+        ensures percent { IfOk result (λ house. house.percent ≡ percent) }
+        ensures area { IfOk result (λ house. house.area ≡ area) }
+        ensures left { IfOk result (λ house. house.left ≡ None) }
+        ensures last { IfOk result (λ house. house.last ≡ None) }
+    {
         Ok(House {
             alloc,
             keep,
@@ -56,7 +65,8 @@ impl House {
             told: None,
             due: None,
             percent,
-            fresh: room,
+            area,
+            left: None,
             last: None,
         })
     }
@@ -155,32 +165,33 @@ impl House {
         office: &Office<'_, D, C>,
         now: u64,
     ) -> bool
-        ensures { result ≡ is_wanted (record { used = self.now.fresh - office.now.engine.course.spool.room; size = self.now.fresh }) self.now.percent office.now.full self.now.last now }
+        ensures { result ≡ is_wanted (room_in self.now.area self.now.left office.now.engine.course.spool.room) self.now.percent office.now.full self.now.last now }
     {
-        let room = Room {
-            used: self.fresh.saturating_sub(office.engine.room()),
-            size: self.fresh,
-        };
+        let room = room_in(self.area, self.left, office.engine.room());
         is_wanted(room, self.percent, office.full, self.last, now)
     }
 
-    /// Makes a checkpoint, which began at a moment in milliseconds. Whether it was made.
+    /// Makes a checkpoint. Whether it was made.
     pub fn checkpoint<D: Disk, C: Children>(
         &mut self,
         office: &mut Office<'_, D, C>,
-    ) -> Result<bool, AllocError> {
+    ) -> Result<bool, AllocError>
+        ensures left { IfOk result (λ made. self.new.left ≡ cond made (Some office.new.engine.course.spool.room) self.old.left) }
+    {
         office.full = false;
         let mut reply = Vec::new(self.alloc);
         office.answer(Command::Checkpoint, &mut reply)?;
         let made = reply.as_slice() == DONE;
         if made {
-            self.fresh = office.engine.room();
+            self.left = Some(office.engine.room());
         }
         Ok(made)
     }
 
-    /// A checkpoint was made, or tried, between these moments.
-    pub fn note_checkpoint(&mut self, began: u64, ended: u64, made: bool) {
+    /// A checkpoint was made, or tried, between these moments, in milliseconds. None of the room that it left is used.
+    pub fn note_checkpoint(&mut self, began: u64, ended: u64, made: bool)
+        ensures { self.new.last ≡ Some (record { began = began; ended = ended; left = cond made (Some 0) None }) }
+    {
         let left = if made { Some(0) } else { None };
         self.last = Some(Checkpoint { began, ended, left });
     }

@@ -1,4 +1,7 @@
 //! The loop: clients are served while children run.
+ghost use Rattle.std.specs.Prelude.{◌≡◌, ◌*◌, ◌-◌, ◌^◌, min};
+ghost use Rattle.std.specs.Option.{option_map};
+ghost use Rattle.service_rules.specs.Bounds.{millisecond};
 
 use crate::bounds::{LONGEST_END, LONGEST_IDLE, MOST_ACCEPTED};
 use crate::children::Watch;
@@ -12,7 +15,8 @@ use crate::times::Times;
 use child_pipeline::Children;
 use log::{Log, debug, error, info};
 use print_rounds::{Round, RoundFault};
-use service_rules::{Admission, next_look, poll_wait};
+use service_rules::bounds::MILLISECOND;
+use service_rules::{Admission, next_look, pause_for, poll_wait};
 use spool_disk::Disk;
 use spool_engine::Engine;
 use std::alloc::{AllocError, Global};
@@ -23,8 +27,11 @@ use std::io;
 pub struct Keeping {
     /// How many ended jobs are kept.
     pub jobs: usize,
-    /// A checkpoint is made where less than so many hundredths are left of the room behind the last one.
+    /// A checkpoint is made where less than so many hundredths are left of the room behind the last one. Before the first one
+    /// they are of the area.
     pub room: u8,
+    /// How many bytes an area of the disk has.
+    pub area: u64,
 }
 
 /// The service of one engine, with its clients.
@@ -35,10 +42,9 @@ pub struct Service<'a, L, D: Disk, C: Children, R: Door> {
     office: Office<'a, D, C>,
     clients: Clients<R::Line>,
     house: House,
-    // How far the last look at the children was away, in milliseconds, if children ran.
-    look: Option<u64>,
-    // Whether something was done in the last turn, and whether there is more to be done at once.
-    moved: bool,
+    // When the youngest child was started, in microseconds.
+    begun: u64,
+    // Whether there is more to be done at once.
     more: bool,
     // Whether somebody may want to come in, and whether the last one who came couldn't be let in, which is told once.
     knocks: bool,
@@ -56,15 +62,14 @@ impl<'a, L: Log, D: Disk + Drop, C: Children + Drop, R: Door> Service<'a, L, D, 
         engine: Engine<D, C>,
         keeping: Keeping,
     ) -> Result<Service<'a, L, D, C, R>, AllocError> {
-        let house = House::new(alloc, keeping.jobs, keeping.room, engine.room())?;
+        let house = House::new(alloc, keeping.jobs, keeping.room, keeping.area)?;
         Ok(Service {
             log,
             alloc,
             office: Office::new(alloc, watch, engine),
             clients: Clients::new(alloc)?,
             house,
-            look: None,
-            moved: true,
+            begun: 0,
             more: true,
             knocks: true,
             barred: false,
@@ -104,14 +109,18 @@ impl<'a, L: Log, D: Disk + Drop, C: Children + Drop, R: Door> Service<'a, L, D, 
         self.heed(turns, now);
         self.office.end_children(signals, now);
         let ticked = self.tick();
+        if self.office.watch.take_started() {
+            self.begun = times.micros();
+        }
         let kept = self.keep_house(times)?;
-        self.moved = turns.served || ticked;
-        if self.moved {
+        // Behind an end the next job of its queue is started at once.
+        let moved = turns.served || ticked;
+        if moved {
             self.office.note_stages()?;
         }
         // Of those who wait to come in no further sign comes.
         let knocks = self.knocks && !self.barred && self.ends.is_none();
-        self.more = turns.more || self.moved || kept || knocks;
+        self.more = turns.more || moved || kept || knocks;
         self.tell_changes()?;
         if self.office.engine.met_fault() {
             return Err(ServiceFault::Disk);
@@ -121,7 +130,16 @@ impl<'a, L: Log, D: Disk + Drop, C: Children + Drop, R: Door> Service<'a, L, D, 
 
     // Waits for a sign, and notes it.
     fn wait<T: Times>(&mut self, door: &mut R, times: &mut T) -> Result<(), ServiceFault> {
-        let millis = self.pause(times);
+        let millis = match self.pause(times) {
+            Some(micros) => {
+                let pause = pause_for(micros);
+                if 0 < pause.nap {
+                    times.nap(pause.nap);
+                }
+                Some(pause.poll)
+            }
+            None => None,
+        };
         match door.wait(millis) {
             Ok(()) => {}
             Err(error) if error.kind() == io::ErrorKind::Interrupted => {}
@@ -148,14 +166,16 @@ impl<'a, L: Log, D: Disk + Drop, C: Children + Drop, R: Door> Service<'a, L, D, 
         }
     }
 
-    // How long the next wait is, at most: until the next look at the children, or until the house has something to do.
-    fn pause<T: Times>(&mut self, times: &mut T) -> Option<u64> {
-        self.look = next_look(self.look, self.moved, self.office.watch.running());
+    // How long the next wait is, at most, in microseconds: until the next look at the children, or until the house has something
+    // to do.
+    fn pause<T: Times>(&self, times: &mut T) -> Option<u64> {
+        let ran = times.micros().saturating_sub(self.begun);
+        let look = next_look(ran, self.office.watch.running());
         let house = match times.system() {
-            Some(millis) => self.house.wait(&self.office, millis),
+            Some(millis) => micros_of(self.house.wait(&self.office, millis)),
             None => Some(LONGEST_IDLE),
         };
-        let wait = poll_wait(self.more, self.look, house);
+        let wait = poll_wait(self.more, look, house);
         if self.ends.is_some() || self.office.full || self.barred {
             return poll_wait(false, wait, Some(LONGEST_IDLE));
         }
@@ -287,4 +307,11 @@ impl<'a, L: Log, D: Disk + Drop, C: Children + Drop, R: Door> Service<'a, L, D, 
             None => false,
         }
     }
+}
+
+// The microseconds of a wait in milliseconds.
+fn micros_of(millis: Option<u64>) -> Option<u64>
+    ensures { result ≡ option_map (λ m. min (m * millisecond) (2 ^ 64 - 1)) millis }
+{
+    Some(millis?.saturating_mul(MILLISECOND))
 }

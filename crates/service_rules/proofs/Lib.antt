@@ -1,5 +1,5 @@
 pub mod Costs
-pub mod Doubling
+pub mod Seeing
 pub mod Skipping
 pub mod GoingFirst
 pub mod Sweeping

@@ -17,13 +17,21 @@ most_unread = 65536
 abbrev pub most_commands : ℕ
 most_commands = 32
 
--- the pause before the first look at children
+-- the shortest pause between two looks at children, in microseconds
 abbrev pub first_look : ℕ
-first_look = 1
+first_look = 100
 
--- the longest pause between two looks
+-- the longest pause between two looks, in microseconds
 abbrev pub last_look : ℕ
-last_look = 64
+last_look = 64000
+
+-- a pause is one part of so many parts of the time that the youngest child has run
+abbrev pub look_parts : ℕ
+look_parts = 16
+
+-- microseconds of a millisecond
+abbrev pub millisecond : ℕ
+millisecond = 1000
 
 -- seconds between two clocks that are told
 abbrev pub clock_interval : ℕ

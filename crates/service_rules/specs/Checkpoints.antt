@@ -4,6 +4,12 @@ use Rattle.service_rules.specs.declared.checkpoints.Room.{Room}
 use Rattle.service_rules.specs.declared.checkpoints.Checkpoint.{Checkpoint}
 use Rattle.service_rules.specs.Bounds.{checkpoint_parts}
 
+-- The room of a journal, of which so much is free: of what was free behind the last checkpoint, and before the first of the
+-- whole area.
+abbrev pub room_in : ℕ → Option ℕ → ℕ → Room
+room_in area None free = record { used = area - free; size = area }
+room_in area (Some left) free = record { used = left - free; size = left }
+
 -- fewer hundredths of the journal are free than so many
 abbrev pub is_short : Room → ℕ → Bool
 is_short room percent = nat_lt ((room.size - room.used) * 100) (room.size * percent)

@@ -1,22 +1,16 @@
--- How long the service pauses before it looks at its children again.
-use Rattle.std.specs.Prelude.{ℕ, ◌*◌, zero, suc, min, max, Bool, true, false, Option, None, Some}
-use Rattle.service_rules.specs.Bounds.{first_look, last_look}
+-- How long the service pauses before it looks at its children again. These times are in microseconds.
+use Rattle.std.specs.Prelude.{ℕ, ◌/◌, zero, suc, min, max, Bool, true, false, cond, nat_lt, Option, None, Some}
+use Rattle.service_rules.specs.declared.looks.Pause.{Pause}
+use Rattle.service_rules.specs.Bounds.{first_look, last_look, look_parts, millisecond}
 
--- the pause behind the last one, where something has happened since or nothing has
-abbrev pub pause_behind : Option ℕ → Bool → ℕ
-pause_behind None happened = first_look
-pause_behind (Some pause) true = first_look
-pause_behind (Some pause) false = max first_look (min (2 * pause) last_look)
+-- the pause where the youngest child has run so long: a part of that time, within the bounds
+abbrev pub pause_of : ℕ → ℕ
+pause_of ran = max first_look (min (ran / look_parts) last_look)
 
 -- none where no child runs
-abbrev pub next_look : Option ℕ → Bool → ℕ → Option ℕ
-next_look last happened zero = None
-next_look last happened (suc running) = Some (pause_behind last happened)
-
--- the pause when nothing has happened for so many looks
-abbrev pub quiet_pause : ℕ → ℕ
-quiet_pause zero = pause_behind None true
-quiet_pause (suc looks) = pause_behind (Some (quiet_pause looks)) false
+abbrev pub next_look : ℕ → ℕ → Option ℕ
+next_look ran zero = None
+next_look ran (suc running) = Some (pause_of ran)
 
 -- the earlier of two ends of a wait, of which either may be missing
 abbrev pub earlier : Option ℕ → Option ℕ → Option ℕ
@@ -29,3 +23,8 @@ earlier (Some a) (Some b) = Some (min a b)
 abbrev pub poll_wait : Bool → Option ℕ → Option ℕ → Option ℕ
 poll_wait true look clock = Some 0
 poll_wait false look clock = earlier look clock
+
+-- A wait by a poll, which counts in milliseconds: a shorter one is a nap before a poll that doesn't wait, and of a longer one
+-- the whole milliseconds are polled.
+abbrev pub pause_for : ℕ → Pause
+pause_for wait = record { nap = cond (nat_lt wait millisecond) wait 0; poll = wait / millisecond }

@@ -1,14 +1,14 @@
 -- Which client has to go where a newcomer finds no place.
-use Rattle.std.specs.Prelude.{◌≡◌, ℕ, ◌-◌, ◌<◌, ◌≤◌, Bool, false, cond, ◌==◌, nat_lt, nat_le, List, length, IsTrue}
+use Rattle.std.specs.Prelude.{◌≡◌, ℕ, ◌-◌, ◌<◌, ◌≤◌, Bool, false, not, ◌&&◌, cond, ◌==◌, nat_lt, nat_le, List, length, IsTrue}
 use Rattle.std.specs.List.{Contains}
 use Rattle.service_rules.specs.declared.places.Client.{Client}
 use Rattle.service_rules.specs.declared.places.Admission.{Admission}
 use Rattle.service_rules.specs.declared.places.Admission.TheVariants.{Free, InsteadOf, Busy}
 use Rattle.service_rules.specs.Bounds.{most_clients, least_idle}
 
--- a client that has said nothing for so long that it may be dropped
+-- a client that has said nothing for so long that it may be dropped, and doesn't listen
 abbrev pub is_idle : ℕ → Client → Bool
-is_idle now c = nat_le least_idle (now - c.heard)
+is_idle now c = not c.listens && nat_le least_idle (now - c.heard)
 
 -- One client goes before another if it was heard earlier, or at the same moment and has the lower key.
 abbrev pub goes_before : Client → Client → Bool

@@ -13,11 +13,17 @@ pub const MOST_UNREAD: usize = 65_536;
 /// How many commands of one client are served in a turn. It bounds how long the others wait for one that floods.
 pub const MOST_COMMANDS: usize = 32;
 
-/// The pause before a look at children when something has just happened, in milliseconds.
-pub const FIRST_LOOK: u64 = 1;
+/// The shortest pause between two looks at children, in microseconds.
+pub const FIRST_LOOK: u64 = 100;
 
-/// The longest pause between two looks at children, in milliseconds. It bounds how long the end of a child goes unseen.
-pub const LAST_LOOK: u64 = 64;
+/// The longest pause between two looks at children, in microseconds. It bounds how long the end of a child goes unseen.
+pub const LAST_LOOK: u64 = 64_000;
+
+/// A pause between two looks at children is one part of so many parts of the time that the youngest of them has run.
+pub const LOOK_PARTS: u64 = 16;
+
+/// How many microseconds a millisecond has.
+pub const MILLISECOND: u64 = 1_000;
 
 /// How many children run at once, where the command line names no other number.
 pub const MOST_CHILDREN: usize = 32;

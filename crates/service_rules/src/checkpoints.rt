@@ -1,7 +1,7 @@
 //! When a checkpoint is made, so that the journal doesn't fill up.
 ghost use Rattle.std.specs.Prelude.{◌≡◌, ℕ, ◌+◌, ◌*◌, ◌≤◌, List, ◌∷◌};
 ghost use Rattle.service_rules.specs.Bounds.{checkpoint_parts};
-ghost use Rattle.service_rules.specs.Checkpoints.{all_took, ArePaidFor, is_paid_for, is_short, is_wanted, may_free};
+ghost use Rattle.service_rules.specs.Checkpoints.{all_took, ArePaidFor, is_paid_for, is_short, is_wanted, may_free, room_in};
 ghost use Rattle.service_rules.specs.declared.checkpoints.Checkpoint.{Checkpoint as AnyCheckpoint};
 
 use crate::bounds::CHECKPOINT_PARTS;
@@ -11,6 +11,19 @@ use crate::bounds::CHECKPOINT_PARTS;
 pub struct Room {
     pub used: u64,
     pub size: u64,
+}
+
+/// The room of a journal in an area of so many bytes, of which so many are free, where so many were free behind the last
+/// checkpoint, if one was made. Before the first nobody knows what one would leave, and the whole area counts: what rows and
+/// documents take of it is a reason to make one, and what it leaves counts from then on.
+pub fn room_in(area: u64, left: Option<u64>, free: u64) -> Room
+    ensures { result ≡ room_in area left free }
+{
+    let size = left.unwrap_or(area);
+    Room {
+        used: size.saturating_sub(free),
+        size,
+    }
 }
 
 /// A checkpoint that was made, or tried: when it began and when it ended, in milliseconds.

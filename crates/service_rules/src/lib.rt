@@ -7,15 +7,18 @@
 //! # Promises
 //!
 //! - [`admit`]: a newcomer has a free place where one of 64 is free, else that of the client that has been idle longest
-//!   if it has been so for ten seconds (`IsFirstToGo`), and is turned away exactly where no client has.
+//!   if it has been so for ten seconds (`IsFirstToGo`), and is turned away exactly where no client has. One that listens isn't
+//!   idle.
 //! - [`is_served_on`]: a command of a client is served in its turn exactly where fewer than 32 were and fewer than 65,536
 //!   bytes of its replies are unread.
-//! - [`next_look`]: the pause before the next look at children, between 1 and 64 milliseconds, and none exactly where none
-//!   runs. [`pauses_double`]: while nothing happens the pauses double. [`poll_wait`]: the earlier of two ends of a wait.
+//! - [`next_look`]: the pause before the next look at children, a sixteenth of the time that the youngest has run, between 0.1 and 64
+//!   milliseconds, and none exactly where none runs. [`ends_are_seen_soon`]: so an end is seen after a sixteenth of the time that
+//!   the child ran, or 0.1 ms. [`poll_wait`]: the earlier of two ends of a wait. [`pause_for`]: how it is waited.
 //! - [`clock_to_tell`]: the system's second exactly where something has come due, the table's moment is earlier, and no clock
 //!   was told in that second. [`clock_wait`]: the time until then; it is over exactly where there is a clock to tell (`over`).
 //! - [`is_wanted`]: a checkpoint is made exactly where the journal is short or an event was Full, another one may free something,
-//!   and the last one has been paid for. [`checkpoints_cost_little`]: so checkpoints take less than a tenth of the time.
+//!   and the last one has been paid for. [`room_in`]: it is short by what the last one left, and before the first by its area.
+//!   [`checkpoints_cost_little`]: so checkpoints take less than a tenth of the time.
 //! - [`purge_count`]: as many of the ended jobs as are beyond those that are kept, at most 8 a turn. [`jobs_to_purge`]: the first so
 //!   many that have ended and no child of which runs. [`swept_to`]: the number up to which a list has been
 //!   looked at then. [`swept_jobs_are_skipped`]: above it are exactly those that are left.
@@ -36,9 +39,9 @@ mod purges;
 mod starts;
 mod turns;
 
-pub use checkpoints::{Checkpoint, Room, checkpoints_cost_little, is_wanted};
+pub use checkpoints::{Checkpoint, Room, checkpoints_cost_little, is_wanted, room_in};
 pub use clocks::{Clocks, clock_to_tell, clock_wait};
-pub use looks::{next_look, pauses_double, poll_wait};
+pub use looks::{Pause, ends_are_seen_soon, next_look, pause_for, poll_wait};
 pub use places::{Admission, Client, admit, first_to_go};
 pub use purges::{Candidate, Purges, jobs_to_purge, purge_count, swept_jobs_are_skipped, swept_to};
 pub use starts::starts_left;

@@ -1,29 +1,33 @@
 //! How long the service waits: for its next look at children, and in its poll.
-ghost use Rattle.std.specs.Prelude.{◌≡◌, ℕ, ◌^◌, ◌≤◌, ◌↔◌, min, IfSome};
+ghost use Rattle.std.specs.Prelude.{◌≡◌, ℕ, ◌+◌, ◌*◌, ◌/◌, ◌≤◌, ◌↔◌, max, min, IfSome};
 ghost use Rattle.std.specs.Option.{IsNone};
-ghost use Rattle.service_rules.specs.Bounds.{first_look, last_look};
-ghost use Rattle.service_rules.specs.Looks.{next_look, poll_wait, quiet_pause};
+ghost use Rattle.service_rules.specs.Bounds.{first_look, last_look, look_parts, millisecond};
+ghost use Rattle.service_rules.specs.Looks.{next_look, pause_for, pause_of, poll_wait};
 
-use crate::bounds::{FIRST_LOOK, LAST_LOOK};
+use crate::bounds::{FIRST_LOOK, LAST_LOOK, LOOK_PARTS, MILLISECOND};
 
-/// The pause before the next look at children, in milliseconds, where so many run. `last` is the pause before the last look,
-/// if there was one, and `happened` tells whether something has happened since.
-pub fn next_look(last: Option<u64>, happened: bool, running: usize) -> Option<u64>
-    ensures value { result ≡ next_look last happened running }
+/// A wait: a nap, in microseconds, and then a poll, in milliseconds.
+#[derive(Clone, Copy)]
+pub struct Pause {
+    pub nap: u64,
+    pub poll: u64,
+}
+
+/// The pause before the next look at children, in microseconds, where so many run and the youngest has run for so many
+/// microseconds.
+pub fn next_look(ran: u64, running: usize) -> Option<u64>
+    ensures value { result ≡ next_look ran running }
     ensures within { IfSome result (λ pause. (first_look ≤ pause) × (pause ≤ last_look)) }
     ensures none { IsNone result ↔ (running ≡ 0) }
 {
     if running == 0 {
         return None;
     }
-    match last {
-        Some(pause) if !happened => Some(pause.saturating_mul(2).min(LAST_LOOK).max(FIRST_LOOK)),
-        _ => Some(FIRST_LOOK),
-    }
+    Some((ran / LOOK_PARTS).min(LAST_LOOK).max(FIRST_LOOK))
 }
 
-/// How long the poll may wait, in milliseconds; with no answer it waits until something comes. `has_more` tells whether there
-/// is more to do at once, `look` is the pause before the next look at children, and `clock` the time until the clock is due.
+/// How long the poll may wait; with no answer it waits until something comes. `has_more` tells whether there is more to do at
+/// once, `look` is the pause before the next look at children, and `clock` the time until the clock is due.
 pub fn poll_wait(has_more: bool, look: Option<u64>, clock: Option<u64>) -> Option<u64>
     ensures { result ≡ poll_wait has_more look clock }
 {
@@ -37,7 +41,21 @@ pub fn poll_wait(has_more: bool, look: Option<u64>, clock: Option<u64>) -> Optio
     }
 }
 
-/// While children run and nothing happens, the pauses are 1, 2, 4 and so on, up to the longest one.
-pub fn pauses_double()
-    ensures { (looks : ℕ) → quiet_pause looks ≡ min (2 ^ looks) last_look }
+/// How so many microseconds are waited for: a poll counts in milliseconds, and rounds up what it is given. During a nap no sign
+/// is seen, so it is shorter than that.
+pub fn pause_for(wait: u64) -> Pause
+    ensures value { result ≡ pause_for wait }
+    ensures no_longer { result.nap + result.poll * millisecond ≤ wait }
+{
+    Pause {
+        nap: if wait < MILLISECOND { wait } else { 0 },
+        poll: wait / MILLISECOND,
+    }
+}
+
+/// A child that has run for some time at a look, and for so long in all, is seen to have ended at the next look: after no
+/// more than a part of the time that it ran, or after the shortest pause. The youngest child has run no longer than it.
+pub fn ends_are_seen_soon()
+    ensures { (youngest ran all : ℕ) → youngest ≤ ran → ran ≤ all →
+        ran + pause_of youngest ≤ all + max first_look (min (all / look_parts) last_look) }
 {}

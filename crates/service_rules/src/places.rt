@@ -11,6 +11,8 @@ use crate::bounds::{LEAST_IDLE, MOST_CLIENTS};
 pub struct Client {
     pub key: usize,
     pub heard: u64,
+    /// Whether it waits for something to be told, and has taken what it was told: one that does has nothing to say.
+    pub listens: bool,
 }
 
 /// What becomes of a newcomer.
@@ -37,8 +39,8 @@ pub fn admit(clients: &[Client], now: u64) -> Admission
     }
 }
 
-/// The client that has been idle longest, if it has been so long enough. Of two that were heard at the same moment it is the
-/// one with the lower key.
+/// The client that has been idle longest, if it has been so long enough. One that listens isn't idle. Of two that were heard at
+/// the same moment it is the one with the lower key.
 pub fn first_to_go(clients: &[Client], now: u64) -> Option<Client>
     ensures found { IfSome result (IsFirstToGo clients.now now) }
     ensures none { IsNone result ↔ HasNoneIdle clients.now now }
@@ -55,7 +57,7 @@ pub fn first_to_go(clients: &[Client], now: u64) -> Option<Client>
 fn is_idle(client: &Client, now: u64) -> bool
     ensures { result ≡ is_idle now client.now }
 {
-    LEAST_IDLE <= now.saturating_sub(client.heard)
+    !client.listens && LEAST_IDLE <= now.saturating_sub(client.heard)
 }
 
 fn goes_before(client: &Client, other: &Client) -> bool

@@ -1,13 +1,16 @@
 -- What the faults below the program are to it.
-use Rattle.std.specs.Prelude.{◌≡◌, ◌⊎◌, ℕ, ⊤, Bool, false, List, Option, Some, string_bytes}
+use Rattle.std.specs.Prelude.{◌≡◌, ◌⊎◌, ℕ, ⊤, Bool, false, List, Option, Some, Result, Ok, Err, string_bytes}
 use Rattle.spool_core.specs.declared.OpenFault.{OpenFault}
 use Rattle.spool_core.specs.declared.OpenFault.TheVariants as opening
 use Rattle.spool_engine.specs.declared.fault.RunFault.{RunFault}
 use Rattle.spool_engine.specs.declared.fault.RunFault.TheVariants as run
+use Rattle.std.specs.IoError.{error_kind}
+use Rattle.std.specs.declared.fs.TryLockError.{TryLockError}
+use Rattle.std.specs.declared.fs.TryLockError.TheVariants.{Error, WouldBlock}
 use Rattle.std.specs.declared.io.ErrorKind.{ErrorKind}
 use Rattle.std.specs.declared.io.ErrorKind.TheVariants.{FilesystemLoop, IsADirectory, NotADirectory, NotFound, OutOfMemory, PermissionDenied, QuotaExceeded, ReadOnlyFilesystem, StorageFull}
 use Rattle.spool_host.specs.declared.fault.DiskCause.{DiskCause}
-use Rattle.spool_host.specs.declared.fault.DiskCause.TheVariants.{Absent, Failed, NoFile, NoRoom, NotAllowed, ReadOnly}
+use Rattle.spool_host.specs.declared.fault.DiskCause.TheVariants.{Absent, Failed, NoFile, NoRoom, NotAllowed, Owned, OwnerUnknown, ReadOnly}
 use Rattle.spool_host.specs.declared.fault.ShellFault.{ShellFault}
 use Rattle.spool_host.specs.declared.fault.ShellFault.TheVariants.{Damaged, Disk, File, Memory, NotASpool, Read, Write}
 
@@ -40,6 +43,17 @@ cause_of _ = Failed
 abbrev pub of_error : ErrorKind → ShellFault
 of_error OutOfMemory = Memory
 of_error kind = Disk (cause_of kind)
+
+-- a lock of them can't be had
+abbrev pub of_lock : TryLockError → ShellFault
+of_lock WouldBlock = Disk Owned
+of_lock (Error error) = of_error (error_kind error)
+
+-- what the second lock of a locked file says: it has to be refused
+abbrev pub kept_out : Result (Unit {0}) TryLockError → Result (Unit {0}) ShellFault
+kept_out (Ok got) = Err (Disk OwnerUnknown)
+kept_out (Err WouldBlock) = Ok tt
+kept_out (Err fault) = Err (of_lock fault)
 
 -- the folder or its file can't be had, or there was no memory
 abbrev pub IsOfFolder : ShellFault → Type 0

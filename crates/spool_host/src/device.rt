@@ -2,10 +2,11 @@
 //!
 //! # One owner
 //!
-//! The program owns the folder itself, by a lock that it takes before it looks at any name in it and keeps until it ends
-//! ([`SpoolFolder`]). So of two programs that start together on a fresh folder one makes the file, and the other one
-//! ends without a change. A lock that is taken is tried for a second: a program that was killed while it started a child has
-//! its own for a moment more. The file is locked too: another folder may lead to it, by a link.
+//! The program owns the folder, by locks that it takes before it looks at any name in it and keeps until it ends
+//! ([`SpoolFolder`], [`crate::ownership`]). So of two programs that start together on a fresh folder, on whatever host, one makes
+//! the file, and the other one ends without a change but for the lock's file. A lock that is taken is tried for a second: a
+//! program that was killed while it started a child has its own for a moment more. The spool's file is locked too: another
+//! folder may lead to it, by a link.
 //!
 //! # A file is whole or absent
 //!
@@ -19,8 +20,9 @@
 //!
 //! # Faults
 //!
-//! `memory`, or else `disk`: the folder can't be opened or locked, another program owns it or its file, or the file
-//! can't be looked at, opened, made or synced. What the file holds is looked at later, by `Spool::open`.
+//! `memory`, or else `disk`: the folder can't be opened or locked, another program owns it or its file, the locks of its file
+//! system keep nobody out, or the file can't be looked at, opened, made or synced. What the file holds is looked at later, by
+//! `Spool::open`.
 ghost use Rattle.std.specs.Prelude.{◌≡◌, ◌≢◌, IfErr, OnOk, replicate};
 ghost use Rattle.std.specs.IoError.{error_kind};
 ghost use Rattle.std.specs.Io.KnownBytes.{Appends};
@@ -28,15 +30,16 @@ ghost use Rattle.spool_host.specs.Faults.{IsOfFolder};
 
 use crate::fault::{DiskCause, ShellFault};
 use crate::named_disk::NamedDisk;
+use crate::ownership::{LOCK, locked, take};
 use spool_core::make;
 use spool_disk::FileDisk;
 use std::alloc::AllocError;
-use std::fs::{File, Files, Metadata, OpenFile, OpenOptions, TryLockError};
+use std::fs::{File, Files, Metadata, OpenFile, OpenOptions};
 use std::io::{ErrorKind, Write};
 use std::os::unix::fs::{MetadataExt, OpenOptionsExt, fchown};
 use std::path::Path;
-use std::time::{Clock, Duration};
-use std::{fs, io, thread};
+use std::time::Clock;
+use std::{fs, io};
 
 // The file's name in its folder, and its name until it is a whole spool.
 const NAME: &str = "spool.disk";
@@ -46,20 +49,18 @@ const UNFINISHED: &str = "spool.disk.new";
 // How many zeros are written at once.
 const BLOCK: usize = 65_536;
 
-// How often a lock that another program has is tried again, and after how many milliseconds: a second in all.
-const MOST_WAITS: u32 = 50;
-
-const WAIT: u64 = 20;
-
 /// The folder of a spool. No other program has one of the same folder while this value lives.
 #[derive(Drop)]
 pub struct SpoolFolder<'a> {
     path: Path<'a>,
     folder: File,
+    // Locked as long as it is open.
+    lock: File,
 }
 
 impl<'a> SpoolFolder<'a> {
-    /// Takes the folder, which is there. Where another program owns it this is `Disk`, and nothing has changed.
+    /// Takes the folder, which is there. Where another program owns it, or might, this is `Disk`, and nothing has changed but that
+    /// the lock's file is there.
     pub fn own<R: Files<File = File> + Clock + AllocGlobal>(
         rt: &R,
         dir: &'a str,
@@ -67,10 +68,8 @@ impl<'a> SpoolFolder<'a> {
         ensures { IfErr result IsOfFolder }
     {
         let path = Path::new(dir);
-        // By this name nothing but a folder opens. By its own a pipe would wait for whoever writes to it.
-        let itself = path.join(rt.alloc(), ".")?;
-        let folder = locked(rt, File::open(rt, itself.as_path())?)?;
-        Ok(SpoolFolder { path, folder })
+        let (folder, lock) = take(rt, path)?;
+        Ok(SpoolFolder { path, folder, lock })
     }
 
     /// The spool's file. Where the name isn't there it is made, with `size` bytes; one that is there stays as it is.
@@ -156,7 +155,8 @@ impl<'a> SpoolFolder<'a> {
         let path = self.named(rt, NAME)?;
         let unfinished = self.named(rt, UNFINISHED)?;
         let folder = self.folder.try_clone()?;
-        Ok(NamedDisk::new(rt, folder, path, unfinished, file)?)
+        let lock = (self.named(rt, LOCK)?, self.lock.try_clone()?);
+        Ok(NamedDisk::new(rt, folder, lock, path, unfinished, file)?)
     }
 
     // The file, opened or made, and locked.
@@ -292,19 +292,4 @@ fn write_zeros<W: Write>(writer: &mut W, count: u64) -> io::Result<()>
         writer.write_all(&zeros)?;
     }
     writer.write_all(&zeros[..(count % block) as usize])
-}
-
-// The file, or the folder, which no other program gets until this one lets it go. A program that was killed while it
-// started a child has it for some milliseconds more, until the child runs: so this waits a moment.
-fn locked<R: Clock>(rt: &R, file: File) -> Result<File, ShellFault>
-    ensures { IfErr result IsOfFolder }
-{
-    for _ in 0..MOST_WAITS {
-        match file.try_lock() {
-            Ok(()) => return Ok(file),
-            Err(TryLockError::WouldBlock) => thread::sleep(rt, Duration::from_millis(WAIT)),
-            Err(TryLockError::Error(error)) => return Err(ShellFault::from(error)),
-        }
-    }
-    Err(ShellFault::Disk(DiskCause::Owned))
 }

@@ -49,6 +49,9 @@ pub enum DiskCause {
     /// Another program has it.
     #[error("owned")]
     Owned,
+    /// Its lock keeps nobody out, so another program might have it.
+    #[error("owner unknown")]
+    OwnerUnknown,
     #[error("absent")]
     Absent,
     #[error("not allowed")]

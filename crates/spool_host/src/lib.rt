@@ -98,6 +98,7 @@ mod launcher;
 mod leftovers;
 mod named_disk;
 mod options;
+mod ownership;
 mod reasons;
 mod running;
 mod script;

@@ -3,8 +3,9 @@
 //! The folder for the temporary files of children is the spool's own, so a filter that removes all that it finds there
 //! removes the spool's file too. The program has it open and loses nothing while it runs, but nobody would find it later. So
 //! each sync looks whether the file still has its name, before the sync is answered and with it an event. Where it hasn't,
-//! the file is copied under another name, synced, given its name, and the copy is gone on with. Where that fails, so does
-//! the sync, and the device counts as failed.
+//! the file is copied under another name, synced, given its name, and the copy is gone on with. Before that the lock's file gets
+//! its name again, if it has lost it too: where another program has made one by then, it has the folder. Where any of this
+//! fails, so does the sync, and the device counts as failed.
 //!
 //! It tells nothing of its bytes, as a file of the system does.
 ghost use Rattle.std.specs.Prelude.{◌≡◌, ◌↔◌, ◌<◌, ◌≤◌, ◌+◌, ◌-◌, ◌^◌, length, IfOk, OnOk, IsOk, IsErr};
@@ -28,6 +29,8 @@ const BLOCK: usize = 65_536;
 pub struct NamedDisk<'a, R> {
     rt: &'a R,
     folder: File,
+    // The lock's file, by its name.
+    lock: (String, File),
     // Its name, and the name of a copy that isn't finished.
     path: String,
     unfinished: String,
@@ -42,6 +45,7 @@ impl<'a, R: Files<File = File>> NamedDisk<'a, R> {
     pub(crate) fn new(
         rt: &'a R,
         folder: File,
+        lock: (String, File),
         path: String,
         unfinished: String,
         file: File,
@@ -52,6 +56,7 @@ impl<'a, R: Files<File = File>> NamedDisk<'a, R> {
         Ok(NamedDisk {
             rt,
             folder,
+            lock,
             path,
             unfinished,
             file,
@@ -81,6 +86,9 @@ impl<'a, R: Files<File = File>> NamedDisk<'a, R> {
         if has_name(self.rt, self.path.as_str(), &self.file)? {
             return Ok(());
         }
+        if !has_name(self.rt, self.lock.0.as_str(), &self.lock.1)? {
+            self.lock.1 = self.new_locked(self.lock.0.as_str())?;
+        }
         let copied = self.copy();
         if copied.is_err() {
             let _ = fs::remove_file(self.rt, self.unfinished.as_str());
@@ -92,16 +100,21 @@ impl<'a, R: Files<File = File>> NamedDisk<'a, R> {
     // A copy of the file that has its name.
     fn copy(&self) -> io::Result<File> {
         let _ = fs::remove_file(self.rt, self.unfinished.as_str());
-        let copy = new_file(self.rt, Path::new(self.unfinished.as_str()))?;
-        // The folder is this program's, so nobody has a lock of it.
-        if copy.try_lock().is_err() {
-            return Err(io::Error::from(ErrorKind::ResourceBusy));
-        }
+        let copy = self.new_locked(self.unfinished.as_str())?;
         copy_bytes(&self.file, &copy, self.len)?;
         copy.sync_all()?;
         fs::rename(self.rt, self.unfinished.as_str(), self.path.as_str())?;
         self.folder.sync_all()?;
         Ok(copy)
+    }
+
+    // A new file of this name, locked. The folder is this program's, so nobody has made it, or has a lock of it.
+    fn new_locked(&self, path: &str) -> io::Result<File> {
+        let file = new_file(self.rt, Path::new(path))?;
+        if file.try_lock().is_err() {
+            return Err(io::Error::from(ErrorKind::ResourceBusy));
+        }
+        Ok(file)
     }
 
     fn sync_named(&mut self) -> io::Result<()>

@@ -3,11 +3,21 @@ use Rattle.std.specs.Prelude.{ℕ, ◌++◌, List, Option, None, Some, Result, O
 use Rattle.std.specs.Borrow.{Bor}
 use Rattle.std.specs.declared.io.ErrorKind.{ErrorKind}
 use Rattle.std.specs.declared.io.ErrorKind.TheVariants.{OutOfMemory}
+use Rattle.service_loop.specs.declared.service.Keeping.{Keeping}
 use Rattle.service_loop.specs.declared.fault.ServiceFault.{ServiceFault}
 use Rattle.service_loop.specs.declared.fault.ServiceFault.TheVariants as service
+use Rattle.spool_areas.specs.Header.{half}
 use Rattle.spool_host.specs.declared.fault.DiskCause.TheVariants.{Failed}
 use Rattle.spool_host.specs.declared.fault.ShellFault.{ShellFault}
 use Rattle.spool_host.specs.declared.fault.ShellFault.TheVariants.{Disk, Memory, Socket}
+
+-- the file of DIR that is the spool's disk
+abbrev pub disk_of : List ℕ → List ℕ
+disk_of root = root ++ codes "/spool.disk"
+
+-- how the house is kept over a disk of so many bytes: of its areas each has the half of them
+abbrev pub keeping_of : ℕ → ℕ → ℕ → Keeping
+keeping_of keep room size = record { jobs = keep; room = room; area = half size }
 
 -- SOCKET, or that of DIR
 abbrev pub socket_of : List ℕ → Option (Bor (List ℕ)) → List ℕ

@@ -2,10 +2,11 @@
 ghost use Rattle.std.specs.Prelude.{◌≡◌, ◌≤◌, ◌^◌, IfSome};
 
 use service_loop::Times;
-use std::time::{Clock, Instant, SystemTime};
+use std::thread;
+use std::time::{Clock, Duration, Instant, SystemTime};
 
-// The greatest number of milliseconds that is told.
-const MOST_MILLIS: u128 = 1 << 60;
+// The greatest number of milliseconds or microseconds that is told.
+const MOST: u128 = 1 << 60;
 
 /// The system's clocks. Where the steady one can't be read, it stands.
 #[derive(Drop)]
@@ -26,14 +27,14 @@ impl<'a, R: Clock> SystemTimes<'a, R> {
 }
 
 impl<'a, R: Clock> Times for SystemTimes<'a, R> {
-    fn millis(&mut self) -> u64
+    fn micros(&mut self) -> u64
         ensures never_back { self.old.last ≤ result }
         ensures kept { self.new.last ≡ result }
     {
         if let Some(start) = self.start {
             if let Ok(passed) = start.elapsed(self.rt) {
-                let millis = passed.as_millis().min(MOST_MILLIS) as u64;
-                self.last = self.last.max(millis);
+                let micros = passed.as_micros().min(MOST) as u64;
+                self.last = self.last.max(micros);
             }
         }
         self.last
@@ -44,6 +45,10 @@ impl<'a, R: Clock> Times for SystemTimes<'a, R> {
     {
         let now = SystemTime::now(self.rt).ok()?;
         let passed = now.duration_since(SystemTime::UNIX_EPOCH).ok()?;
-        Some(passed.as_millis().min(MOST_MILLIS) as u64)
+        Some(passed.as_millis().min(MOST) as u64)
+    }
+
+    fn nap(&mut self, micros: u64) {
+        thread::sleep(self.rt, Duration::from_micros(micros));
     }
 }

@@ -1,6 +1,6 @@
 //! How the service is opened: the folder's lock first, then the spool, and the socket last.
 ghost use Rattle.std.specs.Prelude.{◌≡◌, IfOk, string_bytes};
-ghost use Rattle.spool_service.specs.Start.{at_socket, socket_of, told_of};
+ghost use Rattle.spool_service.specs.Start.{at_socket, disk_of, keeping_of, socket_of, told_of};
 
 use crate::clocks::SystemTimes;
 use crate::kills::Kills;
@@ -16,8 +16,9 @@ use spool_host::{
     DiskCause, ShellFault, check_child_ends, launcher_in, open_folder_engine, read_rules,
     remove_if_there, tell_programs,
 };
-use std::alloc::AllocError;
-use std::fs::{File, Files};
+use std::alloc::{AllocError, Global};
+use std::fs;
+use std::fs::{File, Files, Metadata};
 use std::io::ErrorKind;
 use std::net::Net;
 use std::path::Path;
@@ -58,10 +59,7 @@ where
     C: Children + Drop,
 {
     let (folder, engine) = open_folder_engine(logged, rt, words.root, words.size, children, rules)?;
-    let keeping = Keeping {
-        jobs: words.keep,
-        room: words.room,
-    };
+    let keeping = keeping_of(words, disk_size(rt, words.root)?);
     let mut service = Service::new(logged, rt.alloc(), watch, engine, keeping)?;
     let socket = socket_name(rt, words)?;
     let mut door = open_door(rt, socket.as_str(), words.mode)?;
@@ -72,6 +70,33 @@ where
     drop(service);
     drop(folder);
     told_as(served)
+}
+
+// How many bytes the disk of a folder has.
+fn disk_size<H: Files<File = File> + AllocGlobal>(rt: &H, root: &str) -> Result<u64, ShellFault> {
+    let name = disk_name(rt.alloc(), root)?;
+    match fs::metadata(rt, name.as_str()) {
+        Ok(disk) => Ok(disk.len()),
+        Err(error) if error.kind() == ErrorKind::OutOfMemory => Err(ShellFault::Memory),
+        Err(_) => Err(ShellFault::Disk(DiskCause::Failed)),
+    }
+}
+
+fn disk_name(alloc: Global, root: &str) -> Result<String, AllocError>
+    ensures { IfOk result (λ name. string_bytes name ≡ disk_of root.now) }
+{
+    format!(in alloc; "{root}/spool.disk")
+}
+
+// How the house is kept, over a disk of so many bytes.
+fn keeping_of(words: &ServiceWords<'_>, size: u64) -> Keeping
+    ensures { result ≡ keeping_of words.now.keep words.now.room size }
+{
+    Keeping {
+        jobs: words.keep,
+        room: words.room,
+        area: size / 2,
+    }
 }
 
 // The end of the service, as it is told.

@@ -1,0 +1,245 @@
+#!/usr/bin/env python3
+"""What one spool carries: scale.py [--costs FILE] [FOLDER [SHELL [SERVICE]]]
+
+It runs crates/spool_shell/out/spool_shell and crates/spool_service/out/spool_service (made by `rt run` in those folders), or the
+programs that are named, in new folders under FOLDER (here, where none is given), and prints
+
+- `events`: events a second by one program, which waits for each reply of the disk, beside two writes and two syncs each by a plain program
+  (floor.c), in turns;
+- `openings`: the seconds until a spool of so many waiting jobs has answered, those of a checkpoint, and the memory of the program;
+- `queues`: the same of 64 queues, with the jobs shared among them;
+- `bytes`: documents of 16 MiB until a spool of the greatest file is full, and an opening and a checkpoint of it;
+- `clients`: jobs of a KiB a second that are made, sent and closed, by 1 to 64 clients on 64 queues, beside the floor of their events.
+
+With `--costs` the figures that `many_spools.py` takes are written to FILE. Times depend on the machine and its disk, and on what else it
+does, so each stands beside its floor, measured just before and after; no test reads them. It takes some five minutes.
+"""
+import json
+import os
+import statistics
+import subprocess
+import sys
+import tempfile
+import time
+
+here = os.path.dirname(os.path.abspath(__file__))
+sys.path.insert(0, os.path.join(here, "..", "tests"))
+
+import service_parts
+from service_parts import Client, Folder, at_once, same, timed
+from opening import rows, spool
+
+BUILT = os.path.join(here, "..", "crates", "{0}", "out", "{0}")
+QUEUES = 64
+EVENTS = 2_000
+TURNS = 3
+COUNTS = (1_000, 10_000, 100_000, 1_000_000)
+GREATEST = 1_073_741_824
+DOCUMENT = 16_777_216
+PIECE = 65_536
+CLIENTS = (1, 4, 16, 64)
+ACCEPTED = 192
+
+
+class Shell:
+    """A shell over a spool, that is asked command by command."""
+
+    def __init__(self, program, root, *words):
+        start = time.perf_counter()
+        pipe = subprocess.PIPE
+        self.process = subprocess.Popen([program, "--root", root, *words], stdin=pipe, stdout=pipe)
+        self.ask(b"clock 0\n")
+        self.opened = time.perf_counter() - start
+
+    def ask(self, command, wanted=b"ok"):
+        """The seconds from a command to its reply."""
+        start = time.perf_counter()
+        self.process.stdin.write(command)
+        self.process.stdin.flush()
+        reply = self.process.stdout.readline()
+        if not reply.startswith(wanted):
+            sys.exit(f"a reply was {reply!r}")
+        return time.perf_counter() - start
+
+    def memory(self):
+        """The greatest memory so far, in MiB."""
+        with open(f"/proc/{self.process.pid}/status", encoding="ascii") as file:
+            return next(int(line.split()[1]) for line in file if line.startswith("VmHWM:")) / 1024
+
+    def end(self):
+        self.process.stdin.close()
+        self.process.stdout.close()
+        self.process.wait()
+
+
+def floor(folder, count, length):
+    """The seconds of two writes and two syncs by the plain program."""
+    program = os.path.join(folder, "floor")
+    if not os.path.exists(program):
+        subprocess.run(["cc", "-O2", "-o", program, os.path.join(here, "floor.c")], check=True)
+    words = [program, os.path.join(folder, "floor.disk"), str(count), str(length)]
+    return float(subprocess.run(words, stdout=subprocess.PIPE, check=True).stdout) / count
+
+
+def written(folder, contents):
+    """A new folder with a spool of these bytes."""
+    root = tempfile.mkdtemp(dir=folder)
+    with open(os.path.join(root, "spool.disk"), "wb") as file:
+        file.write(contents)
+        file.flush()
+        os.fsync(file.fileno())
+    return root
+
+
+# ---- events
+
+
+def scripted(shell, root, script):
+    """The seconds of a script, which is read from a file."""
+    with tempfile.TemporaryFile(dir=root) as file:
+        file.write(script)
+        file.flush()
+        os.fsync(file.fileno())
+        file.seek(0)
+        start = time.perf_counter()
+        done = subprocess.run([shell, "--root", root], stdin=file, stdout=subprocess.PIPE, check=True)
+        took = time.perf_counter() - start
+    if b"error" in done.stdout:
+        sys.exit("a reply was an error")
+    return took
+
+
+def events(folder, shell, costs):
+    found = []
+    for _ in range(TURNS):
+        root = tempfile.mkdtemp(dir=folder)
+        scripted(shell, root, b"queue lab spoolfile:/out application/octet-stream abort-job\n")
+        opened = scripted(shell, root, b"")
+        before = floor(folder, EVENTS, 60)
+        took = (scripted(shell, root, EVENTS * b'create lab ann "A title" 1 50 ""\n') - opened) / EVENTS
+        after = floor(folder, EVENTS, 60)
+        found.append((took, (before + after) / 2))
+    took, least = (statistics.median(column) for column in zip(*found))
+    print(f"  {1 / took:,.0f} events a second, the floor {1 / least:,.0f}, ratio {least / took:.2f}", flush=True)
+    costs["event"], costs["event_floor"] = took, least
+
+
+# ---- openings
+
+
+def many_rows(count, queues):
+    """The listing of so many waiting jobs, shared among so many queues."""
+    listed = list(rows(count + 2)) if queues == 1 else None
+    if listed:
+        return listed
+    single = list(rows(count + 2))
+    names = [b"q%02d" % number for number in range(queues)]
+    heads = [single[1].replace(b"\x00\x03lab", b"\x00\x03" + name, 1) for name in names]
+    others = [row.replace(b"\x00\x03lab", b"\x00\x03" + names[at % queues], 1) for at, row in enumerate(single[2:])]
+    return [single[0], *heads, *others]
+
+
+def openings(folder, shell, costs, queues=1):
+    for count in COUNTS:
+        contents = spool(many_rows(count, queues))
+        root = written(folder, contents)
+        raw = timed(lambda: open(os.path.join(root, "spool.disk"), "rb").read())
+        running = Shell(shell, root)
+        opened, took = running.opened, running.ask(b"checkpoint\n")
+        start = time.perf_counter()
+        written(folder, contents[: len(contents) // 2])
+        least = time.perf_counter() - start
+        memory = running.memory()
+        running.end()
+        print(f"  {count:9,} jobs, {len(contents) // 2:,} bytes: opened in {opened:.2f} s (read in {raw:.2f} s), checkpoint {took:.2f} s"
+              f" (its bytes in {least:.2f} s), {memory:,.0f} MiB", flush=True)
+        costs.setdefault(f"opening_{queues}", {})[count] = opened
+        costs.setdefault(f"checkpoint_{queues}", {})[count] = took
+
+
+def of_queues(folder, shell, costs):
+    openings(folder, shell, costs, QUEUES)
+
+
+# ---- bytes
+
+
+def of_bytes(folder, shell, costs):
+    """As many of the longest documents as the greatest file has room for."""
+    root = tempfile.mkdtemp(dir=folder)
+    running = Shell(shell, root, "--size", str(GREATEST))
+    running.ask(b"queue lab spoolfile:/out application/octet-stream abort-job\n")
+    piece, sent, job, took = bytes(PIECE), 0, 0, 0
+    fits = GREATEST // 2 // (DOCUMENT + DOCUMENT // PIECE * 14 + 200)
+    for job in range(1, fits + 1):
+        running.ask(b'create lab ann "A title" 1 50 ""\n')
+        for _ in range(DOCUMENT // PIECE):
+            took += running.ask(b"send %d %d\n%b\n" % (job, PIECE, piece))
+            sent += PIECE
+    checkpoint = running.ask(b"checkpoint\n")
+    memory = running.memory()
+    running.end()
+    least = floor(folder, 500, PIECE + 14)
+    again = Shell(shell, root)
+    opened = again.opened
+    again.end()
+    print(f"  {job} documents, {sent / 2 ** 20:,.0f} MiB: {sent / 2 ** 20 / took:.0f} MiB a second (floor {PIECE / 2 ** 20 / least:.0f}),"
+          f" checkpoint {checkpoint:.1f} s, opened in {opened:.2f} s, {memory:,.0f} MiB of memory", flush=True)
+    costs["mebibyte"] = took / (sent / 2 ** 20)
+
+
+# ---- clients
+
+
+def submit_some(folder, names, first, count):
+    client = Client(folder)
+    for number in range(first, first + count):
+        client.submit(names[number % len(names)], "x" * 1_023 + "\n")
+    client.close()
+
+
+def clients(folder, shell, costs):
+    names = [f"q{number}" for number in range(QUEUES)]
+    for count in CLIENTS:
+        office = Folder()
+        office.size = 67_108_864
+        office.start("--quiet", "--keep", "1000000")
+        first = Client(office)
+        for name in names:
+            office.queue(first, name, 0)
+        for name in names:
+            same("disable", first.ask(f"disable {name}\n"), "ok")
+        share = ACCEPTED // count
+        before = floor(folder, 3 * ACCEPTED, 400)
+        took = timed(lambda: at_once([lambda n=n: submit_some(office, names, n * share, share) for n in range(count)])) / (share * count)
+        least = 3 * (before + floor(folder, 3 * ACCEPTED, 400)) / 2
+        first.close()
+        office.end()
+        office.remove()
+        print(f"  {count:3} clients: {1 / took:,.0f} jobs a second, the floor {1 / least:,.0f}, ratio {least / took:.2f}", flush=True)
+        costs.setdefault("job_accepted", {})[count] = took
+
+
+def main():
+    words = sys.argv[1:]
+    file = None
+    if words[:1] == ["--costs"]:
+        file, words = words[1], words[2:]
+    room = words[0] if words else "."
+    shell = os.path.abspath(words[1] if len(words) > 1 else BUILT.format("spool_shell"))
+    Folder.service = os.path.abspath(words[2] if len(words) > 2 else service_parts.BUILT)
+    for program in (shell, Folder.service):
+        if not os.path.exists(program):
+            sys.exit(f"no program {program}: run `rt run` in its crate first")
+    costs = {}
+    with tempfile.TemporaryDirectory(dir=room) as folder:
+        for name, part in (("events", events), ("openings", openings), ("queues", of_queues), ("bytes", of_bytes), ("clients", clients)):
+            print(name, flush=True)
+            part(folder, shell, costs)
+    if file:
+        with open(file, "w", encoding="ascii") as out:
+            json.dump(costs, out, indent=1)
+
+
+if __name__ == "__main__":
+    main()

@@ -1,0 +1,500 @@
+-- Which jobs of a submission arrive, at each step. So no job is left behind one that was accepted.
+use Rattle.std.proofs.Common.{◌≡◌, ℕ, ◌+◌, ◌≤◌, ◌<◌, zero, suc, ◌⊎◌, inl, inr, Bool, true, false, cond, ◌==◌, List, [], ◌∷◌, ◌++◌, length, refl, ap, sym, ◌∙◌, subst, arith, eq-eqb}
+use Rattle.std.proofs.lemmas.Bool.{cases_eq, cases_lt, ne_eqb}
+use Rattle.front_submission.specs.declared.step.Step.{Step}
+use Rattle.front_submission.specs.declared.step.Step.TheVariants.{Creating, Finding, Clearing, Reading, Sending, Measuring, Holding, Closing, Checking, Canceling, Ended}
+use Rattle.front_submission.specs.declared.step.Cause.{Cause}
+use Rattle.front_submission.specs.declared.step.End.{End}
+use Rattle.front_submission.specs.declared.step.End.TheVariants.{Accepted, Unprintable, Refused, Unknown}
+use Rattle.front_submission.specs.declared.reply.Own.{Own}
+use Rattle.front_submission.specs.declared.reply.Reply.TheVariants.{Later, Denied}
+use Rattle.front_submission.specs.Moves.{status, request, heard, lost, unread, deserted, own_found, after_send, after_measure, after_hold, after_close, after_check, after_cancel, accepted}
+use Rattle.front_submission.specs.Service.{Standing, NotOwn, Arrives, Stopped, StoppedGone, Stands, StandsGone, Service, changed, grown, closed, stopped, purged, with_standing, served, arriving_at, arriving, found, sent_reply, shown_reply, held_reply, closed_reply, canceled_reply, reply_to, Other, Makes, Cancels, Purges, after_other}
+use Rattle.front_submission.specs.Runs.{World, Event, Served, ServedUnheard, ServedUnclear, Lost, LeftUnclear, PutOff, TurnedDown, Reads, CannotRead, GivesUp, Meanwhile, read_at, happens, run, start, end_of}
+use Rattle.front_submission.proofs.Keeping.{by_test, unclear_lost}
+
+-- it doesn't arrive
+abbrev pub IsStill : Standing → Type 0
+IsStill NotOwn = Unit {0}
+IsStill (Arrives bytes) = ⊥
+IsStill Stopped = Unit {0}
+IsStill StoppedGone = Unit {0}
+IsStill Stands = Unit {0}
+IsStill StandsGone = Unit {0}
+
+-- what doesn't arrive doesn't arrive afterwards
+abbrev pub KeepsStill : (Standing → Standing) → Type 0
+KeepsStill change = (s : Standing) → IsStill s → IsStill (change s)
+
+grown_still : (piece : List ℕ) → KeepsStill (grown piece)
+grown_still piece NotOwn h = tt
+grown_still piece (Arrives bytes) h = absurd h
+grown_still piece Stopped h = tt
+grown_still piece StoppedGone h = tt
+grown_still piece Stands h = tt
+grown_still piece StandsGone h = tt
+
+closed_still : KeepsStill closed
+closed_still NotOwn h = tt
+closed_still (Arrives bytes) h = tt
+closed_still Stopped h = tt
+closed_still StoppedGone h = tt
+closed_still Stands h = tt
+closed_still StandsGone h = tt
+
+stopped_still : KeepsStill stopped
+stopped_still NotOwn h = tt
+stopped_still (Arrives bytes) h = tt
+stopped_still Stopped h = tt
+stopped_still StoppedGone h = tt
+stopped_still Stands h = tt
+stopped_still StandsGone h = tt
+
+purged_still : KeepsStill purged
+purged_still NotOwn h = tt
+purged_still (Arrives bytes) h = absurd h
+purged_still Stopped h = tt
+purged_still StoppedGone h = tt
+purged_still Stands h = tt
+purged_still StandsGone h = tt
+
+changed_still : (standing : ℕ → Standing) (job : ℕ) (change : Standing → Standing) → KeepsStill change → (k : ℕ) → IsStill (standing k) → IsStill (changed standing job change k)
+changed_still standing job change kept k h =
+    elim (k == job) as (λ v. IsStill (cond v (change (standing k)) (standing k))) [ true ↦ kept (standing k) h | false ↦ h ]
+
+-- ## What is known at each step
+
+-- none arrives but this one
+pub record IsAlone (standing : ℕ → Standing) (job : ℕ) : Type 0 where
+  pub others : (k : ℕ) → (k ≡ job → ⊥) → IsStill (standing k)
+
+pub record NoneArrives (standing : ℕ → Standing) : Type 0 where
+  pub all : (k : ℕ) → IsStill (standing k)
+
+-- no number is given twice
+pub record IsFresh (z : Service) : Type 0 where
+  pub beyond : (k : ℕ) → z.given ≤ k → IsStill (z.standing k)
+
+abbrev pub OwnsEnd : Service → End → Type 0
+OwnsEnd z (Accepted job) = NoneArrives z.standing
+OwnsEnd z (Unprintable job) = NoneArrives z.standing
+OwnsEnd z (Refused job cause canceled) = Unit {0}
+OwnsEnd z (Unknown job) = Unit {0}
+
+abbrev pub Owns : Service → Step → Type 0
+Owns z (Creating tries) = NoneArrives z.standing
+Owns z Finding = Unit {0}
+Owns z (Clearing job) = Unit {0}
+Owns z (Reading job size) = IsAlone z.standing job
+Owns z (Sending job size count tries) = IsAlone z.standing job
+Owns z (Measuring job size count) = IsAlone z.standing job
+Owns z (Holding job size tries) = IsAlone z.standing job
+Owns z (Closing job size tries again) = IsAlone z.standing job
+Owns z (Checking job size) = IsAlone z.standing job
+Owns z (Canceling job cause) = Unit {0}
+Owns z (Ended end) = OwnsEnd z end
+
+pub record Keeps (z : Service) (step : Step) : Type 0 where
+  pub fresh : IsFresh z
+  pub owns : Owns z step
+
+-- ## Changes of one job
+
+alone_changed : (standing : ℕ → Standing) (own job : ℕ) (change : Standing → Standing) → KeepsStill change → IsAlone standing own → IsAlone (changed standing job change) own
+alone_changed standing own job change kept h = record { others = λ k ne. changed_still standing job change kept k (h.others k ne) }
+
+none_changed : (standing : ℕ → Standing) (job : ℕ) (change : Standing → Standing) → KeepsStill change → NoneArrives standing → NoneArrives (changed standing job change)
+none_changed standing job change kept h = record { all = λ k. changed_still standing job change kept k (h.all k) }
+
+-- a job that is changed in any way is alone where none arrives
+alone_made : (standing : ℕ → Standing) (job : ℕ) (change : Standing → Standing) → NoneArrives standing → IsAlone (changed standing job change) job
+alone_made standing job change h =
+    record { others = λ k ne. subst (λ (v : Bool). IsStill (cond v (change (standing k)) (standing k))) (sym (ne_eqb k job ne)) (h.all k) }
+
+-- where the own job doesn't arrive any more none does
+none_left : (standing : ℕ → Standing) (job : ℕ) → IsAlone standing job → IsStill (standing job) → NoneArrives standing
+none_left standing job h still = record { all = λ k. by_case k (cases_eq k job) }
+  where
+    by_case : (k : ℕ) → (k ≡ job) ⊎ (k ≡ job → ⊥) → IsStill (standing k)
+    by_case k (inl e) = subst (λ (n : ℕ). IsStill (standing n)) (sym e) still
+    by_case k (inr ne) = h.others k ne
+
+fresh_changed : (z : Service) (job : ℕ) (change : Standing → Standing) → KeepsStill change → IsFresh z → IsFresh (with_standing z (changed z.standing job change))
+fresh_changed z job change kept h = record { beyond = λ k le. changed_still z.standing job change kept k (h.beyond k le) }
+
+fresh_made : (z : Service) → IsFresh z → IsFresh (served z [] (request (Creating 0)))
+fresh_made z h = record { beyond = λ k le. by_number k le }
+  where
+    by_number : (k : ℕ) → suc z.given ≤ k → IsStill (changed z.standing z.given (λ standing. Arrives []) k)
+    by_number k le =
+        let ne : k ≡ z.given → ⊥ = λ e. absurd (omega arith) in
+        let below : z.given ≤ k = omega arith in
+        subst (λ (v : Bool). IsStill (cond v (Arrives []) (z.standing k))) (sym (ne_eqb k z.given ne)) (h.beyond k below)
+
+-- ## The search
+
+found_none : (job : ℕ) (s : Standing) (others : List Own) → arriving_at job s others ≡ [] → IsStill s × (others ≡ [])
+found_none job NotOwn others e = (tt, e)
+found_none job (Arrives bytes) others e = absurd (cc)
+found_none job Stopped others e = (tt, e)
+found_none job StoppedGone others e = (tt, e)
+found_none job Stands others e = (tt, e)
+found_none job StandsGone others e = (tt, e)
+
+first_same : (a b : Own) (xs ys : List Own) → a ∷ xs ≡ b ∷ ys → a ≡ b
+first_same a b xs ys e = cc
+
+others_same : (a b : Own) (xs ys : List Own) → a ∷ xs ≡ b ∷ ys → xs ≡ ys
+others_same a b xs ys e = cc
+
+found_one : (job : ℕ) (s : Standing) (others : List Own) (own : Own) → arriving_at job s others ≡ own ∷ [] →
+    (IsStill s × (others ≡ own ∷ [])) ⊎ ((job ≡ own.job) × (others ≡ []))
+found_one job NotOwn others own e = inl (tt, e)
+found_one job (Arrives bytes) others own e =
+    inr (ap (λ (o : Own). o.job) (first_same (record { job = job; size = length bytes }) own others [] e), others_same (record { job = job; size = length bytes }) own others [] e)
+found_one job Stopped others own e = inl (tt, e)
+found_one job StoppedGone others own e = inl (tt, e)
+found_one job Stands others own e = inl (tt, e)
+found_one job StandsGone others own e = inl (tt, e)
+
+-- one number more
+still_step : (standing : ℕ → Standing) (job k : ℕ) → IsStill (standing job) → (k < job → IsStill (standing k)) → k < suc job → IsStill (standing k)
+still_step standing job k here below lt = by_case (cases_eq k job)
+  where
+    by_case : (k ≡ job) ⊎ (k ≡ job → ⊥) → IsStill (standing k)
+    by_case (inl same) = subst (λ (n : ℕ). IsStill (standing n)) (sym same) here
+    by_case (inr ne) = let less : k < job = omega arith in below less
+
+still_below : (standing : ℕ → Standing) (given : ℕ) → arriving standing given ≡ [] → (k : ℕ) → k < given → IsStill (standing k)
+still_below standing zero e k lt = absurd (omega arith)
+still_below standing (suc job) e k lt =
+    still_step standing job k (found_none job (standing job) (arriving standing job) e).0
+    (λ less. still_below standing job (found_none job (standing job) (arriving standing job) e).1 k less) lt
+
+alone_step : (standing : ℕ → Standing) (job : ℕ) (own : Own) (k : ℕ) →
+    (IsStill (standing job) × (arriving standing job ≡ own ∷ [])) ⊎ ((job ≡ own.job) × (arriving standing job ≡ [])) →
+    (arriving standing job ≡ own ∷ [] → k < job → IsStill (standing k)) → k < suc job → (k ≡ own.job → ⊥) → IsStill (standing k)
+alone_step standing job own k (inl h) below lt ne = still_step standing job k h.0 (below h.1) lt
+alone_step standing job own k (inr h) below lt ne = by_case (cases_eq k job)
+  where
+    by_case : (k ≡ job) ⊎ (k ≡ job → ⊥) → IsStill (standing k)
+    by_case (inl same) = absurd (ne (same ∙ h.0))
+    by_case (inr other) = let less : k < job = omega arith in still_below standing job h.1 k less
+
+alone_below : (standing : ℕ → Standing) (given : ℕ) (own : Own) → arriving standing given ≡ own ∷ [] → (k : ℕ) → k < given → (k ≡ own.job → ⊥) → IsStill (standing k)
+alone_below standing zero own e k lt ne = absurd (omega arith)
+alone_below standing (suc job) own e k lt ne =
+    alone_step standing job own k (found_one job (standing job) (arriving standing job) own e)
+    (λ one less. alone_below standing job own one k less ne) lt ne
+
+none_found : (z : Service) → IsFresh z → arriving z.standing z.given ≡ [] → NoneArrives z.standing
+none_found z fresh e = record { all = λ k. by_case k (cases_lt k z.given) }
+  where
+    by_case : (k : ℕ) → (k < z.given) ⊎ (z.given ≤ k) → IsStill (z.standing k)
+    by_case k (inl lt) = still_below z.standing z.given e k lt
+    by_case k (inr le) = fresh.beyond k le
+
+one_found : (z : Service) (own : Own) → IsFresh z → arriving z.standing z.given ≡ own ∷ [] → IsAlone z.standing own.job
+one_found z own fresh e = record { others = λ k ne. by_case k ne (cases_lt k z.given) }
+  where
+    by_case : (k : ℕ) → (k ≡ own.job → ⊥) → (k < z.given) ⊎ (z.given ≤ k) → IsStill (z.standing k)
+    by_case k ne (inl lt) = alone_below z.standing z.given own e k lt ne
+    by_case k ne (inr le) = fresh.beyond k le
+
+found_owns : (z : Service) (owns : List Own) → IsFresh z → arriving z.standing z.given ≡ owns → Owns z (own_found (found owns))
+found_owns z [] fresh e = none_found z fresh e
+found_owns z (one ∷ []) fresh e = by_test (Owns z) (one.size == 0) _ _ (λ _. one_found z one fresh e) (λ _. tt)
+found_owns z (one ∷ (two ∷ others)) fresh e = tt
+
+-- ## A request that is served
+
+sent_owns : (z : Service) (job size count tries : ℕ) (piece : List ℕ) (s : Standing) → IsAlone z.standing job → Owns z (after_send job size count tries (sent_reply piece s))
+sent_owns z job size count tries piece NotOwn h = tt
+sent_owns z job size count tries piece (Arrives bytes) h = by_test (Owns z) (length (bytes ++ piece) == size + count) _ _ (λ _. h) (λ _. tt)
+sent_owns z job size count tries piece Stopped h = tt
+sent_owns z job size count tries piece StoppedGone h = tt
+sent_owns z job size count tries piece Stands h = tt
+sent_owns z job size count tries piece StandsGone h = tt
+
+measure_owns : (z : Service) (job size count : ℕ) (prints : Bool) (s : Standing) → IsAlone z.standing job → Owns z (after_measure job size count (shown_reply prints s))
+measure_owns z job size count prints NotOwn h = tt
+measure_owns z job size count prints (Arrives bytes) h =
+    by_test (Owns z) (length bytes == size) _ _ (λ _. h) (λ _. by_test (Owns z) (length bytes == size + count) _ _ (λ _. h) (λ _. tt))
+measure_owns z job size count prints Stopped h = tt
+measure_owns z job size count prints StoppedGone h = tt
+measure_owns z job size count true Stands h = tt
+measure_owns z job size count false Stands h = tt
+measure_owns z job size count prints StandsGone h = tt
+
+held_owns : (z : Service) (job size tries : ℕ) (s : Standing) → IsAlone z.standing job → Owns z (after_hold job size tries (held_reply s))
+held_owns z job size tries NotOwn h = tt
+held_owns z job size tries (Arrives bytes) h = h
+held_owns z job size tries Stopped h = tt
+held_owns z job size tries StoppedGone h = tt
+held_owns z job size tries Stands h = tt
+held_owns z job size tries StandsGone h = tt
+
+accepted_owns : (z : Service) (job : ℕ) (printable : Bool) → NoneArrives z.standing → Owns z (accepted job printable)
+accepted_owns z job true h = h
+accepted_owns z job false h = h
+
+-- a job that is closed doesn't arrive any more
+closed_here_still : (standing : ℕ → Standing) (job : ℕ) → IsStill (changed standing job closed job)
+closed_here_still standing job =
+    subst (λ (v : Bool). IsStill (cond v (closed (standing job)) (standing job))) (sym (eq-eqb job job refl)) (closed_any (standing job))
+  where
+    closed_any : (s : Standing) → IsStill (closed s)
+    closed_any NotOwn = tt
+    closed_any (Arrives bytes) = tt
+    closed_any Stopped = tt
+    closed_any StoppedGone = tt
+    closed_any Stands = tt
+    closed_any StandsGone = tt
+
+close_owns : (z : Service) (piece : List ℕ) (job size tries : ℕ) (again : Bool) (s : Standing) → IsAlone z.standing job →
+    Owns (served z piece (request (Closing job size tries again))) (after_close job size tries again (closed_reply z.prints s))
+close_owns z piece job size tries again NotOwn h = alone_changed z.standing job job closed closed_still h
+close_owns z piece job size tries again (Arrives bytes) h =
+    accepted_owns (served z piece (request (Closing job size tries again))) job z.prints
+    (none_left (changed z.standing job closed) job (alone_changed z.standing job job closed closed_still h) (closed_here_still z.standing job))
+close_owns z piece job size tries again Stopped h = alone_changed z.standing job job closed closed_still h
+close_owns z piece job size tries again StoppedGone h = alone_changed z.standing job job closed closed_still h
+close_owns z piece job size tries again Stands h = alone_changed z.standing job job closed closed_still h
+close_owns z piece job size tries again StandsGone h = alone_changed z.standing job job closed closed_still h
+
+check_owns : (z : Service) (job size : ℕ) (prints : Bool) (s : Standing) → z.standing job ≡ s → IsAlone z.standing job → Owns z (after_check job size (shown_reply prints s))
+check_owns z job size prints NotOwn is h = tt
+check_owns z job size prints (Arrives bytes) is h = by_test (Owns z) (length bytes == size) _ _ (λ _. h) (λ _. tt)
+check_owns z job size prints Stopped is h = tt
+check_owns z job size prints StoppedGone is h = tt
+check_owns z job size true Stands is h = none_left z.standing job h (subst IsStill (sym is) tt)
+check_owns z job size false Stands is h = none_left z.standing job h (subst IsStill (sym is) tt)
+check_owns z job size prints StandsGone is h = tt
+
+cancel_owns : (z : Service) (job : ℕ) (cause : Cause) (s : Standing) → Owns z (after_cancel job cause (canceled_reply s))
+cancel_owns z job cause NotOwn = tt
+cancel_owns z job cause (Arrives bytes) = tt
+cancel_owns z job cause Stopped = tt
+cancel_owns z job cause StoppedGone = tt
+cancel_owns z job cause Stands = tt
+cancel_owns z job cause StandsGone = tt
+
+served_fresh : (z : Service) (piece : List ℕ) (step : Step) → IsFresh z → IsFresh (served z piece (request step))
+served_fresh z piece (Creating tries) h = record { beyond = (fresh_made z h).beyond }
+served_fresh z piece Finding h = h
+served_fresh z piece (Clearing job) h = fresh_changed z job stopped stopped_still h
+served_fresh z piece (Reading job size) h = h
+served_fresh z piece (Sending job size count tries) h = fresh_changed z job (grown piece) (grown_still piece) h
+served_fresh z piece (Measuring job size count) h = h
+served_fresh z piece (Holding job size tries) h = h
+served_fresh z piece (Closing job size tries again) h = record { beyond = (fresh_changed z job closed closed_still h).beyond }
+served_fresh z piece (Checking job size) h = h
+served_fresh z piece (Canceling job cause) h = fresh_changed z job stopped stopped_still h
+served_fresh z piece (Ended end) h = h
+
+heard_owns : (z : Service) (piece : List ℕ) (step : Step) → Keeps z step → Owns (served z piece (request step)) (heard step (reply_to z piece (request step)))
+heard_owns z piece (Creating tries) h = alone_made z.standing z.given (λ standing. Arrives []) h.owns
+heard_owns z piece Finding h = found_owns z (arriving z.standing z.given) h.fresh refl
+heard_owns z piece (Clearing job) h = tt
+heard_owns z piece (Reading job size) h = h.owns
+heard_owns z piece (Sending job size count tries) h =
+    sent_owns (with_standing z (changed z.standing job (grown piece))) job size count tries piece (z.standing job)
+    (alone_changed z.standing job job (grown piece) (grown_still piece) h.owns)
+heard_owns z piece (Measuring job size count) h = measure_owns z job size count z.prints (z.standing job) h.owns
+heard_owns z piece (Holding job size tries) h = held_owns z job size tries (z.standing job) h.owns
+heard_owns z piece (Closing job size tries again) h = close_owns z piece job size tries again (z.standing job) h.owns
+heard_owns z piece (Checking job size) h = check_owns z job size z.prints (z.standing job) refl h.owns
+heard_owns z piece (Canceling job cause) h = cancel_owns (with_standing z (changed z.standing job stopped)) job cause (z.standing job)
+heard_owns z piece (Ended end) h = h.owns
+
+lost_owns : (z : Service) (piece : List ℕ) (step : Step) → Keeps z step → Owns (served z piece (request step)) (lost step)
+lost_owns z piece (Creating tries) h = tt
+lost_owns z piece Finding h = tt
+lost_owns z piece (Clearing job) h = tt
+lost_owns z piece (Reading job size) h = h.owns
+lost_owns z piece (Sending job size count tries) h = alone_changed z.standing job job (grown piece) (grown_still piece) h.owns
+lost_owns z piece (Measuring job size count) h = h.owns
+lost_owns z piece (Holding job size tries) h = h.owns
+lost_owns z piece (Closing job size tries again) h = alone_changed z.standing job job closed closed_still h.owns
+lost_owns z piece (Checking job size) h = h.owns
+lost_owns z piece (Canceling job cause) h = tt
+lost_owns z piece (Ended end) h = h.owns
+
+-- ## A request that isn't served
+
+unserved_owns : (z : Service) (step : Step) → Owns z step → Owns z (lost step)
+unserved_owns z (Creating tries) h = tt
+unserved_owns z Finding h = tt
+unserved_owns z (Clearing job) h = tt
+unserved_owns z (Reading job size) h = h
+unserved_owns z (Sending job size count tries) h = h
+unserved_owns z (Measuring job size count) h = h
+unserved_owns z (Holding job size tries) h = h
+unserved_owns z (Closing job size tries again) h = h
+unserved_owns z (Checking job size) h = h
+unserved_owns z (Canceling job cause) h = tt
+unserved_owns z (Ended end) h = h
+
+put_off_owns : (z : Service) (step : Step) → Owns z step → Owns z (heard step Later)
+put_off_owns z (Creating tries) h = by_test (Owns z) (tries == 0) _ _ (λ _. tt) (λ _. h)
+put_off_owns z Finding h = tt
+put_off_owns z (Clearing job) h = tt
+put_off_owns z (Reading job size) h = h
+put_off_owns z (Sending job size count tries) h = by_test (Owns z) (tries == 0) _ _ (λ _. tt) (λ _. h)
+put_off_owns z (Measuring job size count) h = h
+put_off_owns z (Holding job size tries) h = by_test (Owns z) (tries == 0) _ _ (λ _. tt) (λ _. h)
+put_off_owns z (Closing job size tries again) h = by_test (Owns z) (tries == 0) _ _ (λ _. tt) (λ _. h)
+put_off_owns z (Checking job size) h = h
+put_off_owns z (Canceling job cause) h = tt
+put_off_owns z (Ended end) h = h
+
+denied_owns : (z : Service) (step : Step) → Owns z step → Owns z (heard step Denied)
+denied_owns z (Creating tries) h = tt
+denied_owns z Finding h = tt
+denied_owns z (Clearing job) h = tt
+denied_owns z (Reading job size) h = h
+denied_owns z (Sending job size count tries) h = tt
+denied_owns z (Measuring job size count) h = tt
+denied_owns z (Holding job size tries) h = tt
+denied_owns z (Closing job size tries again) h = tt
+denied_owns z (Checking job size) h = tt
+denied_owns z (Canceling job cause) h = tt
+denied_owns z (Ended end) h = h
+
+unread_owns : (z : Service) (step : Step) → Owns z step → Owns z (unread step)
+unread_owns z (Creating tries) h = h
+unread_owns z Finding h = h
+unread_owns z (Clearing job) h = h
+unread_owns z (Reading job size) h = tt
+unread_owns z (Sending job size count tries) h = h
+unread_owns z (Measuring job size count) h = h
+unread_owns z (Holding job size tries) h = h
+unread_owns z (Closing job size tries again) h = h
+unread_owns z (Checking job size) h = h
+unread_owns z (Canceling job cause) h = h
+unread_owns z (Ended end) h = h
+
+deserted_owns : (z : Service) (step : Step) → Owns z step → Owns z (deserted step)
+deserted_owns z (Creating tries) h = tt
+deserted_owns z Finding h = tt
+deserted_owns z (Clearing job) h = tt
+deserted_owns z (Reading job size) h = tt
+deserted_owns z (Sending job size count tries) h = tt
+deserted_owns z (Measuring job size count) h = tt
+deserted_owns z (Holding job size tries) h = tt
+deserted_owns z (Closing job size tries true) h = tt
+deserted_owns z (Closing job size tries false) h = tt
+deserted_owns z (Checking job size) h = tt
+deserted_owns z (Canceling job cause) h = tt
+deserted_owns z (Ended end) h = h
+
+-- ## What others do
+
+gentle_owns : (z : Service) (job : ℕ) (change : Standing → Standing) → KeepsStill change → (step : Step) → Owns z step → Owns (with_standing z (changed z.standing job change)) step
+gentle_owns z job change kept (Creating tries) h = none_changed z.standing job change kept h
+gentle_owns z job change kept Finding h = tt
+gentle_owns z job change kept (Clearing own) h = tt
+gentle_owns z job change kept (Reading own size) h = alone_changed z.standing own job change kept h
+gentle_owns z job change kept (Sending own size count tries) h = alone_changed z.standing own job change kept h
+gentle_owns z job change kept (Measuring own size count) h = alone_changed z.standing own job change kept h
+gentle_owns z job change kept (Holding own size tries) h = alone_changed z.standing own job change kept h
+gentle_owns z job change kept (Closing own size tries again) h = alone_changed z.standing own job change kept h
+gentle_owns z job change kept (Checking own size) h = alone_changed z.standing own job change kept h
+gentle_owns z job change kept (Canceling own cause) h = tt
+gentle_owns z job change kept (Ended (Accepted own)) h = none_changed z.standing job change kept h
+gentle_owns z job change kept (Ended (Unprintable own)) h = none_changed z.standing job change kept h
+gentle_owns z job change kept (Ended (Refused own cause canceled)) h = tt
+gentle_owns z job change kept (Ended (Unknown own)) h = tt
+
+numbered_owns : (z : Service) (step : Step) → Owns z step → Owns (after_other z Makes) step
+numbered_owns z (Creating tries) h = h
+numbered_owns z Finding h = h
+numbered_owns z (Clearing job) h = h
+numbered_owns z (Reading job size) h = h
+numbered_owns z (Sending job size count tries) h = h
+numbered_owns z (Measuring job size count) h = h
+numbered_owns z (Holding job size tries) h = h
+numbered_owns z (Closing job size tries again) h = h
+numbered_owns z (Checking job size) h = h
+numbered_owns z (Canceling job cause) h = h
+numbered_owns z (Ended (Accepted job)) h = h
+numbered_owns z (Ended (Unprintable job)) h = h
+numbered_owns z (Ended (Refused job cause canceled)) h = h
+numbered_owns z (Ended (Unknown job)) h = h
+
+others_own : (z : Service) (step : Step) (other : Other) → Keeps z step → Keeps (after_other z other) step
+others_own z step Makes h = record { fresh = record { beyond = λ k le. let less : z.given ≤ k = omega arith in h.fresh.beyond k less }; owns = numbered_owns z step h.owns }
+others_own z step (Cancels job) h = record { fresh = fresh_changed z job stopped stopped_still h.fresh; owns = gentle_owns z job stopped stopped_still step h.owns }
+others_own z step (Purges job) h = record { fresh = fresh_changed z job purged purged_still h.fresh; owns = gentle_owns z job purged purged_still step h.owns }
+
+-- ## Whole runs
+
+reads_own : (w : World) (step : Step) (rest : List (List ℕ)) → Keeps w.service step → Keeps (read_at w step rest).service (read_at w step rest).step
+reads_own w (Creating tries) rest h = h
+reads_own w Finding rest h = h
+reads_own w (Clearing job) rest h = h
+reads_own w (Reading job size) [] h = record { fresh = h.fresh; owns = by_test (Owns w.service) w.holds _ _ (λ _. h.owns) (λ _. h.owns) }
+reads_own w (Reading job size) (piece ∷ rest) h =
+    record { fresh = h.fresh; owns = by_test (Owns w.service) (length piece == 0) _ _ (λ _. by_test (Owns w.service) w.holds _ _ (λ _. h.owns) (λ _. h.owns)) (λ _. h.owns) }
+reads_own w (Sending job size count tries) rest h = h
+reads_own w (Measuring job size count) rest h = h
+reads_own w (Holding job size tries) rest h = h
+reads_own w (Closing job size tries again) rest h = h
+reads_own w (Checking job size) rest h = h
+reads_own w (Canceling job cause) rest h = h
+reads_own w (Ended end) rest h = h
+
+happens_owns : (w : World) (event : Event) → Keeps w.service w.step → Keeps (happens w event).service (happens w event).step
+happens_owns w Served h = record { fresh = served_fresh w.service w.piece w.step h.fresh; owns = heard_owns w.service w.piece w.step h }
+happens_owns w ServedUnheard h = record { fresh = served_fresh w.service w.piece w.step h.fresh; owns = lost_owns w.service w.piece w.step h }
+happens_owns w ServedUnclear h =
+    record {
+      fresh = served_fresh w.service w.piece w.step h.fresh;
+      owns = subst (Owns (served w.service w.piece (request w.step))) (sym (unclear_lost w.step)) (lost_owns w.service w.piece w.step h);
+    }
+happens_owns w Lost h = record { fresh = h.fresh; owns = unserved_owns w.service w.step h.owns }
+happens_owns w LeftUnclear h = record { fresh = h.fresh; owns = subst (Owns w.service) (sym (unclear_lost w.step)) (unserved_owns w.service w.step h.owns) }
+happens_owns w PutOff h = record { fresh = h.fresh; owns = put_off_owns w.service w.step h.owns }
+happens_owns w TurnedDown h = record { fresh = h.fresh; owns = denied_owns w.service w.step h.owns }
+happens_owns w Reads h = reads_own w w.step w.rest h
+happens_owns w CannotRead h = record { fresh = h.fresh; owns = unread_owns w.service w.step h.owns }
+happens_owns w GivesUp h = record { fresh = h.fresh; owns = deserted_owns w.service w.step h.owns }
+happens_owns w (Meanwhile other) h = others_own w.service w.step other h
+
+run_owns : (events : List Event) (w : World) → Keeps w.service w.step → Keeps (run events w).service (run events w).step
+run_owns [] w h = h
+run_owns (event ∷ events) w h = run_owns events (happens w event) (happens_owns w event h)
+
+end_owns : (pieces : List (List ℕ)) (holds : Bool) (given : ℕ) (prints : Bool) (events : List Event) →
+    Keeps (end_of pieces holds given prints events).service (end_of pieces holds given prints events).step
+end_owns pieces holds given prints events =
+    run_owns events (start pieces holds given prints) (record { fresh = record { beyond = λ k le. tt }; owns = record { all = λ k. tt } })
+
+-- what arrives is listed, so nothing is where none arrives
+not_listed : (job : ℕ) (s : Standing) (others : List Own) → IsStill s → others ≡ [] → arriving_at job s others ≡ []
+not_listed job NotOwn others still e = e
+not_listed job (Arrives bytes) others still e = absurd still
+not_listed job Stopped others still e = e
+not_listed job StoppedGone others still e = e
+not_listed job Stands others still e = e
+not_listed job StandsGone others still e = e
+
+nothing_listed : (standing : ℕ → Standing) → NoneArrives standing → (given : ℕ) → arriving standing given ≡ []
+nothing_listed standing h zero = refl
+nothing_listed standing h (suc job) = not_listed job (standing job) (arriving standing job) (h.all job) (nothing_listed standing h job)
+
+-- none arrives behind a job that was accepted
+pub none_behind : (pieces : List (List ℕ)) (holds : Bool) (given : ℕ) (prints : Bool) (events : List Event) (end : End) →
+    (end_of pieces holds given prints events).step ≡ Ended end → (status end ≡ 0) ⊎ (status end ≡ 4) →
+    arriving (end_of pieces holds given prints events).service.standing (end_of pieces holds given prints events).service.given ≡ []
+none_behind pieces holds given prints events end ended either =
+    nothing_listed (end_of pieces holds given prints events).service.standing (by_end end (subst (Owns (end_of pieces holds given prints events).service) ended (end_owns pieces holds given prints events).owns) either)
+    (end_of pieces holds given prints events).service.given
+  where
+    by_end : (end : End) → OwnsEnd (end_of pieces holds given prints events).service end → (status end ≡ 0) ⊎ (status end ≡ 4) → NoneArrives (end_of pieces holds given prints events).service.standing
+    by_end (Accepted job) h either = h
+    by_end (Unprintable job) h either = h
+    by_end (Refused job cause canceled) h (inl e) = absurd (omega arith)
+    by_end (Refused job cause canceled) h (inr e) = absurd (omega arith)
+    by_end (Unknown job) h (inl e) = absurd (omega arith)
+    by_end (Unknown job) h (inr e) = absurd (omega arith)

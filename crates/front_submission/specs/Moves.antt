@@ -1,0 +1,220 @@
+-- What a submission says next, and what becomes of it: a row for each step, and for each step and reply.
+use Rattle.std.specs.Prelude.{ℕ, ◌+◌, ◌-◌, Bool, true, false, cond, ◌==◌, Option, None, Some}
+use Rattle.front_submission.specs.declared.step.Step.{Step}
+use Rattle.front_submission.specs.declared.step.Step.TheVariants.{Creating, Finding, Clearing, Reading, Sending, Measuring, Holding, Closing, Checking, Canceling, Ended}
+use Rattle.front_submission.specs.declared.step.Request.{Request}
+use Rattle.front_submission.specs.declared.step.Request.TheVariants.{Create, Find, Read, Send, Show, Hold, Close, Cancel, Nothing}
+use Rattle.front_submission.specs.declared.step.Cause.{Cause}
+use Rattle.front_submission.specs.declared.step.Cause.TheVariants.{Declined, OtherSize, EndedEarly, Unreadable, Deserted}
+use Rattle.front_submission.specs.declared.step.End.{End}
+use Rattle.front_submission.specs.declared.step.End.TheVariants.{Accepted, Unprintable, Refused, Unknown}
+use Rattle.front_submission.specs.declared.reply.Own.{Own}
+use Rattle.front_submission.specs.declared.reply.Found.{Found}
+use Rattle.front_submission.specs.declared.reply.Shown.{Shown}
+use Rattle.front_submission.specs.declared.reply.Shown.TheVariants.{Arriving, WasClosed, NoFilters, NeverClosed}
+use Rattle.front_submission.specs.declared.reply.Reply.{Reply}
+use Rattle.front_submission.specs.declared.reply.Reply.TheVariants.{Created, Sent, Closed, Done, Jobs, Job, Gone, Later, NotIncoming, Denied}
+
+-- how often a request is said again where the service puts it off
+abbrev pub most_tries : ℕ
+most_tries = 20
+
+-- ## How it ends
+
+-- the status of the program
+abbrev pub status : End → ℕ
+status (Accepted job) = 0
+status (Refused job cause canceled) = 1
+status (Unknown job) = 3
+status (Unprintable job) = 4
+
+abbrev pub refused : Option ℕ → Cause → Bool → Step
+refused job cause canceled = Ended (Refused job cause canceled)
+
+-- nothing is known of a job, and none is canceled
+abbrev pub without_job : Cause → Step
+without_job cause = refused None cause false
+
+-- its job isn't canceled any more
+abbrev pub let_go : ℕ → Cause → Step
+let_go job cause = refused (Some job) cause false
+
+abbrev pub unknown : ℕ → Step
+unknown job = Ended (Unknown job)
+
+-- its job was closed
+abbrev pub accepted : ℕ → Bool → Step
+accepted job printable = Ended (cond printable (Accepted job) (Unprintable job))
+
+-- ## What is said next
+
+abbrev pub request : Step → Request
+request (Creating tries) = Create
+request Finding = Find
+request (Clearing job) = Cancel job
+request (Reading job size) = Read size
+request (Sending job size piece tries) = Send job size piece
+request (Measuring job size piece) = Show job
+request (Holding job size tries) = Hold job
+request (Closing job size tries again) = Close job
+request (Checking job size) = Show job
+request (Canceling job cause) = Cancel job
+request (Ended end) = Nothing
+
+-- ## What a reply makes of it
+
+-- a request that is put off is said again, so many times, and then it is refused
+abbrev pub again_or : ℕ → (ℕ → Step) → Step → Step
+again_or tries again over = cond (tries == 0) over (again (tries - 1))
+
+-- to `create`. What isn't clear may have been done, so the job is looked for
+abbrev pub after_create : ℕ → Reply → Step
+after_create tries (Created job) = Reading job 0
+after_create tries Later = again_or tries Creating (without_job Declined)
+after_create tries NotIncoming = without_job Declined
+after_create tries Denied = without_job Declined
+after_create tries reply = Finding
+
+-- a job that arrives and has no byte is its own
+abbrev pub taken : Own → Step
+taken own = cond (own.size == 0) (Reading own.job 0) (Canceling own.job OtherSize)
+
+abbrev pub one_of : Option Own → Option ℕ → Step
+one_of own (Some another) = Clearing another
+one_of None None = Creating most_tries
+one_of (Some own) None = taken own
+
+-- of two jobs one is canceled, and then they are looked for again
+abbrev pub own_found : Found → Step
+own_found found = one_of found.own found.another
+
+-- to the search
+abbrev pub after_find : Reply → Step
+after_find (Jobs found) = own_found found
+after_find NotIncoming = without_job Declined
+after_find Denied = without_job Declined
+after_find reply = Finding
+
+-- to `send`, where the job's size has to be what was sent
+abbrev pub after_send : ℕ → ℕ → ℕ → ℕ → Reply → Step
+after_send job size piece tries (Sent new) = cond (new == size + piece) (Reading job new) (Canceling job OtherSize)
+after_send job size piece tries Later = again_or tries (Sending job size piece) (Canceling job Declined)
+after_send job size piece tries NotIncoming = Canceling job Declined
+after_send job size piece tries Denied = Canceling job Declined
+after_send job size piece tries reply = Measuring job size piece
+
+-- the piece wasn't sent, or it was
+abbrev pub measured : ℕ → ℕ → ℕ → ℕ → Step
+measured job size piece new =
+    cond (new == size) (Sending job size piece most_tries)
+    (cond (new == size + piece) (Reading job new)
+    (Canceling job OtherSize))
+
+-- to `job`, where the reply of a `send` was lost
+abbrev pub after_measure : ℕ → ℕ → ℕ → Reply → Step
+after_measure job size piece (Job (Arriving new)) = measured job size piece new
+after_measure job size piece (Job WasClosed) = unknown job
+after_measure job size piece (Job NoFilters) = unknown job
+after_measure job size piece (Job NeverClosed) = let_go job EndedEarly
+after_measure job size piece Gone = let_go job EndedEarly
+after_measure job size piece NotIncoming = Canceling job Declined
+after_measure job size piece Denied = Canceling job Declined
+after_measure job size piece reply = Measuring job size piece
+
+-- to `hold`, which may be said twice
+abbrev pub after_hold : ℕ → ℕ → ℕ → Reply → Step
+after_hold job size tries Done = Closing job size most_tries false
+after_hold job size tries Later = again_or tries (Holding job size) (Canceling job Declined)
+after_hold job size tries NotIncoming = Canceling job Declined
+after_hold job size tries Denied = Canceling job Declined
+after_hold job size tries reply = Holding job size tries
+
+-- to `close`. One that isn't incoming any more was closed, or ended by somebody else
+abbrev pub after_close : ℕ → ℕ → ℕ → Bool → Reply → Step
+after_close job size tries again (Closed printable) = accepted job printable
+after_close job size tries again Later = again_or tries (λ left. Closing job size left again) (Canceling job Declined)
+after_close job size tries again Denied = Canceling job Declined
+after_close job size tries again reply = Checking job size
+
+abbrev pub shown_closed : ℕ → ℕ → Shown → Step
+shown_closed job size (Arriving new) = cond (new == size) (Closing job size most_tries true) (Canceling job OtherSize)
+shown_closed job size WasClosed = accepted job true
+shown_closed job size NoFilters = accepted job false
+shown_closed job size NeverClosed = let_go job EndedEarly
+
+-- to `job`, where the reply of a `close` was lost
+abbrev pub after_check : ℕ → ℕ → Reply → Step
+after_check job size (Job shown) = shown_closed job size shown
+after_check job size Gone = unknown job
+after_check job size NotIncoming = unknown job
+after_check job size Denied = unknown job
+after_check job size reply = Checking job size
+
+-- to `cancel`
+abbrev pub after_cancel : ℕ → Cause → Reply → Step
+after_cancel job cause Done = refused (Some job) cause true
+after_cancel job cause Gone = let_go job cause
+after_cancel job cause NotIncoming = let_go job cause
+after_cancel job cause Denied = let_go job cause
+after_cancel job cause reply = Canceling job cause
+
+abbrev pub heard : Step → Reply → Step
+heard (Creating tries) reply = after_create tries reply
+heard Finding reply = after_find reply
+heard (Clearing job) reply = Finding
+heard (Reading job size) reply = Reading job size
+heard (Sending job size piece tries) reply = after_send job size piece tries reply
+heard (Measuring job size piece) reply = after_measure job size piece reply
+heard (Holding job size tries) reply = after_hold job size tries reply
+heard (Closing job size tries again) reply = after_close job size tries again reply
+heard (Checking job size) reply = after_check job size reply
+heard (Canceling job cause) reply = after_cancel job cause reply
+heard (Ended end) reply = Ended end
+
+-- ## What else may happen
+
+-- the reply is lost with its connection
+abbrev pub lost : Step → Step
+lost (Creating tries) = Finding
+lost Finding = Finding
+lost (Clearing job) = Finding
+lost (Reading job size) = Reading job size
+lost (Sending job size piece tries) = Measuring job size piece
+lost (Measuring job size piece) = Measuring job size piece
+lost (Holding job size tries) = Holding job size tries
+lost (Closing job size tries again) = Checking job size
+lost (Checking job size) = Checking job size
+lost (Canceling job cause) = Canceling job cause
+lost (Ended end) = Ended end
+
+-- behind the last piece
+abbrev pub at_end : ℕ → ℕ → Bool → Step
+at_end job size holds = cond holds (Holding job size most_tries) (Closing job size most_tries false)
+
+-- the next piece is there. One of no byte is the end
+abbrev pub supplied : Step → ℕ → Bool → Step
+supplied (Reading job size) piece holds = cond (piece == 0) (at_end job size holds) (Sending job size piece most_tries)
+supplied step piece holds = step
+
+-- the document can't be read on
+abbrev pub unread : Step → Step
+unread (Reading job size) = Canceling job Unreadable
+unread step = step
+
+-- nobody serves for too long. Where a `close` was said it may have been served
+abbrev pub deserted_closing : ℕ → Bool → Step
+deserted_closing job true = unknown job
+deserted_closing job false = let_go job Deserted
+
+abbrev pub deserted : Step → Step
+deserted (Creating tries) = without_job Deserted
+deserted Finding = without_job Deserted
+deserted (Clearing job) = without_job Deserted
+deserted (Reading job size) = let_go job Deserted
+deserted (Sending job size piece tries) = let_go job Deserted
+deserted (Measuring job size piece) = let_go job Deserted
+deserted (Holding job size tries) = let_go job Deserted
+deserted (Closing job size tries again) = deserted_closing job again
+deserted (Checking job size) = unknown job
+deserted (Canceling job cause) = let_go job cause
+deserted (Ended end) = Ended end

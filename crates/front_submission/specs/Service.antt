@@ -1,0 +1,141 @@
+-- A service that does each request wholly or not at all, as far as one submission sees it: what it makes of a request, and what
+-- it replies.
+use Rattle.std.specs.Prelude.{ℕ, zero, suc, Bool, cond, ◌==◌, List, [], ◌∷◌, ◌++◌, length, None, Some}
+use Rattle.front_submission.specs.declared.step.Request.{Request}
+use Rattle.front_submission.specs.declared.step.Request.TheVariants.{Create, Find, Read, Send, Show, Hold, Close, Cancel, Nothing}
+use Rattle.front_submission.specs.declared.reply.Own.{Own}
+use Rattle.front_submission.specs.declared.reply.Found.{Found}
+use Rattle.front_submission.specs.declared.reply.Shown.TheVariants.{Arriving, WasClosed, NoFilters, NeverClosed}
+use Rattle.front_submission.specs.declared.reply.Reply.{Reply}
+use Rattle.front_submission.specs.declared.reply.Reply.TheVariants.{Created, Sent, Closed, Done, Jobs, Job, Gone, NotIncoming, Denied, Unclear}
+
+-- what has become of the job of a number, if it is one of this submission
+pub data Standing : Type 0 where
+  -- it is none
+  NotOwn : Standing
+  -- it has these bytes
+  Arrives : List ℕ → Standing
+  -- it was canceled before it was closed, and may then be purged
+  Stopped : Standing
+  StoppedGone : Standing
+  -- it was closed, and may be purged once it has ended
+  Stands : Standing
+  StandsGone : Standing
+
+pub record Service : Type 0 where
+  pub standing : ℕ → Standing
+  -- the number that the next job gets
+  pub given : ℕ
+  -- the documents of the jobs of this submission that were ever closed
+  pub closes : List (List ℕ)
+  -- whether filters lead to the printer
+  pub prints : Bool
+
+-- ## What it makes of a request
+
+-- the job of this number alone is changed
+abbrev pub changed : (ℕ → Standing) → ℕ → (Standing → Standing) → ℕ → Standing
+changed standing job change k = cond (k == job) (change (standing k)) (standing k)
+
+abbrev pub grown : List ℕ → Standing → Standing
+grown piece (Arrives bytes) = Arrives (bytes ++ piece)
+grown piece standing = standing
+
+abbrev pub closed : Standing → Standing
+closed (Arrives bytes) = Stands
+closed standing = standing
+
+abbrev pub stopped : Standing → Standing
+stopped (Arrives bytes) = Stopped
+stopped standing = standing
+
+abbrev pub purged : Standing → Standing
+purged Stopped = StoppedGone
+purged Stands = StandsGone
+purged standing = standing
+
+-- the documents, and that of this job where it is closed now
+abbrev pub with_close : Standing → List (List ℕ) → List (List ℕ)
+with_close (Arrives bytes) closes = closes ++ bytes ∷ []
+with_close standing closes = closes
+
+abbrev pub with_standing : Service → (ℕ → Standing) → Service
+with_standing z standing = record { standing = standing; given = z.given; closes = z.closes; prints = z.prints }
+
+-- the piece is that which a `send` has
+abbrev pub served : Service → List ℕ → Request → Service
+served z piece Create =
+    record { standing = changed z.standing z.given (λ standing. Arrives []); given = suc z.given; closes = z.closes; prints = z.prints }
+served z piece (Send job size count) = with_standing z (changed z.standing job (grown piece))
+served z piece (Close job) =
+    record { standing = changed z.standing job closed; given = z.given; closes = with_close (z.standing job) z.closes; prints = z.prints }
+served z piece (Cancel job) = with_standing z (changed z.standing job stopped)
+served z piece Find = z
+served z piece (Read size) = z
+served z piece (Show job) = z
+served z piece (Hold job) = z
+served z piece Nothing = z
+
+-- ## What it replies
+
+abbrev pub arriving_at : ℕ → Standing → List Own → List Own
+arriving_at job (Arrives bytes) others = record { job = job; size = length bytes } ∷ others
+arriving_at job standing others = others
+
+-- the jobs that arrive, of the numbers below this one
+abbrev pub arriving : (ℕ → Standing) → ℕ → List Own
+arriving standing zero = []
+arriving standing (suc job) = arriving_at job (standing job) (arriving standing job)
+
+abbrev pub found : List Own → Found
+found [] = record { own = None; another = None }
+found (one ∷ []) = record { own = Some one; another = None }
+found (one ∷ (two ∷ others)) = record { own = Some one; another = Some two.job }
+
+abbrev pub sent_reply : List ℕ → Standing → Reply
+sent_reply piece (Arrives bytes) = Sent (length (bytes ++ piece))
+sent_reply piece standing = NotIncoming
+
+abbrev pub shown_reply : Bool → Standing → Reply
+shown_reply prints NotOwn = Gone
+shown_reply prints (Arrives bytes) = Job (Arriving (length bytes))
+shown_reply prints Stopped = Job NeverClosed
+shown_reply prints StoppedGone = Gone
+shown_reply prints Stands = Job (cond prints WasClosed NoFilters)
+shown_reply prints StandsGone = Gone
+
+abbrev pub held_reply : Standing → Reply
+held_reply (Arrives bytes) = Done
+held_reply standing = Denied
+
+abbrev pub closed_reply : Bool → Standing → Reply
+closed_reply prints (Arrives bytes) = Closed prints
+closed_reply prints standing = NotIncoming
+
+abbrev pub canceled_reply : Standing → Reply
+canceled_reply (Arrives bytes) = Done
+canceled_reply standing = Denied
+
+abbrev pub reply_to : Service → List ℕ → Request → Reply
+reply_to z piece Create = Created z.given
+reply_to z piece Find = Jobs (found (arriving z.standing z.given))
+reply_to z piece (Read size) = Unclear
+reply_to z piece (Send job size count) = sent_reply piece (z.standing job)
+reply_to z piece (Show job) = shown_reply z.prints (z.standing job)
+reply_to z piece (Hold job) = held_reply (z.standing job)
+reply_to z piece (Close job) = closed_reply z.prints (z.standing job)
+reply_to z piece (Cancel job) = canceled_reply (z.standing job)
+reply_to z piece Nothing = Unclear
+
+-- ## What others do meanwhile
+
+pub data Other : Type 0 where
+  -- a job of theirs gets a number
+  Makes : Other
+  Cancels : ℕ → Other
+  Purges : ℕ → Other
+
+abbrev pub after_other : Service → Other → Service
+after_other z Makes = record { standing = z.standing; given = suc z.given; closes = z.closes; prints = z.prints }
+after_other z (Cancels job) = with_standing z (changed z.standing job stopped)
+after_other z (Purges job) = with_standing z (changed z.standing job purged)

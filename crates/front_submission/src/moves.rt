@@ -1,0 +1,396 @@
+//! What is said next, and what becomes of a submission.
+ghost use Rattle.std.specs.Prelude.{◌≡◌, ◌+◌, Some, None, false, IsTrue, ◌↔◌};
+ghost use Rattle.front_submission.specs.Moves.{most_tries, status, refused, unknown, accepted, request, heard, lost, supplied, unread, deserted, own_found, after_create, after_find, after_send, measured, after_measure, after_hold, after_close, shown_closed, after_check, after_cancel};
+
+use crate::reply::{Found, Own, Reply, Shown};
+use crate::step::{Cause, End, Request, Step};
+
+/// How often a request is said again where the service puts it off.
+const MOST_TRIES: u8 = 20;
+
+impl End {
+    /// The status of the program: 0 accepted, 1 refused, 3 not known, 4 accepted and unprintable.
+    pub fn status(self) -> u8
+        ensures { result ≡ status self }
+    {
+        match self {
+            End::Accepted { .. } => 0,
+            End::Refused { .. } => 1,
+            End::Unknown { .. } => 3,
+            End::Unprintable { .. } => 4,
+        }
+    }
+}
+
+// A document that is refused.
+fn refused(job: Option<u32>, cause: Cause, canceled: bool) -> Step
+    ensures { result ≡ refused job cause canceled }
+{
+    let end = End::Refused {
+        job,
+        cause,
+        canceled,
+    };
+    Step::Ended { end }
+}
+
+fn unknown(job: u32) -> Step
+    ensures { result ≡ unknown job }
+{
+    let end = End::Unknown { job };
+    Step::Ended { end }
+}
+
+impl Step {
+    /// Where each submission begins.
+    pub fn start() -> Step
+        ensures { result ≡ Step.Creating most_tries }
+    {
+        Step::Creating { tries: MOST_TRIES }
+    }
+
+    /// What the front is to do next.
+    pub fn request(self) -> Request
+        ensures { result ≡ request self }
+    {
+        match self {
+            Step::Creating { .. } => Request::Create,
+            Step::Finding => Request::Find,
+            Step::Clearing { job } | Step::Canceling { job, .. } => Request::Cancel { job },
+            Step::Reading { size, .. } => Request::Read { size },
+            Step::Sending {
+                job,
+                size,
+                piece,
+                ..
+            } => Request::Send { job, size, piece },
+            Step::Measuring { job, .. } | Step::Checking { job, .. } => Request::Show { job },
+            Step::Holding { job, .. } => Request::Hold { job },
+            Step::Closing { job, .. } => Request::Close { job },
+            Step::Ended { .. } => Request::Nothing,
+        }
+    }
+
+    /// What a reply makes of it.
+    pub fn heard(self, reply: Reply) -> Step
+        ensures { result ≡ heard self reply }
+    {
+        match self {
+            Step::Creating { tries } => created(tries, reply),
+            Step::Finding => found_own(reply),
+            Step::Clearing { .. } => Step::Finding,
+            Step::Sending {
+                job,
+                size,
+                piece,
+                tries,
+            } => sent(job, size, piece, tries, reply),
+            Step::Measuring { job, size, piece } => measured(job, size, piece, reply),
+            Step::Holding { job, size, tries } => held(job, size, tries, reply),
+            Step::Closing {
+                job,
+                size,
+                tries,
+                again,
+            } => closed(job, size, tries, again, reply),
+            Step::Checking { job, size } => checked(job, size, reply),
+            Step::Canceling { job, cause } => canceled(job, cause, reply),
+            Step::Reading { .. } | Step::Ended { .. } => self,
+        }
+    }
+
+    /// What the loss of the connection makes of it, where a reply was awaited.
+    pub fn lost(self) -> Step
+        ensures { result ≡ lost self }
+    {
+        match self {
+            Step::Creating { .. } | Step::Clearing { .. } => Step::Finding,
+            Step::Sending {
+                job,
+                size,
+                piece,
+                ..
+            } => Step::Measuring { job, size, piece },
+            Step::Closing { job, size, .. } => Step::Checking { job, size },
+            _ => self,
+        }
+    }
+
+    /// What the next piece of the document makes of it. One of no byte is the document's end. `holds` tells whether the job is
+    /// to be held.
+    pub fn supplied(self, piece: u32, holds: bool) -> Step
+        ensures { result ≡ supplied self piece holds }
+    {
+        let Step::Reading { job, size } = self else {
+            return self;
+        };
+        let tries = MOST_TRIES;
+        if piece != 0 {
+            return Step::Sending {
+                job,
+                size,
+                piece,
+                tries,
+            };
+        }
+        if holds {
+            return Step::Holding { job, size, tries };
+        }
+        Step::Closing {
+            job,
+            size,
+            tries,
+            again: false,
+        }
+    }
+
+    /// What a document makes of it that can't be read on.
+    pub fn unread(self) -> Step
+        ensures { result ≡ unread self }
+    {
+        match self {
+            Step::Reading { job, .. } => Step::Canceling {
+                job,
+                cause: Cause::Unreadable,
+            },
+            _ => self,
+        }
+    }
+
+    /// What becomes of it where nobody serves for too long.
+    pub fn deserted(self) -> Step
+        ensures { result ≡ deserted self }
+    {
+        match self {
+            Step::Creating { .. } | Step::Finding | Step::Clearing { .. } => {
+                refused(None, Cause::Deserted, false)
+            }
+            Step::Reading { job, .. }
+            | Step::Sending { job, .. }
+            | Step::Measuring { job, .. }
+            | Step::Holding { job, .. }
+            | Step::Closing {
+                job,
+                again: false,
+                ..
+            } => refused(Some(job), Cause::Deserted, false),
+            Step::Closing {
+                job,
+                again: true,
+                ..
+            }
+            | Step::Checking { job, .. } => unknown(job),
+            Step::Canceling { job, cause } => refused(Some(job), cause, false),
+            Step::Ended { .. } => self,
+        }
+    }
+}
+
+// What a reply to `create` makes of it.
+fn created(tries: u8, reply: Reply) -> Step
+    ensures { result ≡ after_create tries reply }
+{
+    match reply {
+        Reply::Created { job } => Step::Reading { job, size: 0 },
+        Reply::Later if tries != 0 => Step::Creating { tries: tries - 1 },
+        Reply::Later | Reply::NotIncoming | Reply::Denied => refused(None, Cause::Declined, false),
+        _ => Step::Finding,
+    }
+}
+
+// What the jobs that were found make of it.
+fn found_own(reply: Reply) -> Step
+    ensures { result ≡ after_find reply }
+{
+    match reply {
+        Reply::Jobs { found } => own_found(found),
+        Reply::NotIncoming | Reply::Denied => refused(None, Cause::Declined, false),
+        _ => Step::Finding,
+    }
+}
+
+fn own_found(found: Found) -> Step
+    ensures { result ≡ own_found found }
+{
+    let Found { own, another } = found;
+    if let Some(job) = another {
+        return Step::Clearing { job };
+    }
+    match own {
+        None => Step::start(),
+        Some(Own { job, size: 0 }) => Step::Reading { job, size: 0 },
+        Some(Own { job, .. }) => odd(job),
+    }
+}
+
+// A job whose size is none that it may have.
+fn odd(job: u32) -> Step
+    ensures { result ≡ Step.Canceling job Cause.OtherSize }
+{
+    Step::Canceling {
+        job,
+        cause: Cause::OtherSize,
+    }
+}
+
+// A job that the service refuses to go on with.
+fn turned_down(job: u32) -> Step
+    ensures { result ≡ Step.Canceling job Cause.Declined }
+{
+    Step::Canceling {
+        job,
+        cause: Cause::Declined,
+    }
+}
+
+// Whether one size is another one and a piece more.
+fn is_behind(new: u64, size: u64, piece: u32) -> bool
+    ensures { IsTrue result ↔ (new ≡ size + piece) }
+{
+    size <= new && new - size == u64::from(piece)
+}
+
+// What a reply to `send` makes of it.
+fn sent(job: u32, size: u64, piece: u32, tries: u8, reply: Reply) -> Step
+    ensures { result ≡ after_send job size piece tries reply }
+{
+    match reply {
+        Reply::Sent { size: new } if is_behind(new, size, piece) => Step::Reading {
+            job,
+            size: new,
+        },
+        Reply::Sent { .. } => odd(job),
+        Reply::Later if tries != 0 => Step::Sending {
+            job,
+            size,
+            piece,
+            tries: tries - 1,
+        },
+        Reply::Later | Reply::NotIncoming | Reply::Denied => turned_down(job),
+        _ => Step::Measuring { job, size, piece },
+    }
+}
+
+// What is shown of a job makes of it, where a piece may have been sent.
+fn measured(job: u32, size: u64, piece: u32, reply: Reply) -> Step
+    ensures { result ≡ after_measure job size piece reply }
+{
+    match reply {
+        Reply::Job {
+            shown: Shown::Arriving { size: new },
+        } => measured_at(job, size, piece, new),
+        Reply::Job {
+            shown: Shown::NeverClosed,
+        }
+        | Reply::Gone => refused(Some(job), Cause::EndedEarly, false),
+        Reply::Job { .. } => unknown(job),
+        Reply::NotIncoming | Reply::Denied => turned_down(job),
+        _ => Step::Measuring { job, size, piece },
+    }
+}
+
+fn measured_at(job: u32, size: u64, piece: u32, new: u64) -> Step
+    ensures { result ≡ measured job size piece new }
+{
+    if new == size {
+        return Step::Sending {
+            job,
+            size,
+            piece,
+            tries: MOST_TRIES,
+        };
+    }
+    if is_behind(new, size, piece) {
+        return Step::Reading { job, size: new };
+    }
+    odd(job)
+}
+
+// What a reply to `hold` makes of it.
+fn held(job: u32, size: u64, tries: u8, reply: Reply) -> Step
+    ensures { result ≡ after_hold job size tries reply }
+{
+    match reply {
+        Reply::Done => Step::Closing {
+            job,
+            size,
+            tries: MOST_TRIES,
+            again: false,
+        },
+        Reply::Later if tries != 0 => Step::Holding {
+            job,
+            size,
+            tries: tries - 1,
+        },
+        Reply::Later | Reply::NotIncoming | Reply::Denied => turned_down(job),
+        _ => Step::Holding { job, size, tries },
+    }
+}
+
+// What a reply to `close` makes of it.
+fn closed(job: u32, size: u64, tries: u8, again: bool, reply: Reply) -> Step
+    ensures { result ≡ after_close job size tries again reply }
+{
+    match reply {
+        Reply::Closed { printable } => accepted(job, printable),
+        Reply::Later if tries != 0 => Step::Closing {
+            job,
+            size,
+            tries: tries - 1,
+            again,
+        },
+        Reply::Later | Reply::Denied => turned_down(job),
+        _ => Step::Checking { job, size },
+    }
+}
+
+// A job that was closed.
+fn accepted(job: u32, printable: bool) -> Step
+    ensures { result ≡ accepted job printable }
+{
+    let end = if printable {
+        End::Accepted { job }
+    } else {
+        End::Unprintable { job }
+    };
+    Step::Ended { end }
+}
+
+// What is shown of a job makes of it, where it may have been closed.
+fn checked(job: u32, size: u64, reply: Reply) -> Step
+    ensures { result ≡ after_check job size reply }
+{
+    match reply {
+        Reply::Job { shown } => shown_closed(job, size, shown),
+        Reply::Gone | Reply::NotIncoming | Reply::Denied => unknown(job),
+        _ => Step::Checking { job, size },
+    }
+}
+
+fn shown_closed(job: u32, size: u64, shown: Shown) -> Step
+    ensures { result ≡ shown_closed job size shown }
+{
+    match shown {
+        Shown::Arriving { size: new } if new == size => Step::Closing {
+            job,
+            size,
+            tries: MOST_TRIES,
+            again: true,
+        },
+        Shown::Arriving { .. } => odd(job),
+        Shown::WasClosed => accepted(job, true),
+        Shown::NoFilters => accepted(job, false),
+        Shown::NeverClosed => refused(Some(job), Cause::EndedEarly, false),
+    }
+}
+
+// What a reply to `cancel` makes of it.
+fn canceled(job: u32, cause: Cause, reply: Reply) -> Step
+    ensures { result ≡ after_cancel job cause reply }
+{
+    match reply {
+        Reply::Done => refused(Some(job), cause, true),
+        Reply::Gone | Reply::NotIncoming | Reply::Denied => refused(Some(job), cause, false),
+        _ => Step::Canceling { job, cause },
+    }
+}

@@ -1,0 +1,5 @@
+//! Tests of the front's texts: what is printed, byte for byte.
+#![tactic(auto)]
+
+#[cfg(test)]
+mod tests;

@@ -1,0 +1,16 @@
+-- Pieces that are added to a text one after another.
+use Rattle.std.proofs.Common.{◌≡◌, ℕ, List, ◌++◌, ap, ◌∙◌, append_assoc}
+
+pub three_added : (old a b c one two three : List ℕ) → one ≡ old ++ a → two ≡ one ++ b → three ≡ two ++ c → three ≡ old ++ (a ++ b ++ c)
+three_added old a b c one two three e f g =
+    g
+    ∙ ap (λ l. l ++ c) f
+    ∙ ap (λ l. (l ++ b) ++ c) e
+    ∙ ap (λ l. l ++ c) (append_assoc old a b)
+    ∙ append_assoc old (a ++ b) c
+
+pub four_added : (old a b c d one two three four : List ℕ) → one ≡ old ++ a → two ≡ one ++ b → three ≡ two ++ c → four ≡ three ++ d → four ≡ old ++ (a ++ b ++ c ++ d)
+four_added old a b c d one two three four e f g h =
+    h
+    ∙ ap (λ l. l ++ d) (three_added old a b c one two three e f g)
+    ∙ append_assoc old (a ++ b ++ c) d

@@ -1,0 +1,7 @@
+-- each line so far fits
+use Rattle.std.proofs.Common.{◌≡◌, ◌+◌, vec_len}
+use Rattle.front_texts.specs.Cells.{AllFit}
+use Rattle.front_texts.proofs.tables.queues_table.Given as goal
+
+abbrev pub invariant-loop-queue : goal.invariant-loop-queue
+invariant-loop-queue l = record { fit : AllFit l.width l.lines.items; count : vec_len l.lines ≡ 1 + l.queue-index }

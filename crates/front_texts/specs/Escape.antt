@@ -1,0 +1,24 @@
+-- Texts in a page: the five characters that mean something there are written as references (HTML, character references).
+use Rattle.std.specs.Prelude.{ℕ, Bool, ◌||◌, ◌≡◌, false, cond, ◌==◌, List, [], ◌∷◌, codes}
+use Rattle.std.specs.List.{flat_map, list_any}
+
+-- a byte as it is written
+abbrev pub entity : ℕ → List ℕ
+entity b =
+    cond (b == 38) (codes "&amp;")
+    (cond (b == 60) (codes "&lt;")
+    (cond (b == 62) (codes "&gt;")
+    (cond (b == 34) (codes "&quot;")
+    (cond (b == 39) (codes "&#39;")
+    (b ∷ [])))))
+
+abbrev pub escaped : List ℕ → List ℕ
+escaped text = flat_map entity text
+
+-- a byte that would open or close a tag, or a value of an attribute
+abbrev pub is_markup : ℕ → Bool
+is_markup b = b == 60 || b == 62 || b == 34 || b == 39
+
+-- none is in an escaped text
+abbrev pub NoMarkup : Type 0
+NoMarkup = (text : List ℕ) → list_any is_markup (escaped text) ≡ false

@@ -1,0 +1,222 @@
+-- One job with all its fields, each a line of its name and its value.
+use Rattle.std.specs.Prelude.{ℕ, Bool, ◌&&◌, cond, nat_le, ◌==◌, List, [], ◌∷◌, codes, Option, None, Some}
+use Rattle.std.specs.Option.{option_map, option_and_then}
+use Rattle.line_words.specs.Blanks.{after_blanks, first_word, after_word}
+use Rattle.command_lines.specs.Grammar.{job_in}
+use Rattle.spool_types.specs.Values.{is_queue_name, is_user_name, is_title, is_options, text_in, media_in}
+use Rattle.front_texts.specs.Fields.{is_word, is_empty, is_end, quoted_text, after_quoted, count_in, moment_in, job_state_of, reason_in}
+use Rattle.front_texts.specs.declared.states.JobState.{JobState}
+use Rattle.front_texts.specs.declared.job_shown.JobShown.{JobShown}
+use Rattle.front_texts.specs.declared.job_shown.JobAsked.{JobAsked}
+use Rattle.front_texts.specs.declared.job_shown.JobCourse.{JobCourse}
+use Rattle.front_texts.specs.declared.job_shown.StageShown.{StageShown}
+use Rattle.front_texts.specs.declared.job_shown.JobNames.{JobNames}
+use Rattle.front_texts.specs.declared.job_shown.JobWishes.{JobWishes}
+use Rattle.front_texts.specs.declared.job_shown.JobCounts.{JobCounts}
+use Rattle.front_texts.specs.declared.job_shown.JobMarks.{JobMarks}
+use Rattle.front_texts.specs.declared.job_shown.JobStanding.{JobStanding}
+use Rattle.front_texts.specs.declared.job_shown.JobMoments.{JobMoments}
+
+-- ## Lines
+
+abbrev pub is_lf : ℕ → Bool
+is_lf b = b == 10
+
+-- up to the first line feed
+abbrev pub line_here : List ℕ → List ℕ
+line_here [] = []
+line_here (b ∷ bs) = cond (is_lf b) [] (b ∷ line_here bs)
+
+-- behind it
+abbrev pub behind_line : List ℕ → List ℕ
+behind_line [] = []
+behind_line (b ∷ bs) = cond (is_lf b) bs (behind_line bs)
+
+-- the first line is of this name
+abbrev pub is_named : List ℕ → List ℕ → Bool
+is_named text name = is_word (first_word (line_here text)) name
+
+-- the value of the first line, if it is of this name
+unfoldable pub field : List ℕ → List ℕ → Option (List ℕ)
+field text name = cond (is_named text name) (Some (after_blanks (after_word (line_here text)))) None
+
+-- what follows it, or the same text where it isn't of this name
+unfoldable pub after_field : List ℕ → List ℕ → List ℕ
+after_field text name = cond (is_named text name) (behind_line text) text
+
+-- ## Values
+
+-- a text in quotes, behind which nothing follows
+abbrev pub whole_text : (List ℕ → Bool) → List ℕ → Option (List ℕ)
+whole_text allowed line = cond (is_end (after_quoted line)) (option_and_then (text_in allowed) (quoted_text line)) None
+
+abbrev pub within : ℕ → ℕ → ℕ → Option ℕ
+within least most n = cond (nat_le least n && nat_le n most) (Some n) None
+
+abbrev pub copies_in : List ℕ → Option ℕ
+copies_in word = option_and_then (within 1 9999) (count_in word)
+
+abbrev pub priority_in : List ℕ → Option ℕ
+priority_in word = option_and_then (within 1 100) (count_in word)
+
+-- ## What was asked for
+
+abbrev pub names_of : Option ℕ → Option (List ℕ) → Option (List ℕ) → Option JobNames
+names_of (Some number) (Some queue) (Some user) = Some (record { number = number; queue = queue; user = user })
+names_of number queue user = None
+
+abbrev pub names_in : Option (List ℕ) → Option (List ℕ) → Option (List ℕ) → Option JobNames
+names_in (Some number) (Some queue) (Some user) = names_of (job_in number) (text_in is_queue_name queue) (whole_text is_user_name user)
+names_in number queue user = None
+
+abbrev pub wishes_of : Option (List ℕ) → Option (List ℕ) → Option ℕ → Option ℕ → Option JobWishes
+wishes_of (Some title) (Some options) (Some copies) (Some priority) = Some (record { title = title; options = options; copies = copies; priority = priority })
+wishes_of title options copies priority = None
+
+abbrev pub wishes_in : Option (List ℕ) → Option (List ℕ) → Option (List ℕ) → Option (List ℕ) → Option JobWishes
+wishes_in (Some title) (Some options) (Some copies) (Some priority) =
+    wishes_of (whole_text is_title title) (whole_text is_options options) (copies_in copies) (priority_in priority)
+wishes_in title options copies priority = None
+
+abbrev pub asked_of : Option JobNames → Option JobWishes → Option JobAsked
+asked_of (Some names) (Some wishes) = Some (record {
+  number = names.number;
+  queue = names.queue;
+  user = names.user;
+  title = wishes.title;
+  options = wishes.options;
+  copies = wishes.copies;
+  priority = wishes.priority;
+})
+asked_of names wishes = None
+
+-- the text behind the lines up to each of these
+abbrev pub after_names : List ℕ → List ℕ
+after_names text = after_field (after_field (after_field text (codes "job")) (codes "queue")) (codes "user")
+
+abbrev pub after_wishes : List ℕ → List ℕ
+after_wishes text = after_field (after_field (after_field (after_field text (codes "title")) (codes "options")) (codes "copies")) (codes "priority")
+
+abbrev pub names_at : List ℕ → Option JobNames
+names_at text =
+    let queue = after_field text (codes "job") in
+    let user = after_field queue (codes "queue") in
+    names_in (field text (codes "job")) (field queue (codes "queue")) (field user (codes "user"))
+
+abbrev pub wishes_at : List ℕ → Option JobWishes
+wishes_at text =
+    let options = after_field text (codes "title") in
+    let copies = after_field options (codes "options") in
+    let priority = after_field copies (codes "copies") in
+    wishes_in (field text (codes "title")) (field options (codes "options")) (field copies (codes "copies")) (field priority (codes "priority"))
+
+abbrev pub asked_in : List ℕ → Option JobAsked
+asked_in text = asked_of (names_at text) (wishes_at (after_names text))
+
+abbrev pub after_asked : List ℕ → List ℕ
+after_asked text = after_wishes (after_names text)
+
+-- ## What became of it
+
+abbrev pub counts_of : Option ℕ → Option ℕ → Option ℕ → Option JobCounts
+counts_of (Some size) (Some pages) (Some attempts) = Some (record { size = size; pages = pages; attempts = attempts })
+counts_of size pages attempts = None
+
+abbrev pub counts_in : Option (List ℕ) → Option (List ℕ) → Option (List ℕ) → Option JobCounts
+counts_in size pages attempts = counts_of (option_and_then count_in size) (option_and_then count_in pages) (option_and_then count_in attempts)
+
+-- no media type where no line tells one
+abbrev pub media_of : Option (List ℕ) → Option (Option (List ℕ))
+media_of None = Some None
+media_of (Some word) = option_map (λ media. Some media) (media_in word)
+
+-- no moment where no line tells one
+abbrev pub moment_of : Option (List ℕ) → Option (Option ℕ)
+moment_of None = Some None
+moment_of (Some word) = option_map (λ moment. Some moment) (moment_in word)
+
+abbrev pub marks_of : Option (Option (List ℕ)) → Option (Option ℕ) → Option JobMarks
+marks_of (Some media) (Some by) = Some (record { media = media; by = by })
+marks_of media by = None
+
+abbrev pub marks_in : Option (List ℕ) → Option (List ℕ) → Option JobMarks
+marks_in media by = marks_of (media_of media) (moment_of by)
+
+abbrev pub standing_of : Option JobState → Option (Option (List ℕ)) → Option JobStanding
+standing_of (Some state) (Some reason) = Some (record { state = state; reason = reason })
+standing_of state reason = None
+
+abbrev pub standing_in : Option (List ℕ) → Option (List ℕ) → Option JobStanding
+standing_in (Some state) (Some reason) = standing_of (job_state_of state) (reason_in reason)
+standing_in state reason = None
+
+abbrev pub stage_in : Option ℕ → Option ℕ → Option ℕ → Option (Option StageShown)
+stage_in (Some stage) (Some stages) (Some attempt) = Some (Some (record { stage = stage; stages = stages; attempt = attempt }))
+stage_in stage stages attempt = None
+
+-- S of N attempt A
+abbrev pub stage_words : List ℕ → Option (Option StageShown)
+stage_words line =
+    let of = after_word line in
+    let stages = after_word of in
+    let word = after_word stages in
+    let attempt = after_word word in
+    cond (is_word (first_word of) (codes "of") && (is_word (first_word word) (codes "attempt") && is_end (after_word attempt)))
+    (stage_in (count_in (first_word line)) (count_in (first_word stages)) (count_in (first_word attempt)))
+    None
+
+-- no stage where no line tells one
+abbrev pub stage_of : Option (List ℕ) → Option (Option StageShown)
+stage_of None = Some None
+stage_of (Some line) = stage_words line
+
+abbrev pub moments_of : Option (Option ℕ) → Option (Option ℕ) → Option (Option StageShown) → Option JobMoments
+moments_of (Some until) (Some before) (Some stage) = Some (record { hold_until = until; not_before = before; stage = stage })
+moments_of until before stage = None
+
+-- up to the text's end
+abbrev pub moments_in : List ℕ → Option JobMoments
+moments_in text =
+    let before = after_field text (codes "hold-until") in
+    let stage = after_field before (codes "not-before") in
+    cond (is_empty (after_field stage (codes "stage")))
+    (moments_of (moment_of (field text (codes "hold-until"))) (moment_of (field before (codes "not-before"))) (stage_of (field stage (codes "stage"))))
+    None
+
+abbrev pub course_of : Option JobCounts → Option JobMarks → Option JobStanding → Option JobMoments → Option JobCourse
+course_of (Some counts) (Some marks) (Some standing) (Some moments) = Some (record {
+  size = counts.size;
+  pages = counts.pages;
+  attempts = counts.attempts;
+  media = marks.media;
+  by = marks.by;
+  state = standing.state;
+  reason = standing.reason;
+  hold_until = moments.hold_until;
+  not_before = moments.not_before;
+  stage = moments.stage;
+})
+course_of counts marks standing moments = None
+
+abbrev pub course_in : List ℕ → Option JobCourse
+course_in text =
+    let pages = after_field text (codes "size") in
+    let attempts = after_field pages (codes "pages") in
+    let media = after_field attempts (codes "attempts") in
+    let by = after_field media (codes "type") in
+    let state = after_field by (codes "by") in
+    let reason = after_field state (codes "state") in
+    course_of
+    (counts_in (field text (codes "size")) (field pages (codes "pages")) (field attempts (codes "attempts")))
+    (marks_in (field media (codes "type")) (field by (codes "by")))
+    (standing_in (field state (codes "state")) (field reason (codes "reason")))
+    (moments_in (after_field reason (codes "reason")))
+
+-- ## The job
+
+abbrev pub shown_of : Option JobAsked → Option JobCourse → Option JobShown
+shown_of (Some asked) (Some course) = Some (record { asked = asked; course = course })
+shown_of asked course = None
+
+abbrev pub shown_job : List ℕ → Option JobShown
+shown_job text = shown_of (asked_in text) (course_in (after_asked text))

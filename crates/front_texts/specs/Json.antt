@@ -1,0 +1,112 @@
+-- Jobs and queues as JSON. The members of an object are in the order of their keys.
+use Rattle.std.specs.Prelude.{ℕ, List, codes, map, Option, None, Some}
+use Rattle.serde_json.specs.View.{items_of}
+use Rattle.serde_json.specs.Data.{Data, null, boolean, number, unsigned, string, array, object, put, Members, member, no_members}
+use Rattle.spool_types.specs.Phases.{policy_word}
+use Rattle.front_texts.specs.States.{job_state_word, printer_state_word}
+use Rattle.front_texts.specs.declared.job_line.JobLine.{JobLine}
+use Rattle.front_texts.specs.declared.job_shown.JobAsked.{JobAsked}
+use Rattle.front_texts.specs.declared.job_shown.JobCourse.{JobCourse}
+use Rattle.front_texts.specs.declared.job_shown.JobShown.{JobShown}
+use Rattle.front_texts.specs.declared.job_shown.StageShown.{StageShown}
+use Rattle.front_texts.specs.declared.queue_line.QueueLine.{QueueLine}
+
+-- ## Jobs
+
+-- a text, or null
+abbrev pub text_data : Option (List ℕ) → Data
+text_data None = null
+text_data (Some text) = string text
+
+abbrev pub moment_data : Option ℕ → Data
+moment_data None = null
+moment_data (Some moment) = number (unsigned moment)
+
+abbrev pub job_data : JobLine → Data
+job_data j =
+    object
+    (member (codes "number") (number (unsigned j.number))
+    (member (codes "pages") (number (unsigned j.pages))
+    (member (codes "queue") (string j.queue)
+    (member (codes "reason") (text_data j.reason)
+    (member (codes "size") (number (unsigned j.size))
+    (member (codes "state") (string (job_state_word j.state))
+    (member (codes "title") (string j.title)
+    (member (codes "user") (string j.user)
+    no_members))))))))
+
+abbrev pub asked_data : JobAsked → Data
+asked_data a =
+    object
+    (member (codes "copies") (number (unsigned a.copies))
+    (member (codes "number") (number (unsigned a.number))
+    (member (codes "options") (string a.options)
+    (member (codes "priority") (number (unsigned a.priority))
+    (member (codes "queue") (string a.queue)
+    (member (codes "title") (string a.title)
+    (member (codes "user") (string a.user)
+    no_members)))))))
+
+abbrev pub stage_data : Option StageShown → Data
+stage_data None = null
+stage_data (Some s) =
+    object
+    (member (codes "attempt") (number (unsigned s.attempt))
+    (member (codes "stage") (number (unsigned s.stage))
+    (member (codes "stages") (number (unsigned s.stages))
+    no_members)))
+
+abbrev pub moments_data : JobCourse → Data
+moments_data c =
+    object
+    (member (codes "by") (moment_data c.by)
+    (member (codes "hold_until") (moment_data c.hold_until)
+    (member (codes "not_before") (moment_data c.not_before)
+    no_members)))
+
+-- members, each put in at its key
+abbrev pub with_counts : JobCourse → Members → Members
+with_counts c ms =
+    put (codes "attempts") (number (unsigned c.attempts)) (put (codes "pages") (number (unsigned c.pages)) (put (codes "size") (number (unsigned c.size)) ms))
+
+abbrev pub with_standing : JobCourse → Members → Members
+with_standing c ms =
+    put (codes "reason") (text_data c.reason) (put (codes "state") (string (job_state_word c.state)) (put (codes "type") (text_data c.media) ms))
+
+abbrev pub with_waits : JobCourse → Members → Members
+with_waits c ms = put (codes "stage") (stage_data c.stage) (put (codes "moments") (moments_data c) ms)
+
+abbrev pub course_data : JobCourse → Data
+course_data c = object (with_waits c (with_standing c (with_counts c no_members)))
+
+abbrev pub shown_data : JobShown → Data
+shown_data j = object (member (codes "asked") (asked_data j.asked) (member (codes "course") (course_data j.course) no_members))
+
+abbrev pub jobs_data : List JobLine → Data
+jobs_data jobs = array (items_of (map job_data jobs))
+
+-- ## Queues
+
+abbrev pub text_item : List ℕ → Data
+text_item text = string text
+
+abbrev pub texts_data : List (List ℕ) → Data
+texts_data texts = array (items_of (map text_item texts))
+
+abbrev pub with_queue_state : QueueLine → Members → Members
+with_queue_state q ms =
+    put (codes "accepting") (boolean q.accepting) (put (codes "state") (string (printer_state_word q.state)) (put (codes "name") (string q.name) ms))
+
+abbrev pub with_queue_rules : QueueLine → Members → Members
+with_queue_rules q ms =
+    put (codes "limit") (number (unsigned q.limit)) (put (codes "interval") (number (unsigned q.interval)) (put (codes "policy") (string (policy_word q.policy)) ms))
+
+abbrev pub with_queue_notes : QueueLine → Members → Members
+with_queue_notes q ms =
+    put (codes "message") (string q.message) (put (codes "reasons") (texts_data q.reasons) (put (codes "type") (string q.target) ms))
+
+abbrev pub queue_data : QueueLine → Data
+queue_data q = object (with_queue_notes q (with_queue_rules q (with_queue_state q no_members)))
+
+abbrev pub queues_data : List QueueLine → Data
+queues_data queues = array (items_of (map queue_data queues))

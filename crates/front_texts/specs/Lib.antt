@@ -1,0 +1,14 @@
+pub mod States
+pub mod Fields
+pub mod JobRows
+pub mod QueueRows
+pub mod ReplyLines
+pub mod JobPage
+pub mod Cells
+pub mod Sizes
+pub mod Json
+pub mod Escape
+pub mod Page
+pub mod Lpstat
+pub mod Lpq
+pub mod ReadBack

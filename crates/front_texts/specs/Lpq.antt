@@ -1,0 +1,77 @@
+-- What `lpq` prints, as that of CUPS prints it, but that no text is cut.
+use Rattle.std.specs.Prelude.{ℕ, ◌+◌, ◌/◌, ◌%◌, Bool, ◌&&◌, not, cond, ◌==◌, nat_eq, List, [], ◌∷◌, ◌++◌, codes}
+use Rattle.std.specs.Cmp.Lexicographic.{pointwise}
+use Rattle.std.specs.Fmt.{decimal}
+use Rattle.std.specs.List.{list_any}
+use Rattle.front_texts.specs.Cells.{safe_text}
+use Rattle.front_texts.specs.Lpstat.{padded, is_processing}
+use Rattle.front_texts.specs.States.{is_ended}
+use Rattle.front_texts.specs.declared.job_line.JobLine.{JobLine}
+use Rattle.front_texts.specs.declared.lpq_form.TheConstants.{HEADING}
+use Rattle.front_texts.specs.declared.queue_line.QueueLine.{QueueLine}
+use Rattle.front_texts.specs.declared.states.PrinterState.{PrinterState}
+use Rattle.front_texts.specs.declared.states.PrinterState.TheVariants as printers
+
+-- a job of the queue that hasn't ended
+abbrev pub is_entry : List ℕ → JobLine → Bool
+is_entry queue j = not (is_ended j.state) && pointwise nat_eq j.queue queue
+
+abbrev pub has_entry : List ℕ → List JobLine → Bool
+has_entry queue js = list_any (is_entry queue) js
+
+abbrev pub ready_word : PrinterState → List ℕ
+ready_word printers.Idle = codes " is ready\n"
+ready_word printers.Processing = codes " is ready and printing\n"
+ready_word printers.Stopped = codes " is not ready\n"
+
+abbrev pub ready_line : QueueLine → List ℕ
+ready_line q = q.name ++ ready_word q.state
+
+-- 1st, 2nd, 3rd, 4th, 11th
+abbrev pub last_ending : ℕ → List ℕ
+last_ending digit = cond (digit == 1) (codes "st") (cond (digit == 2) (codes "nd") (cond (digit == 3) (codes "rd") (codes "th")))
+
+abbrev pub rank_ending : ℕ → List ℕ
+rank_ending rank = cond (rank / 10 % 10 == 1) (codes "th") (last_ending (rank % 10))
+
+abbrev pub rank_word : ℕ → JobLine → List ℕ
+rank_word rank j = cond (is_processing j.state) (codes "active") (decimal rank ++ rank_ending rank)
+
+abbrev pub rank_cell : ℕ → JobLine → List ℕ
+rank_cell rank j = padded 7 (rank_word rank j)
+
+abbrev pub owner_cell : JobLine → List ℕ
+owner_cell j = padded 7 (safe_text j.user)
+
+abbrev pub number_cell : JobLine → List ℕ
+number_cell j = padded 7 (decimal j.number)
+
+abbrev pub title_cell : JobLine → List ℕ
+title_cell j = padded 31 (safe_text j.title)
+
+abbrev pub bytes_part : JobLine → List ℕ
+bytes_part j = decimal j.size ++ codes " bytes\n"
+
+abbrev pub entry_line : ℕ → JobLine → List ℕ
+entry_line rank j = rank_cell rank j ++ owner_cell j ++ number_cell j ++ title_cell j ++ bytes_part j
+
+-- the rank of the next job: one that prints has none
+abbrev pub next_rank : ℕ → JobLine → ℕ
+next_rank rank j = cond (is_processing j.state) rank (rank + 1)
+
+-- a job if it is shown, and the rank of the one behind it
+abbrev pub entry_part : List ℕ → ℕ → JobLine → List ℕ
+entry_part queue rank j = cond (is_entry queue j) (entry_line rank j) []
+
+abbrev pub rank_after : List ℕ → ℕ → JobLine → ℕ
+rank_after queue rank j = cond (is_entry queue j) (next_rank rank j) rank
+
+abbrev pub entries : List ℕ → ℕ → List JobLine → List ℕ
+entries queue rank [] = []
+entries queue rank (j ∷ js) = entry_part queue rank j ++ entries queue (rank_after queue rank j) js
+
+abbrev pub entries_text : List ℕ → List JobLine → List ℕ
+entries_text queue js = cond (has_entry queue js) (HEADING.now ++ entries queue 1 js) (codes "no entries\n")
+
+abbrev pub queue_text : QueueLine → List JobLine → List ℕ
+queue_text q js = ready_line q ++ entries_text q.name js

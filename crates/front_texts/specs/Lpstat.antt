@@ -1,0 +1,86 @@
+-- What `lpstat` prints, as that of CUPS prints it, with `-` where a moment isn't known.
+use Rattle.std.specs.Prelude.{ℕ, ◌-◌, Bool, true, false, ◌&&◌, cond, nat_eq, List, [], ◌∷◌, ◌++◌, length, codes, chars, replicate, Option, None, Some}
+use Rattle.std.specs.Cmp.Lexicographic.{pointwise}
+use Rattle.std.specs.Fmt.{decimal}
+use Rattle.std.specs.List.{flat_map}
+use Rattle.unicode_width.specs.Width.{str_width}
+use Rattle.front_texts.specs.Cells.{safe_text}
+use Rattle.front_texts.specs.States.{is_ended}
+use Rattle.front_texts.specs.declared.job_line.JobLine.{JobLine}
+use Rattle.front_texts.specs.declared.queue_line.QueueLine.{QueueLine}
+use Rattle.front_texts.specs.declared.states.JobState.{JobState}
+use Rattle.front_texts.specs.declared.states.JobState.TheVariants as jobs
+use Rattle.front_texts.specs.declared.states.PrinterState.{PrinterState}
+use Rattle.front_texts.specs.declared.states.PrinterState.TheVariants as printers
+
+-- a text, blanks up to the end of its column, and one more
+abbrev pub padded : ℕ → List ℕ → List ℕ
+padded columns text = text ++ replicate (columns - str_width false (chars text)) 32 ++ 32 ∷ []
+
+-- ## Printers (-p)
+
+abbrev pub is_processing : JobState → Bool
+is_processing jobs.Pending = false
+is_processing jobs.Held = false
+is_processing jobs.Processing = true
+is_processing jobs.Stopped = false
+is_processing jobs.Canceled = false
+is_processing jobs.Aborted = false
+is_processing jobs.Completed = false
+
+abbrev pub is_printing : List ℕ → JobLine → Bool
+is_printing queue j = is_processing j.state && pointwise nat_eq j.queue queue
+
+-- the first job of a queue that is processing
+abbrev pub printing_job : List ℕ → List JobLine → Option ℕ
+printing_job queue [] = None
+printing_job queue (j ∷ js) = cond (is_printing queue j) (Some j.number) (printing_job queue js)
+
+-- what is told of a queue, or that nothing is
+abbrev pub message_of : List ℕ → List ℕ
+message_of [] = codes "reason unknown"
+message_of (b ∷ bs) = b ∷ bs
+
+-- the name of a job
+abbrev pub job_name : List ℕ → ℕ → List ℕ
+job_name queue job = queue ++ codes "-" ++ decimal job
+
+abbrev pub printing_line : List ℕ → ℕ → List ℕ
+printing_line name job = (codes "printer " ++ name ++ codes " now printing ") ++ job_name name job ++ codes ".  enabled since -\n"
+
+abbrev pub stopped_line : List ℕ → List ℕ → List ℕ
+stopped_line name why = (codes "printer " ++ name ++ codes " disabled since - -\n\t") ++ why ++ codes "\n"
+
+abbrev pub state_line : List ℕ → List ℕ → PrinterState → Option ℕ → List ℕ
+state_line name message printers.Idle job = codes "printer " ++ name ++ codes " is idle.  enabled since -\n"
+state_line name message printers.Processing (Some job) = printing_line name job
+state_line name message printers.Processing None = codes "printer " ++ name ++ codes " now printing.  enabled since -\n"
+state_line name message printers.Stopped job = stopped_line name (message_of message)
+
+abbrev pub printer_line : QueueLine → Option ℕ → List ℕ
+printer_line q job = state_line q.name q.message q.state job
+
+abbrev pub printers_text : List QueueLine → List JobLine → List ℕ
+printers_text queues js = flat_map (λ (q : QueueLine). printer_line q (printing_job q.name js)) queues
+
+-- ## What they accept (-a)
+
+abbrev pub accepting_line : QueueLine → List ℕ
+accepting_line q =
+    cond q.accepting
+    (q.name ++ codes " accepting requests since -\n")
+    (q.name ++ codes " not accepting requests since - -\n\t" ++ message_of q.message ++ codes "\n")
+
+-- ## Jobs that haven't ended (-o)
+
+abbrev pub request_cell : JobLine → List ℕ
+request_cell j = padded 23 (job_name j.queue j.number)
+
+abbrev pub owner_cell : JobLine → List ℕ
+owner_cell j = padded 13 (safe_text j.user)
+
+abbrev pub bytes_cell : JobLine → List ℕ
+bytes_cell j = replicate (8 - length (decimal j.size)) 32 ++ decimal j.size ++ codes " -\n"
+
+abbrev pub pending_part : JobLine → List ℕ
+pending_part j = cond (is_ended j.state) [] (request_cell j ++ owner_cell j ++ bytes_cell j)

@@ -1,0 +1,79 @@
+-- The page of queues and jobs: each text that isn't the page's own goes in as `escaped`.
+use Rattle.std.specs.Prelude.{ℕ, Bool, cond, List, [], ◌++◌, codes, Option, None, Some}
+use Rattle.std.specs.Fmt.{decimal}
+use Rattle.std.specs.List.{flat_map}
+use Rattle.front_texts.specs.Escape.{escaped}
+use Rattle.front_texts.specs.States.{printer_state_word, shown_word, yes_or_no}
+use Rattle.front_texts.specs.declared.job_line.JobLine.{JobLine}
+use Rattle.front_texts.specs.declared.queue_line.QueueLine.{QueueLine}
+use Rattle.front_texts.specs.declared.web_page.TheConstants.{OPENING, REFRESH, STYLE, QUEUES, JOBS, CLOSING}
+
+abbrev pub cell : List ℕ → List ℕ
+cell text = codes "<td>" ++ escaped text ++ codes "</td>"
+
+abbrev pub number_cell : ℕ → List ℕ
+number_cell number = codes "<td class=\"n\">" ++ decimal number ++ codes "</td>"
+
+-- the state's word is also its class, and so its colour
+abbrev pub state_class : List ℕ → List ℕ
+state_class word = codes "<td class=\"state " ++ escaped word ++ codes "\">"
+
+abbrev pub state_cell : List ℕ → List ℕ
+state_cell word = state_class word ++ escaped word ++ codes "</td>"
+
+-- ## A queue
+
+abbrev pub queue_front : QueueLine → List ℕ
+queue_front q = codes "<tr>" ++ cell q.name ++ state_cell (printer_state_word q.state) ++ cell (yes_or_no q.accepting)
+
+abbrev pub reason_part : List ℕ → List ℕ
+reason_part reason = codes "<span class=\"faint\">" ++ escaped reason ++ codes "</span> "
+
+abbrev pub queue_notes : QueueLine → List ℕ
+queue_notes q = codes "<td>" ++ flat_map reason_part q.reasons ++ escaped q.message ++ codes "</td>"
+
+abbrev pub queue_html : QueueLine → List ℕ
+queue_html q = queue_front q ++ cell q.target ++ queue_notes q ++ codes "</tr>\n"
+
+-- ## A job
+
+abbrev pub job_front : JobLine → List ℕ
+job_front j = codes "<tr>" ++ number_cell j.number ++ cell j.queue ++ state_cell (shown_word j.state j.reason)
+
+abbrev pub job_numbers : JobLine → List ℕ
+job_numbers j = number_cell j.size ++ number_cell j.pages
+
+abbrev pub job_middle : JobLine → List ℕ
+job_middle j = cell j.user ++ job_numbers j
+
+-- the reason beside its state, if there is one
+abbrev pub word_part : Option (List ℕ) → List ℕ
+word_part None = []
+word_part (Some reason) = codes " <span class=\"faint\">" ++ escaped reason ++ codes "</span>"
+
+abbrev pub job_notes : JobLine → List ℕ
+job_notes j = codes "<td>" ++ escaped j.title ++ word_part j.reason ++ codes "</td>"
+
+abbrev pub job_html : JobLine → List ℕ
+job_html j = job_front j ++ job_middle j ++ job_notes j ++ codes "</tr>\n"
+
+-- ## The page
+
+-- with the line that asks for it anew, if it follows
+abbrev pub refresh : Bool → List ℕ
+refresh follows = cond follows REFRESH.now []
+
+abbrev pub stamp_html : List ℕ → List ℕ
+stamp_html stamp = codes "<p class=\"faint\">" ++ escaped stamp ++ codes "</p>\n"
+
+abbrev pub head_html : List ℕ → Bool → List ℕ
+head_html stamp follows = OPENING.now ++ refresh follows ++ STYLE.now ++ stamp_html stamp
+
+abbrev pub queues_html : List QueueLine → List ℕ
+queues_html queues = QUEUES.now ++ flat_map queue_html queues
+
+abbrev pub jobs_html : List JobLine → List ℕ
+jobs_html jobs = JOBS.now ++ flat_map job_html jobs
+
+abbrev pub page_html : List QueueLine → List JobLine → List ℕ → Bool → List ℕ
+page_html queues jobs stamp follows = head_html stamp follows ++ queues_html queues ++ jobs_html jobs ++ CLOSING.now

@@ -1,0 +1,79 @@
+-- Last lines of replies, and lines of `watch`.
+use Rattle.std.specs.Prelude.{ℕ, Bool, ◌&&◌, cond, ◌==◌, List, codes, Option, None, Some}
+use Rattle.std.specs.List.{before_first, after_first}
+use Rattle.std.specs.Option.{option_map}
+use Rattle.line_words.specs.Blanks.{first_word, after_word}
+use Rattle.command_lines.specs.Grammar.{job_in, queue_in}
+use Rattle.front_texts.specs.Fields.{is_word, is_end, count_in}
+use Rattle.front_texts.specs.JobRows.{job_row}
+use Rattle.front_texts.specs.QueueRows.{queue_row}
+use Rattle.front_texts.specs.declared.job_line.JobLine.{JobLine}
+use Rattle.front_texts.specs.declared.queue_line.QueueLine.{QueueLine}
+use Rattle.front_texts.specs.declared.reply_lines.LastLine.{LastLine}
+use Rattle.front_texts.specs.declared.reply_lines.LastLine.TheVariants.{Done, Refused, Failed}
+use Rattle.front_texts.specs.declared.reply_lines.WatchLine.{WatchLine}
+use Rattle.front_texts.specs.declared.reply_lines.WatchLine.TheVariants.{Job, Queue, GoneJob, GoneQueue, Missed}
+
+-- ## The last line of a reply
+
+-- it was done, it was refused for a cause that has a number, or it failed
+pub data Last : Type 0 where
+  done : List ℕ → Last
+  refused : ℕ → List ℕ → Last
+  failed : List ℕ → Last
+
+abbrev pub last_of : LastLine → Last
+last_of (Done words) = done words.now
+last_of (Refused number name) = refused number name.now
+last_of (Failed word) = failed word.now
+
+abbrev pub is_space : ℕ → Bool
+is_space b = b == 32
+
+-- a cause that has a number and a name, or the word of a fault
+abbrev pub error_of : Option ℕ → List ℕ → List ℕ → Last
+error_of None words name = failed words
+error_of (Some number) words name = refused number name
+
+abbrev pub error_line : List ℕ → Last
+error_line words = error_of (count_in (before_first is_space words)) words (after_first is_space words)
+
+abbrev pub last_line : List ℕ → Option Last
+last_line line =
+    cond (is_word (before_first is_space line) (codes "ok")) (Some (done (after_first is_space line)))
+    (cond (is_word (before_first is_space line) (codes "error")) (Some (error_line (after_first is_space line)))
+    None)
+
+-- ## A line of `watch`
+
+abbrev pub job_news : Option JobLine → Option WatchLine
+job_news job = option_map (λ job. Job job) job
+
+abbrev pub queue_news : Option QueueLine → Option WatchLine
+queue_news queue = option_map (λ queue. Queue queue) queue
+
+abbrev pub gone_job : Option ℕ → Option WatchLine
+gone_job job = option_map (λ job. GoneJob job) job
+
+abbrev pub gone_queue : Option (List ℕ) → Option WatchLine
+gone_queue name = option_map (λ name. GoneQueue name) name
+
+-- a job or a queue that is gone, by its kind and its name
+abbrev pub gone : List ℕ → List ℕ → Option WatchLine
+gone kind name =
+    cond (is_word kind (codes "job")) (gone_job (job_in name))
+    (cond (is_word kind (codes "queue")) (gone_queue (queue_in name))
+    None)
+
+abbrev pub gone_line : List ℕ → Option WatchLine
+gone_line line =
+    let name = after_word line in
+    cond (is_end (after_word name)) (gone (first_word line) (first_word name)) None
+
+abbrev pub watch_line : List ℕ → Option WatchLine
+watch_line line =
+    cond (is_word (first_word line) (codes "job")) (job_news (job_row line))
+    (cond (is_word (first_word line) (codes "queue")) (queue_news (queue_row line))
+    (cond (is_word (first_word line) (codes "gone")) (gone_line (after_word line))
+    (cond (is_word (first_word line) (codes "missed") && is_end (after_word line)) (Some Missed)
+    None)))

@@ -1,0 +1,174 @@
+//! One job with all its fields, for a terminal.
+ghost use Rattle.std.specs.Prelude.{◌≤◌, IfOk, OnOk};
+ghost use Rattle.front_texts.specs.Cells.{AllFit};
+
+use crate::cells::{fitted, push_cell, safe_text};
+use crate::job_shown::{JobAsked, JobCourse, JobShown, StageShown};
+use crate::sizes::{moment_text, size_text};
+use spool_types::Moment;
+use std::alloc::{AllocError, Global};
+
+// The columns of the fields' names.
+const NAME_COLUMNS: usize = 10;
+
+/// One job as lines of a name and a value, for a terminal of so many columns. What isn't there has no line.
+pub fn job_page(alloc: Global, job: &JobShown, width: usize) -> Result<Vec<String>, AllocError>
+    requires { 1 ≤ width }
+    ensures fits { IfOk result (λ lines. AllFit width lines.items) }
+{
+    let mut lines = Vec::new(alloc);
+    push_asked(alloc, &mut lines, &job.asked, width)?;
+    push_course(alloc, &mut lines, &job.course, width)?;
+    push_moments(alloc, &mut lines, &job.course, width)?;
+    Ok(lines)
+}
+
+// A line of a name and a value.
+fn push_line(
+    alloc: Global,
+    lines: &mut Vec<String>,
+    name: &str,
+    value: &str,
+    width: usize,
+) -> Result<(), AllocError>
+    requires there { 1 ≤ width }
+    requires fit { AllFit width lines.old.items }
+    ensures { OnOk result (AllFit width lines.new.items) }
+{
+    let mut line = String::new(alloc);
+    push_cell(alloc, &mut line, name, NAME_COLUMNS)?;
+    line.push_str(value)?;
+    let safe = safe_text(alloc, line.as_str().trim_end())?;
+    lines.push(fitted(alloc, safe.as_str(), width)?)?;
+    Ok(())
+}
+
+fn push_number(
+    alloc: Global,
+    lines: &mut Vec<String>,
+    name: &str,
+    value: u32,
+    width: usize,
+) -> Result<(), AllocError>
+    requires there { 1 ≤ width }
+    requires fit { AllFit width lines.old.items }
+    ensures { OnOk result (AllFit width lines.new.items) }
+{
+    let value = format!(in alloc; "{value}")?;
+    push_line(alloc, lines, name, value.as_str(), width)
+}
+
+fn push_asked(
+    alloc: Global,
+    lines: &mut Vec<String>,
+    asked: &JobAsked,
+    width: usize,
+) -> Result<(), AllocError>
+    requires there { 1 ≤ width }
+    requires fit { AllFit width lines.old.items }
+    ensures { OnOk result (AllFit width lines.new.items) }
+{
+    push_number(alloc, lines, "job", asked.number.get(), width)?;
+    push_line(alloc, lines, "queue", asked.queue.as_str(), width)?;
+    push_line(alloc, lines, "user", asked.user.as_str(), width)?;
+    push_line(alloc, lines, "title", asked.title.as_str(), width)?;
+    push_line(alloc, lines, "options", asked.options.as_str(), width)?;
+    push_number(alloc, lines, "copies", asked.copies.get(), width)?;
+    push_number(alloc, lines, "priority", asked.priority.get(), width)
+}
+
+fn push_course(
+    alloc: Global,
+    lines: &mut Vec<String>,
+    course: &JobCourse,
+    width: usize,
+) -> Result<(), AllocError>
+    requires there { 1 ≤ width }
+    requires fit { AllFit width lines.old.items }
+    ensures { OnOk result (AllFit width lines.new.items) }
+{
+    let size = size_text(alloc, course.size)?;
+    push_line(alloc, lines, "size", size.as_str(), width)?;
+    push_number(alloc, lines, "pages", course.pages, width)?;
+    push_number(alloc, lines, "attempts", course.attempts, width)?;
+    if let Some(media) = &course.media {
+        push_line(alloc, lines, "type", media.as_str(), width)?;
+    }
+    push_line(alloc, lines, "state", course.state_word(), width)?;
+    if let Some(reason) = &course.reason {
+        push_line(alloc, lines, "reason", reason.as_str(), width)?;
+    }
+    Ok(())
+}
+
+fn push_moments(
+    alloc: Global,
+    lines: &mut Vec<String>,
+    course: &JobCourse,
+    width: usize,
+) -> Result<(), AllocError>
+    requires there { 1 ≤ width }
+    requires fit { AllFit width lines.old.items }
+    ensures { OnOk result (AllFit width lines.new.items) }
+{
+    push_moment(alloc, lines, "start by", course.by, width)?;
+    push_moment(alloc, lines, "held until", course.hold_until, width)?;
+    push_moment(
+        alloc,
+        lines,
+        "not before",
+        shown_moment(course.not_before),
+        width,
+    )?;
+    push_stage(alloc, lines, course.stage, width)
+}
+
+// A job that waits for no moment has the beginning there.
+fn shown_moment(moment: Option<Moment>) -> Option<Moment> {
+    match moment {
+        Some(moment) if moment == Moment::ZERO => None,
+        other => other,
+    }
+}
+
+fn push_moment(
+    alloc: Global,
+    lines: &mut Vec<String>,
+    name: &str,
+    moment: Option<Moment>,
+    width: usize,
+) -> Result<(), AllocError>
+    requires there { 1 ≤ width }
+    requires fit { AllFit width lines.old.items }
+    ensures { OnOk result (AllFit width lines.new.items) }
+{
+    let Some(moment) = moment else {
+        return Ok(());
+    };
+    let text = moment_text(alloc, moment)?;
+    push_line(alloc, lines, name, text.as_str(), width)
+}
+
+fn push_stage(
+    alloc: Global,
+    lines: &mut Vec<String>,
+    stage: Option<StageShown>,
+    width: usize,
+) -> Result<(), AllocError>
+    requires there { 1 ≤ width }
+    requires fit { AllFit width lines.old.items }
+    ensures { OnOk result (AllFit width lines.new.items) }
+{
+    let Some(
+        StageShown {
+            stage,
+            stages,
+            attempt,
+        },
+    ) = stage
+    else {
+        return Ok(());
+    };
+    let text = format!(in alloc; "{stage} of {stages} in attempt {attempt}")?;
+    push_line(alloc, lines, "stage", text.as_str(), width)
+}

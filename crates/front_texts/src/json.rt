@@ -1,0 +1,286 @@
+//! Jobs and queues as JSON.
+ghost use Rattle.std.specs.Prelude.{◌≡◌, IfOk, OnOk, option_copied};
+ghost use Rattle.serde_json.specs.View.{view, members_view};
+ghost use Rattle.front_texts.specs.Json.{text_data, text_item, texts_data, job_data, jobs_data, queue_data, queues_data, with_queue_state, with_queue_rules, with_queue_notes, with_counts, with_standing, with_waits, asked_data, course_data, shown_data, moment_data, moments_data, stage_data};
+
+use crate::job_line::JobLine;
+use crate::job_shown::{JobAsked, JobCourse, JobShown, StageShown};
+use crate::queue_line::QueueLine;
+use serde_json::{Map, Value, json, put};
+use spool_types::{MediaType, Moment, Reason};
+use std::alloc::{AllocError, Global};
+
+// The members of an object.
+type JsonMembers = Map<String, Value>;
+
+/// A job as an object.
+pub fn job_json(alloc: Global, job: &JobLine) -> Result<Value, AllocError>
+    ensures value { IfOk result (λ object. view object ≡ job_data job.now) }
+{
+    let reason = reason_json(alloc, job.reason.as_ref())?;
+    json!(in alloc; {
+        "number": job.number.get(),
+        "queue": job.queue.as_str(),
+        "state": job.state.word(),
+        "reason": &reason,
+        "user": job.user.as_str(),
+        "size": job.size,
+        "pages": job.pages,
+        "title": job.title.as_str()
+    })
+}
+
+// A reason, or null.
+fn reason_json(alloc: Global, reason: Option<&Reason>) -> Result<Value, AllocError>
+    ensures { IfOk result (λ value. view value ≡ text_data (option_copied reason.entry)) }
+{
+    match reason {
+        Some(reason) => text_json(alloc, reason.as_str()),
+        None => Ok(Value::Null),
+    }
+}
+
+/// The jobs as an array of objects, in their order.
+pub fn jobs_json(alloc: Global, jobs: &[JobLine]) -> Result<Value, AllocError>
+    ensures value { IfOk result (λ array. view array ≡ jobs_data jobs.now) }
+{
+    let mut array = Vec::new(alloc);
+    for job in jobs {
+        array.push(job_json(alloc, job)?)?;
+    }
+    Ok(Value::Array(array))
+}
+
+/// A queue as an object.
+pub fn queue_json(alloc: Global, queue: &QueueLine) -> Result<Value, AllocError>
+    ensures value { IfOk result (λ object. view object ≡ queue_data queue.now) }
+{
+    let mut members = Map::new(alloc);
+    put_queue_state(alloc, &mut members, queue)?;
+    put_queue_rules(alloc, &mut members, queue)?;
+    put_queue_notes(alloc, &mut members, queue)?;
+    Ok(Value::Object(members))
+}
+
+fn put_queue_state(
+    alloc: Global,
+    members: &mut JsonMembers,
+    queue: &QueueLine,
+) -> Result<(), AllocError>
+    ensures { OnOk result (members_view members.new.entries ≡ with_queue_state queue.now (members_view members.old.entries)) }
+{
+    put(
+        members,
+        alloc,
+        "name",
+        text_json(alloc, queue.name.as_str())?,
+    )?;
+    put(
+        members,
+        alloc,
+        "state",
+        text_json(alloc, queue.state.word())?,
+    )?;
+    put(members, alloc, "accepting", Value::Bool(queue.accepting))
+}
+
+fn put_queue_rules(
+    alloc: Global,
+    members: &mut JsonMembers,
+    queue: &QueueLine,
+) -> Result<(), AllocError>
+    ensures { OnOk result (members_view members.new.entries ≡ with_queue_rules queue.now (members_view members.old.entries)) }
+{
+    put(
+        members,
+        alloc,
+        "policy",
+        text_json(alloc, queue.policy.word())?,
+    )?;
+    put(
+        members,
+        alloc,
+        "interval",
+        Value::from(queue.interval.get()),
+    )?;
+    put(members, alloc, "limit", Value::from(queue.limit))
+}
+
+fn put_queue_notes(
+    alloc: Global,
+    members: &mut JsonMembers,
+    queue: &QueueLine,
+) -> Result<(), AllocError>
+    ensures { OnOk result (members_view members.new.entries ≡ with_queue_notes queue.now (members_view members.old.entries)) }
+{
+    put(
+        members,
+        alloc,
+        "type",
+        text_json(alloc, queue.target.as_str())?,
+    )?;
+    put(
+        members,
+        alloc,
+        "reasons",
+        reasons_json(alloc, queue.reasons.as_slice())?,
+    )?;
+    put(
+        members,
+        alloc,
+        "message",
+        text_json(alloc, queue.message.as_str())?,
+    )
+}
+
+fn reasons_json(alloc: Global, reasons: &[Reason]) -> Result<Value, AllocError>
+    ensures { IfOk result (λ array. view array ≡ texts_data reasons.now) }
+{
+    let mut array = Vec::new(alloc);
+    for reason in reasons {
+        array.push(text_json(alloc, reason.as_str())?)?;
+    }
+    Ok(Value::Array(array))
+}
+
+fn text_json(alloc: Global, text: &str) -> Result<Value, AllocError>
+    ensures { IfOk result (λ value. view value ≡ text_item text.now) }
+{
+    Ok(Value::String(String::from_str(alloc, text)?))
+}
+
+/// The queues as an array of objects, in their order.
+pub fn queues_json(alloc: Global, queues: &[QueueLine]) -> Result<Value, AllocError>
+    ensures value { IfOk result (λ array. view array ≡ queues_data queues.now) }
+{
+    let mut array = Vec::new(alloc);
+    for queue in queues {
+        array.push(queue_json(alloc, queue)?)?;
+    }
+    Ok(Value::Array(array))
+}
+
+/// A job with all its fields as an object. What isn't there is null.
+pub fn job_shown_json(alloc: Global, job: &JobShown) -> Result<Value, AllocError>
+    ensures value { IfOk result (λ object. view object ≡ shown_data job.now) }
+{
+    let asked = asked_json(alloc, &job.asked)?;
+    let course = course_json(alloc, &job.course)?;
+    json!(in alloc; {"asked": &asked, "course": &course})
+}
+
+fn asked_json(alloc: Global, asked: &JobAsked) -> Result<Value, AllocError>
+    ensures { IfOk result (λ object. view object ≡ asked_data asked.now) }
+{
+    json!(in alloc; {
+        "number": asked.number.get(),
+        "queue": asked.queue.as_str(),
+        "user": asked.user.as_str(),
+        "title": asked.title.as_str(),
+        "options": asked.options.as_str(),
+        "copies": asked.copies.get(),
+        "priority": asked.priority.get()
+    })
+}
+
+fn course_json(alloc: Global, course: &JobCourse) -> Result<Value, AllocError>
+    ensures { IfOk result (λ object. view object ≡ course_data course.now) }
+{
+    let mut members = Map::new(alloc);
+    put_counts(alloc, &mut members, course)?;
+    put_standing(alloc, &mut members, course)?;
+    put_waits(alloc, &mut members, course)?;
+    Ok(Value::Object(members))
+}
+
+fn put_counts(
+    alloc: Global,
+    members: &mut JsonMembers,
+    course: &JobCourse,
+) -> Result<(), AllocError>
+    ensures { OnOk result (members_view members.new.entries ≡ with_counts course.now (members_view members.old.entries)) }
+{
+    put(members, alloc, "size", Value::from(course.size))?;
+    put(members, alloc, "pages", Value::from(course.pages))?;
+    put(members, alloc, "attempts", Value::from(course.attempts))
+}
+
+fn put_standing(
+    alloc: Global,
+    members: &mut JsonMembers,
+    course: &JobCourse,
+) -> Result<(), AllocError>
+    ensures { OnOk result (members_view members.new.entries ≡ with_standing course.now (members_view members.old.entries)) }
+{
+    put(
+        members,
+        alloc,
+        "type",
+        media_json(alloc, course.media.as_ref())?,
+    )?;
+    put(
+        members,
+        alloc,
+        "state",
+        text_json(alloc, course.state.word())?,
+    )?;
+    put(
+        members,
+        alloc,
+        "reason",
+        reason_json(alloc, course.reason.as_ref())?,
+    )
+}
+
+fn put_waits(alloc: Global, members: &mut JsonMembers, course: &JobCourse) -> Result<(), AllocError>
+    ensures { OnOk result (members_view members.new.entries ≡ with_waits course.now (members_view members.old.entries)) }
+{
+    put(members, alloc, "moments", moments_json(alloc, course)?)?;
+    put(members, alloc, "stage", stage_json(alloc, course.stage)?)
+}
+
+fn moments_json(alloc: Global, course: &JobCourse) -> Result<Value, AllocError>
+    ensures { IfOk result (λ object. view object ≡ moments_data course.now) }
+{
+    let by = moment_json(course.by);
+    let hold_until = moment_json(course.hold_until);
+    let not_before = moment_json(course.not_before);
+    json!(in alloc; {
+        "by": &by,
+        "hold_until": &hold_until,
+        "not_before": &not_before
+    })
+}
+
+// A media type, or null.
+fn media_json(alloc: Global, media: Option<&MediaType>) -> Result<Value, AllocError>
+    ensures { IfOk result (λ value. view value ≡ text_data (option_copied media.entry)) }
+{
+    match media {
+        Some(media) => text_json(alloc, media.as_str()),
+        None => Ok(Value::Null),
+    }
+}
+
+// A moment's seconds, or null.
+fn moment_json(moment: Option<Moment>) -> Value
+    ensures { view result ≡ moment_data moment }
+{
+    match moment {
+        Some(moment) => Value::from(moment.get()),
+        None => Value::Null,
+    }
+}
+
+fn stage_json(alloc: Global, stage: Option<StageShown>) -> Result<Value, AllocError>
+    ensures { IfOk result (λ object. view object ≡ stage_data stage) }
+{
+    match stage {
+        Some(stage) => json!(in alloc; {
+            "stage": stage.stage,
+            "stages": stage.stages,
+            "attempt": stage.attempt
+        }),
+        None => Ok(Value::Null),
+    }
+}

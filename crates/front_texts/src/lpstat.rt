@@ -1,0 +1,191 @@
+//! What `lpstat` prints.
+ghost use Rattle.std.specs.Prelude.{◌≡◌, ◌++◌, OnOk, IfOk, replicate};
+ghost use Rattle.std.specs.List.{flat_map};
+ghost use Rattle.front_texts.specs.Lpstat.{padded, is_printing, printing_job, message_of, job_name, printing_line, stopped_line, printer_line, printers_text, accepting_line, pending_part, request_cell, owner_cell, bytes_cell};
+
+use crate::cells::safe_text;
+use crate::job_line::JobLine;
+use crate::queue_line::QueueLine;
+use crate::states::{JobState, PrinterState};
+use spool_types::{JobId, QueueName};
+use std::alloc::{AllocError, Global};
+use std::io::Write;
+use unicode_width::UnicodeWidthStr;
+
+/// What `lpstat -p` prints: a line for each queue, and for one that is stopped why. When that was isn't known, so `-` stands
+/// there.
+pub fn lpstat_printers(
+    alloc: Global,
+    queues: &[QueueLine],
+    jobs: &[JobLine],
+) -> Result<Vec<u8>, AllocError>
+    ensures value { IfOk result (λ text. text.items ≡ printers_text queues.now jobs.now) }
+{
+    let mut text = Vec::new(alloc);
+    for queue in queues {
+        push_printer(&mut text, queue, printing_job(jobs, &queue.name))?;
+    }
+    Ok(text)
+}
+
+// The first job of a queue that is processing.
+pub(crate) fn printing_job(jobs: &[JobLine], queue: &QueueName) -> Option<JobId>
+    ensures { result ≡ printing_job queue.now jobs.now }
+{
+    for job in jobs {
+        if is_printing(job, queue) {
+            return Some(job.number);
+        }
+    }
+    None
+}
+
+fn is_printing(job: &JobLine, queue: &QueueName) -> bool
+    ensures { result ≡ is_printing queue.now job.now }
+{
+    job.state == JobState::Processing && job.queue == *queue
+}
+
+fn push_printer(text: &mut Vec<u8>, queue: &QueueLine, job: Option<JobId>) -> Result<(), AllocError>
+    ensures { OnOk result (text.new.items ≡ text.old.items ++ printer_line queue.now job) }
+{
+    let name = queue.name.as_str();
+    match (queue.state, job) {
+        (PrinterState::Idle, _) => {
+            write!(text, "printer {name} is idle.  enabled since -\n").map_err(|_| AllocError)
+        }
+        (PrinterState::Processing, Some(job)) => push_printing(text, name, job),
+        (PrinterState::Processing, None) => {
+            write!(text, "printer {name} now printing.  enabled since -\n").map_err(|_| AllocError)
+        }
+        (PrinterState::Stopped, _) => push_stopped(text, name, message_of(queue)),
+    }
+}
+
+fn push_printing(text: &mut Vec<u8>, name: &str, job: JobId) -> Result<(), AllocError>
+    ensures { OnOk result (text.new.items ≡ text.old.items ++ printing_line name.now job) }
+{
+    write!(text, "printer {name} now printing ").map_err(|_| AllocError)?;
+    push_job_name(text, name, job)?;
+    text.extend_from_slice(b".  enabled since -\n")
+}
+
+// The name of a job: its queue and its number.
+fn push_job_name(text: &mut Vec<u8>, queue: &str, job: JobId) -> Result<(), AllocError>
+    ensures { OnOk result (text.new.items ≡ text.old.items ++ job_name queue.now job) }
+{
+    let number = job.get();
+    write!(text, "{queue}-{number}").map_err(|_| AllocError)
+}
+
+fn push_stopped(text: &mut Vec<u8>, name: &str, why: &str) -> Result<(), AllocError>
+    ensures { OnOk result (text.new.items ≡ text.old.items ++ stopped_line name.now why.now) }
+{
+    write!(text, "printer {name} disabled since - -\n\t").map_err(|_| AllocError)?;
+    text.extend_from_slice(why.as_bytes())?;
+    text.extend_from_slice(b"\n")
+}
+
+// What is told of a queue, or that nothing is.
+fn message_of(queue: &QueueLine) -> &str
+    ensures { result.now ≡ message_of queue.now.message }
+{
+    let message = queue.message.as_str();
+    if message.is_empty() {
+        "reason unknown"
+    } else {
+        message
+    }
+}
+
+/// What `lpstat -a` prints: whether each queue takes jobs.
+pub fn lpstat_accepting(alloc: Global, queues: &[QueueLine]) -> Result<Vec<u8>, AllocError>
+    ensures value { IfOk result (λ text. text.items ≡ flat_map accepting_line queues.now) }
+{
+    let mut text = Vec::new(alloc);
+    for queue in queues {
+        push_accepting(&mut text, queue)?;
+    }
+    Ok(text)
+}
+
+fn push_accepting(text: &mut Vec<u8>, queue: &QueueLine) -> Result<(), AllocError>
+    ensures { OnOk result (text.new.items ≡ text.old.items ++ accepting_line queue.now) }
+{
+    let name = queue.name.as_str();
+    if queue.accepting {
+        write!(text, "{name} accepting requests since -\n").map_err(|_| AllocError)
+    } else {
+        let why = message_of(queue);
+        write!(text, "{name} not accepting requests since - -\n\t{why}\n").map_err(|_| AllocError)
+    }
+}
+
+/// What `lpstat -o` prints: `QUEUE-N USER SIZE -` for each job that hasn't ended. When it was made isn't known.
+pub fn lpstat_jobs(alloc: Global, jobs: &[JobLine]) -> Result<Vec<u8>, AllocError>
+    ensures value { IfOk result (λ text. text.items ≡ flat_map pending_part jobs.now) }
+{
+    let mut text = Vec::new(alloc);
+    for job in jobs {
+        push_pending(alloc, &mut text, job)?;
+    }
+    Ok(text)
+}
+
+fn push_pending(alloc: Global, text: &mut Vec<u8>, job: &JobLine) -> Result<(), AllocError>
+    ensures { OnOk result (text.new.items ≡ text.old.items ++ pending_part job.now) }
+{
+    if job.has_ended() {
+        return Ok(());
+    }
+    push_request(alloc, text, job)?;
+    push_owner(alloc, text, job)?;
+    push_bytes(alloc, text, job)
+}
+
+fn push_request(alloc: Global, text: &mut Vec<u8>, job: &JobLine) -> Result<(), AllocError>
+    ensures { OnOk result (text.new.items ≡ text.old.items ++ request_cell job.now) }
+{
+    let queue = job.queue.as_str();
+    let number = job.number.get();
+    let request = format!(in alloc; "{queue}-{number}")?;
+    push_padded(text, request.as_str(), 23)
+}
+
+fn push_owner(alloc: Global, text: &mut Vec<u8>, job: &JobLine) -> Result<(), AllocError>
+    ensures { OnOk result (text.new.items ≡ text.old.items ++ owner_cell job.now) }
+{
+    let user = safe_text(alloc, job.user.as_str())?;
+    push_padded(text, user.as_str(), 13)
+}
+
+fn push_bytes(alloc: Global, text: &mut Vec<u8>, job: &JobLine) -> Result<(), AllocError>
+    ensures { OnOk result (text.new.items ≡ text.old.items ++ bytes_cell job.now) }
+{
+    let size = job.size;
+    let bytes = format!(in alloc; "{size}")?;
+    push_blanks(text, 8usize.saturating_sub(bytes.len()))?;
+    text.extend_from_slice(bytes.as_bytes())?;
+    text.extend_from_slice(b" -\n")
+}
+
+// Adds a text, blanks up to the end of its column, and one more.
+pub(crate) fn push_padded(text: &mut Vec<u8>, value: &str, columns: usize) -> Result<(), AllocError>
+    ensures { OnOk result (text.new.items ≡ text.old.items ++ padded columns value.now) }
+{
+    text.extend_from_slice(value.as_bytes())?;
+    push_blanks(text, columns.saturating_sub(value.width()))?;
+    text.push(b' ')?;
+    Ok(())
+}
+
+fn push_blanks(text: &mut Vec<u8>, count: usize) -> Result<(), AllocError>
+    ensures { OnOk result (text.new.items ≡ text.old.items ++ replicate count 32) }
+{
+    let mut left = count;
+    while 0 < left {
+        text.push(b' ')?;
+        left -= 1;
+    }
+    Ok(())
+}

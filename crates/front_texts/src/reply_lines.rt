@@ -1,0 +1,133 @@
+//! Last lines of replies, and lines of `watch`.
+ghost use Rattle.std.specs.Prelude.{◌≡◌, IfOk};
+ghost use Rattle.std.specs.List.{before_first, after_first};
+ghost use Rattle.std.specs.Option.{option_map};
+ghost use Rattle.front_texts.specs.ReplyLines.{is_space, last_of, last_line, error_line, job_news, queue_news, watch_line, gone_line, gone_job, gone_queue};
+
+use crate::fields::{count, is_end, is_word};
+use crate::job_line::{JobLine, read_job_line};
+use crate::queue_line::{QueueLine, read_queue_line};
+use command_lines::job_number;
+use line_words::first_word;
+use spool_types::{JobId, QueueName};
+use std::alloc::{AllocError, Global};
+
+/// The last line of a reply.
+#[derive(Clone, Copy, Debug)]
+pub enum LastLine<'a> {
+    /// `ok`, and what follows it.
+    Done { words: &'a str },
+    /// `error N NAME`: the spooler refuses it, for a cause that has a number.
+    Refused { number: u32, name: &'a str },
+    /// `error WORD`: a fault.
+    Failed { word: &'a str },
+}
+
+/// What a line of `watch` tells.
+#[derive(Drop)]
+pub enum WatchLine {
+    Job(JobLine),
+    Queue(QueueLine),
+    GoneJob(JobId),
+    GoneQueue(QueueName),
+    /// Lines were left out: what is known has to be asked for anew.
+    Missed,
+}
+
+/// The last line of a reply without its line feed; `None` where the line is a row, or nothing that ends a reply.
+pub fn read_last_line(line: &str) -> Option<LastLine<'_>>
+    ensures value { option_map last_of result ≡ last_line line.now }
+{
+    let (word, words) = parted(line);
+    if word == "ok" {
+        return Some(LastLine::Done { words });
+    }
+    if word == "error" {
+        return Some(error_line(words));
+    }
+    None
+}
+
+// What an error is, by what follows its word.
+fn error_line(words: &str) -> LastLine<'_>
+    ensures { last_of result ≡ error_line words.now }
+{
+    let (number, name) = parted(words);
+    match count(number.as_bytes()) {
+        Some(number) => LastLine::Refused { number, name },
+        None => LastLine::Failed { word: words },
+    }
+}
+
+// What stands before the first blank, and what follows it.
+fn parted(line: &str) -> (&str, &str)
+    ensures word { result.0.now ≡ before_first is_space line.now }
+    ensures rest { result.1.now ≡ after_first is_space line.now }
+{
+    match line.split_once(' ') {
+        Some(parts) => parts,
+        None => (line, ""),
+    }
+}
+
+/// What a line of `watch` without its line feed tells; `None` where it tells nothing.
+pub fn read_watch_line(alloc: Global, line: &[u8]) -> Result<Option<WatchLine>, AllocError>
+    ensures value { IfOk result (λ news. news ≡ watch_line line.now) }
+{
+    let (name, rest) = first_word(line);
+    if is_word(name, b"job") {
+        return Ok(job_news(read_job_line(alloc, line)?));
+    }
+    if is_word(name, b"queue") {
+        return Ok(queue_news(read_queue_line(alloc, line)?));
+    }
+    if is_word(name, b"gone") {
+        return gone_line(alloc, rest);
+    }
+    if is_word(name, b"missed") && is_end(rest) {
+        return Ok(Some(WatchLine::Missed));
+    }
+    Ok(None)
+}
+
+fn job_news(job: Option<JobLine>) -> Option<WatchLine>
+    ensures { result ≡ job_news job }
+{
+    Some(WatchLine::Job(job?))
+}
+
+fn queue_news(queue: Option<QueueLine>) -> Option<WatchLine>
+    ensures { result ≡ queue_news queue }
+{
+    Some(WatchLine::Queue(queue?))
+}
+
+// What is gone: a job, or a queue.
+fn gone_line(alloc: Global, line: &[u8]) -> Result<Option<WatchLine>, AllocError>
+    ensures { IfOk result (λ news. news ≡ gone_line line.now) }
+{
+    let (kind, rest) = first_word(line);
+    let (name, rest) = first_word(rest);
+    if !is_end(rest) {
+        return Ok(None);
+    }
+    if is_word(kind, b"job") {
+        return Ok(gone_job(job_number(name)));
+    }
+    if is_word(kind, b"queue") {
+        return Ok(gone_queue(QueueName::from_word(alloc, name)?));
+    }
+    Ok(None)
+}
+
+fn gone_job(job: Option<JobId>) -> Option<WatchLine>
+    ensures { result ≡ gone_job job }
+{
+    Some(WatchLine::GoneJob(job?))
+}
+
+fn gone_queue(name: Option<QueueName>) -> Option<WatchLine>
+    ensures { result ≡ gone_queue name }
+{
+    Some(WatchLine::GoneQueue(name?))
+}

@@ -1,0 +1,12 @@
+use Rattle.std.proofs.Common.{rules, ap₂, ◌∙◌}
+use Rattle.std.proofs.lemmas.Result.{IfOk-weaker}
+use Rattle.clap.specs.Words.{with_rule}
+use Rattle.front_words.proofs.commands.add_command.Goals as goal
+
+pub returns : goal.returns
+returns c = IfOk-weaker c.arg-5.result _ _ (λ command added. added.shape (search rules)
+    ∙ ap₂ with_rule (c.in_ok-arg-4.ensures.shape (search rules)
+    ∙ ap₂ with_rule (c.in_ok-arg-3.ensures.shape (search rules)
+    ∙ ap₂ with_rule (c.in_ok-arg-2.ensures.shape (search rules)
+    ∙ ap₂ with_rule (c.in_ok-arg.ensures.shape (search rules)
+    ∙ ap₂ with_rule c.in_ok-command.ensures c.needed_word-uri.ensures.rule) c.text_option-media.ensures.rule) c.text_option-policy.ensures.rule) c.text_option-interval.ensures.rule) c.text_option-limit.ensures.rule) c.arg-5.ensures

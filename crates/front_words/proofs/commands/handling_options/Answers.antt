@@ -1,0 +1,12 @@
+use Rattle.std.proofs.Common.{rules, refl, ap₂, ◌∙◌}
+use Rattle.std.proofs.lemmas.Result.{IfOk-weaker}
+use Rattle.clap.specs.Words.{with_rule}
+use Rattle.front_words.proofs.commands.handling_options.Goals as goal
+
+pub returns : goal.returns
+returns c = IfOk-weaker c.arg-5.result _ _ (λ command added. added.shape (search rules)
+    ∙ ap₂ with_rule (c.in_ok-arg-4.ensures.shape (search rules)
+    ∙ ap₂ with_rule (c.in_ok-arg-3.ensures.shape (search rules)
+    ∙ ap₂ with_rule (c.in_ok-arg-2.ensures.shape (search rules)
+    ∙ ap₂ with_rule (c.in_ok-arg.ensures.shape (search rules)
+    ∙ ap₂ with_rule refl c.flag_option-hold.ensures.rule) c.text_option-at.ensures.rule) c.text_option-by.ensures.rule) c.flag_option-wait.ensures.rule) c.flag_option-quiet.ensures.rule) c.arg-5.ensures

@@ -1,0 +1,10 @@
+use Rattle.std.proofs.Common.{rules, ap₂, ◌∙◌}
+use Rattle.std.proofs.lemmas.Result.{IfOk-weaker}
+use Rattle.clap.specs.Words.{with_rule}
+use Rattle.front_words.proofs.commands.status_command.Goals as goal
+
+pub returns : goal.returns
+returns c = IfOk-weaker c.arg-3.result _ _ (λ command added. added.shape (search rules)
+    ∙ ap₂ with_rule (c.in_ok-arg-2.ensures.shape (search rules)
+    ∙ ap₂ with_rule (c.in_ok-arg.ensures.shape (search rules)
+    ∙ ap₂ with_rule c.in_ok-command.ensures c.word-job.ensures.rule) c.letter_option-queue.ensures.rule) c.flag_option-json.ensures.rule) c.arg-3.ensures

@@ -1,0 +1,158 @@
+-- The command of each form, as clap reads it.
+use Rattle.std.specs.Prelude.{[], ◌∷◌, codes}
+use Rattle.clap.specs.Words.{App, Rule, Text, new_app, with_rule}
+use Rattle.front_words.specs.Options.{flag_rule, letter_flag_rule, letter_rule, listed, named_app, needed, several, task_app, text_rule, word_rule}
+use Rattle.front_words.specs.declared.forms.Form.{Form}
+use Rattle.front_words.specs.declared.forms.Form.TheVariants.{Submit, Status, Queues, Watch, Cancel, Hold, Release, Purge, End}
+use Rattle.front_words.specs.declared.forms.Form.TheVariants.{QueueAdd, QueueSet, QueueAccept, QueueReject, QueueEnable, QueueDisable}
+use Rattle.front_words.specs.declared.forms.Form.TheVariants.{Devices, Check, Page, Lp, Lpr, Lpstat, CancelJobs, Lpq, Lprm, Other}
+
+-- ---- the tasks of `spool`
+
+-- `[--title TITLE] [--user USER]`
+abbrev pub with_titles : App → App
+with_titles app = with_rule (with_rule app (text_rule (codes "title"))) (text_rule (codes "user"))
+
+-- these, and `[--copies N] [--priority P] [--pages PAGES] [-o NAME=VALUE]..`
+abbrev pub with_document : App → App
+with_document app =
+    with_rule (with_rule (with_rule (with_rule (with_titles app) (text_rule (codes "copies"))) (text_rule (codes "priority")))
+    (text_rule (codes "pages"))) (several (letter_rule 111 (codes "option")))
+
+-- `[--hold] [--at MOMENT] [--by MOMENT] [--wait] [--quiet]`
+abbrev pub with_handling : App → App
+with_handling app =
+    with_rule (with_rule (with_rule (with_rule (with_rule app
+    (flag_rule (codes "hold"))) (text_rule (codes "at"))) (text_rule (codes "by"))) (flag_rule (codes "wait"))) (flag_rule (codes "quiet"))
+
+-- `spool submit QUEUE FILE..`
+abbrev pub submit_words : App
+submit_words = with_rule (with_rule (task_app (codes "spool submit")) (needed (word_rule (codes "queue")))) (needed (several (word_rule (codes "file"))))
+
+abbrev pub submit_app : App
+submit_app = with_handling (with_document submit_words)
+
+-- `spool status [JOB] [-q QUEUE] [--json]`
+abbrev pub status_app : App
+status_app =
+    with_rule (with_rule (with_rule (task_app (codes "spool status")) (word_rule (codes "job"))) (letter_rule 113 (codes "queue"))) (flag_rule (codes "json"))
+
+-- `spool queues [--json]`
+abbrev pub queues_app : App
+queues_app = with_rule (task_app (codes "spool queues")) (flag_rule (codes "json"))
+
+-- `NAME JOB..`
+abbrev pub jobs_app : Text → App
+jobs_app name = with_rule (task_app name) (needed (several (word_rule (codes "job"))))
+
+-- `spool hold JOB.. [--until MOMENT]`
+abbrev pub hold_app : App
+hold_app = with_rule (jobs_app (codes "spool hold")) (text_rule (codes "until"))
+
+-- `spool queue ACT NAME`
+abbrev pub queue_app : Text → App
+queue_app name = with_rule (task_app name) (needed (word_rule (codes "name")))
+
+-- `spool queue add NAME URI [--media TYPE] [--policy POLICY] [--interval SECONDS] [--limit N]`
+abbrev pub add_app : App
+add_app =
+    with_rule (with_rule (with_rule (with_rule (with_rule (queue_app (codes "spool queue add"))
+    (needed (word_rule (codes "uri")))) (text_rule (codes "media"))) (text_rule (codes "policy"))) (text_rule (codes "interval"))) (text_rule (codes "limit"))
+
+-- `spool queue set NAME [--info TEXT] [--location TEXT]`
+abbrev pub set_app : App
+set_app = with_rule (with_rule (queue_app (codes "spool queue set")) (text_rule (codes "info"))) (text_rule (codes "location"))
+
+-- `spool page FILE [--follow]`
+abbrev pub page_app : App
+page_app = with_rule (with_rule (task_app (codes "spool page")) (needed (word_rule (codes "file")))) (flag_rule (codes "follow"))
+
+-- `spool` with no task that there is
+abbrev pub other_app : App
+other_app = with_rule (new_app (codes "spool")) (needed (several (word_rule (codes "task"))))
+
+-- ---- the programs by name
+
+-- `lp [-d DEST] [-t TITLE] [-U USER] [-n N] [-q P] [-o NAME=VALUE].. [-P PAGES] [-H WHEN] [-c] [-s] [FILE]..`
+abbrev pub lp_words : App
+lp_words =
+    with_rule (with_rule (with_rule (with_rule (named_app (codes "lp"))
+    (several (word_rule (codes "file")))) (letter_rule 100 (codes "queue"))) (letter_rule 116 (codes "title"))) (letter_rule 85 (codes "user"))
+
+abbrev pub with_numbers : App → App
+with_numbers app = with_rule (with_rule app (letter_rule 110 (codes "copies"))) (letter_rule 113 (codes "priority"))
+
+abbrev pub lp_app : App
+lp_app =
+    with_rule (with_rule (with_rule (with_rule (with_rule (with_numbers lp_words)
+    (several (letter_rule 111 (codes "option")))) (letter_rule 80 (codes "pages"))) (letter_rule 72 (codes "handling"))) (letter_flag_rule 99 (codes "copy")))
+    (letter_flag_rule 115 (codes "quiet"))
+
+-- -T, and the same by -J and -C
+abbrev pub title_rule : Rule
+title_rule = record (letter_rule 84 (codes "title")) { short_aliases = 74 ∷ 67 ∷ [] }
+
+-- `lpr [-P DEST] [-T TITLE] [-U USER] [-# N] [-o NAME=VALUE].. [-q] [-h] [FILE]..`
+abbrev pub lpr_words : App
+lpr_words =
+    with_rule (with_rule (with_rule (with_rule (named_app (codes "lpr"))
+    (several (word_rule (codes "file")))) (letter_rule 80 (codes "queue"))) title_rule) (letter_rule 85 (codes "user"))
+
+abbrev pub lpr_app : App
+lpr_app =
+    with_rule (with_rule (with_rule (with_rule lpr_words (letter_rule 35 (codes "copies"))) (several (letter_rule 111 (codes "option"))))
+    (letter_flag_rule 113 (codes "hold"))) (letter_flag_rule 104 (codes "no-banner"))
+
+-- `lpstat [-r] [-d] [-t] [-p [LIST]] [-a [LIST]] [-v [LIST]] [-o [LIST]] [NAME]..`
+abbrev pub lpstat_words : App
+lpstat_words =
+    with_rule (with_rule (with_rule (with_rule (named_app (codes "lpstat"))
+    (several (word_rule (codes "name")))) (letter_flag_rule 114 (codes "scheduler"))) (letter_flag_rule 100 (codes "usual"))) (letter_flag_rule 116 (codes "all"))
+
+abbrev pub lpstat_app : App
+lpstat_app =
+    with_rule (with_rule (with_rule (with_rule lpstat_words (listed (letter_rule 112 (codes "printers")))) (listed (letter_rule 97 (codes "accepting"))))
+    (listed (letter_rule 118 (codes "devices")))) (listed (letter_rule 111 (codes "jobs")))
+
+-- `cancel [-a] [JOB]..`
+abbrev pub cancel_app : App
+cancel_app = with_rule (with_rule (named_app (codes "cancel")) (several (word_rule (codes "job")))) (letter_flag_rule 97 (codes "all"))
+
+-- `lpq [-P DEST] [-a] [JOB]..`
+abbrev pub lpq_app : App
+lpq_app =
+    with_rule (with_rule (with_rule (named_app (codes "lpq")) (several (word_rule (codes "job")))) (letter_rule 80 (codes "queue")))
+    (letter_flag_rule 97 (codes "all"))
+
+-- `lprm [-P DEST] JOB..`
+abbrev pub lprm_app : App
+lprm_app = with_rule (with_rule (named_app (codes "lprm")) (needed (several (word_rule (codes "job"))))) (letter_rule 80 (codes "queue"))
+
+-- ---- all of them
+
+abbrev pub app_for : Form → App
+app_for Submit = submit_app
+app_for Status = status_app
+app_for Queues = queues_app
+app_for Watch = task_app (codes "spool watch")
+app_for Cancel = jobs_app (codes "spool cancel")
+app_for Hold = hold_app
+app_for Release = jobs_app (codes "spool release")
+app_for Purge = jobs_app (codes "spool purge")
+app_for End = jobs_app (codes "spool end")
+app_for QueueAdd = add_app
+app_for QueueSet = set_app
+app_for QueueAccept = queue_app (codes "spool queue accept")
+app_for QueueReject = queue_app (codes "spool queue reject")
+app_for QueueEnable = queue_app (codes "spool queue enable")
+app_for QueueDisable = queue_app (codes "spool queue disable")
+app_for Devices = task_app (codes "spool devices")
+app_for Check = task_app (codes "spool check")
+app_for Page = page_app
+app_for Lp = lp_app
+app_for Lpr = lpr_app
+app_for Lpstat = lpstat_app
+app_for CancelJobs = cancel_app
+app_for Lpq = lpq_app
+app_for Lprm = lprm_app
+app_for Other = other_app

@@ -1,0 +1,87 @@
+-- Which command line the words are: a task of `spool`, or a program by its own name.
+use Rattle.std.specs.Prelude.{ℕ, List, [], ◌∷◌, Option, None, Some, codes, if◌then◌else◌}
+use Rattle.std.specs.Str.{bytes_eq}
+use Rattle.clap.specs.Words.{Text}
+use Rattle.front_words.specs.Values.{last_part}
+use Rattle.front_words.specs.declared.forms.Form.{Form}
+use Rattle.front_words.specs.declared.forms.Form.TheVariants.{Submit, Status, Queues, Watch, Cancel, Hold, Release, Purge, End}
+use Rattle.front_words.specs.declared.forms.Form.TheVariants.{QueueAdd, QueueSet, QueueAccept, QueueReject, QueueEnable, QueueDisable}
+use Rattle.front_words.specs.declared.forms.Form.TheVariants.{Devices, Check, Page, Lp, Lpr, Lpstat, CancelJobs, Lpq, Lprm, Other}
+
+-- a program's name: what follows the last slash of its path
+abbrev pub base_name : Text → Text
+base_name path = last_part 47 path
+
+-- the programs that go by names of their own
+abbrev pub form_of_program : Text → Option Form
+form_of_program name =
+    if bytes_eq name (codes "lp") then Some Lp
+    else (if bytes_eq name (codes "lpr") then Some Lpr
+    else (if bytes_eq name (codes "lpstat") then Some Lpstat
+    else (if bytes_eq name (codes "cancel") then Some CancelJobs
+    else (if bytes_eq name (codes "lpq") then Some Lpq
+    else (if bytes_eq name (codes "lprm") then Some Lprm
+    else None)))))
+
+-- the tasks of `spool` of one word
+abbrev pub form_of_task : Text → Form
+form_of_task task =
+    if bytes_eq task (codes "submit") then Submit
+    else (if bytes_eq task (codes "status") then Status
+    else (if bytes_eq task (codes "queues") then Queues
+    else (if bytes_eq task (codes "watch") then Watch
+    else (if bytes_eq task (codes "cancel") then Cancel
+    else (if bytes_eq task (codes "hold") then Hold
+    else (if bytes_eq task (codes "release") then Release
+    else (if bytes_eq task (codes "purge") then Purge
+    else (if bytes_eq task (codes "end") then End
+    else (if bytes_eq task (codes "devices") then Devices
+    else (if bytes_eq task (codes "check") then Check
+    else (if bytes_eq task (codes "page") then Page
+    else Other)))))))))))
+
+-- the tasks of two words, of which the first is `queue`
+abbrev pub form_of_act : Text → Form
+form_of_act act =
+    if bytes_eq act (codes "add") then QueueAdd
+    else (if bytes_eq act (codes "set") then QueueSet
+    else (if bytes_eq act (codes "accept") then QueueAccept
+    else (if bytes_eq act (codes "reject") then QueueReject
+    else (if bytes_eq act (codes "enable") then QueueEnable
+    else (if bytes_eq act (codes "disable") then QueueDisable
+    else Other)))))
+
+abbrev pub queue_form : List Text → Form
+queue_form [] = Other
+queue_form (act ∷ rest) = form_of_act act
+
+-- what the words behind the program's name are
+abbrev pub spool_form : List Text → Form
+spool_form [] = Other
+spool_form (task ∷ rest) = if bytes_eq task (codes "queue") then queue_form rest else form_of_task task
+
+abbrev pub or_spool : Option Form → List Text → Form
+or_spool (Some form) rest = form
+or_spool None rest = spool_form rest
+
+-- what the words are, of which the first is the program's name
+abbrev pub form_in : List Text → Form
+form_in [] = Other
+form_in (name ∷ rest) = or_spool (form_of_program (base_name name)) rest
+
+-- how many words stand before those that the form's own command reads
+abbrev pub skipped : Form → ℕ
+skipped Lp = 0
+skipped Lpr = 0
+skipped Lpstat = 0
+skipped CancelJobs = 0
+skipped Lpq = 0
+skipped Lprm = 0
+skipped Other = 0
+skipped QueueAdd = 2
+skipped QueueSet = 2
+skipped QueueAccept = 2
+skipped QueueReject = 2
+skipped QueueEnable = 2
+skipped QueueDisable = 2
+skipped form = 1

@@ -1,0 +1,173 @@
+//! Which command line the words are: a task of `spool`, or a program by its own name.
+ghost use Rattle.std.specs.Prelude.{◌≡◌, drop, map};
+ghost use Rattle.front_words.specs.Forms.{form_in, form_of_act, form_of_program, form_of_task, queue_form, skipped, spool_form};
+
+use crate::given::last_part;
+use std::convert::AsStr;
+
+/// A command line, by its words. Each has options of its own.
+#[derive(Clone, Copy)]
+pub enum Form {
+    Submit,
+    Status,
+    Queues,
+    Watch,
+    Cancel,
+    Hold,
+    Release,
+    Purge,
+    End,
+    QueueAdd,
+    QueueSet,
+    QueueAccept,
+    QueueReject,
+    QueueEnable,
+    QueueDisable,
+    Devices,
+    Check,
+    Page,
+    Lp,
+    Lpr,
+    Lpstat,
+    CancelJobs,
+    Lpq,
+    Lprm,
+    /// No task of `spool`, or none yet.
+    Other,
+}
+
+/// The form of the words, of which the first is the program's name.
+pub fn form_of<S: AsStr>(words: &[S]) -> Form
+    ensures { result ≡ form_in (map S.text words.now) }
+{
+    let Some((name, rest)) = words.split_first() else {
+        return Form::Other;
+    };
+    match form_of_program(last_part(name.as_str().as_bytes(), b'/')) {
+        Some(form) => form,
+        None => spool_form(rest),
+    }
+}
+
+/// The words that the form's own command reads: the last word that chose the form, and those behind it.
+pub fn own_words<S: AsStr>(form: Form, words: &[S]) -> &[S]
+    ensures { map S.text result.now ≡ drop (skipped form) (map S.text words.now) }
+{
+    let count = skipped(form);
+    if count <= words.len() {
+        &words[count..]
+    } else {
+        &[]
+    }
+}
+
+// How many words stand before those.
+fn skipped(form: Form) -> usize
+    ensures { result ≡ skipped form }
+{
+    match form {
+        Form::Lp | Form::Lpr | Form::Lpstat | Form::CancelJobs | Form::Lpq | Form::Lprm => 0,
+        Form::Other => 0,
+        Form::QueueAdd | Form::QueueSet | Form::QueueAccept => 2,
+        Form::QueueReject | Form::QueueEnable | Form::QueueDisable => 2,
+        _ => 1,
+    }
+}
+
+// The program that goes by this name.
+fn form_of_program(name: &[u8]) -> Option<Form>
+    ensures { result ≡ form_of_program name.now }
+{
+    if name == b"lp".as_slice() {
+        Some(Form::Lp)
+    } else if name == b"lpr".as_slice() {
+        Some(Form::Lpr)
+    } else if name == b"lpstat".as_slice() {
+        Some(Form::Lpstat)
+    } else if name == b"cancel".as_slice() {
+        Some(Form::CancelJobs)
+    } else if name == b"lpq".as_slice() {
+        Some(Form::Lpq)
+    } else if name == b"lprm".as_slice() {
+        Some(Form::Lprm)
+    } else {
+        None
+    }
+}
+
+// The task that the words behind the program's name begin with.
+fn spool_form<S: AsStr>(words: &[S]) -> Form
+    ensures { result ≡ spool_form (map S.text words.now) }
+{
+    let Some((task, rest)) = words.split_first() else {
+        return Form::Other;
+    };
+    let task = task.as_str();
+    if task == "queue" {
+        queue_form(rest)
+    } else {
+        form_of_task(task)
+    }
+}
+
+fn form_of_task(task: &str) -> Form
+    ensures { result ≡ form_of_task task.now }
+{
+    if task == "submit" {
+        Form::Submit
+    } else if task == "status" {
+        Form::Status
+    } else if task == "queues" {
+        Form::Queues
+    } else if task == "watch" {
+        Form::Watch
+    } else if task == "cancel" {
+        Form::Cancel
+    } else if task == "hold" {
+        Form::Hold
+    } else if task == "release" {
+        Form::Release
+    } else if task == "purge" {
+        Form::Purge
+    } else if task == "end" {
+        Form::End
+    } else if task == "devices" {
+        Form::Devices
+    } else if task == "check" {
+        Form::Check
+    } else if task == "page" {
+        Form::Page
+    } else {
+        Form::Other
+    }
+}
+
+// What is done to a queue, by the words behind `queue`.
+fn queue_form<S: AsStr>(words: &[S]) -> Form
+    ensures { result ≡ queue_form (map S.text words.now) }
+{
+    match words.first() {
+        Some(act) => form_of_act(act.as_str()),
+        None => Form::Other,
+    }
+}
+
+fn form_of_act(act: &str) -> Form
+    ensures { result ≡ form_of_act act.now }
+{
+    if act == "add" {
+        Form::QueueAdd
+    } else if act == "set" {
+        Form::QueueSet
+    } else if act == "accept" {
+        Form::QueueAccept
+    } else if act == "reject" {
+        Form::QueueReject
+    } else if act == "enable" {
+        Form::QueueEnable
+    } else if act == "disable" {
+        Form::QueueDisable
+    } else {
+        Form::Other
+    }
+}

@@ -1,0 +1,197 @@
+//! The values that clap found.
+ghost use Rattle.std.specs.Prelude.{◌≡◌, ◌<◌, ◌^◌, IfOk, IsSome, MatchResult, Some, map};
+ghost use Rattle.std.specs.Option.{option_map};
+ghost use Rattle.clap.specs.Words.{first_of, found_of, rows_of};
+ghost use Rattle.front_words.specs.Faults.{BlamesOnly};
+ghost use Rattle.front_words.specs.Values.{all_in, is_told, is_word, job_of, job_or_none, jobs_of, last_part, moment_of, moment_or_none, number_in, number_or};
+
+use crate::asked::Moment;
+use crate::fault::Wrong;
+use clap::ArgMatches;
+use line_words::decimal;
+use std::alloc::{AllocError, Global};
+
+// The greatest number of a job, and the greatest moment.
+const GREATEST_JOB: u32 = 2_147_483_647;
+
+const GREATEST_MOMENT: u64 = 4_000_000_000_000;
+
+// The text of an option or a word.
+pub fn text_given<'a>(matches: &ArgMatches<'a>, name: &str) -> Option<&'a str>
+    ensures { option_map (λ text. text.now) result ≡ first_of name.now (rows_of (found_of matches.now)) }
+{
+    matches.get_str(name)
+}
+
+// The text of a word that has to be there.
+pub fn text_needed<'a>(matches: &ArgMatches<'a>, name: &str) -> Result<&'a str, Wrong>
+    ensures { MatchResult result (λ text. first_of name.now (rows_of (found_of matches.now)) ≡ Some text.now)
+        (BlamesOnly (IsSome (first_of name.now (rows_of (found_of matches.now))))) }
+{
+    match text_given(matches, name) {
+        Some(text) => Ok(text),
+        None => Err(Wrong::Value("a word is missing")),
+    }
+}
+
+// Whether an option is there.
+pub fn flag_given(matches: &ArgMatches<'_>, name: &str) -> bool
+    ensures { result ≡ is_told (first_of name.now (rows_of (found_of matches.now))) }
+{
+    word_given(matches, name, "true")
+}
+
+// Whether this word is given.
+pub fn word_given(matches: &ArgMatches<'_>, name: &str, word: &str) -> bool
+    ensures { result ≡ is_word word.now (first_of name.now (rows_of (found_of matches.now))) }
+{
+    match text_given(matches, name) {
+        Some(text) => text == word,
+        None => false,
+    }
+}
+
+// All texts of an option or a word.
+pub fn texts_given<'a>(
+    alloc: Global,
+    matches: &ArgMatches<'a>,
+    name: &str,
+) -> Result<Vec<&'a str>, AllocError>
+    ensures { IfOk result (λ texts. map (λ text. text.now) texts.items ≡ all_in name.now (rows_of (found_of matches.now))) }
+{
+    let found = matches.get_strs(name);
+    match found {
+        Some(found) => copy_of(alloc, found),
+        None => Ok(Vec::new(alloc)),
+    }
+}
+
+fn copy_of<'a>(alloc: Global, found: &[&'a str]) -> Result<Vec<&'a str>, AllocError>
+    ensures { IfOk result (λ texts. texts.items ≡ found.now) }
+{
+    let mut texts = Vec::new(alloc);
+    texts.extend_from_slice(found)?;
+    Ok(texts)
+}
+
+// The number of an option, or the usual one.
+pub fn number_given(
+    matches: &ArgMatches<'_>,
+    name: &str,
+    range: (u32, u32),
+    usual: u32,
+    refusal: &'static str,
+) -> Result<u32, Wrong>
+    ensures { MatchResult result (λ number. number_or range.0 range.1 usual (first_of name.now (rows_of (found_of matches.now))) ≡ Some number)
+        (BlamesOnly (IsSome (number_or range.0 range.1 usual (first_of name.now (rows_of (found_of matches.now)))))) }
+{
+    let Some(text) = text_given(matches, name) else {
+        return Ok(usual);
+    };
+    match number_in(text.as_bytes(), range.0, range.1) {
+        Some(number) => Ok(number),
+        None => Err(Wrong::Value(refusal)),
+    }
+}
+
+// The number of decimal digits, if it is in the range.
+fn number_in(text: &[u8], least: u32, most: u32) -> Option<u32>
+    ensures { result ≡ number_in least most text.now }
+{
+    let number = decimal(text, u64::from(most))? as u32;
+    if least <= number { Some(number) } else { None }
+}
+
+// The moment of an option.
+pub fn moment_given(
+    matches: &ArgMatches<'_>,
+    name: &str,
+    refusal: &'static str,
+) -> Result<Option<Moment>, Wrong>
+    ensures { MatchResult result (λ moment. moment_or_none (first_of name.now (rows_of (found_of matches.now))) ≡ Some moment)
+        (BlamesOnly (IsSome (moment_or_none (first_of name.now (rows_of (found_of matches.now)))))) }
+{
+    let Some(text) = text_given(matches, name) else {
+        return Ok(None);
+    };
+    match moment_of(text.as_bytes()) {
+        Some(moment) => Ok(Some(moment)),
+        None => Err(Wrong::Value(refusal)),
+    }
+}
+
+// Seconds of the epoch, or behind a plus seconds from now.
+pub fn moment_of(text: &[u8]) -> Option<Moment>
+    ensures { result ≡ moment_of text.now }
+{
+    let (first, seconds) = text.split_first()?;
+    if *first == b'+' {
+        Some(Moment::FromNow(decimal(seconds, GREATEST_MOMENT)?))
+    } else {
+        Some(Moment::Epoch(decimal(text, GREATEST_MOMENT)?))
+    }
+}
+
+// The job of an option or a word, if it is there.
+pub fn job_given(matches: &ArgMatches<'_>, name: &str) -> Result<Option<u32>, Wrong>
+    ensures { MatchResult result (λ job. job_or_none (first_of name.now (rows_of (found_of matches.now))) ≡ Some job)
+        (BlamesOnly (IsSome (job_or_none (first_of name.now (rows_of (found_of matches.now)))))) }
+{
+    let Some(text) = text_given(matches, name) else {
+        return Ok(None);
+    };
+    match job_of(text.as_bytes()) {
+        Some(job) => Ok(Some(job)),
+        None => Err(NO_JOB),
+    }
+}
+
+const NO_JOB: Wrong = Wrong::Value("JOB is no number of a job, as 12 or office-12");
+
+// The jobs of a word, each.
+pub fn jobs_given(alloc: Global, matches: &ArgMatches<'_>, name: &str) -> Result<Vec<u32>, Wrong>
+    ensures { MatchResult result (λ jobs. jobs_of (all_in name.now (rows_of (found_of matches.now))) ≡ Some jobs.items)
+        (BlamesOnly (IsSome (jobs_of (all_in name.now (rows_of (found_of matches.now)))))) }
+{
+    let texts = texts_given(alloc, matches, name)?;
+    match jobs_of(alloc, texts.as_slice())? {
+        Some(jobs) => Ok(jobs),
+        None => Err(NO_JOB),
+    }
+}
+
+// The jobs of texts, if each is one.
+fn jobs_of(alloc: Global, texts: &[&str]) -> Result<Option<Vec<u32>>, AllocError>
+    ensures { IfOk result (λ jobs. option_map (λ jobs. jobs.items) jobs ≡ jobs_of (map (λ text. text.now) texts.now)) }
+{
+    let mut jobs = Vec::new(alloc);
+    for text in texts {
+        let Some(job) = job_of(text.as_bytes()) else {
+            return Ok(None);
+        };
+        jobs.push(job)?;
+    }
+    Ok(Some(jobs))
+}
+
+// The number of a job, alone or behind a queue's name and a hyphen.
+fn job_of(text: &[u8]) -> Option<u32>
+    ensures { result ≡ job_of text.now }
+{
+    number_in(last_part(text, b'-'), 1, GREATEST_JOB)
+}
+
+// What follows the last of these bytes.
+pub fn last_part(text: &[u8], mark: u8) -> &[u8]
+    ensures { result.now ≡ last_part mark text.now }
+{
+    let mut part = text;
+    let mut rest = text;
+    while let Some((byte, behind)) = rest.split_first() {
+        if *byte == mark {
+            part = behind;
+        }
+        rest = behind;
+    }
+    part
+}

@@ -1,0 +1,196 @@
+//! The options and the words of a command.
+ghost use Rattle.std.specs.Prelude.{◌≡◌, ◌++◌, ◌∷◌, [], IfOk, MatchResult, Some, false, map, true};
+ghost use Rattle.clap.specs.Words.{app_of, found_of, is_simple_and_free, matches_of, rows_of, rule_of};
+ghost use Rattle.front_words.specs.Faults.{RefusesOnly};
+ghost use Rattle.front_words.specs.Options.{AreFaultlessFor, flag_rule, help_rule, letter_flag_rule, letter_rule, listed, named_app, needed, several, socket_rule, task_app, text_rule, word_rule};
+
+use crate::fault::{WordsFault, words_fault};
+use clap::builder::ValueParser;
+use clap::{Arg, ArgAction, ArgMatches, Command};
+use std::alloc::{AllocError, Global};
+use std::convert::AsStr;
+
+// The command of a task of `spool`, with the option of all of them.
+pub fn task_command<'a>(
+    alloc: Global,
+    name: &'a str,
+    about: &'a str,
+) -> Result<Command<'a>, AllocError>
+    ensures { IfOk result (λ command. app_of command ≡ task_app name.entry.now) }
+{
+    let socket = socket_option(alloc);
+    Command::new(alloc, name)
+        .about(about)
+        .bin_name(name)?
+        .arg(socket)
+}
+
+// The command of a program that goes by its own name. There `-h` isn't the help: others took it for a host.
+pub fn named_command<'a>(
+    alloc: Global,
+    name: &'a str,
+    about: &'a str,
+) -> Result<Command<'a>, AllocError>
+    ensures { IfOk result (λ command. app_of command ≡ named_app name.entry.now) }
+{
+    let socket = socket_option(alloc);
+    let help = help_option(alloc);
+    Command::new(alloc, name)
+        .about(about)
+        .disable_help_flag(true)
+        .arg(help)?
+        .arg(socket)
+}
+
+// `--help` alone.
+fn help_option<'a>(alloc: Global) -> Arg<'a>
+    ensures rule { rule_of result ≡ help_rule }
+    ensures local { result.global ≡ false }
+{
+    Arg::new(alloc, "help")
+        .long("help")
+        .action(ArgAction::Help)
+        .help("Print help")
+}
+
+fn socket_option<'a>(alloc: Global) -> Arg<'a>
+    ensures rule { rule_of result ≡ socket_rule }
+    ensures local { result.global ≡ false }
+{
+    text_option(
+        alloc,
+        "socket",
+        "SOCKET",
+        "Ask the service on this socket; given twice, the second where the first is gone",
+    )
+    .action(ArgAction::Append)
+}
+
+// An option with a text that isn't empty.
+pub fn text_option<'a>(alloc: Global, name: &'a str, value: &'a str, help: &'a str) -> Arg<'a>
+    ensures rule { rule_of result ≡ text_rule name.entry.now }
+    ensures local { result.global ≡ false }
+{
+    word(alloc, name, value, help).long(name)
+}
+
+// The same, by a letter alone.
+pub fn letter_option<'a>(
+    alloc: Global,
+    letter: char,
+    name: &'a str,
+    value: &'a str,
+    help: &'a str,
+) -> Arg<'a>
+    ensures rule { rule_of result ≡ letter_rule letter name.entry.now }
+    ensures local { result.global ≡ false }
+{
+    word(alloc, name, value, help).short(letter)
+}
+
+// An option that is there or isn't.
+pub fn flag_option<'a>(alloc: Global, name: &'a str, help: &'a str) -> Arg<'a>
+    ensures rule { rule_of result ≡ flag_rule name.entry.now }
+    ensures local { result.global ≡ false }
+{
+    Arg::new(alloc, name)
+        .long(name)
+        .action(ArgAction::SetTrue)
+        .help(help)
+}
+
+// The same, by a letter alone.
+pub fn letter_flag<'a>(alloc: Global, letter: char, name: &'a str, help: &'a str) -> Arg<'a>
+    ensures rule { rule_of result ≡ letter_flag_rule letter name.entry.now }
+    ensures local { result.global ≡ false }
+{
+    Arg::new(alloc, name)
+        .short(letter)
+        .action(ArgAction::SetTrue)
+        .help(help)
+}
+
+// A word that isn't empty.
+pub fn word<'a>(alloc: Global, name: &'a str, value: &'a str, help: &'a str) -> Arg<'a>
+    ensures rule { rule_of result ≡ word_rule name.entry.now }
+    ensures local { result.global ≡ false }
+{
+    Arg::new(alloc, name)
+        .value_name(value)
+        .value_parser(ValueParser::NonEmptyString)
+        .help(help)
+}
+
+// A word that has to be there.
+pub fn needed_word<'a>(alloc: Global, name: &'a str, value: &'a str, help: &'a str) -> Arg<'a>
+    ensures rule { rule_of result ≡ needed (word_rule name.entry.now) }
+    ensures local { result.global ≡ false }
+{
+    word(alloc, name, value, help).required(true)
+}
+
+// Words, any number of them.
+pub fn words<'a>(alloc: Global, name: &'a str, value: &'a str, help: &'a str) -> Arg<'a>
+    ensures rule { rule_of result ≡ several (word_rule name.entry.now) }
+    ensures local { result.global ≡ false }
+{
+    word(alloc, name, value, help).action(ArgAction::Append)
+}
+
+// Words, of which one at least has to be there.
+pub fn needed_words<'a>(alloc: Global, name: &'a str, value: &'a str, help: &'a str) -> Arg<'a>
+    ensures rule { rule_of result ≡ needed (several (word_rule name.entry.now)) }
+    ensures local { result.global ≡ false }
+{
+    words(alloc, name, value, help).required(true)
+}
+
+// An option by a letter that may be there several times.
+pub fn letter_options<'a>(
+    alloc: Global,
+    letter: char,
+    name: &'a str,
+    value: &'a str,
+    help: &'a str,
+) -> Arg<'a>
+    ensures rule { rule_of result ≡ several (letter_rule letter name.entry.now) }
+    ensures local { result.global ≡ false }
+{
+    letter_option(alloc, letter, name, value, help).action(ArgAction::Append)
+}
+
+// An option by a letter whose value may be left out, and is then empty.
+pub fn letter_list<'a>(alloc: Global, letter: char, name: &'a str, help: &'a str) -> Arg<'a>
+    ensures rule { rule_of result ≡ listed (letter_rule letter name.entry.now) }
+    ensures local { result.global ≡ false }
+{
+    letter_option(alloc, letter, name, "LIST", help)
+        .num_args(0..=1)
+        .default_missing_value("")
+        .value_parser(ValueParser::String)
+}
+
+// One that a further letter stands for.
+pub fn lettered(arg: Arg<'_>, letter: char) -> Result<Arg<'_>, AllocError>
+    ensures rule { IfOk result (λ more. rule_of more
+        ≡ record (rule_of arg.entry) { short_aliases = (rule_of arg.entry).short_aliases ++ letter ∷ [] }) }
+    ensures local { IfOk result (λ more. more.global ≡ arg.entry.global) }
+{
+    arg.short_alias(letter)
+}
+
+// What clap finds in the words.
+pub fn parse<'a, S: AsStr>(
+    command: &mut Command<'a>,
+    words: &'a [S],
+) -> Result<ArgMatches<'a>, WordsFault>
+    requires { is_simple_and_free (app_of command.old) ≡ true }
+    ensures found { IfOk result (λ m. rows_of (found_of m) ≡ matches_of (app_of command.old) (map S.text words.entry.now)) }
+    ensures taken { MatchResult result (λ _. AreFaultlessFor (app_of command.old) (map S.text words.entry.now))
+        (RefusesOnly (AreFaultlessFor (app_of command.old) (map S.text words.entry.now))) }
+{
+    match command.try_get_matches_from_mut(words) {
+        Ok(matches) => Ok(matches),
+        Err(error) => Err(words_fault(error)),
+    }
+}

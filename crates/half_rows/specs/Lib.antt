@@ -1,0 +1,3 @@
+pub mod Half
+pub mod Tellable
+pub mod Writing

@@ -1,0 +1,99 @@
+//! Writing the rows of a half.
+ghost use Rattle.std.specs.Prelude.{◌≡◌};
+ghost use Rattle.spool_disk.specs.Disk.{ChangesNothing};
+ghost use Rattle.half_rows.specs.Writing.{MayWrite};
+
+use crate::reading_back::document_of;
+use half_rows::{Half, HalfFault, Writing, begin};
+use job_rows::Rows;
+use spool_core::{Spool, Unread, read_whole};
+use spool_disk::Disk;
+use spool_types::{JobId, LONGEST_SEND, Piece, QueueRow, Row};
+use std::alloc::{AllocError, Global};
+
+/// Makes the disk a spool that lists the rows of a half, with their documents. What it holds is looked at by whoever reads it back.
+pub(crate) fn write_half<S: Disk, T: Disk + Drop>(
+    alloc: Global,
+    whole: &mut Spool<S>,
+    half: Half<'_>,
+    disk: T,
+) -> Result<T, HalfFault>
+    ensures state { whole.new.state ≡ whole.old.state }
+    ensures still { ChangesNothing S.device whole.old.disk whole.new.disk }
+{
+    let mut writing = begin(alloc, disk)?;
+    writing.put_row(&Row::Head(whole.table().head()))?;
+    put_queues(&mut writing, half, whole.table().queues())?;
+    let jobs = jobs_of(alloc, half, whole.table().jobs())?;
+    for job in jobs.iter() {
+        put_job(alloc, &mut writing, whole, *job)?;
+    }
+    writing.finish()
+}
+
+// Adds the rows of the half's queues.
+fn put_queues<T: Disk + Drop>(
+    writing: &mut Writing<T>,
+    half: Half<'_>,
+    queues: &[QueueRow],
+) -> Result<(), HalfFault>
+    requires may { MayWrite writing.old.areas writing.old.gate writing.old.end }
+    ensures may { MayWrite writing.new.areas writing.new.gate writing.new.end }
+{
+    for queue in queues {
+        if half.takes(&queue.name) {
+            writing.put_queue(queue)?;
+        }
+    }
+    Ok(())
+}
+
+// The numbers of the half's jobs.
+fn jobs_of(alloc: Global, half: Half<'_>, jobs: &Rows) -> Result<Vec<JobId>, AllocError> {
+    let mut found = Vec::new(alloc);
+    for row in jobs.iter() {
+        if half.takes(&row.job.queue) {
+            found.push(row.job.id)?;
+        }
+    }
+    Ok(found)
+}
+
+// Adds the row of a job, and those of its document's pieces.
+fn put_job<S: Disk, T: Disk + Drop>(
+    alloc: Global,
+    writing: &mut Writing<T>,
+    whole: &mut Spool<S>,
+    job: JobId,
+) -> Result<(), HalfFault>
+    requires may { MayWrite writing.old.areas writing.old.gate writing.old.end }
+    ensures may { MayWrite writing.new.areas writing.new.gate writing.new.end }
+    ensures state { whole.new.state ≡ whole.old.state }
+    ensures still { ChangesNothing S.device whole.old.disk whole.new.disk }
+{
+    match whole.table().job(job) {
+        Some(row) => writing.put_job(&row.job)?,
+        None => return Err(HalfFault::Disk),
+    }
+    let document = document_of(alloc, whole, job)?;
+    for piece in document.chunks(LONGEST_SEND) {
+        put_piece(alloc, writing, job, piece)?;
+    }
+    Ok(())
+}
+
+// Adds the row of a piece of a document.
+fn put_piece<T: Disk + Drop>(
+    alloc: Global,
+    writing: &mut Writing<T>,
+    job: JobId,
+    piece: &[u8],
+) -> Result<(), HalfFault>
+    requires may { MayWrite writing.old.areas writing.old.gate writing.old.end }
+    ensures may { MayWrite writing.new.areas writing.new.gate writing.new.end }
+{
+    match Piece::new(piece.to_vec(alloc)?) {
+        Ok(bytes) => writing.put_row(&Row::Piece { job, bytes }),
+        Err(_) => Err(HalfFault::Disk),
+    }
+}

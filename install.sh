@@ -1,0 +1,240 @@
+#!/bin/sh
+# Puts the built programs where Debian expects them, or takes them away again.
+#
+#   install.sh PREFIX            after the proved build, as install.sh /usr/local
+#   install.sh --remove PREFIX
+#
+# PREFIX is absolute, as /usr/local. With DESTDIR in the environment all goes below that folder, and is made for PREFIX.
+#
+#   PREFIX/sbin                  spool_shell, spool_service, spool_admin
+#   PREFIX/lib/cegmandi          spool_tools, say.py, the wrappers of stock filters, and the list of all that was put
+#   PREFIX/lib/systemd/system    cegmandi.service
+#   PREFIX/share                 man pages, the README and the examples
+#   /etc/cegmandi                the files that the unit names, with the stock filters of CUPS where /usr/lib/cups/filter is there;
+#                                PREFIX/etc/cegmandi where PREFIX is neither /usr nor /usr/local
+#
+# A file that is there already, and that this script didn't put there, is never written over: it ends before it does anything. Only
+# a file below etc that is there is kept as it is. A second install takes the first away before. What was changed since it was put
+# stays at a removal, and is told. Where it is killed, --remove takes away what is there so far.
+set -eu
+
+usage() {
+    sed -n '2,/^set -eu/s/^# \{0,1\}//p' "$0"
+    exit 2
+}
+
+fail() {
+    echo "install.sh: $*" >&2
+    exit 1
+}
+
+remove=
+while [ $# -gt 0 ]; do
+    case $1 in
+    --remove) remove=yes ;;
+    /*) break ;;
+    *) usage ;;
+    esac
+    shift
+done
+[ $# -eq 1 ] || usage
+prefix=${1%/}
+case $prefix in
+*[!A-Za-z0-9._/-]* | */../* | */..) fail "PREFIX has letters, digits and . _ - / alone" ;;
+esac
+root=${DESTDIR:-}
+root=${root%/}
+[ -d "$root/" ] || fail "there is no folder $root"
+here=$(cd "$(dirname "$0")" && pwd)
+library=$prefix/lib/cegmandi
+manifest=$library/manifest
+case $prefix in
+/usr | /usr/local) etc=/etc/cegmandi ;;
+*) etc=$prefix/etc/cegmandi ;;
+esac
+work=$(mktemp -d)
+trap 'rm -rf "$work"' EXIT
+trap 'exit 1' HUP INT TERM
+
+sum_of() {
+    sha256sum < "$1" | cut -d ' ' -f 1
+}
+
+# Whether what a line of the list tells is still as it was put.
+is_ours() {
+    case $1 in
+    link) [ -L "$root$3" ] && [ "$(readlink "$root$3")" = "$2" ] ;;
+    *) [ -f "$root$3" ] && [ ! -L "$root$3" ] && [ "$(sum_of "$root$3")" = "$2" ] ;;
+    esac
+}
+
+# Takes away what the list tells, the last first, and then the folders that were made for it and are empty.
+take_away() {
+    sed '1!G;h;$!d' "$root$manifest" > "$work/list"
+    while read -r kind value path; do
+        if [ "$kind" = made ]; then
+            continue
+        fi
+        rm -f "$root$path.new"
+        if is_ours "$kind" "$value" "$path"; then
+            rm -f "$root$path"
+        elif [ -e "$root$path" ] || [ -L "$root$path" ]; then
+            echo "kept, since it was changed: $root$path"
+        fi
+    done < "$work/list"
+    rm -f "$root$manifest"
+    while read -r kind value path; do
+        if [ "$kind" = made ]; then
+            rmdir "$root$path" 2> /dev/null || true
+        fi
+    done < "$work/list"
+}
+
+# Makes a folder with those above it, and lists each that wasn't there.
+make_folder() {
+    if [ ! -d "$root$1" ]; then
+        make_folder "$(dirname "$1")"
+        # Below PREFIX the list is there already; above it, it isn't.
+        echo "made - $1" >> "$work/made"
+        mkdir "$root$1"
+        list_made
+    fi
+}
+
+list_made() {
+    if [ -d "$root$library" ]; then
+        cat "$work/made" >> "$root$manifest"
+        : > "$work/made"
+    fi
+}
+
+# What each item is done with: look, which sees that nothing is in its way, or put.
+look() {
+    [ "$1" = link ] || [ -r "$3" ] || fail "there is no $3"
+    if [ "$1" = config ]; then
+        return
+    fi
+    if [ -e "$root$4" ] || [ -L "$root$4" ]; then
+        line=$(awk -v path="$4" '$3 == path { print $1, $2, $3 }' "$work/ours")
+        # shellcheck disable=SC2086 # three words without blanks
+        if [ -z "$line" ] || ! is_ours $line; then
+            fail "$root$4 is there already, and isn't of this script or was changed"
+        fi
+    fi
+}
+
+put() {
+    kind=$1 mode=$2 source=$3 path=$4
+    if [ "$kind" = config ] && [ -e "$root$path" ]; then
+        echo "kept, since it is there: $root$path"
+        return
+    fi
+    make_folder "$(dirname "$path")"
+    if [ "$kind" = link ]; then
+        echo "link $source $path" >> "$root$manifest"
+        ln -s "$source" "$root$path"
+    else
+        echo "$kind $(sum_of "$source") $path" >> "$root$manifest"
+        cp "$source" "$root$path.new"
+        chmod "$mode" "$root$path.new"
+        mv "$root$path.new" "$root$path"
+    fi
+}
+
+# A file of the repository with the places of this install in it.
+adapted() {
+    mkdir -p "$work/texts"
+    sed -e "s|TOOLS|$library/spool_tools|g" -e "s|HERE/|$library/|g" -e "s|/usr/local/sbin/|$prefix/sbin/|g" \
+        -e "s|/usr/local/lib/cegmandi|$library|g" -e "s|/usr/local/bin/|$prefix/bin/|g" -e "s|/etc/cegmandi|$etc|g" \
+        "$here/$1" > "$work/texts/$(basename "$1")"
+    echo "$work/texts/$(basename "$1")"
+}
+
+# A script of the examples, by which the programs are found where they are put.
+script() {
+    mkdir -p "$work/scripts"
+    sed -e '/^crates=/d' -e "s|\$crates/spool_tools/out/spool_tools|$library/spool_tools|g" \
+        -e "s|\$crates/\([a-z_]*\)/out/[a-z_]*|$prefix/sbin/\1|g" \
+        "$1" > "$work/scripts/$(basename "$1")"
+    echo "$work/scripts/$(basename "$1")"
+}
+
+program() {
+    "$1" file 755 "$here/crates/$2/out/$2" "$3"
+}
+
+programs() {
+    for name in spool_shell spool_service spool_admin; do
+        program "$1" $name "$prefix/sbin/$name"
+    done
+    program "$1" spool_tools "$library/spool_tools"
+    for name in say.py with-cups-env as-pages; do
+        if [ -f "$here/examples/office/$name" ]; then
+            "$1" file 755 "$here/examples/office/$name" "$library/$name"
+        fi
+    done
+    if [ -f "$here/examples/office/paper.ppd" ]; then
+        "$1" file 644 "$here/examples/office/paper.ppd" "$library/paper.ppd"
+    fi
+}
+
+# The unit, and each file that it names.
+unit() {
+    "$1" file 644 "$(adapted examples/office/cegmandi.service)" "$prefix/lib/systemd/system/cegmandi.service"
+    named=$(grep -o '/etc/cegmandi/[A-Za-z0-9._-]*' "$here/examples/office/cegmandi.service" | sed 's|.*/||' | sort -u)
+    for name in $named; do
+        example=$name
+        # The stock filters, where there are some.
+        if [ "$name" = programs ] && [ -d "$root/usr/lib/cups/filter" ] && [ -f "$here/examples/office/stock-programs" ]; then
+            example=stock-programs
+        fi
+        "$1" config 644 "$(adapted "examples/office/$example")" "$etc/$name"
+    done
+}
+
+texts() {
+    for page in "$here"/docs/man/*.[1-9]; do
+        "$1" file 644 "$page" "$prefix/share/man/man${page##*.}/$(basename "$page")"
+    done
+    for name in README.md docs/STOCK.md docs/first-page.png; do
+        if [ -f "$here/$name" ]; then
+            "$1" file 644 "$here/$name" "$prefix/share/doc/cegmandi/$name"
+        fi
+    done
+    find "$here/examples" -type f ! -path '*/__pycache__/*' | sort > "$work/examples"
+    while read -r file; do
+        mode=644
+        [ ! -x "$file" ] || mode=755
+        text=$file
+        case $file in
+        *.sh) text=$(script "$file") ;;
+        *.service) text=$(adapted "${file#"$here/"}") ;;
+        esac
+        "$1" file $mode "$text" "$prefix/share/doc/cegmandi/examples${file#"$here/examples"}"
+    done < "$work/examples"
+}
+
+each() {
+    programs "$1"
+    unit "$1"
+    texts "$1"
+}
+
+if [ -n "$remove" ]; then
+    [ -f "$root$manifest" ] || fail "nothing is installed in $root$prefix: there is no $root$manifest"
+    take_away
+    exit 0
+fi
+
+for name in spool_shell spool_service spool_admin spool_tools; do
+    [ -x "$here/crates/$name/out/$name" ] || fail "crates/$name/out has no program: run \`rt run\` in crates/$name first"
+done
+: > "$work/made"
+: > "$work/ours"
+[ ! -f "$root$manifest" ] || cp "$root$manifest" "$work/ours"
+each look
+[ ! -f "$root$manifest" ] || take_away
+umask 022
+make_folder "$library"
+each put
+echo "installed in $root$prefix; install.sh --remove $prefix takes it away"

@@ -1,0 +1,287 @@
+#!/usr/bin/env python3
+"""Installs the programs, and takes them away again: install.py [--chroot DIR]
+
+What install.sh does to files is tried with stand-ins for the programs, in fresh folders; what the installed programs do, with those that
+are built (`rt run` in the folder of each).
+
+1. `shellcheck` finds nothing in install.sh (Debian's package shellcheck).
+2. What is put is what the list tells, with its modes; the unit names what is there, for each PREFIX. What was there
+   before is untouched, and a removal leaves exactly that.
+3. A file that isn't install.sh's stops it before it does anything; one that was changed is kept, and told; a second install replaces the
+   first. Where it is killed at any moment --remove takes away what is there.
+4. Words that aren't its own are refused.
+5. The installed programs print a letter, from a folder of their own.
+6. So they do in a fresh Debian, made by debootstrap (as root; Debian's package debootstrap, and some minutes; --chroot names a folder where
+   one was made before, which is used as it is and left so).
+
+What can't be had is left out, and said to be. The last line is `N checks, 0 failed`, with status 0, or names how many failed, with status 1.
+"""
+import os
+import random
+import shutil
+import subprocess
+import sys
+import tempfile
+import time
+from pathlib import Path
+
+ROOT = Path(__file__).resolve().parent.parent
+PROGRAMS = ["spool_shell", "spool_service", "spool_admin", "spool_tools"]
+LETTER = b"Dear Bo,\r\ncome. Ann\r\n\x0c" * 2
+DEBIAN = "bookworm"
+
+FAULTS = []
+COUNT = 0
+LEFT_OUT = []
+
+
+def check(holds, fault):
+    """Counts a check, and notes its fault."""
+    global COUNT
+    COUNT += 1
+    if not holds:
+        FAULTS.append(fault)
+
+
+def sources(folder):
+    """A copy of what install.sh takes, with stand-ins for the programs."""
+    folder.mkdir()
+    for name in ("docs", "examples"):
+        shutil.copytree(ROOT / name, folder / name, ignore=shutil.ignore_patterns("__pycache__"))
+    for name in ("README.md", "install.sh"):
+        shutil.copy2(ROOT / name, folder / name)
+    for name in PROGRAMS:
+        program = folder / "crates" / name / "out" / name
+        program.parent.mkdir(parents=True)
+        program.write_text(f"#!/bin/sh\necho {name}\n")
+        program.chmod(0o755)
+    return folder / "install.sh"
+
+
+def ran(script, *words, below=None):
+    environment = {**os.environ, "LC_ALL": "C"}
+    environment.pop("DESTDIR", None)
+    if below:
+        environment["DESTDIR"] = str(below)
+    return subprocess.run([script, *words], env=environment, capture_output=True, text=True)
+
+
+def seen(folder):
+    """All below a folder: each path with what it is."""
+    found = {}
+    for path in sorted(folder.rglob("*")):
+        name = "/" + str(path.relative_to(folder))
+        if path.is_symlink():
+            found[name] = ("link", os.readlink(path))
+        elif path.is_dir():
+            found[name] = ("folder",)
+        else:
+            found[name] = ("file", path.stat().st_mode & 0o777, path.read_bytes())
+    return found
+
+
+def told(folder, prefix):
+    """The paths that the list of an install tells, by kind."""
+    lines = (folder / prefix.strip("/") / "lib/cegmandi/manifest").read_text().splitlines()
+    return {line.split()[2]: line.split()[0] for line in lines}
+
+
+def checked_by_shellcheck():
+    if not shutil.which("shellcheck"):
+        LEFT_OUT.append("shellcheck (Debian's package shellcheck)")
+        return
+    for name in ("install.sh",):
+        run = subprocess.run(["shellcheck", ROOT / name], capture_output=True, text=True)
+        check(run.returncode == 0, f"shellcheck of {name}: {run.stdout}")
+
+
+def put(script, room, prefix, words):
+    """One install into a folder that has something already, and its removal."""
+    below = room / ("root" + prefix.replace("/", "-") + "".join(words))
+    old = below / prefix.strip("/") / "bin"
+    old.mkdir(parents=True)
+    (old / "other").write_text("another one\n")
+    if prefix == "/usr":
+        (below / "usr/lib/cups/filter").mkdir(parents=True)
+    before = seen(below)
+    run = ran(script, *words, prefix, below=below)
+    check(run.returncode == 0, f"{prefix}: install.sh ends with {run.returncode}: {run.stderr}")
+    there = seen(below)
+    put_there(below, prefix, words, before, there)
+    unit_fits(below, prefix, there)
+    run = ran(script, *words, prefix, below=below)
+    check(run.returncode == 0 and seen(below) == there, f"{prefix}: a second install is another one: {run.stderr}")
+    run = ran(script, "--remove", prefix, below=below)
+    check(run.returncode == 0 and not run.stderr and not run.stdout, f"{prefix}: --remove tells {run.stdout}{run.stderr}")
+    check(seen(below) == before, f"{prefix}: left after --remove: {sorted(set(seen(below)) ^ set(before))}")
+    check(ran(script, "--remove", prefix, below=below).returncode == 1, f"{prefix}: --remove twice isn't refused")
+
+
+def put_there(below, prefix, words, before, there):
+    """What is put is what is listed, with its modes, and the links lead to spool."""
+    new = {path for path in there if path not in before}
+    listed = told(below, prefix)
+    check(new == {*listed, f"{prefix}/lib/cegmandi/manifest"}, f"{prefix}: put and not listed, or listed and not there: {sorted(new ^ set(listed))}")
+    check(all(there[path] == before[path] for path in before), f"{prefix}: what was there has changed")
+    for path in sorted(new):
+        if there[path][0] == "file":
+            runs = "/bin/" in path or "/sbin/" in path or path.endswith((".sh", ".py", "/spool_tools", "/with-cups-env", "/as-pages"))
+            check(there[path][1] == (0o755 if runs else 0o644), f"{path} has the mode {there[path][1]:o}")
+    pages = {it.name for it in (ROOT / "docs/man").iterdir()}
+    check({Path(it).name for it in there if "/share/man/" in it and there[it][0] == "file"} == pages, f"{prefix}: the man pages aren't all there")
+
+
+def unit_fits(below, prefix, there):
+    """The unit and the programs file name what is there."""
+    unit = there[f"{prefix}/lib/systemd/system/cegmandi.service"][2].decode()
+    etc = "/etc/cegmandi" if prefix in ("/usr", "/usr/local") else f"{prefix}/etc/cegmandi"
+    for word in unit.replace("=", " ").split():
+        if word.startswith(("/usr", "/etc", "/opt")):
+            check(word in there, f"{prefix}: the unit names {word}, which isn't there")
+    for line in there[f"{etc}/programs"][2].decode().splitlines():
+        words = line.split()
+        if words and words[0] in ("filter", "backend", "side"):
+            path = next(it for it in words if it.startswith("/"))
+            check(path in there or not path.startswith(prefix), f"{prefix}: the programs file names {path}, which isn't there")
+
+
+def refused(script, room):
+    """A foreign file stops it; a changed one is kept, and told."""
+    below = room / "refused"
+    (below / "usr/local/sbin").mkdir(parents=True)
+    foreign = below / "usr/local/sbin/spool_admin"
+    foreign.write_text("another one\n")
+    before = seen(below)
+    run = ran(script, "/usr/local", below=below)
+    check(run.returncode == 1 and "/usr/local/sbin/spool_admin is there already" in run.stderr, f"a foreign file: {run.stderr}")
+    check(seen(below) == before, "a foreign file: something was done")
+    foreign.unlink()
+    check(ran(script, "/usr/local", below=below).returncode == 0, "it doesn't install")
+    changed = [below / "etc/cegmandi/programs", below / "usr/local/share/man/man5/cegmandi.5"]
+    for path in changed:
+        path.write_text("changed\n")
+    run = ran(script, "/usr/local", below=below)
+    check(run.returncode == 1 and "cegmandi.5 is there already" in run.stderr, f"a changed page: {run.stderr}")
+    changed[1].unlink()
+    run = ran(script, "/usr/local", below=below)
+    check(run.returncode == 0 and run.stdout.count("kept, since it is there") == 1, f"a changed programs file: {run.stdout}{run.stderr}")
+    changed[1].write_text("changed\n")
+    run = ran(script, "--remove", "/usr/local", below=below)
+    check(run.returncode == 0 and "kept, since it was changed" in run.stdout, f"a changed page at the removal: {run.stdout}")
+    files = {path for path, what in seen(below).items() if what[0] != "folder"}
+    check(files == {"/etc/cegmandi/programs", "/usr/local/share/man/man5/cegmandi.5"}, f"left: {sorted(files)}")
+
+
+def wrong_words(script, room):
+    below = room / "words"
+    below.mkdir()
+    for words, status in (([], 2), (["usr"], 2), (["--other", "/usr"], 2), (["/usr", "/opt"], 2), (["/a/../b"], 1), (["/a b"], 1)):
+        run = ran(script, *words, below=below)
+        check(run.returncode == status and not seen(below), f"{words}: {run.returncode}, {run.stderr}")
+    run = ran(script, "/usr", below=room / "absent")
+    check(run.returncode == 1 and not (room / "absent").exists(), "a DESTDIR that isn't there is made")
+    shutil.move(script.parent / "crates/spool_admin/out/spool_admin", room / "away")
+    run = ran(script, "/usr", below=below)
+    check(run.returncode == 1 and "rt run" in run.stderr and not seen(below), f"a program that isn't built: {run.stderr}")
+    shutil.move(room / "away", script.parent / "crates/spool_admin/out/spool_admin")
+
+
+def killed(script, room):
+    """It is killed at random moments, and what is there is taken away."""
+    below = room / "killed"
+    below.mkdir()
+    begun = time.monotonic()
+    ran(script, "/usr", below=below)
+    whole = time.monotonic() - begun
+    ran(script, "--remove", "/usr", below=below)
+    for _ in range(25):
+        install = subprocess.Popen([script, "/usr"], env={**os.environ, "DESTDIR": str(below)}, stdout=subprocess.DEVNULL, stderr=subprocess.DEVNULL, start_new_session=True)
+        time.sleep(random.uniform(0, whole))
+        os.killpg(install.pid, 9)
+        install.wait()
+        ran(script, "--remove", "/usr", below=below)
+        files = [path for path, what in seen(below).items() if what[0] != "folder"]
+        check(not files, f"left after a kill: {files}")
+
+
+def unbuilt():
+    there = [name for name in PROGRAMS if (ROOT / "crates" / name / "src").exists()]
+    return [name for name in there if not (ROOT / "crates" / name / "out" / name).exists()]
+
+
+def prints(room):
+    """The installed programs print a letter, in a folder of their own."""
+    if unbuilt():
+        LEFT_OUT.append(f"printing, since these aren't built: {' '.join(unbuilt())}")
+        return
+    prefix = room / "own"
+    prefix.mkdir()
+    run = ran(ROOT / "install.sh", str(prefix))
+    check(run.returncode == 0, f"the built programs aren't installed: {run.stderr}")
+    office = room / "office"
+    run = subprocess.run([prefix / "share/doc/cegmandi/examples/office/print.sh", office], capture_output=True, text=True)
+    letter = office / "letter.prn"
+    check(letter.exists() and letter.read_bytes() == LETTER, f"no letter: {run.stdout}{run.stderr}")
+    run = subprocess.run([prefix / "sbin/spool_admin", "look", office / "spool"], capture_output=True, text=True)
+    check("ended 1\n" in run.stdout, f"look: {run.stdout}{run.stderr}")
+    check(ran(ROOT / "install.sh", "--remove", str(prefix)).returncode == 0 and not seen(prefix), f"left: {sorted(seen(prefix))}")
+
+
+def fresh_debian(room):
+    """A folder with a fresh Debian, or None."""
+    if os.geteuid() or not shutil.which("debootstrap"):
+        LEFT_OUT.append("a fresh Debian (as root; Debian's package debootstrap)")
+        return None
+    folder = room / "debian"
+    run = subprocess.run(["debootstrap", "--variant=minbase", DEBIAN, folder], capture_output=True, text=True)
+    if run.returncode:
+        LEFT_OUT.append(f"a fresh Debian, which can't be had: {run.stdout.strip().splitlines()[-1:]}")
+        return None
+    return folder
+
+
+def prints_in_debian(room, given):
+    """The same in a fresh Debian, as its own programs would be found there."""
+    if unbuilt():
+        return
+    debian = given or fresh_debian(room)
+    if not debian:
+        return
+    run = ran(ROOT / "install.sh", "/usr/local", below=debian)
+    check(run.returncode == 0, f"in Debian: {run.stderr}")
+    office = debian / "root/office"
+    shutil.rmtree(office, ignore_errors=True)
+    run = subprocess.run(["chroot", debian, "/usr/local/share/doc/cegmandi/examples/office/print.sh", "/root/office"], capture_output=True, text=True)
+    letter = office / "letter.prn"
+    check(letter.exists() and letter.read_bytes() == LETTER, f"in Debian no letter: {run.stdout}{run.stderr}")
+    shutil.rmtree(office, ignore_errors=True)
+    run = ran(ROOT / "install.sh", "--remove", "/usr/local", below=debian)
+    check(run.returncode == 0 and not run.stdout and not list((debian / "usr/local").rglob("*spool*")), f"in Debian --remove leaves something: {run.stdout}")
+
+
+def main():
+    words = sys.argv[1:]
+    if words and (len(words) != 2 or words[0] != "--chroot"):
+        sys.exit(__doc__)
+    given = Path(words[1]).resolve() if words else None
+    room = Path(tempfile.mkdtemp(prefix="ins-"))
+    script = sources(room / "sources")
+    checked_by_shellcheck()
+    for prefix, more in (("/usr/local", []), ("/usr", []), ("/opt/cegmandi", [])):
+        put(script, room, prefix, more)
+    refused(script, room)
+    wrong_words(script, room)
+    killed(script, room)
+    prints(room)
+    prints_in_debian(room, given)
+    shutil.rmtree(room, ignore_errors=True)
+    for text in LEFT_OUT:
+        print(f"left out: {text}")
+    for fault in FAULTS:
+        print(fault)
+    print(f"{COUNT} checks, {len(FAULTS)} failed")
+    return 1 if FAULTS else 0
+
+
+if __name__ == "__main__":
+    sys.exit(main())
