@@ -30,8 +30,6 @@ mod laws;
 mod listing;
 mod reading_back;
 mod tables;
-#[cfg(test)]
-mod tests;
 
 pub use half_rows::{Half, HalfFault};
 pub use laws::{each_row_in_one_half, halves_go_on};
