@@ -26,6 +26,7 @@ import stat
 import subprocess
 import sys
 import tempfile
+from concurrent.futures import ThreadPoolExecutor
 
 import journal
 import spool_model as model
@@ -44,6 +45,7 @@ def program(at, name):
 ADMIN = program(1, "spool_admin")
 SHELL = program(2, "spool_shell")
 SECONDS = 60
+SIDE_BY_SIDE = 4
 SIZE = 8_192
 NAME = "spool.disk"
 PART = "spool.part."
@@ -296,27 +298,40 @@ def all_calls(folder):
     return calls
 
 
+def side_by_side(check, calls):
+    """Each has folders of its own, and waits for syncs most of its time."""
+    with ThreadPoolExecutor(SIDE_BY_SIDE) as pool:
+        try:
+            for _ in pool.map(check, calls):
+                pass
+        except BaseException:
+            pool.shutdown(cancel_futures=True)
+            raise
+
+
 def it_is_killed_at_each_call(folder):
-    for call in all_calls(folder):
+    def killed(call):
         place = Place(folder, image_of())
         (status, _, _), _ = traced(place, f"{call.name}:signal=KILL:when={call.number}")
         same(f"the status, killed at {call}", status in (-9, 137), True)
         goes_on(place, f"killed at {call}")
         shutil.rmtree(place.top)
 
+    side_by_side(killed, all_calls(folder))
+
 
 def each_call_fails_once(folder):
-    begun = False
-    for call in all_calls(folder):
-        begun = begun or any("/from" in path for path in call.paths())
-        if not begun or call.name not in ERRORS:
-            continue
+    def failing(call):
         place = Place(folder, image_of())
         (status, shown, told), _ = traced(place, f"{call.name}:error={ERRORS[call.name]}:when={call.number}")
         same(f"the end, where {call} fails", (status in (0, 1), shown, told.startswith("spool: ") == (status == 1)), (True, "", True))
         same(f"all went well, where {call} fails", status == 1 or is_whole_or_split(place, f"failed at {call}"), True)
         goes_on(place, f"failed at {call}")
         shutil.rmtree(place.top)
+
+    calls = all_calls(folder)
+    begun = next(at for at, call in enumerate(calls) if any("/from" in path for path in call.paths()))
+    side_by_side(failing, [call for call in calls[begun:] if call.name in ERRORS])
 
 
 def a_power_cut_leaves_one_or_the_other(folder):

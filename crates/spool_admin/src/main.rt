@@ -48,9 +48,14 @@
 //! - [`copying::copy`] leaves exactly the copied bytes at the target's begin, and nothing else is changed (`copied`, `still`).
 //! - [`grow::list`] leaves the table and the documents of the copied bytes, whatever a crash does (`grown`). It gives the new disk back
 //!   synced (`synced`), and answers `Smaller` exactly where it is shorter (`smaller`).
+//! - [`halves::list_halves`] leaves, whatever a crash does, exactly the rows of the named queues on one disk and exactly all others on
+//!   the other one, each with the documents of the old disk (`part`, `rest`). Both are synced (`synced`), and nothing changes on the
+//!   old disk (`still`).
+//! - [`names::names_of`] gives the words as they are (`names`), and [`names::has_queues`] says whether the table has a queue of each.
+//! - [`record::part_in`] finds a part exactly where it was noted with these words (`some`, `none`).
 //! - [`fault::tell_admin_end`] is status 0 after `Ok` and 1 after a fault (`ok`, `fault`).
 //!
-//! That the steps of `grow` are one, whatever cuts them, is shown by tests: a file of the system tells nothing of its bytes.
+//! That the steps of `grow` or of `split` are one, whatever cuts them, is shown by tests: a file of the system tells nothing of its bytes.
 //!
 //! # Faults
 //!
@@ -65,7 +70,10 @@ mod fault;
 mod folder;
 mod found;
 mod grow;
+mod halves;
 mod look;
+mod names;
+mod record;
 mod split;
 mod words;
 

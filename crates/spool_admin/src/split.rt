@@ -1,14 +1,13 @@
 //! Splitting a spool by queues.
 use crate::fault::AdminFault;
 use crate::folder::Folder;
+use crate::halves::{Halves, list_halves};
+use crate::names::{has_queues, names_of};
+use crate::record::{noted, part_in, part_name, words_of};
 use crate::words::Split;
-use job_table::Table;
 use spool_core::Spool;
 use spool_disk::{Disk, FileDisk};
-use spool_halves::{Half, list_half};
-use spool_host::{NamedDisk, ShellFault};
-use spool_types::{QueueName, TextFault};
-use std::alloc::{AllocError, Global};
+use spool_host::ShellFault;
 use std::fs::{File, Files};
 use std::time::Clock;
 
@@ -27,9 +26,6 @@ const RECORD: &str = "spool.split";
 
 const NEXT_RECORD: &str = "spool.split.new";
 
-// What the name of the file with the queues begins with, until it is `spool.disk`.
-const PART: &str = "spool.part.";
-
 /// Gives the queues, with their jobs, to the other folder, where they are a spool of their own. What an earlier call with the same
 /// words left is finished first, where the change over was made, and then there is nothing else to do; or else it is undone.
 pub fn split<R: Files<File = File> + Clock + AllocGlobal>(
@@ -38,7 +34,7 @@ pub fn split<R: Files<File = File> + Clock + AllocGlobal>(
 ) -> Result<(), AdminFault> {
     let source = Folder::own(rt, asked.from)?;
     let target = Folder::own(rt, asked.into)?;
-    let words = words_of(rt.alloc(), asked)?;
+    let words = words_of(rt.alloc(), asked.into, &asked.queues)?;
     if let Some(part) = begun(rt, &source, &words)? {
         if !source.has(rt, REST)? {
             return finish(rt, &source, &target, &part);
@@ -48,7 +44,7 @@ pub fn split<R: Files<File = File> + Clock + AllocGlobal>(
     if target.has(rt, NAME)? {
         return Err(AdminFault::Taken);
     }
-    let part = part_name(rt)?;
+    let part = part_now(rt)?;
     match prepare(rt, &source, &target, &part, &words, &asked.queues) {
         Ok(()) => {}
         Err(fault) => {
@@ -102,25 +98,12 @@ fn prepare<R: Files<File = File> + Clock + AllocGlobal>(
     record(rt, source, part, words)?;
     let about = source.about(rt, NAME)?;
     let part_disk = target.put_zeros(rt, part, size, &about)?;
-    make_half(alloc, &mut whole, &names, true, part_disk)?;
-    make_half(alloc, &mut whole, &names, false, rest_disk)
-}
-
-// Lists a half on a disk.
-fn make_half<R: Files<File = File>>(
-    alloc: Global,
-    whole: &mut Spool<NamedDisk<'_, R>>,
-    names: &[QueueName],
-    named: bool,
-    disk: FileDisk,
-) -> Result<(), AdminFault> {
-    match list_half(alloc, whole, Half { names, named }, disk) {
-        Ok(made) => {
-            drop(made);
-            Ok(())
-        }
-        Err(fault) => Err(AdminFault::from(fault)),
-    }
+    let disks = Halves {
+        part: part_disk,
+        rest: rest_disk,
+    };
+    drop(list_halves(alloc, &mut whole, &names, disks)?);
+    Ok(())
 }
 
 // A file for the rows that stay.
@@ -147,7 +130,7 @@ fn record<R: Files<File = File> + AllocGlobal>(
     part: &str,
     words: &str,
 ) -> Result<(), AdminFault> {
-    let text = format!(in rt.alloc(); "{part}\n{words}")?;
+    let text = noted(rt.alloc(), part, words)?;
     source.remove(rt, NEXT_RECORD)?;
     source.put_text(rt, NEXT_RECORD, &text)?;
     Ok(source.rename(rt, NEXT_RECORD, RECORD)?)
@@ -194,57 +177,17 @@ fn begun<R: Files<File = File> + AllocGlobal>(
     let Some(text) = source.text(rt, RECORD)? else {
         return Ok(None);
     };
-    match text.split_once('\n') {
-        Some((part, noted)) if noted == words && is_part(part) => {
-            Ok(Some(part.to_string(rt.alloc())?))
-        }
-        _ => Err(AdminFault::Unfinished),
+    match part_in(&text, words) {
+        Some(part) => Ok(Some(part.to_string(rt.alloc())?)),
+        None => Err(AdminFault::Unfinished),
     }
 }
 
-// Whether it is a name that a part may have.
-fn is_part(name: &str) -> bool {
-    name.starts_with(PART) && !name.contains('/')
-}
-
 // A name for the part that no other split has: the time, in nanoseconds.
-fn part_name<R: Clock + AllocGlobal>(rt: &R) -> Result<String, AdminFault> {
+fn part_now<R: Clock + AllocGlobal>(rt: &R) -> Result<String, AdminFault> {
     let now = match rt.since_1970() {
         Ok(now) => now,
         Err(error) => return Err(AdminFault::from(ShellFault::from(error))),
     };
-    let (seconds, nanos) = (now.as_secs(), now.subsec_nanos());
-    Ok(format!(in rt.alloc(); "{PART}{seconds}.{nanos}")?)
-}
-
-// The words behind the first folder, a line each.
-fn words_of(alloc: Global, asked: &Split<'_>) -> Result<String, AllocError> {
-    let mut text = format!(in alloc; "{}\n", asked.into)?;
-    for queue in &asked.queues {
-        text.push_str(queue)?;
-        text.push('\n')?;
-    }
-    Ok(text)
-}
-
-// The words as names of queues. One that can't be a name is that of no queue.
-fn names_of(alloc: Global, queues: &[&str]) -> Result<Vec<QueueName>, AdminFault> {
-    let mut names = Vec::new(alloc);
-    for queue in queues {
-        match QueueName::read(alloc, queue) {
-            Ok(name) => push_name(&mut names, name)?,
-            Err(TextFault::Bad) => return Err(AdminFault::Queue),
-            Err(TextFault::Memory) => return Err(AdminFault::from(AllocError)),
-        }
-    }
-    Ok(names)
-}
-
-fn push_name(names: &mut Vec<QueueName>, name: QueueName) -> Result<(), AllocError> {
-    Ok(names.push(name)?)
-}
-
-// Whether the table has a queue of each of these names.
-fn has_queues(table: &Table, names: &[QueueName]) -> bool {
-    names.iter().all(|name| table.queue(name).is_some())
+    Ok(part_name(rt.alloc(), now.as_secs(), now.subsec_nanos())?)
 }
