@@ -14,7 +14,7 @@ queues, documents and jobs of each phase, one of them processing.
   spool then: the old spool is there and the other folder has none, or both halves are there, the named one perhaps under the name that
   isn't served. The same command, given again, ends with both halves, and leaves no other name. From the calls it is seen what a power
   cut may leave: the old file is never written to, both new ones are synced with their names before the change over, and each name is
-  synced before the next one is changed.
+  synced before the next one is changed, also by a call that goes on where one was killed.
 
 The last line is `N of N`, with status 0, or the first difference, with status 1: its folder stays then, and is named. Without
 strace, or where it may not trace, what wants it is left out.
@@ -361,9 +361,26 @@ def a_power_cut_leaves_one_or_the_other(folder):
     same("the change over is the rest's", renamed[-2][0], "spool.rest")
 
 
+def a_power_cut_behind_a_kill(folder):
+    """One that is killed before its change over is synced, and given again: it is synced before the part has its name."""
+    calls = all_calls(folder)
+    over = next(at for at, call in enumerate(calls) if call.name.startswith("rename") and b"/spool.rest" in call.texts[0])
+    sync = next(call for call in calls[over:] if call.name in ("fsync", "fdatasync"))
+    place = Place(folder, image_of())
+    (status, _, _), _ = traced(place, f"{sync.name}:signal=KILL:when={sync.number}")
+    same("the status, killed at the sync of the change over", status in (-9, 137), True)
+    same("the part waits", is_whole_or_split(place, "killed at the sync"), True)
+    done, calls = traced(place)
+    same("the end of the next one", done, (0, "", ""))
+    named = next(at for at, call in enumerate(calls) if call.name.startswith("rename"))
+    synced = [call.files[0] for call in calls[:named] if call.name in ("fsync", "fdatasync")]
+    same("the change over is synced before the part has its name", place.source in synced, True)
+    is_split(place, image_of())
+
+
 PLAIN = [each_row_is_in_one_half, both_are_served, documents_are_whole, a_half_is_split_again, what_is_refused, rows_that_do_not_fit,
          a_running_shell_keeps_it, words_that_say_nothing, another_split_waits_for_the_first]
-TRACED = [it_is_killed_at_each_call, each_call_fails_once, a_power_cut_leaves_one_or_the_other]
+TRACED = [it_is_killed_at_each_call, each_call_fails_once, a_power_cut_leaves_one_or_the_other, a_power_cut_behind_a_kill]
 
 
 def main():

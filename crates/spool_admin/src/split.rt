@@ -37,6 +37,8 @@ pub fn split<R: Files<File = File> + Clock + AllocGlobal>(
     let words = words_of(rt.alloc(), asked.into, &asked.queues)?;
     if let Some(part) = begun(rt, &source, &words)? {
         if !source.has(rt, REST)? {
+            // The earlier call may have been killed before its change over was synced, and a power cut would still undo it.
+            source.sync()?;
             return finish(rt, &source, &target, &part);
         }
         give_up(rt, &source, &target, &part)?;
