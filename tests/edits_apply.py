@@ -34,7 +34,6 @@ PROMISED = {
     "header-in-one-write",
     "keeps-after-full",
     "keeps-no-disk",
-    "kills-without-grace",
     "next-stage-after-cancel",
     "ok-before-apply",
     "ok-before-second-sync",
@@ -49,7 +48,6 @@ PROMISED = {
     "stops-all-queues",
     "takes-away-and-puts-back",
     "tick-ignores-the-look",
-    "title-goes-in-as-it-is",
     "waits-for-a-purged-job-forever",
 }
 
