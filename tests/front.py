@@ -18,13 +18,14 @@ The last line is `N of N`, and status 0; or how many failed, with status 1. The 
 import json
 import os
 import random
+import subprocess
 import sys
 import threading
 import time
 import unicodedata
 
 from front_parts import Front, Played, number_of
-from service_parts import Client, Difference, Folder, holds, patient_client, run_test, same, until
+from service_parts import TYPE, Client, Folder, holds, patient_client, run_test, same, until
 
 # ---- a service that is played
 
@@ -149,6 +150,22 @@ def played_dead_at_close(folder):
     played(folder, [SENDS + [("close 5 ", "error disk\n")], second], 0, "q-5")
 
 
+def played_dead_for_good(folder):
+    # A spool that is dead answers what is asked, and does nothing: that comes to an end.
+    look = [("job 5", shown(3)), ("close 5 ", "error dead\n")]
+    played(folder, [SENDS + [("close 5 ", "error dead\n")]] + [look] * 10, 3, "job 5", patience=1)
+
+
+def played_lost_order(folder):
+    # A command that isn't said again: its reply tells whether it was done, or nothing does.
+    service = Played(folder, [[("cancel 7", None)], [("cancel 8", "ok\n")], [("accept", None)]])
+    front = Front(folder, 1)
+    told = front.fails("spool", "cancel", "7", "8", status=3)
+    holds(f"told {told!r}", told.startswith("spool: job 7: ") and "job 8" not in told)
+    front.fails("spool", "queue", "accept", "q", status=3)
+    service.end()
+
+
 def played_nobody(folder):
     played(folder, [SENDS + [("close 5 ", None)]], 3, "job 5", patience=1)
     played(folder, [[SENDS[0], ("send 5 3", None)]], 1, "nobody serves", patience=1)
@@ -241,6 +258,31 @@ def submits_and_waits(folder):
     holds(f"told {told!r}", "job 2 is canceled" in told)
 
 
+def submits_and_cannot_say_so(folder):
+    """The status tells what became of the job, also where its number can't be told."""
+    client, front = office(folder)
+    folder.write("a", "a")
+    with open("/dev/full", "w") as full:
+        for words in ([], ["--wait"]):
+            ended = subprocess.run(front.command(["spool", "submit", "q", folder.at("a"), *words]), stdout=full, stderr=full, env=front.environment, timeout=60)
+            same("status", ended.returncode, 0)
+    client.until_ended([1, 2])
+
+
+def submits_and_loses_the_service(folder):
+    """A job that is accepted, and whose end can't be waited for."""
+    client, front = office(folder)
+    folder.write("a", "a")
+    folder.queue(client, "slow", 60)
+    front.environment["SPOOL_PATIENCE"] = "1"
+    child = front.start("spool", "submit", "slow", folder.at("a"), "--wait")
+    until("that it is accepted", lambda: client.states() and not client.state(1).startswith("4"))
+    folder.kill()
+    told = child.communicate(timeout=20)[1].decode()
+    same(f"status, which told {told!r}", child.returncode, 3)
+    holds(f"told {told!r}", "it isn't known how job 1 ends: nobody serves" in told)
+
+
 def submits_and_is_refused(folder):
     client, front = office(folder)
     folder.write("a", "a")
@@ -281,10 +323,24 @@ def status_and_json(folder):
     holds("a table", 'a "b" \\c' in front.says("spool", "status"))
     holds("another queue", 'a "b"' not in front.says("spool", "status", "-q", "other"))
     holds("the job", "q" in front.says("spool", "status", str(job)))
-    holds("no job", "error job" in front.fails("spool", "status", "77"))
+    holds("no job", "no such job" in front.fails("spool", "status", "77"))
     holds("queues", "q" in front.says("spool", "queues"))
-    holds("check", "q" in front.says("spool", "check"))
-    front.fails("spool", "devices")
+    holds("devices", "spool_shell --devices" in front.fails("spool", "devices"))
+
+
+def status_check(folder):
+    folder.two_stages(0)
+    client, front = office(folder)
+    front.environment |= {"SPOOL_TYPES": folder.at("types"), "SPOOL_CONVS": folder.at("convs")}
+    folder.queue(client, "b", target="a/b")
+    same("check", front.says("spool", "check"), f"{folder.socket} serves\nqueue b prints a/b\nqueue q prints {TYPE}\n")
+    folder.queue(client, "d", target="c/d")
+    same("disable", client.ask("disable b\n"), "ok")
+    same("reject", client.ask("reject q\n"), "ok")
+    told = front.says("spool", "check", status=1).splitlines()[1:]
+    same("check", told, ["queue b is stopped", "queue d prints nothing: no chain of filters leads to c/d", "queue q takes no jobs"])
+    missing = front.fails("spool", "check", environment={"SPOOL_CONVS": folder.at("missing")})
+    same("told", missing, f"spool: file {folder.at('missing')}\n")
 
 
 def status_of_two_services(folder):
@@ -300,6 +356,15 @@ def status_of_two_services(folder):
         job = number_of(front.says("spool", "submit", "z", folder.at("a"), *sockets))
         Client(other).until_ended([job])
         same("jobs of the first", client.states(), {})
+        same("status over all", len(json.loads(front.says("spool", "status", "--json", *sockets))), 1)
+        holds("the job of the second", '"queue":"z"' in front.says("spool", "status", str(job), "--json", *sockets).replace(" ", ""))
+        # A number alone doesn't tell whose job it is.
+        for words in (["cancel", str(job)], ["watch"], ["queue", "add", "new", "slow:/0"]):
+            holds(f"{words}", "asked of one" in front.fails("spool", *words, *sockets))
+        holds("no queue", "no service has this queue" in front.fails("spool", "submit", "none", folder.at("a"), *sockets))
+        Client(other).create("z")
+        same("cancel -a", front.says("cancel", "-a", *sockets), "")
+        same("canceled", Client(other).state(2).split()[0], "7")
     finally:
         other.end()
         other.remove()
@@ -348,8 +413,8 @@ def acts_on_jobs(folder):
 
 def acts_on_queues(folder):
     client, front = office(folder)
-    front.says("spool", "queue", "add", "new", "slow:/0", "application/octet-stream")
-    front.says("spool", "queue", "set", "new", "An info", "A room")
+    front.says("spool", "queue", "add", "new", "slow:/0", "--media", "application/octet-stream")
+    front.says("spool", "queue", "set", "new", "--info", "An info", "--location", "A room")
     front.says("spool", "queue", "reject", "new")
     front.says("spool", "queue", "disable", "new")
     rows = {line.split()[1]: line for line in client.listing("queues\n")}
@@ -358,7 +423,7 @@ def acts_on_queues(folder):
     front.says("spool", "queue", "enable", "new")
     rows = {line.split()[1]: line for line in client.listing("queues\n")}
     holds(f"row {rows['new']}", rows["new"].startswith("queue new 3 accepting "))
-    holds("twice", "error 2 QueueExists" in front.fails("spool", "queue", "add", "new", "slow:/0", "a/b"))
+    holds("twice", "error 2 QueueExists" in front.fails("spool", "queue", "add", "new", "slow:/0", "--media", "a/b"))
 
 
 # ---- kills
