@@ -81,7 +81,6 @@ PASSED_ON = {
     ("spool_engine", "take_piece"): 1,
     ("spool_admin", "no_task"): 1,
     ("spool_admin", "read_words"): 1,
-    # An error of the system whose kind says so.
     # The text is written into memory, so that nothing else can be wanted; an error of the system whose kind says so.
     ("spool_front", "close_line"): 1,
     ("spool_front", "from"): 1,
@@ -91,6 +90,7 @@ PASSED_ON = {
     ("spool_front", "push_ranks"): 1,
     ("spool_front", "queue_line"): 1,
     ("spool_front", "send_line"): 1,
+    # An error of the system whose kind says so.
     ("spool_host", "from"): 1,
     ("spool_host", "mistake"): 1,
     ("spool_host", "no_words"): 1,
@@ -155,7 +155,7 @@ NUMBERS = {
     ("spool_disk", "sync"): ["u64::MAX", "u64::MAX"],
     ("spool_disk", "write"): ["u64::MAX", "u64::MAX"],
     ("spool_engine", "serve"): ["u32::MAX"],
-    ("spool_front", "say_and_hear"): ["u64::MAX"],
+    ("spool_front", "send_and_read"): ["u64::MAX"],
     ("spool_front", "submit"): ["u64::MAX"],
     ("spool_front", "wait_for"): ["u64::MAX"],
     ("spool_front", "watch"): ["u64::MAX"],

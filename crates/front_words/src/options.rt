@@ -61,7 +61,7 @@ fn socket_option<'a>(alloc: Global) -> Arg<'a>
         alloc,
         "socket",
         "SOCKET",
-        "Ask the service on this socket; as often as there are services",
+        "Ask the service on this socket; given twice, the second where the first is gone",
     )
     .action(ArgAction::Append)
 }
