@@ -98,11 +98,11 @@ def build(room):
     return program
 
 
-def launched(room, program, queues, *disk):
+def launched(room, program, queues, *disk, jobs=PART):
     """The seconds of a floor: of the second, where it is given a file for its events."""
     folder = os.path.join(room, "files")
     os.makedirs(folder, exist_ok=True)
-    words = [program, str(PART), str(queues), folder, PROGRAM, *disk]
+    words = [program, str(jobs), str(queues), folder, PROGRAM, *disk]
     return float(subprocess.run(words, stdout=subprocess.PIPE, check=True).stdout)
 
 

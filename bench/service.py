@@ -13,14 +13,15 @@ It runs crates/spool_service/out/spool_service (made by `rt run` in that folder)
   it comes; `syncs` is with `SyncOnClose Yes`, and then it still writes half a minute later what it knows of a job;
   `syncs at once` has `DirtyCleanInterval 0` beside that, which comes nearest to what the service promises. No setting has it sync a
   document. With the program `lp` a job is a process of its own, with two requests;
-- `printed`: jobs a second that one queue and eight print, whose backend does nothing, in TIMES runs. Beside each run the same
+- `printed`: jobs a second that one queue and eight print, whose backend does nothing, in TIMES runs. Beside each run as many of the same
   launches and syncs by a C program (the whole floor of launches.c), before and after; the ratio of the median is aimed at 0.9. Ended
-  jobs are kept, so no purge is in it;
+  jobs are kept, so no purge is in it. Before each run there is a pause, as ext4 makes new files the slower the more were removed in
+  the seconds before;
 - `work`: processor time in ten seconds of the service, idle and with eight children that sleep;
 - `memory`: of the service when it is new, with eight documents of a MiB, and while all of them are printed.
 
 What a slow queue costs fast jobs is shown by `ticks.py real`. Times depend on the machine and its disk; only the ratios are of interest,
-and no test reads them. The load of the machine is told before and behind: a busy one says little. It takes some four minutes.
+and no test reads them. The load of the machine is told before and behind: a busy one says little. It takes some five minutes.
 With words behind PROGRAM only those parts are run.
 """
 import os
@@ -43,6 +44,8 @@ QUEUES = (1, 8)
 ACCEPTED = 192
 PRINTED = printing.PART * 4
 TIMES = 3
+# Seconds behind which the file system has forgotten the files that were removed.
+REST = 6
 DOCUMENT = "x" * 1_023 + "\n"
 MEBIBYTE = 1_048_576
 PIECE = 65_536
@@ -183,10 +186,16 @@ def printed():
 def beside_floors(room, program, queues):
     """The seconds of a job of the service, and of one of the floor."""
     disk = os.path.join(room, "disk")
-    before = printing.launched(room, program, queues, disk)
+
+    def floor():
+        time.sleep(REST)
+        return printing.launched(room, program, queues, disk, jobs=PRINTED)
+
+    before = floor()
+    time.sleep(REST)
     took = print_all(queues)
-    after = printing.launched(room, program, queues, disk)
-    return took / PRINTED, (before + after) / 2 / printing.PART
+    after = floor()
+    return took / PRINTED, (before + after) / 2 / PRINTED
 
 
 def print_all(queues):

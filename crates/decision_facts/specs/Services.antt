@@ -20,10 +20,10 @@ ServedRows = is_served_on 0 0 ∷ is_served_on 31 0 ∷ is_served_on 32 0 ∷ is
 abbrev pub pause : ℕ → ℕ → Pause
 pause nap poll = record { nap = nap; poll = poll }
 
--- no child; one that was just started; one that has run for 1.6 ms and for 16 ms, beside two more; the longest, and longer
+-- no child; one that was just started; one that has run for 0.8 ms and for 16 ms, beside two more; the longest, and longer
 abbrev pub LookRows : Type 0
-LookRows = next_look 9000 0 ∷ next_look 0 1 ∷ next_look 1600 1 ∷ next_look 16000 3 ∷ next_look 1024000 1 ∷ next_look 9000000 1 ∷ []
-    ≡ None ∷ Some 100 ∷ Some 100 ∷ Some 1000 ∷ Some 64000 ∷ Some 64000 ∷ []
+LookRows = next_look 9000 0 ∷ next_look 0 1 ∷ next_look 800 1 ∷ next_look 16000 3 ∷ next_look 1024000 1 ∷ next_look 9000000 1 ∷ []
+    ≡ None ∷ Some 50 ∷ Some 50 ∷ Some 1000 ∷ Some 64000 ∷ Some 64000 ∷ []
 
 -- nothing, less than a millisecond, one, and a part more than two
 abbrev pub PauseRows : Type 0

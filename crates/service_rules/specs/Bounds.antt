@@ -19,7 +19,7 @@ most_commands = 32
 
 -- the shortest pause between two looks at children, in microseconds
 abbrev pub first_look : ℕ
-first_look = 100
+first_look = 50
 
 -- the longest pause between two looks, in microseconds
 abbrev pub last_look : ℕ

@@ -14,7 +14,7 @@ pub const MOST_UNREAD: usize = 65_536;
 pub const MOST_COMMANDS: usize = 32;
 
 /// The shortest pause between two looks at children, in microseconds.
-pub const FIRST_LOOK: u64 = 100;
+pub const FIRST_LOOK: u64 = 50;
 
 /// The longest pause between two looks at children, in microseconds. It bounds how long the end of a child goes unseen.
 pub const LAST_LOOK: u64 = 64_000;

@@ -1,5 +1,5 @@
 -- What a run did, turn by turn, also where something failed.
-use Rattle.std.specs.Prelude.{◌≡◌, ℕ, zero, suc, ◌<◌, ◌≤◌, ◌↔◌, ◌⊎◌, Bool, true, false, List, [], ◌∷◌, ◌++◌, take, length, map, ⊤, IsSome, Option, None, Some, Result, Ok, Err, OnOk}
+use Rattle.std.specs.Prelude.{◌≡◌, ℕ, zero, suc, ◌<◌, ◌≤◌, ◌↔◌, ◌⊎◌, Bool, true, false, List, [], ◌∷◌, ◌++◌, take, length, map, ⊤, IsSome, Option, None, Some, Result, Ok, Err, OnOk, IfErr, ◌≢◌}
 use Rattle.std.specs.List.{flat_map}
 use Rattle.std.specs.Result.{IsOk}
 use Rattle.std.specs.Io.KnownBytes.{Appends}
@@ -26,6 +26,10 @@ use Rattle.spool_engine.specs.Rounds.{Ran, AreRunBy, counts_in, results_of}
 use Rattle.spool_engine.specs.Script.{Documents, Asked, Scene, meaning, event_of, withheld_line, withholds, script_text, script_events, script_scene, asked_on, documents_on}
 use Rattle.spool_engine.specs.declared.fault.RunFault.{RunFault}
 use Rattle.spool_engine.specs.declared.fault.RunFault.TheVariants.{Read, Write, Memory}
+
+-- whoever hands in the commands himself is told of no reader that failed
+abbrev pub ReadsNothing : {A : Type 0} → Result A RunFault → Type 0
+ReadsNothing result = IfErr result (λ fault. fault ≢ Read)
 
 -- an engine as its callers see it
 pub record Engine (D : Type 0) : Type 0 where

@@ -1,6 +1,7 @@
 //! The MIME database: what documents are read by.
-ghost use Rattle.std.specs.Prelude.{◌≡◌, ◌≤◌, IfOk};
+ghost use Rattle.std.specs.Prelude.{◌≡◌, ◌≤◌, IfOk, min};
 ghost use Rattle.mime_costs.specs.LeastWalk.{filters_between};
+ghost use Rattle.mime_rules.specs.Reach.{reach};
 ghost use Rattle.spool_engine.specs.Mime.{media_of, unknown_type, IsEnough};
 
 use mime_costs::Convs;
@@ -49,6 +50,7 @@ impl<'a> Mime<'a> {
 
     /// How many of its first bytes tell the type of a document of this length.
     pub fn reach(&self, len: usize) -> usize
+        ensures value { result ≡ min len (reach self.now.types) }
         ensures within { result ≤ len }
         ensures enough { IsEnough self.now len result }
     {

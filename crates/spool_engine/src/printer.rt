@@ -11,7 +11,7 @@ ghost use Rattle.spool_engine.specs.Ticks.{IsTicked};
 ghost use Rattle.spool_engine.specs.Rounds.{Ran, IsRan, IsSettled, AreRan, AreAll, AreRun, counts_in, results_of, rounds_run};
 ghost use Rattle.filter_args.specs.declared.place.Place.{Place as PlaceOf};
 ghost use Rattle.spool_engine.specs.Script.{is_idle, round_text, drain_text, withholds_event};
-ghost use Rattle.spool_engine.specs.Runs.{Turn, TakesTurn, Serves, IsRun, Drains, DrainsEnd, DrainsPiece, ServesNext};
+ghost use Rattle.spool_engine.specs.Runs.{Turn, TakesTurn, Serves, IsRun, Drains, DrainsEnd, DrainsPiece, ReadsNothing, ServesNext};
 
 use crate::answers::{drained_text, rounded_text};
 use crate::executor::Executor;
@@ -226,8 +226,9 @@ impl<D: Disk, C: Children> Printer<D, C> {
         command: Command,
         writer: &mut W,
     ) -> Result<(), RunFault>
-        ensures { (t : Turn D) × Serves (setting D.device mime.now place.now)
+        ensures served { (t : Turn D) × Serves (setting D.device mime.now place.now)
             self.old command t self.new result (W.contents writer.old) (W.contents writer.new) }
+        ensures reads { ReadsNothing result }
     {
         match self.execute(mime, place, command) {
             Ok(text) => match write_whole(writer, &text) {
@@ -246,8 +247,9 @@ impl<D: Disk, C: Children> Printer<D, C> {
         commands: &mut Commands,
         writer: &mut W,
     ) -> Result<bool, RunFault>
-        ensures { (turns : List (Turn D)) × ServesNext (setting D.device mime.now place.now)
+        ensures next { (turns : List (Turn D)) × ServesNext (setting D.device mime.now place.now)
             self.old commands.old turns self.new commands.new result (W.contents writer.old) (W.contents writer.new) }
+        ensures reads { ReadsNothing result }
     {
         match commands.next() {
             Ok(Some(command)) => match self.answer(mime, place, command, writer) {

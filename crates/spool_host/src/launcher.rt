@@ -58,7 +58,7 @@ use crate::reasons::{Reason, StageRun, reason_of};
 use crate::script::Call;
 use crate::serving::place_in;
 use crate::sessions::{SideLine, SideLines};
-use crate::shortage::{FolderRoom, MOST_WAITS, Patience, count_places, shortage_of};
+use crate::shortage::{Descriptors, FolderRoom, MOST_WAITS, Patience, shortage_of};
 use crate::side_device::{device_of, uri_in};
 use child_pipeline::{
     ChildFault, Children, Content, Finish, Grouped, Input, Order, Places, Program, Texts,
@@ -111,6 +111,7 @@ pub struct Launcher<'a, L, R> {
     pub most_blocks: u32,
     patience: Patience,
     room: FolderRoom,
+    descriptors: Descriptors,
     // The side channels of the children that run.
     sides: SideLines,
     // When they were served last.
@@ -182,6 +183,7 @@ impl<'a, L: Log, R: Files<File = File> + Net + Processes + Clock + AllocGlobal> 
             most_blocks: MOST_BLOCKS,
             patience: Patience::new(),
             room: FolderRoom::new(),
+            descriptors: Descriptors::new(),
             sides: SideLines::new(rt.alloc()),
             served: None,
             blind: false,
@@ -339,6 +341,7 @@ impl<'a, L: Log, R: Files<File = File> + Net + Processes + Clock + AllocGlobal> 
 
     fn start(&mut self, order: Order) -> Result<RunningChild<R::Started>, ChildFault> {
         self.patience.begin(queue_in(order.environment.as_slice()));
+        self.descriptors.take();
         let started = self.start_patiently(&order);
         let Order {
             job,
@@ -395,7 +398,7 @@ impl<'a, L: Log, R: Files<File = File> + Net + Processes + Clock + AllocGlobal> 
         let count = if self.blind || self.patience.is_short(self.rt) || !self.has_folder_room() {
             0
         } else {
-            count_places(self.rt)
+            self.descriptors.count_places(self.rt)
         };
         let first = self.turn >> 32;
         Some(Places { count, first })

@@ -30,9 +30,13 @@ const DESCRIPTORS: usize = 10;
 // For how many starts descriptors are opened.
 const MOST_PLACES: usize = 4;
 
-// How much room the folder has to have before a start, in bytes, and for how many milliseconds it counts as there.
+// How many are opened beside them, as the service's clients may take some before the next start.
+const SPARE: usize = 16;
+
+// How much room the folder has to have before a start, in bytes.
 const ROOM: usize = 65_536;
 
+// For how many milliseconds what was seen counts as being so still.
 const SEEN: u64 = 10;
 
 // What can be opened everywhere, and takes nothing but a descriptor.
@@ -70,22 +74,89 @@ fn short_number(number: Option<i32>) -> Option<Shortage>
     }
 }
 
-/// For how many starts the descriptors can be had, up to four: they are opened together, and closed again.
-pub(crate) fn count_places<R: Files<File = File> + AllocGlobal>(rt: &R) -> usize
-    ensures { result ≤ 4 }
-{
+// When something was seen to be there last.
+#[derive(Drop)]
+struct Sight {
+    at: Option<Instant>,
+}
+
+impl Sight {
+    // What was seen now, if it is there.
+    fn new<R: Clock>(rt: &R, is_there: bool) -> Sight {
+        let at = if is_there {
+            Instant::now(rt).ok()
+        } else {
+            None
+        };
+        Sight { at }
+    }
+
+    // Whether it was a moment ago.
+    fn is_fresh<R: Clock>(&self, rt: &R) -> bool {
+        let Some(at) = self.at else {
+            return false;
+        };
+        match at.elapsed(rt) {
+            Ok(passed) => passed < Duration::from_millis(SEEN),
+            Err(_) => false,
+        }
+    }
+}
+
+/// For how many starts there are descriptors, as far as that can be known before they are opened.
+#[derive(Drop)]
+pub(crate) struct Descriptors {
+    sight: Sight,
+    // For how many starts they were seen, less those that have begun since.
+    left: usize,
+}
+
+impl Descriptors {
+    pub fn new() -> Descriptors {
+        Descriptors {
+            sight: Sight { at: None },
+            left: 0,
+        }
+    }
+
+    /// For how many starts they can be had, up to four. What was seen a moment ago, and isn't used up, isn't looked at again.
+    pub fn count_places<R: Files<File = File> + Clock + AllocGlobal>(&mut self, rt: &R) -> usize
+        ensures { result ≤ 4 }
+    {
+        if self.left == 0 || !self.sight.is_fresh(rt) {
+            self.left = count_openable(rt);
+            self.sight = Sight::new(rt, true);
+        }
+        self.left.min(MOST_PLACES)
+    }
+
+    /// A start takes its own.
+    pub fn take(&mut self) {
+        self.left = self.left.saturating_sub(1);
+    }
+}
+
+// For how many starts descriptors can be opened at once, beside the spare ones. They are closed again.
+fn count_openable<R: Files<File = File> + AllocGlobal>(rt: &R) -> usize {
     let mut opened = Vec::new(rt.alloc());
+    if !opens_more(rt, &mut opened, SPARE) {
+        return 0;
+    }
     for count in 0..MOST_PLACES {
-        if !opens_more(rt, &mut opened) {
+        if !opens_more(rt, &mut opened, DESCRIPTORS) {
             return count;
         }
     }
     MOST_PLACES
 }
 
-// Opens as many descriptors as a start takes, beside those that are open. Whether they can be had.
-fn opens_more<R: Files<File = File> + AllocGlobal>(rt: &R, opened: &mut Vec<File>) -> bool {
-    for _ in 0..DESCRIPTORS {
+// Opens so many descriptors beside those that are open. Whether they can be had.
+fn opens_more<R: Files<File = File> + AllocGlobal>(
+    rt: &R,
+    opened: &mut Vec<File>,
+    count: usize,
+) -> bool {
+    for _ in 0..count {
         match fs::open(rt, NOTHING) {
             Ok(file) => {
                 if opened.push(file).is_err() {
@@ -101,37 +172,24 @@ fn opens_more<R: Files<File = File> + AllocGlobal>(rt: &R, opened: &mut Vec<File
 /// Whether the folder has room for the files of a child, as far as that can be known before they are made.
 #[derive(Drop)]
 pub(crate) struct FolderRoom {
-    // When there was room last.
-    seen: Option<Instant>,
+    sight: Sight,
 }
 
 impl FolderRoom {
     pub fn new() -> FolderRoom {
-        FolderRoom { seen: None }
+        FolderRoom {
+            sight: Sight { at: None },
+        }
     }
 
     /// Whether there is room. What was seen a moment ago isn't looked at again.
     pub fn is_there<R: Files<File = File> + Clock>(&mut self, rt: &R, probe: &str) -> bool {
-        if self.was_seen(rt) {
+        if self.sight.is_fresh(rt) {
             return true;
         }
         let is_there = has_room_for(rt, probe);
-        self.seen = if is_there {
-            Instant::now(rt).ok()
-        } else {
-            None
-        };
+        self.sight = Sight::new(rt, is_there);
         is_there
-    }
-
-    fn was_seen<R: Clock>(&self, rt: &R) -> bool {
-        let Some(seen) = self.seen else {
-            return false;
-        };
-        match seen.elapsed(rt) {
-            Ok(passed) => passed < Duration::from_millis(SEEN),
-            Err(_) => false,
-        }
     }
 }
 

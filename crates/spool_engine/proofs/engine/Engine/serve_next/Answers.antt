@@ -7,5 +7,5 @@ use Rattle.spool_engine.proofs.engine.Engine.serve_next.Goals as goal
 
 pub returns-clause-rests : goal.returns-clause-rests
 returns-clause-rests g c = λ none.
-    let (turns, h) = c.serve_next.ensures in
+    let (turns, h) = c.serve_next.ensures.next in
     lead_rests _ c.self.inside.printer turns c.serve_next.new.self h.served.lead (subst (λ (e : Engine g.row.D.Denot). HasNoneRunning e.course.slots) (sym c.self.view_is) none)

@@ -1,7 +1,11 @@
--- A document is typed by its first bytes as it is by all of them.
-use Rattle.std.proofs.Common.{ap, subst, unwrap_or}
+-- What the rules look at is what is looked at; and a document is typed by its first bytes as it is by all of them.
+use Rattle.std.proofs.Common.{◌≡◌, ap, min, subst, unwrap_or}
+use Rattle.mime_rules.specs.Reach.{reach}
 use Rattle.spool_engine.specs.Mime.{Mime, IsEnough, unknown_type}
 use Rattle.spool_engine.proofs.mime.Mime.reach.Goals as goal
+
+pub returns-clause-value : goal.returns-clause-value
+returns-clause-value c = subst (λ (mime : Mime). c.reach.result ≡ min c.args.len (reach mime.types)) c.self.view_is c.reach.ensures.value
 
 pub returns-clause-enough : goal.returns-clause-enough
 returns-clause-enough c =
