@@ -18,6 +18,7 @@ The last line is `N of N`, and status 0; or how many failed, with status 1. The 
 import json
 import os
 import random
+import shutil
 import subprocess
 import sys
 import threading
@@ -25,7 +26,7 @@ import time
 import unicodedata
 
 from front_parts import Front, Played, number_of
-from service_parts import TYPE, Client, Folder, holds, patient_client, run_test, same, until
+from service_parts import TYPE, Client, Folder, Skipped, holds, patient_client, run_test, same, until
 
 # ---- a service that is played
 
@@ -102,6 +103,13 @@ def played_lost_create(folder):
 def played_create_not_done(folder):
     second = [("jobs", "ok 0\n"), *SENDS, ("close 5 ", CLOSED)]
     played(folder, [[('create "q" ', None)], second], 0, "q-5")
+
+
+def played_find_without_an_answer(folder):
+    # A listing that fails doesn't tell that the job isn't there: it is asked for again.
+    second = [("jobs", "error busy\n")]
+    third = [("jobs", "error memory\n"), ("jobs", LISTED), ("job 5", shown(0)), SENDS[1], ("close 5 ", CLOSED)]
+    played(folder, [[('create "q" ', None)], second, third], 0, "q-5")
 
 
 def played_foreign_jobs(folder):
@@ -383,6 +391,20 @@ def status_page(folder):
     until("a newer page", lambda: "later" in folder.read("live.html"))
     child.kill()
     child.communicate()
+
+
+def status_page_in_a_browser(folder):
+    """Debian's package chromium shows the page: its cells, and no markup of a title."""
+    browser = shutil.which("chromium")
+    if not browser:
+        raise Skipped("chromium isn't installed")
+    client, front = office(folder)
+    client.create("q", "<script>document.title='run'</script><b>bold</b>")
+    front.says("spool", "page", folder.at("page.html"))
+    words = ["--headless", "--no-sandbox", "--disable-gpu", f"--user-data-dir={folder.at('browser')}", "--dump-dom"]
+    shown = subprocess.run([browser, *words, f"file://{folder.at('page.html')}"], capture_output=True, timeout=120).stdout.decode()
+    holds("the title is a text", "&lt;b&gt;bold&lt;/b&gt;" in shown and "<title>Printers and jobs</title>" in shown)
+    same("rows", (shown.count("<tr>"), shown.count("<script")), (4, 0))
 
 
 def status_watch(folder):

@@ -25,6 +25,14 @@ pub struct Answer {
 }
 
 impl Answer {
+    /// Whether it is no refusal.
+    pub fn is_done(&self) -> bool {
+        matches!(
+            read_last_line(self.last.as_str()),
+            Some(LastLine::Done { .. })
+        )
+    }
+
     /// The rows, each with its line feed.
     pub fn text(&self, alloc: Global) -> Result<Vec<u8>, AllocError> {
         let mut text = Vec::new(alloc);
@@ -204,9 +212,10 @@ fn last_line(alloc: Global, line: &[u8]) -> Result<Option<String>, AllocError> {
 
 // A reply, if it is no refusal.
 fn accepted(answer: Answer) -> Result<Answer, Fault> {
-    match read_last_line(answer.last.as_str()) {
-        Some(LastLine::Done { .. }) => Ok(answer),
-        _ => Err(Fault::Refused(answer.last)),
+    if answer.is_done() {
+        Ok(answer)
+    } else {
+        Err(Fault::Refused(answer.last))
     }
 }
 

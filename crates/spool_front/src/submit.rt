@@ -218,6 +218,9 @@ impl<'a, R: Host> Submitting<'a, R> {
     // The jobs that arrive with the token.
     fn find(&mut self, client: &mut Client<'_, R>) -> Result<Reply, ConnectionFault> {
         let answer = client.exchange(b"jobs\n")?;
+        if !answer.is_done() {
+            return Ok(self.reply_of(answer));
+        }
         let mut found = Found {
             own: None,
             another: None,
@@ -231,11 +234,7 @@ impl<'a, R: Host> Submitting<'a, R> {
                 }
             }
         }
-        match reply_in(answer.last.as_str()) {
-            Reply::Denied => Ok(self.reply_of(answer)),
-            Reply::Later => Ok(Reply::Later),
-            _ => Ok(Reply::Jobs { found }),
-        }
+        Ok(Reply::Jobs { found })
     }
 
     // Whether a job arrives for this queue and this user.
@@ -262,12 +261,8 @@ impl<'a, R: Host> Submitting<'a, R> {
             Err(Reply::Gone) => return Ok(Ok(())),
             Err(reply) => return Ok(Err(reply)),
         };
-        if !shown
-            .asked
-            .options
-            .as_str()
-            .contains(self.draft.token.as_str())
-        {
+        let options = shown.asked.options.as_str();
+        if !options.contains(self.draft.token.as_str()) {
             return Ok(Ok(()));
         }
         if found.own.is_some() {

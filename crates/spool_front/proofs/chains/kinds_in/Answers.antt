@@ -12,6 +12,6 @@ pub returns : goal.returns
 returns c =
     c.loop-line.invariant
     ∙ ap (λ kinds. listed (media_in (codes "application/octet-stream")) ++ kinds)
-        (ap (flat_map (λ line. kind_of (line_of line))) (take_all c.loop-line.line-index c.deref-line-items.result.now c.loop-line-test.false ∙ c.deref-line-items.ensures.value)
-        ∙ sym (flat_map-map kind_of line_of c.in_ok-joined_lines.field-0.items)
-        ∙ ap (flat_map kind_of) c.in_ok-joined_lines.ensures.value)
+    (ap (flat_map (λ line. kind_of (line_of line))) (take_all c.loop-line.line-index c.deref-line-items.result.now c.loop-line-test.false ∙ c.deref-line-items.ensures.value)
+    ∙ sym (flat_map-map kind_of line_of c.in_ok-joined_lines.field-0.items)
+    ∙ ap (flat_map kind_of) c.in_ok-joined_lines.ensures.value)
