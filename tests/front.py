@@ -9,6 +9,7 @@ Each TEST is the name of a function below; without one all are run. --list print
 |---|---|
 | played_* | a service that is played: each loss, each refusal, and each status of a submission |
 | submits_*, status_*, acts_* | each word over a running service |
+| status_page_in_a_browser | the page, as Chromium reads it (Debian's package chromium) |
 | kills | a service that is killed while documents are submitted: each is accepted once (60 of them, 1,000 with --long) |
 | fits_terminals | what is shown on a terminal of 40 to 200 columns |
 | lp_scripts | lines of scripts that were written for CUPS |

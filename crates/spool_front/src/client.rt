@@ -141,12 +141,17 @@ impl<'a, R: Host> Client<'a, R> {
 
     /// Sends what changes nothing, and sends it again where the connection is lost. The reply is no refusal.
     pub fn ask(&mut self, text: &[u8]) -> Result<Answer, Fault> {
+        accepted(self.ask_or_refused(text)?)
+    }
+
+    // The same, where the reply may be a refusal.
+    fn ask_or_refused(&mut self, text: &[u8]) -> Result<Answer, Fault> {
         for _ in 0..=self.pauses {
             if !self.connect()? {
                 return Err(self.nobody()?);
             }
             match self.exchange(text) {
-                Ok(answer) => return accepted(answer),
+                Ok(answer) => return Ok(answer),
                 Err(ConnectionFault::Lost) => pause(self.rt),
                 Err(ConnectionFault::Memory) => return Err(Fault::Memory),
             }
@@ -178,18 +183,12 @@ impl<'a, R: Host> Client<'a, R> {
 
     /// A job as it is, and none where it isn't there.
     pub fn job(&mut self, job: u32) -> Result<Option<JobShown>, Fault> {
-        let alloc = self.rt.alloc();
-        let line = job_line(alloc, "job", job)?;
-        let answer = match self.ask(line.as_slice()) {
-            Ok(answer) => answer,
-            Err(Fault::Refused(last)) if is_gone(last.as_str()) => return Ok(None),
-            Err(fault) => return Err(fault),
-        };
-        let text = answer.text(alloc)?;
-        match read_job_shown(alloc, text.as_slice())? {
-            Some(shown) => Ok(Some(shown)),
-            None => Err(Fault::Words("the service's reply isn't understood")),
+        let line = job_line(self.rt.alloc(), "job", job)?;
+        let answer = self.ask_or_refused(line.as_slice())?;
+        if is_gone(answer.last.as_str()) {
+            return Ok(None);
         }
+        shown_in(self.rt.alloc(), &accepted(answer)?)
     }
 
     /// The queues, in the order of their names.
@@ -216,6 +215,15 @@ fn accepted(answer: Answer) -> Result<Answer, Fault> {
         Ok(answer)
     } else {
         Err(Fault::Refused(answer.last))
+    }
+}
+
+// The job of these rows.
+fn shown_in(alloc: Global, answer: &Answer) -> Result<Option<JobShown>, Fault> {
+    let text = answer.text(alloc)?;
+    match read_job_shown(alloc, text.as_slice())? {
+        Some(shown) => Ok(Some(shown)),
+        None => Err(Fault::Words("the service's reply isn't understood")),
     }
 }
 

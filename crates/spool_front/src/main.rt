@@ -68,8 +68,12 @@ fn main(rt: HostRuntime) -> ExitCode {
         let _ = eprintln!(rt; "error: a word of the command line has a control character");
         return ExitCode::from(2);
     }
+    let usual = match usual_socket(&rt) {
+        Ok(socket) => socket,
+        Err(error) => return ended(&rt, Err(Fault::from(error))),
+    };
     match read_words(rt.alloc(), words.as_slice()) {
-        Ok(asked) => ended(&rt, run(&rt, asked, screen)),
+        Ok(asked) => ended(&rt, run(&rt, asked, usual.as_str(), screen)),
         Err(WordsFault::Refused(error)) => {
             let _ = error.print(&rt);
             ExitCode::from(error.exit_code() as u8)
@@ -102,15 +106,15 @@ fn ended<R: Eprint>(rt: &R, ended: Result<u8, Fault>) -> ExitCode {
     }
 }
 
-fn run<R: Host>(rt: &R, asked: Asked<'_>, screen: Screen) -> Result<u8, Fault> {
+// Does what is asked for, at the usual socket where the words name none.
+fn run<'a, R: Host>(rt: &R, asked: Asked<'a>, usual: &'a str, screen: Screen) -> Result<u8, Fault> {
     let Asked { sockets, task } = asked;
-    let usual = usual_socket(rt)?;
     let mut places = Places {
         sockets,
         patience: patience(rt),
     };
     if places.sockets.is_empty() {
-        places.sockets.push(usual.as_str())?;
+        places.sockets.push(usual)?;
     }
     run_task(rt, &places, task, screen)
 }
