@@ -129,6 +129,8 @@ def wants():
         missing["office.py"] = (False, "CUPS's own backend socket (Debian's package cups)")
     if not installed(CUPS_TYPES):
         missing["cups_types.py"] = (True, "the types of CUPS (Debian's package cups-daemon)")
+    if not shutil.which("chromium"):
+        missing["front.py"] = (False, "the page in a browser (Debian's package chromium)")
     if not shutil.which("strace"):
         missing["syncs.py"] = (True, "strace (Debian's package strace)")
         missing["grow.py"] = (False, "kills at each call (Debian's package strace)")

@@ -324,7 +324,7 @@ def submits_what_cannot_be_printed(folder):
 
 def status_and_json(folder):
     client, front = office(folder)
-    job = client.create("q", 'a "b" \\c')
+    job = client.create("q", r'a \"b\" \\c')
     rows = json.loads(front.says("spool", "status", "--json"))
     same("a job", (rows[0]["number"], rows[0]["queue"], rows[0]["title"]), (job, "q", 'a "b" \\c'))
     same("queues", [row["name"] for row in json.loads(front.says("spool", "queues", "--json"))], ["q"])
