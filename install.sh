@@ -1,15 +1,17 @@
 #!/bin/sh
 # Puts the built programs where Debian expects them, or takes them away again.
 #
-#   install.sh PREFIX            after the proved build, as install.sh /usr/local
+#   install.sh [--lp] PREFIX     after the proved build, as install.sh /usr/local
 #   install.sh --remove PREFIX
 #
 # PREFIX is absolute, as /usr/local. With DESTDIR in the environment all goes below that folder, and is made for PREFIX.
 #
+#   PREFIX/bin                   spool; with --lp also lp, lpr, lpstat, cancel, lpq and lprm
+#   PREFIX/lib/cegmandi/bin      these six, without --lp, so that those of CUPS stay: put it first in PATH
 #   PREFIX/sbin                  spool_shell, spool_service, spool_admin
 #   PREFIX/lib/cegmandi          spool_tools, say.py, the wrappers of stock filters, and the list of all that was put
 #   PREFIX/lib/systemd/system    cegmandi.service
-#   PREFIX/share                 man pages, the README and the examples
+#   PREFIX/share                 man pages, the completion for bash, the README and the examples
 #   /etc/cegmandi                the files that the unit names, with the stock filters of CUPS where /usr/lib/cups/filter is there;
 #                                PREFIX/etc/cegmandi where PREFIX is neither /usr nor /usr/local
 #
@@ -29,9 +31,11 @@ fail() {
 }
 
 remove=
+lp=
 while [ $# -gt 0 ]; do
     case $1 in
     --remove) remove=yes ;;
+    --lp) lp=yes ;;
     /*) break ;;
     *) usage ;;
     esac
@@ -154,7 +158,7 @@ adapted() {
 script() {
     mkdir -p "$work/scripts"
     sed -e '/^crates=/d' -e "s|\$crates/spool_tools/out/spool_tools|$library/spool_tools|g" \
-        -e "s|\$crates/\([a-z_]*\)/out/[a-z_]*|$prefix/sbin/\1|g" \
+        -e "s|\$crates/spool_front/out/spool_front|$prefix/bin/spool|g" -e "s|\$crates/\([a-z_]*\)/out/[a-z_]*|$prefix/sbin/\1|g" \
         "$1" > "$work/scripts/$(basename "$1")"
     echo "$work/scripts/$(basename "$1")"
 }
@@ -164,6 +168,9 @@ program() {
 }
 
 programs() {
+    if [ -n "$front" ]; then
+        front "$1"
+    fi
     for name in spool_shell spool_service spool_admin; do
         program "$1" $name "$prefix/sbin/$name"
     done
@@ -176,6 +183,18 @@ programs() {
     if [ -f "$here/examples/office/paper.ppd" ]; then
         "$1" file 644 "$here/examples/office/paper.ppd" "$library/paper.ppd"
     fi
+}
+
+front() {
+    program "$1" spool_front "$prefix/bin/spool"
+    "$1" file 644 "$here/completions/spool.bash" "$prefix/share/bash-completion/completions/spool"
+    for name in lp lpr lpstat cancel lpq lprm; do
+        if [ -n "$lp" ]; then
+            "$1" link - spool "$prefix/bin/$name"
+        else
+            "$1" link - ../../../bin/spool "$library/bin/$name"
+        fi
+    done
 }
 
 # The unit, and each file that it names.
@@ -226,7 +245,10 @@ if [ -n "$remove" ]; then
     exit 0
 fi
 
-for name in spool_shell spool_service spool_admin spool_tools; do
+# Where the front isn't one of the crates the others go without it.
+front=
+[ ! -d "$here/crates/spool_front" ] || front=spool_front
+for name in $front spool_shell spool_service spool_admin spool_tools; do
     [ -x "$here/crates/$name/out/$name" ] || fail "crates/$name/out has no program: run \`rt run\` in crates/$name first"
 done
 : > "$work/made"

@@ -6,8 +6,8 @@ that on the built programs. This runs each of them, several side by side, each i
 each as it ends: its name, its seconds, and how it ended. With names it runs these alone, as `all.py syncs killed`.
 
 The programs have to be built before: `rt ci` leaves them in the folders of their crates. So do these commands there, but for
-what calls_without_memory.py runs: `rt run` in crates/spool_scripts, crates/spool_shell, crates/spool_admin, crates/spool_service and
-crates/spool_tools, and `rt test` in each crate that tests/allocations.py names. Which of them is missing is told first, with status 2.
+what calls_without_memory.py runs: `rt run` in crates/spool_scripts, crates/spool_shell, crates/spool_admin, crates/spool_service,
+crates/spool_front and crates/spool_tools, and `rt test` in each crate that tests/allocations.py names. Which of them is missing is told first, with status 2.
 
 A part that wants what isn't installed, or another user, is left out, and told as `skipped`. Each file of this folder has to
 be in one of the tables below. The last line is `all N passed`, with how much was skipped, and status 0; or `N failed`, with
@@ -38,6 +38,7 @@ CUPS_TYPES = "/usr/share/cups/mime/mime.types"
 # The scripts, longest first, each with the words that it is given.
 SCRIPTS = {
     "service.py": [],
+    "front.py": [],
     "lives.py": [],
     "failover.py": [],
     "killed.py": [],
@@ -93,6 +94,7 @@ PARTS = [
     "large_run.py",
     "large_tables.py",
     "real_children.py",
+    "front_parts.py",
     "service_children.py",
     "service_clients.py",
     "service_crashes.py",
@@ -110,7 +112,7 @@ PARTS = [
     "version_one.txt",
 ]
 
-PROGRAMS = ["spool_scripts", "spool_shell", "spool_admin", "spool_service", "spool_tools"]
+PROGRAMS = ["spool_scripts", "spool_shell", "spool_admin", "spool_service", "spool_front", "spool_tools"]
 
 
 def installed(path):
@@ -128,6 +130,8 @@ def wants():
         missing["office.py"] = (False, "CUPS's own backend socket (Debian's package cups)")
     if not installed(CUPS_TYPES):
         missing["cups_types.py"] = (True, "the types of CUPS (Debian's package cups-daemon)")
+    if not shutil.which("chromium"):
+        missing["front.py"] = (False, "the page in a browser (Debian's package chromium)")
     if not shutil.which("strace"):
         missing["syncs.py"] = (True, "strace (Debian's package strace)")
         missing["grow.py"] = missing["split.py"] = (False, "kills at each call (Debian's package strace)")

@@ -4,14 +4,15 @@
 What install.sh does to files is tried with stand-ins for the programs, in fresh folders; what the installed programs do, with those that
 are built (`rt run` in the folder of each).
 
-1. `shellcheck` finds nothing in install.sh (Debian's package shellcheck).
-2. What is put is what the list tells, with its modes; the unit names what is there, for each PREFIX. What was there
+1. `shellcheck` finds nothing in install.sh and the completion (Debian's package shellcheck).
+2. What is put is what the list tells, with its modes; links lead to `spool`; the unit names what is there, for each PREFIX. What was there
    before is untouched, and a removal leaves exactly that.
 3. A file that isn't install.sh's stops it before it does anything; one that was changed is kept, and told; a second install replaces the
-   first. Where it is killed at any moment --remove takes away what is there.
+   first, also with --lp. Where it is killed at any moment --remove takes away what is there.
 4. Words that aren't its own are refused.
-5. The installed programs print a letter, from a folder of their own.
-6. So they do in a fresh Debian, made by debootstrap (as root; Debian's package debootstrap, and some minutes; --chroot names a folder where
+5. The completion gives tasks, options, queues and jobs.
+6. The installed programs print a letter, from a folder of their own.
+7. So they do in a fresh Debian, made by debootstrap (as root; Debian's package debootstrap, and some minutes; --chroot names a folder where
    one was made before, which is used as it is and left so).
 
 What can't be had is left out, and said to be. The last line is `N checks, 0 failed`, with status 0, or names how many failed, with status 1.
@@ -26,7 +27,8 @@ import time
 from pathlib import Path
 
 ROOT = Path(__file__).resolve().parent.parent
-PROGRAMS = ["spool_shell", "spool_service", "spool_admin", "spool_tools"]
+PROGRAMS = ["spool_front", "spool_shell", "spool_service", "spool_admin", "spool_tools"]
+LINKS = ["lp", "lpr", "lpstat", "cancel", "lpq", "lprm"]
 LETTER = b"Dear Bo,\r\ncome. Ann\r\n\x0c" * 2
 DEBIAN = "bookworm"
 
@@ -46,7 +48,7 @@ def check(holds, fault):
 def sources(folder):
     """A copy of what install.sh takes, with stand-ins for the programs."""
     folder.mkdir()
-    for name in ("docs", "examples"):
+    for name in ("docs", "completions", "examples"):
         shutil.copytree(ROOT / name, folder / name, ignore=shutil.ignore_patterns("__pycache__"))
     for name in ("README.md", "install.sh"):
         shutil.copy2(ROOT / name, folder / name)
@@ -90,7 +92,7 @@ def checked_by_shellcheck():
     if not shutil.which("shellcheck"):
         LEFT_OUT.append("shellcheck (Debian's package shellcheck)")
         return
-    for name in ("install.sh",):
+    for name in ("install.sh", "completions/spool.bash"):
         run = subprocess.run(["shellcheck", ROOT / name], capture_output=True, text=True)
         check(run.returncode == 0, f"shellcheck of {name}: {run.stdout}")
 
@@ -127,6 +129,10 @@ def put_there(below, prefix, words, before, there):
         if there[path][0] == "file":
             runs = "/bin/" in path or "/sbin/" in path or path.endswith((".sh", ".py", "/spool_tools", "/with-cups-env", "/as-pages"))
             check(there[path][1] == (0o755 if runs else 0o644), f"{path} has the mode {there[path][1]:o}")
+    folder = f"{prefix}/bin" if words else f"{prefix}/lib/cegmandi/bin"
+    for name in LINKS:
+        path = below / folder.strip("/") / name
+        check(path.is_symlink() and path.resolve() == (below / prefix.strip("/") / "bin/spool").resolve(), f"{path} doesn't lead to spool")
     pages = {it.name for it in (ROOT / "docs/man").iterdir()}
     check({Path(it).name for it in there if "/share/man/" in it and there[it][0] == "file"} == pages, f"{prefix}: the man pages aren't all there")
 
@@ -157,11 +163,11 @@ def refused(script, room):
     check(seen(below) == before, "a foreign file: something was done")
     foreign.unlink()
     check(ran(script, "/usr/local", below=below).returncode == 0, "it doesn't install")
-    changed = [below / "etc/cegmandi/programs", below / "usr/local/share/man/man5/cegmandi.5"]
+    changed = [below / "etc/cegmandi/programs", below / "usr/local/share/man/man1/spool.1"]
     for path in changed:
         path.write_text("changed\n")
     run = ran(script, "/usr/local", below=below)
-    check(run.returncode == 1 and "cegmandi.5 is there already" in run.stderr, f"a changed page: {run.stderr}")
+    check(run.returncode == 1 and "spool.1 is there already" in run.stderr, f"a changed page: {run.stderr}")
     changed[1].unlink()
     run = ran(script, "/usr/local", below=below)
     check(run.returncode == 0 and run.stdout.count("kept, since it is there") == 1, f"a changed programs file: {run.stdout}{run.stderr}")
@@ -169,7 +175,7 @@ def refused(script, room):
     run = ran(script, "--remove", "/usr/local", below=below)
     check(run.returncode == 0 and "kept, since it was changed" in run.stdout, f"a changed page at the removal: {run.stdout}")
     files = {path for path, what in seen(below).items() if what[0] != "folder"}
-    check(files == {"/etc/cegmandi/programs", "/usr/local/share/man/man5/cegmandi.5"}, f"left: {sorted(files)}")
+    check(files == {"/etc/cegmandi/programs", "/usr/local/share/man/man1/spool.1"}, f"left: {sorted(files)}")
 
 
 def wrong_words(script, room):
@@ -202,6 +208,39 @@ def killed(script, room):
         ran(script, "--remove", "/usr", below=below)
         files = [path for path, what in seen(below).items() if what[0] != "folder"]
         check(not files, f"left after a kill: {files}")
+
+
+COMPLETED = {
+    "spool s": {"submit", "status"},
+    "spool submit ": {"lab", "hall"},
+    "spool submit --copies 2 l": {"lab"},
+    "spool submit --w": {"--wait"},
+    "spool queue a": {"add", "accept"},
+    "spool queue add --policy retry-c": {"retry-current-job"},
+    "spool queue accept h": {"hall"},
+    "spool cancel ": {"1", "22"},
+    "spool status -q ": {"lab", "hall"},
+    "spool --": {"--help"},
+}
+
+# A stand-in for the program, and for its time limit.
+BASH = """
+source "$1"
+compopt() { :; }
+spool() { case $1 in queues) echo '[{"name":"lab","n":1},{"name":"hall"}]';; status) echo '[{"number":1},{"number":22}]';; esac; }
+timeout() { shift; "$@"; }
+IFS=' ' read -r -a COMP_WORDS <<< "$2"
+[[ $2 != *' ' ]] || COMP_WORDS+=('')
+COMP_CWORD=$((${#COMP_WORDS[@]} - 1))
+_spool
+printf '%s\\n' "${COMPREPLY[@]}"
+"""
+
+
+def completion():
+    for line, wanted in COMPLETED.items():
+        run = subprocess.run(["bash", "-c", BASH, "bash", ROOT / "completions/spool.bash", line], capture_output=True, text=True)
+        check(set(run.stdout.split()) == wanted, f"`{line}` is completed by {run.stdout.split()} {run.stderr}")
 
 
 def unbuilt():
@@ -254,6 +293,9 @@ def prints_in_debian(room, given):
     run = subprocess.run(["chroot", debian, "/usr/local/share/doc/cegmandi/examples/office/print.sh", "/root/office"], capture_output=True, text=True)
     letter = office / "letter.prn"
     check(letter.exists() and letter.read_bytes() == LETTER, f"in Debian no letter: {run.stdout}{run.stderr}")
+    if (debian / "usr/local/bin/spool").exists():
+        run = subprocess.run(["chroot", debian, "/usr/local/bin/spool", "--help"], capture_output=True, text=True)
+        check("submit" in run.stdout + run.stderr, f"in Debian spool tells {run.stdout}{run.stderr}")
     shutil.rmtree(office, ignore_errors=True)
     run = ran(ROOT / "install.sh", "--remove", "/usr/local", below=debian)
     check(run.returncode == 0 and not run.stdout and not list((debian / "usr/local").rglob("*spool*")), f"in Debian --remove leaves something: {run.stdout}")
@@ -267,11 +309,12 @@ def main():
     room = Path(tempfile.mkdtemp(prefix="ins-"))
     script = sources(room / "sources")
     checked_by_shellcheck()
-    for prefix, more in (("/usr/local", []), ("/usr", []), ("/opt/cegmandi", [])):
+    for prefix, more in (("/usr/local", []), ("/usr", ["--lp"]), ("/opt/cegmandi", [])):
         put(script, room, prefix, more)
     refused(script, room)
     wrong_words(script, room)
     killed(script, room)
+    completion()
     prints(room)
     prints_in_debian(room, given)
     shutil.rmtree(room, ignore_errors=True)

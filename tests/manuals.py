@@ -35,6 +35,7 @@ SPOOLERS = {
     "spool_service": ("spool_service.8", ["spool_host/src/options.rt", "spool_service/src/words.rt"]),
     "spool_admin": ("spool_admin.8", ["spool_admin/src/words.rt"]),
 }
+FRONT = ("spool.1", "front_words/src")
 
 MACRO = re.compile(r"^(?:[A-Z][a-z]|[A-Z]{2}|D1|Dl)$")
 OPTION = re.compile(r"\b(?:text|number|flag)_option\(\s*alloc,\s*\"([a-z-]+)\"")
@@ -134,6 +135,30 @@ def heads_with_options(name):
     return [line for line in page(name).splitlines() if line.startswith(".It") and " Fl -" in line]
 
 
+def front():
+    """The words of the front, once they are there: its tasks and its options stand in its page and in the completion."""
+    folder = CRATES / FRONT[1]
+    if not folder.is_dir():
+        return
+    code = "\n".join(source(it.relative_to(CRATES)) for it in sorted(folder.rglob("*.rt")))
+    said, completed = page(FRONT[0]), (HERE / "completions" / "spool.bash").read_text(encoding="utf-8")
+    long = set(re.findall(r'\b(?:text_option|flag_option)\(\s*alloc,\s*"([a-z][a-z-]*)"', code))
+    short = set(re.findall(r"\b(?:letter_option|letter_flag|lettered)\((?:[^'\"]*?),\s*'(.)'", code))
+    tasks = set(re.findall(r'task == "([a-z]+)"', code)) | set(re.findall(r'"spool (?:queue )?([a-z]+)"', code))
+    check(long and short and tasks, "the words of front_words can't be read")
+    for option in sorted(long):
+        check(re.search(rf"Fl -{option}\b", said), f"{FRONT[0]} lacks --{option}")
+        check(f"--{option}" in completed, f"completions/spool.bash lacks --{option}")
+    for letter in sorted(short):
+        check(re.search(rf"^\.(?:It |Op |Fl )?.*\b(?:Fl )(?:\S , )?{re.escape(letter)}(?!\w)", said, re.MULTILINE), f"{FRONT[0]} lacks -{letter}")
+    for task in sorted(tasks):
+        check(re.search(rf"^\.It .*\b{task}\b", said, re.MULTILINE), f"{FRONT[0]} lacks the task {task}")
+        check(re.search(rf"\b{task}\b", completed), f"completions/spool.bash lacks {task}")
+    program = "\n".join(source(it.relative_to(CRATES)) for it in sorted((CRATES / "spool_front" / "src").glob("*.rt")))
+    for variable in sorted(set(re.findall(r'"([A-Z]{4,}(?:_[A-Z]+)?)"', program))):
+        check(re.search(rf"\.It Ev (?:\w+ , )?{variable}\b", said), f"{FRONT[0]} lacks the variable {variable}")
+
+
 def commands():
     """Commands, own words of the service, refusals and other errors."""
     said, listed = words_of("cegmandi.5"), " , ".join(items_of("cegmandi.5")).split()
@@ -212,7 +237,7 @@ def tools():
 
 
 def main():
-    for part in (lint, heads, options, commands, faults, tools):
+    for part in (lint, heads, options, front, commands, faults, tools):
         part()
     if not shutil.which("mandoc"):
         print("left out: the lint, since mandoc isn't installed (Debian's package mandoc)")

@@ -81,6 +81,15 @@ PASSED_ON = {
     ("spool_engine", "take_piece"): 1,
     ("spool_admin", "no_task"): 1,
     ("spool_admin", "read_words"): 2,
+    # The text is written into memory, so that nothing else can be wanted; an error of the system whose kind says so.
+    ("spool_front", "close_line"): 1,
+    ("spool_front", "from"): 1,
+    ("spool_front", "hold_line"): 2,
+    ("spool_front", "job_line"): 1,
+    ("spool_front", "push_moment"): 1,
+    ("spool_front", "push_ranks"): 1,
+    ("spool_front", "queue_line"): 1,
+    ("spool_front", "send_line"): 1,
     # An error of the system whose kind says so.
     ("spool_host", "from"): 1,
     ("spool_host", "mistake"): 1,
@@ -123,6 +132,8 @@ CAPACITIES = {
     ("spool_core", "prepare"): ["BLOCK_ROOM"],
     # In room that is there.
     ("spool_core", "put_zeros"): ["block.len() + count"],
+    # 64 KiB, for as long as a document is sent.
+    ("spool_front", "new"): ["PIECE"],
     ("spool_host", "reserve"): ["1"],
 }
 
@@ -144,6 +155,11 @@ NUMBERS = {
     ("spool_disk", "sync"): ["u64::MAX", "u64::MAX"],
     ("spool_disk", "write"): ["u64::MAX", "u64::MAX"],
     ("spool_engine", "serve"): ["u32::MAX"],
+    ("spool_front", "send_and_read"): ["u64::MAX"],
+    ("spool_front", "submit"): ["u64::MAX"],
+    ("spool_front", "wait_for"): ["u64::MAX"],
+    ("spool_front", "watch"): ["u64::MAX"],
+    ("spool_front", "write_page"): ["u64::MAX"],
     ("spool_host", "attend"): ["u64::MAX"],
     ("spool_host", "counted"): ["u64::MAX"],
     ("spool_host", "read_at_most"): ["u64::MAX"],
@@ -171,6 +187,7 @@ CONSTANTS = {
     ("side_channel", "SESSION_READS"): 1,
     ("spool_areas", "LAST_EPOCH"): 1,
     ("spool_core", "BLOCK_ROOM"): 1,
+    ("spool_front", "GREATEST_SIZE"): 1,
     ("spool_host", "DEFAULT_SIZE"): 1,
     ("spool_host", "GREATEST_SIZE"): 1,
     ("spool_host", "MOST_BLOCKS"): 1,

@@ -20,7 +20,7 @@ import tempfile
 from pathlib import Path
 
 ROOT = Path(__file__).resolve().parent.parent
-PROGRAMS = ["spool_shell", "spool_service", "spool_admin", "spool_tools"]
+PROGRAMS = ["spool_front", "spool_shell", "spool_service", "spool_admin", "spool_tools"]
 SECONDS = 1_700
 
 BLOCK = re.compile(r"^```console\n(.*?)^```$", re.MULTILINE | re.DOTALL)

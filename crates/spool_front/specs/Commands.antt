@@ -1,0 +1,60 @@
+-- The commands that are sent to a service.
+use Rattle.std.specs.Prelude.{ℕ, Bool, ◌||◌, nat_lt, ◌==◌, List, [], ◌∷◌, ◌++◌, length, codes, string_bytes, Option, None, Some}
+use Rattle.std.specs.Fmt.{decimal}
+use Rattle.command_lines.specs.Replies.{quoted}
+use Rattle.front_words.specs.declared.asked.NewQueue.{NewQueue}
+use Rattle.spool_front.specs.declared.commands.Draft.{Draft}
+use Rattle.spool_front.specs.declared.commands.Until.{Until}
+use Rattle.spool_front.specs.declared.commands.Until.TheVariants.{Released, Reached}
+
+-- a blank, and a text in quotes
+abbrev pub text_word : List ℕ → List ℕ
+text_word text = codes " " ++ quoted text
+
+abbrev pub moment_word : Option ℕ → List ℕ
+moment_word None = []
+moment_word (Some moment) = codes " " ++ decimal moment
+
+abbrev pub create_word : Option ℕ → List ℕ
+create_word None = codes "create"
+create_word (Some moment) = codes "createby"
+
+abbrev pub ranks : Draft → List ℕ
+ranks d = codes " " ++ decimal d.copies ++ codes " " ++ decimal d.priority
+
+-- whose job it is, and what it is called
+abbrev pub names : Draft → List ℕ
+names d = text_word (string_bytes d.queue) ++ text_word (string_bytes d.user) ++ text_word (string_bytes d.title)
+
+abbrev pub create_line : Draft → List ℕ
+create_line d = create_word d.by ++ names d ++ ranks d ++ text_word (string_bytes d.options) ++ moment_word d.by ++ codes "\n"
+
+abbrev pub send_line : ℕ → List ℕ → List ℕ
+send_line job piece = codes "send " ++ decimal job ++ codes " " ++ decimal (length piece) ++ codes "\n" ++ piece ++ codes "\n"
+
+abbrev pub close_line : ℕ → List ℕ → List ℕ
+close_line job name = codes "close " ++ decimal job ++ text_word name ++ codes "\n"
+
+abbrev pub hold_line : ℕ → Until → List ℕ
+hold_line job Released = codes "hold " ++ decimal job ++ codes " indefinite\n"
+hold_line job (Reached moment) = codes "hold " ++ decimal job ++ codes " " ++ decimal moment ++ codes "\n"
+
+-- a word, and the number of a job
+abbrev pub job_line : List ℕ → ℕ → List ℕ
+job_line word job = word ++ codes " " ++ decimal job ++ codes "\n"
+
+-- a word, and the name of a queue
+abbrev pub name_line : List ℕ → List ℕ → List ℕ
+name_line word name = word ++ text_word name ++ codes "\n"
+
+abbrev pub info_line : List ℕ → List ℕ → List ℕ → List ℕ
+info_line name info location = codes "info" ++ text_word name ++ text_word info ++ text_word location ++ codes "\n"
+
+abbrev pub queue_line : List ℕ → NewQueue → List ℕ
+queue_line name q =
+    codes "queue" ++ text_word name ++ text_word q.uri.now ++ text_word q.media.now
+    ++ (codes " " ++ q.policy.now ++ codes " " ++ decimal q.interval ++ codes " " ++ decimal q.limit ++ codes "\n")
+
+-- a byte that no text may have
+abbrev pub is_control : ℕ → Bool
+is_control b = nat_lt b 32 || (b == 127)

@@ -1,0 +1,4 @@
+pub mod Chains
+pub mod Commands
+pub mod Faults
+pub mod Replies

@@ -1,0 +1,86 @@
+//! Which types of printers documents can reach, by the service's files of types and of conversions.
+ghost use Rattle.std.specs.Prelude.{◌≡◌, ◌++◌, IfOk, OnOk};
+ghost use Rattle.std.specs.List.{list_any};
+ghost use Rattle.spool_front.specs.Chains.{kinds_in, leads, listed};
+ghost use Rattle.spool_types.specs.Values.{media_in};
+
+use crate::fault::Fault;
+use crate::host::Host;
+use line_words::first_word;
+use mime_costs::Convs;
+use mime_lines::joined_lines;
+use spool_types::MediaType;
+use std::alloc::{AllocError, Global};
+use std::{env, fs};
+
+// The files where the environment names none.
+const USUAL_TYPES: &str = "/etc/cegmandi/types";
+
+const USUAL_CONVS: &str = "/etc/cegmandi/convs";
+
+// The type of a document of which nothing is known.
+const UNKNOWN_TYPE: &str = "application/octet-stream";
+
+/// The types that documents may have, and the conversions between types.
+#[derive(Drop)]
+pub struct Chains {
+    kinds: Vec<MediaType>,
+    convs: Convs,
+}
+
+/// Reads both files, by the names of the environment or else the usual ones.
+pub fn read_chains<R: Host>(rt: &R) -> Result<Chains, Fault> {
+    let types = file_text(rt, "SPOOL_TYPES", USUAL_TYPES)?;
+    let convs = file_text(rt, "SPOOL_CONVS", USUAL_CONVS)?;
+    let kinds = kinds_in(rt.alloc(), types.as_str())?;
+    let (convs, _) = Convs::read(rt.alloc(), convs.as_str())?;
+    Ok(Chains { kinds, convs })
+}
+
+fn file_text<R: Host>(rt: &R, variable: &str, usual: &str) -> Result<String, Fault> {
+    let name = match env::var(rt, variable) {
+        Ok(name) => name,
+        Err(_) => String::from_str(rt.alloc(), usual)?,
+    };
+    match fs::read_to_string(rt, name.as_str()) {
+        Ok(text) => Ok(text),
+        Err(_) => Err(Fault::File(name)),
+    }
+}
+
+// The types that the lines of the file of types are about, and that of a document of which nothing is known.
+fn kinds_in(alloc: Global, text: &str) -> Result<Vec<MediaType>, AllocError>
+    ensures { IfOk result (λ kinds. kinds.items ≡ kinds_in text.now) }
+{
+    let mut kinds = Vec::new(alloc);
+    push_kind(alloc, &mut kinds, UNKNOWN_TYPE.as_bytes())?;
+    for line in joined_lines(alloc, text)?.iter() {
+        let (word, _) = first_word(line.text.bytes());
+        push_kind(alloc, &mut kinds, word)?;
+    }
+    Ok(kinds)
+}
+
+// Adds a type, if the word is one.
+fn push_kind(alloc: Global, kinds: &mut Vec<MediaType>, word: &[u8]) -> Result<(), AllocError>
+    ensures { OnOk result (kinds.new.items ≡ kinds.old.items ++ listed (media_in word.now)) }
+{
+    if let Some(kind) = MediaType::from_word(alloc, word)? {
+        kinds.push(kind)?;
+    }
+    Ok(())
+}
+
+impl Chains {
+    /// Whether a document of some type can be printed as this type.
+    pub fn lead_to(&self, target: &MediaType) -> Result<bool, AllocError>
+        ensures { IfOk result (λ found. found ≡ list_any (leads self.now.convs target.now) self.now.kinds.items) }
+    {
+        for kind in &self.kinds {
+            if self.convs.filters(kind, target)?.is_some() {
+                return Ok(true);
+            }
+        }
+        Ok(false)
+    }
+}

@@ -1,0 +1,249 @@
+//! The client of a service: a command is sent, and all of its reply is read.
+
+use crate::commands::job_line;
+use crate::connection::{Connection, ConnectionFault};
+use crate::fault::Fault;
+use crate::host::Host;
+use crate::replies::is_gone;
+use front_texts::{
+    JobLine, JobShown, LastLine, QueueLine, read_job_line, read_job_shown, read_last_line,
+    read_queue_line,
+};
+use std::alloc::{AllocError, Global};
+use std::time::Duration;
+
+// The pause before a connection is tried again, and how many of them are a second.
+const PAUSE: u64 = 100;
+
+const PAUSES_A_SECOND: u64 = 10;
+
+/// A reply: its rows, and its last line.
+#[derive(Drop)]
+pub struct Answer {
+    pub rows: Vec<Vec<u8>>,
+    pub last: String,
+}
+
+impl Answer {
+    /// Whether it is no refusal.
+    pub fn is_done(&self) -> bool {
+        matches!(
+            read_last_line(self.last.as_str()),
+            Some(LastLine::Done { .. })
+        )
+    }
+
+    /// The rows, each with its line feed.
+    pub fn text(&self, alloc: Global) -> Result<Vec<u8>, AllocError> {
+        let mut text = Vec::new(alloc);
+        for row in &self.rows {
+            text.extend_from_slice(row.as_slice())?;
+            text.extend_from_slice(b"\n")?;
+        }
+        Ok(text)
+    }
+}
+
+/// A pause before something is tried again.
+pub fn pause<R: Host>(rt: &R) {
+    std::thread::sleep(rt, Duration::from_millis(PAUSE));
+}
+
+/// A service, and the connection to it, if there is one.
+#[derive(Drop)]
+pub struct Client<'a, R> {
+    rt: &'a R,
+    socket: &'a str,
+    // The pauses that are made before the service is given up.
+    pauses: u64,
+    connection: Option<Connection>,
+}
+
+impl<'a, R: Host> Client<'a, R> {
+    pub fn new(rt: &'a R, socket: &'a str, patience: u32) -> Client<'a, R> {
+        Client {
+            rt,
+            socket,
+            pauses: u64::from(patience) * PAUSES_A_SECOND,
+            connection: None,
+        }
+    }
+
+    /// How many pauses are made before the service is given up.
+    pub fn patience(&self) -> u64 {
+        self.pauses
+    }
+
+    /// Connects where there is no connection, and tries that until its patience is over. Whether there is one then.
+    pub fn connect(&mut self) -> Result<bool, AllocError> {
+        if self.connection.is_some() {
+            return Ok(true);
+        }
+        for _ in 0..self.pauses {
+            if self.connect_once()? {
+                return Ok(true);
+            }
+            pause(self.rt);
+        }
+        self.connect_once()
+    }
+
+    fn connect_once(&mut self) -> Result<bool, AllocError> {
+        match Connection::open(self.rt, self.socket) {
+            Ok(connection) => {
+                self.connection = Some(connection);
+                Ok(true)
+            }
+            Err(ConnectionFault::Lost) => Ok(false),
+            Err(ConnectionFault::Memory) => Err(AllocError),
+        }
+    }
+
+    /// Ends the connection.
+    pub fn disconnect(&mut self) {
+        self.connection = None;
+    }
+
+    /// Sends a command, and reads its reply. The connection is over after a fault.
+    pub fn exchange(&mut self, text: &[u8]) -> Result<Answer, ConnectionFault> {
+        let answer = self.send_and_read(text);
+        if answer.is_err() {
+            self.connection = None;
+        }
+        answer
+    }
+
+    fn send_and_read(&mut self, text: &[u8]) -> Result<Answer, ConnectionFault> {
+        let alloc = self.rt.alloc();
+        let Some(connection) = &mut self.connection else {
+            return Err(ConnectionFault::Lost);
+        };
+        connection.send(text)?;
+        let mut rows = Vec::new(alloc);
+        for _ in 0..u64::MAX {
+            let row = connection.read_line(alloc)?;
+            if let Some(last) = last_line(alloc, &row)? {
+                return Ok(Answer { rows, last });
+            }
+            rows.push(row)?;
+        }
+        Err(ConnectionFault::Lost)
+    }
+
+    /// The next line of those that come unasked.
+    pub fn read_line(&mut self) -> Result<Vec<u8>, ConnectionFault> {
+        let alloc = self.rt.alloc();
+        match &mut self.connection {
+            Some(connection) => connection.read_line(alloc),
+            None => Err(ConnectionFault::Lost),
+        }
+    }
+
+    /// Sends what changes nothing, and sends it again where the connection is lost. The reply is no refusal.
+    pub fn ask(&mut self, text: &[u8]) -> Result<Answer, Fault> {
+        accepted(self.ask_or_refused(text)?)
+    }
+
+    // The same, where the reply may be a refusal.
+    fn ask_or_refused(&mut self, text: &[u8]) -> Result<Answer, Fault> {
+        for _ in 0..=self.pauses {
+            if !self.connect()? {
+                return Err(self.nobody()?);
+            }
+            match self.exchange(text) {
+                Ok(answer) => return Ok(answer),
+                Err(ConnectionFault::Lost) => pause(self.rt),
+                Err(ConnectionFault::Memory) => return Err(Fault::Memory),
+            }
+        }
+        Err(self.nobody()?)
+    }
+
+    /// Sends a command once. Where its reply is lost it isn't known whether it was done.
+    pub fn order(&mut self, text: &[u8]) -> Result<Answer, Fault> {
+        if !self.connect()? {
+            return Err(self.nobody()?);
+        }
+        match self.exchange(text) {
+            Ok(answer) => accepted(answer),
+            Err(ConnectionFault::Lost) => Err(Fault::Unknown),
+            Err(ConnectionFault::Memory) => Err(Fault::Memory),
+        }
+    }
+
+    fn nobody(&self) -> Result<Fault, AllocError> {
+        Ok(Fault::Nobody(String::from_str(self.rt.alloc(), self.socket)?))
+    }
+
+    /// The jobs, in the order of their numbers.
+    pub fn jobs(&mut self) -> Result<Vec<JobLine>, Fault> {
+        let answer = self.ask(b"jobs\n")?;
+        Ok(jobs_in(self.rt.alloc(), &answer.rows)?)
+    }
+
+    /// A job as it is, and none where it isn't there.
+    pub fn job(&mut self, job: u32) -> Result<Option<JobShown>, Fault> {
+        let line = job_line(self.rt.alloc(), "job", job)?;
+        let answer = self.ask_or_refused(line.as_slice())?;
+        if is_gone(answer.last.as_str()) {
+            return Ok(None);
+        }
+        shown_in(self.rt.alloc(), &accepted(answer)?)
+    }
+
+    /// The queues, in the order of their names.
+    pub fn queues(&mut self) -> Result<Vec<QueueLine>, Fault> {
+        let answer = self.ask(b"queues\n")?;
+        Ok(queues_in(self.rt.alloc(), &answer.rows)?)
+    }
+}
+
+// The line as a text, where it is the last one of a reply.
+fn last_line(alloc: Global, line: &[u8]) -> Result<Option<String>, AllocError> {
+    let Ok(text) = std::str::from_utf8(line) else {
+        return Ok(None);
+    };
+    match read_last_line(text) {
+        Some(_) => Ok(Some(String::from_str(alloc, text)?)),
+        None => Ok(None),
+    }
+}
+
+// A reply, if it is no refusal.
+fn accepted(answer: Answer) -> Result<Answer, Fault> {
+    if answer.is_done() {
+        Ok(answer)
+    } else {
+        Err(Fault::Refused(answer.last))
+    }
+}
+
+// The job of these rows.
+fn shown_in(alloc: Global, answer: &Answer) -> Result<Option<JobShown>, Fault> {
+    let text = answer.text(alloc)?;
+    match read_job_shown(alloc, text.as_slice())? {
+        Some(shown) => Ok(Some(shown)),
+        None => Err(Fault::Words("the service's reply isn't understood")),
+    }
+}
+
+// The jobs of these rows. What is none is left out.
+fn jobs_in(alloc: Global, rows: &[Vec<u8>]) -> Result<Vec<JobLine>, AllocError> {
+    let mut jobs = Vec::new(alloc);
+    for row in rows {
+        if let Some(job) = read_job_line(alloc, row.as_slice())? {
+            jobs.push(job)?;
+        }
+    }
+    Ok(jobs)
+}
+
+fn queues_in(alloc: Global, rows: &[Vec<u8>]) -> Result<Vec<QueueLine>, AllocError> {
+    let mut queues = Vec::new(alloc);
+    for row in rows {
+        if let Some(queue) = read_queue_line(alloc, row.as_slice())? {
+            queues.push(queue)?;
+        }
+    }
+    Ok(queues)
+}

@@ -1,0 +1,184 @@
+//! The commands that are sent to a service.
+ghost use Rattle.std.specs.Prelude.{◌≡◌, ◌++◌, IfOk, OnOk};
+ghost use Rattle.std.specs.List.{list_any};
+ghost use Rattle.spool_front.specs.Commands.{close_line, create_line, create_word, hold_line, info_line, is_control, job_line, moment_word, name_line, names, queue_line, ranks, send_line, text_word};
+
+use command_lines::push_quoted;
+use front_words::NewQueue;
+use std::alloc::{AllocError, Global};
+use std::io::Write;
+
+/// Until when a job waits.
+#[derive(Clone, Copy)]
+pub enum Until {
+    Released,
+    Reached(u64),
+}
+
+/// A job that is to be made.
+#[derive(Drop)]
+pub struct Draft {
+    pub queue: String,
+    pub user: String,
+    pub title: String,
+    pub copies: u32,
+    pub priority: u32,
+    /// The options, and among them the token.
+    pub options: String,
+    /// The option that no other job has, by which this one is found.
+    pub token: String,
+    /// The moment by which it is to start.
+    pub by: Option<u64>,
+    /// Whether it waits, once it is closed.
+    pub hold: Option<Until>,
+    /// The name of its file, by which it is typed.
+    pub name: String,
+}
+
+/// Whether a text has a control character. It could end the line that it stands in.
+pub fn has_control(text: &str) -> bool
+    ensures { result ≡ list_any is_control text.now }
+{
+    text.as_bytes().iter().any(|b| *b < 32 || *b == 127)
+}
+
+/// `create`, or `createby` where there is a moment.
+pub fn create_line(alloc: Global, draft: &Draft) -> Result<Vec<u8>, AllocError>
+    ensures { IfOk result (λ line. line.items ≡ create_line draft.now) }
+{
+    let mut line = create_word(alloc, draft.by)?;
+    push_names(&mut line, draft)?;
+    push_ranks(&mut line, draft)?;
+    push_text(&mut line, draft.options.as_str())?;
+    push_moment(&mut line, draft.by)?;
+    line.extend_from_slice(b"\n")?;
+    Ok(line)
+}
+
+fn create_word(alloc: Global, by: Option<u64>) -> Result<Vec<u8>, AllocError>
+    ensures { IfOk result (λ line. line.items ≡ create_word by) }
+{
+    match by {
+        Some(_) => Vec::from_slice(alloc, b"createby"),
+        None => Vec::from_slice(alloc, b"create"),
+    }
+}
+
+fn push_names(line: &mut Vec<u8>, draft: &Draft) -> Result<(), AllocError>
+    ensures { OnOk result (line.new.items ≡ line.old.items ++ names draft.now) }
+{
+    push_text(line, draft.queue.as_str())?;
+    push_text(line, draft.user.as_str())?;
+    push_text(line, draft.title.as_str())
+}
+
+fn push_ranks(line: &mut Vec<u8>, draft: &Draft) -> Result<(), AllocError>
+    ensures { OnOk result (line.new.items ≡ line.old.items ++ ranks draft.now) }
+{
+    let copies = draft.copies;
+    let priority = draft.priority;
+    write!(line, " {copies} {priority}").map_err(|_| AllocError)
+}
+
+// A blank, and a text in quotes.
+fn push_text(line: &mut Vec<u8>, text: &str) -> Result<(), AllocError>
+    ensures { OnOk result (line.new.items ≡ line.old.items ++ text_word text.now) }
+{
+    line.extend_from_slice(b" ")?;
+    push_quoted(line, text)
+}
+
+fn push_moment(line: &mut Vec<u8>, moment: Option<u64>) -> Result<(), AllocError>
+    ensures { OnOk result (line.new.items ≡ line.old.items ++ moment_word moment) }
+{
+    let Some(moment) = moment else {
+        return Ok(());
+    };
+    write!(line, " {moment}").map_err(|_| AllocError)
+}
+
+/// `send`, and the piece.
+pub fn send_line(alloc: Global, job: u32, piece: &[u8]) -> Result<Vec<u8>, AllocError>
+    ensures { IfOk result (λ line. line.items ≡ send_line job piece.now) }
+{
+    let mut line = Vec::new(alloc);
+    let count = piece.len();
+    write!(line, "send {job} {count}\n").map_err(|_| AllocError)?;
+    line.extend_from_slice(piece)?;
+    line.extend_from_slice(b"\n")?;
+    Ok(line)
+}
+
+/// `close`.
+pub fn close_line(alloc: Global, job: u32, name: &str) -> Result<Vec<u8>, AllocError>
+    ensures { IfOk result (λ line. line.items ≡ close_line job name.now) }
+{
+    let mut line = Vec::new(alloc);
+    write!(line, "close {job}").map_err(|_| AllocError)?;
+    push_text(&mut line, name)?;
+    line.extend_from_slice(b"\n")?;
+    Ok(line)
+}
+
+/// `hold`.
+pub fn hold_line(alloc: Global, job: u32, until: Until) -> Result<Vec<u8>, AllocError>
+    ensures { IfOk result (λ line. line.items ≡ hold_line job until) }
+{
+    let mut line = Vec::new(alloc);
+    match until {
+        Until::Released => write!(line, "hold {job} indefinite\n").map_err(|_| AllocError)?,
+        Until::Reached(moment) => write!(line, "hold {job} {moment}\n").map_err(|_| AllocError)?,
+    }
+    Ok(line)
+}
+
+/// A word, and the number of a job.
+pub fn job_line(alloc: Global, word: &str, job: u32) -> Result<Vec<u8>, AllocError>
+    ensures { IfOk result (λ line. line.items ≡ job_line word.now job) }
+{
+    let mut line = Vec::new(alloc);
+    write!(line, "{word} {job}\n").map_err(|_| AllocError)?;
+    Ok(line)
+}
+
+/// A word, and the name of a queue.
+pub fn name_line(alloc: Global, word: &str, name: &str) -> Result<Vec<u8>, AllocError>
+    ensures { IfOk result (λ line. line.items ≡ name_line word.now name.now) }
+{
+    let mut line = Vec::from_slice(alloc, word.as_bytes())?;
+    push_text(&mut line, name)?;
+    line.extend_from_slice(b"\n")?;
+    Ok(line)
+}
+
+/// `info`.
+pub fn info_line(
+    alloc: Global,
+    name: &str,
+    info: &str,
+    location: &str,
+) -> Result<Vec<u8>, AllocError>
+    ensures { IfOk result (λ line. line.items ≡ info_line name.now info.now location.now) }
+{
+    let mut line = Vec::from_slice(alloc, b"info")?;
+    push_text(&mut line, name)?;
+    push_text(&mut line, info)?;
+    push_text(&mut line, location)?;
+    line.extend_from_slice(b"\n")?;
+    Ok(line)
+}
+
+/// `queue`.
+pub fn queue_line(alloc: Global, name: &str, queue: NewQueue<'_>) -> Result<Vec<u8>, AllocError>
+    ensures { IfOk result (λ line. line.items ≡ queue_line name.now queue.entry) }
+{
+    let mut line = Vec::from_slice(alloc, b"queue")?;
+    push_text(&mut line, name)?;
+    push_text(&mut line, queue.uri)?;
+    push_text(&mut line, queue.media)?;
+    let policy = queue.policy;
+    let interval = queue.interval;
+    let limit = queue.limit;
+    write!(line, " {policy} {interval} {limit}\n").map_err(|_| AllocError)?;
+    Ok(line)
+}

@@ -1,0 +1,83 @@
+//! One connection to a service: bytes are sent, and lines are read.
+ghost use Rattle.std.specs.Prelude.{◌≡◌};
+
+use std::alloc::{AllocError, AllocFailed, Global};
+use std::io;
+use std::io::{BufRead, BufReader, ErrorKind, Read, Write};
+use std::net::Net;
+use std::os::unix::net::UnixStream;
+
+// The longest line that is read.
+const LONGEST_LINE: u64 = 65_536;
+
+/// Why nothing more is sent or read.
+#[derive(Clone, Copy)]
+pub enum ConnectionFault {
+    /// There is no connection any more.
+    Lost,
+    /// There is no memory.
+    Memory,
+}
+
+impl From<AllocError> for ConnectionFault {
+    ghost use Rattle.spool_front.specs.declared.connection.ConnectionFault.TheVariants.{Memory};
+
+    ghost from_gives = { λ _ fault. fault ≡ Memory };
+
+    fn from(_error: AllocError) -> ConnectionFault {
+        ConnectionFault::Memory
+    }
+}
+
+impl<T: Drop> From<AllocFailed<T>> for ConnectionFault {
+    ghost use Rattle.spool_front.specs.declared.connection.ConnectionFault.TheVariants.{Memory};
+
+    ghost from_gives = { λ _ fault. fault ≡ Memory };
+
+    fn from(_error: AllocFailed<T>) -> ConnectionFault {
+        ConnectionFault::Memory
+    }
+}
+
+impl From<io::Error> for ConnectionFault {
+    fn from(error: io::Error) -> ConnectionFault {
+        match error.kind() {
+            ErrorKind::OutOfMemory => ConnectionFault::Memory,
+            _ => ConnectionFault::Lost,
+        }
+    }
+}
+
+/// A connection.
+#[derive(Drop)]
+pub struct Connection {
+    reader: BufReader<UnixStream>,
+}
+
+impl Connection {
+    pub fn open<R: Net + AllocGlobal>(rt: &R, socket: &str) -> Result<Connection, ConnectionFault> {
+        let stream = UnixStream::connect(rt, socket)?;
+        let reader = BufReader::new(rt.alloc(), stream)?;
+        Ok(Connection { reader })
+    }
+
+    /// Sends these bytes, all of them.
+    pub fn send(&mut self, text: &[u8]) -> Result<(), ConnectionFault> {
+        let mut stream = self.reader.get_ref();
+        stream.write_all(text)?;
+        Ok(())
+    }
+
+    /// Reads the next line, and gives it without its line feed. One that is too long, or is cut off, ends the connection.
+    pub fn read_line(&mut self, alloc: Global) -> Result<Vec<u8>, ConnectionFault> {
+        let mut line = Vec::new(alloc);
+        self.reader
+            .by_ref()
+            .take(LONGEST_LINE)
+            .read_until(b'\n', &mut line)?;
+        match line.pop() {
+            Some(b'\n') => Ok(line),
+            _ => Err(ConnectionFault::Lost),
+        }
+    }
+}

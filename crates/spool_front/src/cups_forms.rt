@@ -1,0 +1,157 @@
+//! What is told in the forms of lpstat and lpq.
+
+use crate::fault::Fault;
+use crate::host::Host;
+use crate::output::print_bytes;
+use crate::places::{Places, all_jobs, all_queues, queue_of};
+use front_texts::{JobLine, QueueLine, lpq, lpstat_accepting, lpstat_jobs, lpstat_printers};
+use front_words::{Lpq, Lpstat};
+use std::alloc::{AllocError, Global};
+
+/// Prints what lpstat was asked for. With nothing asked these are the jobs.
+pub fn show_lpstat<R: Host>(rt: &R, places: &Places<'_>, asked: &Lpstat<'_>) -> Result<u8, Fault> {
+    if asked.devices.is_some() {
+        return Err(Fault::Words("the service doesn't tell its devices"));
+    }
+    if asked.scheduler || asked.all {
+        all_queues(rt, places)?;
+        println!(rt; "scheduler is running")?;
+    }
+    if asked.usual || asked.all {
+        tell_usual(rt, places)?;
+    }
+    if let Some(names) = list_of(asked.accepting, asked.all) {
+        let queues = queues_named(rt, places, names)?;
+        print_bytes(rt, lpstat_accepting(rt.alloc(), &queues)?.as_slice())?;
+    }
+    if let Some(names) = list_of(asked.printers, asked.all) {
+        let queues = queues_named(rt, places, names)?;
+        let jobs = all_jobs(rt, places)?;
+        print_bytes(rt, lpstat_printers(rt.alloc(), &queues, &jobs)?.as_slice())?;
+    }
+    if lists_jobs(asked) {
+        let jobs = jobs_named(rt, places, asked)?;
+        print_bytes(rt, lpstat_jobs(rt.alloc(), &jobs)?.as_slice())?;
+    }
+    Ok(0)
+}
+
+// The names that are asked for, where all are none.
+fn list_of<'a>(names: Option<&'a str>, all: bool) -> Option<&'a str> {
+    match names {
+        Some(names) => Some(names),
+        None if all => Some(""),
+        None => None,
+    }
+}
+
+// Whether jobs are asked for, or nothing is.
+fn lists_jobs(asked: &Lpstat<'_>) -> bool {
+    let others = asked.scheduler
+        || asked.usual
+        || asked.accepting.is_some()
+        || asked.printers.is_some();
+    asked.all || asked.jobs.is_some() || !asked.names.is_empty() || !others
+}
+
+// Whether a name is in a list with commas or blanks between its names. The empty list has all.
+fn has_name(names: &str, name: &str) -> bool {
+    names.is_empty() || names.split([',', ' '].as_slice()).any(|part| part == name)
+}
+
+fn queues_named<R: Host>(
+    rt: &R,
+    places: &Places<'_>,
+    names: &str,
+) -> Result<Vec<QueueLine>, Fault> {
+    let mut named = Vec::new(rt.alloc());
+    for queue in all_queues(rt, places)? {
+        if has_name(names, queue.name.as_str()) {
+            named.push(queue)?;
+        }
+    }
+    Ok(named)
+}
+
+fn jobs_named<R: Host>(
+    rt: &R,
+    places: &Places<'_>,
+    asked: &Lpstat<'_>,
+) -> Result<Vec<JobLine>, Fault> {
+    let mut named = Vec::new(rt.alloc());
+    for job in all_jobs(rt, places)? {
+        if is_named(rt.alloc(), asked, &job)? {
+            named.push(job)?;
+        }
+    }
+    Ok(named)
+}
+
+// Whether a job is among those that are asked for, by its queue, or by its queue and its number.
+fn is_named(alloc: Global, asked: &Lpstat<'_>, job: &JobLine) -> Result<bool, AllocError> {
+    let queue = job.queue.as_str();
+    let number = job.number.get();
+    let id = format!(in alloc; "{queue}-{number}")?;
+    if asked.names.is_empty() {
+        let names = asked.jobs.unwrap_or("");
+        return Ok(has_name(names, queue) || has_name(names, id.as_str()));
+    }
+    Ok(asked.names.iter().any(|names| has_name(names, queue) || has_name(names, id.as_str())))
+}
+
+fn tell_usual<R: Host>(rt: &R, places: &Places<'_>) -> Result<(), Fault> {
+    match queue_of(rt, places, None) {
+        Ok((_, queue)) => println!(rt; "system default destination: {queue}")?,
+        Err(Fault::Words(_)) => println!(rt; "no system default destination")?,
+        Err(fault) => return Err(fault),
+    }
+    Ok(())
+}
+
+/// Prints what lpq was asked for.
+pub fn show_lpq<R: Host>(rt: &R, places: &Places<'_>, asked: &Lpq<'_>) -> Result<u8, Fault> {
+    let queues = all_queues(rt, places)?;
+    let jobs = numbered(rt.alloc(), all_jobs(rt, places)?, asked.jobs.as_slice())?;
+    let name = if asked.all {
+        None
+    } else {
+        let (_, name) = queue_of(rt, places, asked.queue)?;
+        Some(name)
+    };
+    let mut found = false;
+    for queue in &queues {
+        if is_queue(&name, queue) {
+            found = true;
+            print_bytes(rt, lpq(rt.alloc(), queue, &jobs)?.as_slice())?;
+        }
+    }
+    if found || asked.all {
+        return Ok(0);
+    }
+    Err(Fault::Words("there is no such queue"))
+}
+
+fn is_queue(name: &Option<String>, queue: &QueueLine) -> bool {
+    match name {
+        Some(name) => name.as_str() == queue.name.as_str(),
+        None => true,
+    }
+}
+
+// The jobs of these numbers, and all where there is none.
+fn numbered(
+    alloc: Global,
+    jobs: Vec<JobLine>,
+    numbers: &[u32],
+) -> Result<Vec<JobLine>, AllocError> {
+    if numbers.is_empty() {
+        return Ok(jobs);
+    }
+    let mut own = Vec::new(alloc);
+    for job in jobs {
+        if numbers.contains(&job.number.get()) {
+            own.push(job)?;
+        }
+    }
+    Ok(own)
+}

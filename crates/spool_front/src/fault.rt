@@ -1,0 +1,87 @@
+//! Why a task fails.
+ghost use Rattle.std.specs.Prelude.{◌≡◌};
+ghost use Rattle.spool_front.specs.Faults.{status_of};
+
+use crate::connection::ConnectionFault;
+use std::alloc::{AllocError, AllocFailed};
+use std::io::{self, ErrorKind};
+use thiserror::Error;
+
+/// Why a task fails.
+#[derive(Debug, Drop, Error)]
+pub enum Fault {
+    #[error("memory")]
+    Memory,
+    /// Nobody serves at this socket.
+    #[error("nobody serves at {0}")]
+    Nobody(String),
+    /// The service went while it was listened to.
+    #[error("the service went")]
+    Gone,
+    /// The service went before it had replied to a command that changes something.
+    #[error("the service went before it replied: it isn't known whether this was done")]
+    Unknown,
+    /// What the service refused, and its words.
+    #[error("{0}")]
+    Refused(String),
+    /// Standard output, or standard error, takes no more.
+    #[error("write")]
+    Write,
+    /// A file can't be read or written.
+    #[error("file {0}")]
+    File(String),
+    /// What can't be done as it was asked.
+    #[error("{0}")]
+    Words(&'static str),
+}
+
+impl Fault {
+    /// The status of the program.
+    pub fn status(&self) -> u8
+        ensures { result ≡ status_of self.now }
+    {
+        match self {
+            Fault::Unknown => 3,
+            _ => 1,
+        }
+    }
+}
+
+impl From<AllocError> for Fault {
+    ghost use Rattle.spool_front.specs.declared.fault.Fault.TheVariants.{Memory};
+
+    ghost from_gives = { λ _ fault. fault ≡ Memory };
+
+    fn from(_error: AllocError) -> Fault {
+        Fault::Memory
+    }
+}
+
+impl<T: Drop> From<AllocFailed<T>> for Fault {
+    ghost use Rattle.spool_front.specs.declared.fault.Fault.TheVariants.{Memory};
+
+    ghost from_gives = { λ _ fault. fault ≡ Memory };
+
+    fn from(_error: AllocFailed<T>) -> Fault {
+        Fault::Memory
+    }
+}
+
+impl From<ConnectionFault> for Fault {
+    fn from(fault: ConnectionFault) -> Fault {
+        match fault {
+            ConnectionFault::Lost => Fault::Gone,
+            ConnectionFault::Memory => Fault::Memory,
+        }
+    }
+}
+
+impl From<io::Error> for Fault {
+    fn from(error: io::Error) -> Fault {
+        if error.kind() == ErrorKind::OutOfMemory {
+            Fault::Memory
+        } else {
+            Fault::Write
+        }
+    }
+}

@@ -1,0 +1,144 @@
+//! What a person touches: it prints files by a service, and shows and changes what waits there.
+//!
+//! Words: those of `front_words`, by the program's name: `spool`, `lp`, `lpr`, `lpstat`, `cancel`, `lpq` or `lprm`. The environment
+//! gives `SPOOL_SOCKET` (the service's socket), `SPOOL_PATIENCE` (how many seconds it is waited for, 30 if not said), `USER` or
+//! `LOGNAME` (in whose name), `LPDEST` or `PRINTER` (the queue where none is named), `COLUMNS` (the width of a terminal), and
+//! `SPOOL_TYPES` and `SPOOL_CONVS` (the service's files, by which `check` looks whether documents reach a printer).
+//!
+//! # Parts
+//!
+//! - [`connection`]: bytes and lines over a socket. [`client`]: commands and replies over it, and connecting again.
+//! - [`commands`], [`replies`]: the bytes of each command, and what each reply says (`Commands`, `Replies`).
+//! - [`submit`]: one document becomes one job, by the decisions of `front_submission`. [`document`]: its pieces. [`draft`]: what
+//!   is said of its job. [`printing`]: the task of printing files.
+//! - [`tasks`]: the other tasks of `spool`. [`check`] and [`chains`]: whether a queue can print. [`web_page`]: the page.
+//!   [`cups_forms`]: lpstat and lpq. [`output`]: standard output. [`places`]: which services are asked, and which queue is meant.
+//!
+//! # Faults
+//!
+//! A line `spool: ..` on standard error. The status is 0; or 1 where something failed, or a document won't print; 2 for words that
+//! are refused; 3 where it isn't known whether a job prints, or whether something was done; 4 where a job's type can't be printed;
+//! and 5 where a job that was waited for ended otherwise than completed. Once a job is accepted the status says so, whatever
+//! happens to the line that tells it.
+#![tactic(auto)]
+
+mod chains;
+mod check;
+mod client;
+mod commands;
+mod connection;
+mod cups_forms;
+mod document;
+mod draft;
+mod fault;
+mod host;
+mod output;
+mod places;
+mod printing;
+mod replies;
+mod submit;
+mod tasks;
+mod web_page;
+
+use commands::has_control;
+use fault::Fault;
+use front_words::{Asked, Task, WordsFault, read_words};
+use host::{Host, Screen};
+use places::{Places, patience, usual_socket};
+use std::env;
+use std::io::IsTerminal;
+use std::process::ExitCode;
+
+// The columns where the environment doesn't tell them.
+const USUAL_WIDTH: usize = 80;
+
+fn main(rt: HostRuntime) -> ExitCode {
+    let screen = Screen {
+        shows: rt.stderr().is_terminal(),
+        width: width(&rt),
+    };
+    let words = match given_words(&rt) {
+        Ok(words) => words,
+        Err(_) => {
+            let _ = eprintln!(rt; "error: the words of the command line are no text");
+            return ExitCode::from(2);
+        }
+    };
+    if words.iter().any(|word| has_control(word.as_str())) {
+        let _ = eprintln!(rt; "error: a word of the command line has a control character");
+        return ExitCode::from(2);
+    }
+    let usual = match usual_socket(&rt) {
+        Ok(socket) => socket,
+        Err(error) => return ended(&rt, Err(Fault::from(error))),
+    };
+    match read_words(rt.alloc(), words.as_slice()) {
+        Ok(asked) => ended(&rt, run(&rt, asked, usual.as_str(), screen)),
+        Err(WordsFault::Refused(error)) => {
+            let _ = error.print(&rt);
+            ExitCode::from(error.exit_code() as u8)
+        }
+        Err(WordsFault::Memory) => ended(&rt, Err(Fault::Memory)),
+    }
+}
+
+fn given_words<R: Host>(rt: &R) -> std::io::Result<Vec<String>> {
+    let words = env::args(rt)?.collect(rt.alloc())?;
+    Ok(words)
+}
+
+// The columns of the terminal.
+fn width<R: Host>(rt: &R) -> usize {
+    match env::var(rt, "COLUMNS") {
+        Ok(text) => text.as_str().parse::<usize>().unwrap_or(USUAL_WIDTH),
+        Err(_) => USUAL_WIDTH,
+    }
+}
+
+// The status, and a fault's line on standard error.
+fn ended<R: Eprint>(rt: &R, ended: Result<u8, Fault>) -> ExitCode {
+    match ended {
+        Ok(status) => ExitCode::from(status),
+        Err(fault) => {
+            let _ = eprintln!(rt; "spool: {fault}");
+            ExitCode::from(fault.status())
+        }
+    }
+}
+
+// Does what is asked for, at the usual socket where the words name none.
+fn run<'a, R: Host>(rt: &R, asked: Asked<'a>, usual: &'a str, screen: Screen) -> Result<u8, Fault> {
+    let Asked { sockets, task } = asked;
+    let mut places = Places {
+        sockets,
+        patience: patience(rt),
+    };
+    if places.sockets.is_empty() {
+        places.sockets.push(usual)?;
+    }
+    run_task(rt, &places, task, screen)
+}
+
+fn run_task<R: Host>(
+    rt: &R,
+    places: &Places<'_>,
+    task: Task<'_>,
+    screen: Screen,
+) -> Result<u8, Fault> {
+    match task {
+        Task::Submit(asked) => printing::print_files(rt, places, &asked, screen),
+        Task::Status(asked) => tasks::show_status(rt, places, asked, screen),
+        Task::Queues { json } => tasks::show_queues(rt, places, json, screen),
+        Task::Watch => tasks::watch(rt, places),
+        Task::Jobs { act, jobs } => tasks::act_on_jobs(rt, places, act, jobs.as_slice()),
+        Task::Clear { queues } => tasks::clear(rt, places, queues.as_slice()),
+        Task::Queue { name, act } => tasks::act_on_queue(rt, places, name, act),
+        Task::Devices => Err(Fault::Words(
+            "run `spool_shell --devices`: the service doesn't list devices",
+        )),
+        Task::Check => check::check(rt, places),
+        Task::Page { file, follow } => web_page::write_page(rt, places, file, follow),
+        Task::Lpstat(asked) => cups_forms::show_lpstat(rt, places, &asked),
+        Task::Lpq(asked) => cups_forms::show_lpq(rt, places, &asked),
+    }
+}

@@ -1,0 +1,17 @@
+//! Standard output.
+
+use std::io;
+use std::io::Write;
+
+/// Prints lines.
+pub fn print_lines<R: Print>(rt: &R, lines: &[String]) -> io::Result<()> {
+    for line in lines {
+        println!(rt; "{line}")?;
+    }
+    Ok(())
+}
+
+/// Prints bytes.
+pub fn print_bytes<R: Print>(rt: &R, bytes: &[u8]) -> io::Result<()> {
+    io::writer(rt).write_all(bytes)
+}

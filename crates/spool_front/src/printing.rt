@@ -1,0 +1,196 @@
+//! The task of printing files: each becomes a job.
+
+use crate::client::{Client, pause};
+use crate::commands::Draft;
+use crate::document::Document;
+use crate::draft::draft_of;
+use crate::fault::Fault;
+use crate::host::{Host, Screen};
+use crate::places::{Places, client_at, queue_of};
+use crate::submit::Submitting;
+use front_submission::End;
+use front_texts::{JobShown, JobState};
+use front_words::Submission;
+use std::fs;
+use std::io::Read;
+
+// The status where a document can't be read, where it isn't known how a job ended, and where it ended otherwise than completed.
+const FAILED: u8 = 1;
+
+const NOT_KNOWN: u8 = 3;
+
+const NOT_COMPLETED: u8 = 5;
+
+/// Prints the files, one after the other, and gives the status of the first that fails.
+pub fn print_files<R: Host>(
+    rt: &R,
+    places: &Places<'_>,
+    asked: &Submission<'_>,
+    screen: Screen,
+) -> Result<u8, Fault> {
+    let (socket, queue) = queue_of(rt, places, asked.queue)?;
+    let mut client = client_at(rt, places, socket);
+    let mut status = 0;
+    if asked.files.is_empty() {
+        return print_input(rt, &mut client, asked, queue.as_str(), screen);
+    }
+    for file in &asked.files {
+        let ended = print_named(rt, &mut client, asked, queue.as_str(), file, screen)?;
+        if status == 0 {
+            status = ended;
+        }
+    }
+    Ok(status)
+}
+
+fn print_named<R: Host>(
+    rt: &R,
+    client: &mut Client<'_, R>,
+    asked: &Submission<'_>,
+    queue: &str,
+    file: &str,
+    screen: Screen,
+) -> Result<u8, Fault> {
+    if file == "-" {
+        return print_input(rt, client, asked, queue, screen);
+    }
+    let source = match fs::open(rt, file) {
+        Ok(source) => source,
+        Err(_) => {
+            let _ = eprintln!(rt; "spool: file {file}");
+            return Ok(FAILED);
+        }
+    };
+    let name = base_name(file);
+    let draft = draft_of(rt, asked, queue, name, name)?;
+    print_document(rt, client, asked, &draft, source, screen)
+}
+
+fn print_input<R: Host>(
+    rt: &R,
+    client: &mut Client<'_, R>,
+    asked: &Submission<'_>,
+    queue: &str,
+    screen: Screen,
+) -> Result<u8, Fault> {
+    let draft = draft_of(rt, asked, queue, "(stdin)", "")?;
+    print_document(rt, client, asked, &draft, rt.reader(), screen)
+}
+
+// The last part of a path.
+fn base_name(path: &str) -> &str {
+    match path.rsplit_once('/') {
+        Some((_, name)) => name,
+        None => path,
+    }
+}
+
+fn print_document<R: Host, S: Read + Drop>(
+    rt: &R,
+    client: &mut Client<'_, R>,
+    asked: &Submission<'_>,
+    draft: &Draft,
+    source: S,
+    screen: Screen,
+) -> Result<u8, Fault> {
+    let mut document = Document::new(rt.alloc(), source)?;
+    let mut submitting = Submitting::new(rt, draft, screen);
+    let end = submitting.submit(client, &mut document);
+    if screen.shows {
+        let _ = eprint!(rt; "\r");
+    }
+    tell(rt, asked.quiet, draft.queue.as_str(), end, &submitting);
+    match end {
+        End::Accepted { job } if asked.wait => Ok(wait_for(rt, client, job, screen)),
+        _ => Ok(end.status()),
+    }
+}
+
+// Tells how a submission ended. That stays its status, also where nobody can be told.
+fn tell<R: Host>(rt: &R, quiet: bool, queue: &str, end: End, submitting: &Submitting<'_, R>) {
+    match end {
+        End::Accepted { .. } if quiet => {}
+        End::Accepted { job } => {
+            let _ = println!(rt; "request id is {queue}-{job} (1 file(s))");
+        }
+        End::Unprintable { job } => {
+            let _ = eprintln!(rt; "spool: job {job} has a type that can't be printed on {queue}");
+        }
+        End::Unknown { job } => {
+            let _ = eprintln!(rt; "spool: it isn't known whether job {job} prints");
+        }
+        End::Refused {
+            job,
+            cause,
+            canceled,
+        } => tell_refused(rt, job, submitting.cause_text(cause), canceled),
+    }
+}
+
+fn tell_refused<R: Host>(rt: &R, job: Option<u32>, cause: &str, canceled: bool) {
+    let _ = match job {
+        Some(job) if canceled => eprintln!(rt; "spool: {cause}, job {job} canceled"),
+        Some(job) => eprintln!(rt; "spool: {cause}, job {job} isn't printed"),
+        None => eprintln!(rt; "spool: {cause}"),
+    };
+}
+
+// Waits until the job has ended, and gives the status. On a terminal its way is told.
+fn wait_for<R: Host>(rt: &R, client: &mut Client<'_, R>, job: u32, screen: Screen) -> u8 {
+    for _ in 0..u64::MAX {
+        match client.job(job) {
+            Ok(Some(shown)) => {
+                tell_way(rt, &shown, screen);
+                if let Some(status) = end_of(rt, &shown) {
+                    return status;
+                }
+            }
+            Ok(None) => {
+                let _ = eprintln!(rt; "spool: job {job} has ended, and is gone");
+                return NOT_COMPLETED;
+            }
+            Err(fault) => {
+                let _ = eprintln!(rt; "spool: it isn't known how job {job} ends: {fault}");
+                return NOT_KNOWN;
+            }
+        }
+        pause(rt);
+    }
+    NOT_KNOWN
+}
+
+fn tell_way<R: Host>(rt: &R, shown: &JobShown, screen: Screen) {
+    if !screen.shows {
+        return;
+    }
+    let pages = shown.course.pages;
+    let _ = match shown.course.state {
+        JobState::Processing => eprint!(rt; "\rspool: printing, {pages} pages done "),
+        JobState::Completed => eprintln!(rt; "\rspool: done, {pages} pages         "),
+        _ => eprint!(rt; "\rspool: queued                 "),
+    };
+}
+
+// The status where the job has ended. Why it isn't completed is told.
+fn end_of<R: Host>(rt: &R, shown: &JobShown) -> Option<u8> {
+    match shown.course.state {
+        JobState::Completed => Some(0),
+        JobState::Canceled | JobState::Aborted => {
+            tell_end(rt, shown);
+            Some(NOT_COMPLETED)
+        }
+        _ => None,
+    }
+}
+
+fn tell_end<R: Host>(rt: &R, shown: &JobShown) {
+    let job = shown.asked.number.get();
+    let state = shown.course.state.word();
+    let _ = match &shown.course.reason {
+        Some(reason) => {
+            let reason = reason.as_str();
+            eprintln!(rt; "spool: job {job} is {state}: {reason}")
+        }
+        None => eprintln!(rt; "spool: job {job} is {state}"),
+    };
+}

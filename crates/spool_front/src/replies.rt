@@ -1,0 +1,155 @@
+//! What the replies of a service say of a submission.
+ghost use Rattle.std.specs.Prelude.{◌≡◌};
+ghost use Rattle.std.specs.List.{after_first, before_first};
+ghost use Rattle.front_texts.specs.ReplyLines.{is_space};
+ghost use Rattle.spool_front.specs.Replies.{bytes_as, closed_as, done_as, failed_as, is_gone, job_as, reply_as, reply_in, shown_as, type_as};
+
+use command_lines::job_number;
+use front_submission::{Reply, Shown};
+use front_texts::{JobShown, JobState, LastLine, read_last_line};
+use line_words::decimal;
+
+// The greatest size of a job that is read.
+const GREATEST_SIZE: u64 = 1 << 40;
+
+/// What the last line of a reply says.
+pub fn reply_in(line: &str) -> Reply
+    ensures { result ≡ reply_in line.now }
+{
+    match read_last_line(line) {
+        Some(LastLine::Done { words }) => done_as(words),
+        Some(LastLine::Refused { number, .. }) => {
+            if number == 6 {
+                Reply::NotIncoming
+            } else {
+                Reply::Denied
+            }
+        }
+        Some(LastLine::Failed { word }) => failed_as(word),
+        None => Reply::Unclear,
+    }
+}
+
+// What follows `ok`.
+fn done_as(words: &str) -> Reply
+    ensures { result ≡ done_as words.now }
+{
+    if words.is_empty() {
+        return Reply::Done;
+    }
+    let (word, rest) = parted(words);
+    if word == "job" {
+        return job_as(rest);
+    }
+    if word == "bytes" {
+        return bytes_as(rest);
+    }
+    if word == "type" {
+        return type_as(rest);
+    }
+    Reply::Unclear
+}
+
+// What stands before the first blank, and what follows it.
+fn parted(line: &str) -> (&str, &str)
+    ensures word { result.0.now ≡ before_first is_space line.now }
+    ensures rest { result.1.now ≡ after_first is_space line.now }
+{
+    match line.split_once(' ') {
+        Some(parts) => parts,
+        None => (line, ""),
+    }
+}
+
+fn job_as(text: &str) -> Reply
+    ensures { result ≡ job_as text.now }
+{
+    match job_number(text.as_bytes()) {
+        Some(job) => Reply::Created { job: job.get() },
+        None => Reply::Unclear,
+    }
+}
+
+fn bytes_as(text: &str) -> Reply
+    ensures { result ≡ bytes_as text.now }
+{
+    match decimal(text.as_bytes(), GREATEST_SIZE) {
+        Some(size) => Reply::Sent { size },
+        None => Reply::Unclear,
+    }
+}
+
+// What follows `ok type`: the type, and then the stages, or that there are none.
+fn type_as(text: &str) -> Reply
+    ensures { result ≡ type_as text.now }
+{
+    let (_, rest) = parted(text);
+    let (word, _) = parted(rest);
+    if word == "stages" {
+        return Reply::Closed { printable: true };
+    }
+    if word == "unprintable" {
+        return Reply::Closed { printable: false };
+    }
+    Reply::Unclear
+}
+
+// What follows `error`, where it is a word.
+fn failed_as(word: &str) -> Reply
+    ensures { result ≡ failed_as word.now }
+{
+    if word == "job" {
+        return Reply::Gone;
+    }
+    if word == "memory" || word == "full" {
+        return Reply::Later;
+    }
+    if word == "disk" || word == "dead" || word == "busy" {
+        return Reply::Unclear;
+    }
+    Reply::Denied
+}
+
+/// Whether the last line of a reply says that there is no such job.
+pub fn is_gone(line: &str) -> bool
+    ensures { result ≡ is_gone line.now }
+{
+    matches!(reply_in(line), Reply::Gone)
+}
+
+/// What has become of a job. One that was closed has a type.
+pub fn shown_of(job: &JobShown) -> Shown {
+    let course = &job.course;
+    shown_as(
+        course.media.is_some(),
+        course.state,
+        has_reason(job, "no-filter"),
+        has_reason(job, "job-incoming"),
+        course.size,
+    )
+}
+
+// What has become of a job, by whether it was closed, its state, and whether its reason is one of two.
+fn shown_as(closed: bool, state: JobState, no_filter: bool, incoming: bool, size: u32) -> Shown
+    ensures { result ≡ shown_as closed state no_filter incoming size }
+{
+    if closed {
+        return match state {
+            JobState::Aborted if no_filter => Shown::NoFilters,
+            _ => Shown::WasClosed,
+        };
+    }
+    if incoming {
+        let size = u64::from(size);
+        return Shown::Arriving { size };
+    }
+    Shown::NeverClosed
+}
+
+// Whether this is the reason of its state.
+fn has_reason(job: &JobShown, word: &str) -> bool {
+    match &job.course.reason {
+        Some(reason) => reason.as_str() == word,
+        None => false,
+    }
+}

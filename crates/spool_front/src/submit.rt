@@ -1,0 +1,288 @@
+//! Making a job of a document, exactly once.
+
+use crate::client::{Answer, Client, pause};
+use crate::commands::{Draft, close_line, create_line, hold_line, job_line, send_line};
+use crate::connection::ConnectionFault;
+use crate::document::Document;
+use crate::host::{Host, Screen};
+use crate::replies::{reply_in, shown_of};
+use front_submission::{Cause, End, Found, Own, Reply, Request, Step};
+use front_texts::{JobLine, JobShown, read_job_line, read_job_shown};
+use std::io::Read;
+
+/// A submission, and what its messages speak of.
+#[derive(Drop)]
+pub struct Submitting<'a, R> {
+    rt: &'a R,
+    draft: &'a Draft,
+    screen: Screen,
+    // The words of the last refusal.
+    refusal: Option<String>,
+    // Whether it was given up for want of memory.
+    memory: bool,
+    // How many replies were lost, or not clear, since the document last came further.
+    lost: u64,
+}
+
+impl<'a, R: Host> Submitting<'a, R> {
+    pub fn new(rt: &'a R, draft: &'a Draft, screen: Screen) -> Submitting<'a, R> {
+        Submitting {
+            rt,
+            draft,
+            screen,
+            refusal: None,
+            memory: false,
+            lost: 0,
+        }
+    }
+
+    /// Why the document is refused, for a person.
+    pub fn cause_text(&self, cause: Cause) -> &str {
+        match cause {
+            Cause::Declined => match &self.refusal {
+                Some(text) => text.as_str(),
+                None => "refused",
+            },
+            Cause::OtherSize => "the job has another size than what was sent",
+            Cause::EndedEarly => "somebody has ended the job",
+            Cause::Unreadable => "the document can't be read",
+            Cause::Deserted if self.memory => "memory",
+            Cause::Deserted => "nobody serves",
+        }
+    }
+
+    /// Makes one job of the document, and gives how that ends. Whatever happens it has an end, whose status is true.
+    pub fn submit<S: Read + Drop>(
+        &mut self,
+        client: &mut Client<'_, R>,
+        document: &mut Document<S>,
+    ) -> End {
+        let mut step = Step::start();
+        for _ in 0..u64::MAX {
+            if let Step::Ended { end } = step {
+                return end;
+            }
+            step = match step.request() {
+                Request::Read { size } => self.read_piece(step, document, size),
+                request => self.request(client, step, request, document.piece()),
+            };
+        }
+        ended(step)
+    }
+
+    fn read_piece<S: Read + Drop>(
+        &self,
+        step: Step,
+        document: &mut Document<S>,
+        size: u64,
+    ) -> Step {
+        if self.screen.shows {
+            let _ = eprint!(self.rt; "\rspool: {size} bytes sent ");
+        }
+        match document.next_piece() {
+            Ok(piece) => step.supplied(piece, self.draft.hold.is_some()),
+            Err(_) => step.unread(),
+        }
+    }
+
+    // Sends one request, and gives what becomes of the step. Without memory it is given up, as where nobody serves: what was
+    // sent may have been done.
+    fn request(
+        &mut self,
+        client: &mut Client<'_, R>,
+        step: Step,
+        request: Request,
+        piece: &[u8],
+    ) -> Step {
+        if client.patience() < self.lost || !self.is_connected(client) {
+            return step.deserted();
+        }
+        match self.reply(client, request, piece) {
+            Ok(reply) => self.after(client, step, reply),
+            Err(ConnectionFault::Lost) => {
+                self.wait();
+                step.lost()
+            }
+            Err(ConnectionFault::Memory) => {
+                self.memory = true;
+                step.lost().deserted()
+            }
+        }
+    }
+
+    fn is_connected(&mut self, client: &mut Client<'_, R>) -> bool {
+        match client.connect() {
+            Ok(connected) => connected,
+            Err(_) => {
+                self.memory = true;
+                false
+            }
+        }
+    }
+
+    // What a reply makes of the step. What isn't clear ends the connection, and what was put off is sent again later.
+    fn after(&mut self, client: &mut Client<'_, R>, step: Step, reply: Reply) -> Step {
+        match reply {
+            Reply::Unclear => {
+                client.disconnect();
+                self.wait();
+            }
+            Reply::Later => self.wait(),
+            Reply::Created { .. } | Reply::Sent { .. } | Reply::Done => self.lost = 0,
+            _ => {}
+        }
+        step.heard(reply)
+    }
+
+    fn wait(&mut self) {
+        self.lost = self.lost.saturating_add(1);
+        pause(self.rt);
+    }
+
+    // The reply to a request.
+    fn reply(
+        &mut self,
+        client: &mut Client<'_, R>,
+        request: Request,
+        piece: &[u8],
+    ) -> Result<Reply, ConnectionFault> {
+        let alloc = self.rt.alloc();
+        match request {
+            Request::Find => self.find(client),
+            Request::Show { job } => self.show(client, job),
+            Request::Create => self.order(client, &create_line(alloc, self.draft)?),
+            Request::Send { job, .. } => self.order(client, &send_line(alloc, job, piece)?),
+            Request::Close { job } => {
+                self.order(client, &close_line(alloc, job, self.draft.name.as_str())?)
+            }
+            Request::Cancel { job } => self.cancel(client, job),
+            Request::Hold { job } => match self.draft.hold {
+                Some(until) => self.order(client, &hold_line(alloc, job, until)?),
+                None => Ok(Reply::Done),
+            },
+            Request::Read { .. } | Request::Nothing => Ok(Reply::Unclear),
+        }
+    }
+
+    // A refusal of a `cancel` isn't kept: that of the document is told.
+    fn cancel(&mut self, client: &mut Client<'_, R>, job: u32) -> Result<Reply, ConnectionFault> {
+        let line = job_line(self.rt.alloc(), "cancel", job)?;
+        let answer = client.exchange(line.as_slice())?;
+        Ok(reply_in(answer.last.as_str()))
+    }
+
+    fn order(&mut self, client: &mut Client<'_, R>, line: &[u8]) -> Result<Reply, ConnectionFault> {
+        let answer = client.exchange(line)?;
+        Ok(self.reply_of(answer))
+    }
+
+    fn reply_of(&mut self, answer: Answer) -> Reply {
+        let reply = reply_in(answer.last.as_str());
+        if matches!(
+            reply,
+            Reply::Denied | Reply::NotIncoming | Reply::Later | Reply::Gone
+        ) {
+            self.refusal = Some(answer.last);
+        }
+        reply
+    }
+
+    // What has become of a job.
+    fn show(&mut self, client: &mut Client<'_, R>, job: u32) -> Result<Reply, ConnectionFault> {
+        match self.shown(client, job)? {
+            Ok(job) => Ok(Reply::Job {
+                shown: shown_of(&job),
+            }),
+            Err(reply) => Ok(reply),
+        }
+    }
+
+    fn shown(
+        &mut self,
+        client: &mut Client<'_, R>,
+        job: u32,
+    ) -> Result<Result<JobShown, Reply>, ConnectionFault> {
+        let alloc = self.rt.alloc();
+        let line = job_line(alloc, "job", job)?;
+        let answer = client.exchange(line.as_slice())?;
+        if answer.rows.is_empty() {
+            return Ok(Err(self.reply_of(answer)));
+        }
+        let text = answer.text(alloc)?;
+        match read_job_shown(alloc, text.as_slice())? {
+            Some(job) => Ok(Ok(job)),
+            None => Ok(Err(Reply::Unclear)),
+        }
+    }
+
+    // The jobs that arrive with the token.
+    fn find(&mut self, client: &mut Client<'_, R>) -> Result<Reply, ConnectionFault> {
+        let answer = client.exchange(b"jobs\n")?;
+        if !answer.is_done() {
+            return Ok(self.reply_of(answer));
+        }
+        let mut found = Found {
+            own: None,
+            another: None,
+        };
+        for row in &answer.rows {
+            if let Some(job) = read_job_line(self.rt.alloc(), row.as_slice())? {
+                if self.may_be_own(&job) {
+                    if let Err(reply) = self.look(client, &job, &mut found)? {
+                        return Ok(reply);
+                    }
+                }
+            }
+        }
+        Ok(Reply::Jobs { found })
+    }
+
+    // Whether a job arrives for this queue and this user.
+    fn may_be_own(&self, job: &JobLine) -> bool {
+        let arrives = match &job.reason {
+            Some(reason) => reason.as_str() == "job-incoming",
+            None => false,
+        };
+        arrives
+            && job.queue.as_str() == self.draft.queue.as_str()
+            && job.user.as_str() == self.draft.user.as_str()
+    }
+
+    // Adds a job to those that were found, if it has the token.
+    fn look(
+        &mut self,
+        client: &mut Client<'_, R>,
+        job: &JobLine,
+        found: &mut Found,
+    ) -> Result<Result<(), Reply>, ConnectionFault> {
+        let number = job.number.get();
+        let shown = match self.shown(client, number)? {
+            Ok(shown) => shown,
+            Err(Reply::Gone) => return Ok(Ok(())),
+            Err(reply) => return Ok(Err(reply)),
+        };
+        let options = shown.asked.options.as_str();
+        if !options.contains(self.draft.token.as_str()) {
+            return Ok(Ok(()));
+        }
+        if found.own.is_some() {
+            found.another = Some(number);
+        } else {
+            let size = u64::from(shown.course.size);
+            found.own = Some(Own { job: number, size });
+        }
+        Ok(Ok(()))
+    }
+}
+
+// How a submission ends that has made so many steps that it is given up.
+fn ended(step: Step) -> End {
+    match step.lost().deserted() {
+        Step::Ended { end } => end,
+        _ => End::Refused {
+            job: None,
+            cause: Cause::Deserted,
+            canceled: false,
+        },
+    }
+}

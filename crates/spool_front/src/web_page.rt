@@ -1,0 +1,50 @@
+//! The queues and jobs as a page, written to a file.
+
+use crate::draft::now;
+use crate::fault::Fault;
+use crate::host::Host;
+use crate::places::{Places, all_jobs, all_queues};
+use front_texts::{moment_text, page};
+use spool_types::Moment;
+use std::fs;
+use std::time::Duration;
+
+// The seconds between two pages.
+const PAGE_SECONDS: u64 = 5;
+
+/// Writes the page: to another file first, which then takes its name. With `follow` it does so every five seconds.
+pub fn write_page<R: Host>(
+    rt: &R,
+    places: &Places<'_>,
+    file: &str,
+    follow: bool,
+) -> Result<u8, Fault> {
+    write_one_page(rt, places, file, follow)?;
+    if follow {
+        for _ in 0..u64::MAX {
+            std::thread::sleep(rt, Duration::from_secs(PAGE_SECONDS));
+            write_one_page(rt, places, file, follow)?;
+        }
+    }
+    Ok(0)
+}
+
+fn write_one_page<R: Host>(
+    rt: &R,
+    places: &Places<'_>,
+    file: &str,
+    follow: bool,
+) -> Result<(), Fault> {
+    let alloc = rt.alloc();
+    let queues = all_queues(rt, places)?;
+    let jobs = all_jobs(rt, places)?;
+    let stamp = moment_text(alloc, Moment::ZERO.plus(now(rt)?))?;
+    let text = page(alloc, &queues, &jobs, stamp.as_str(), follow)?;
+    let unfinished = format!(in alloc; "{file}.new")?;
+    if fs::write(rt, unfinished.as_str(), text.as_slice()).is_err()
+        || fs::rename(rt, unfinished.as_str(), file).is_err()
+    {
+        return Err(Fault::File(String::from_str(alloc, file)?));
+    }
+    Ok(())
+}

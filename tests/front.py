@@ -1,0 +1,588 @@
+#!/usr/bin/env python3
+"""Runs the front as a person and a script do: front.py [--long] [--list] [SERVICE FRONT [TEST..]]
+
+SERVICE and FRONT are the programs, and crates/spool_service/out/spool_service and crates/spool_front/out/spool_front (made by
+`rt run` in those folders) where none are given. What is decided after a lost reply is proved over values; here sockets are lost.
+Each TEST is the name of a function below; without one all are run. --list prints their names.
+
+| Test | What it tries |
+|---|---|
+| played_* | a service that is played: each loss, each refusal, and each status of a submission |
+| submits_*, status_*, acts_* | each word over a running service |
+| status_page_in_a_browser | the page, as Chromium reads it (Debian's package chromium) |
+| kills | a service that is killed while documents are submitted: each is accepted once (60 of them, 1,000 with --long) |
+| fits_terminals | what is shown on a terminal of 40 to 200 columns |
+| lp_scripts | lines of scripts that were written for CUPS |
+
+The last line is `N of N`, and status 0; or how many failed, with status 1. The folder of a test that failed stays, and is named.
+"""
+import json
+import os
+import random
+import shutil
+import subprocess
+import sys
+import threading
+import time
+import unicodedata
+
+from front_parts import Front, Played, number_of
+from service_parts import TYPE, Client, Folder, Skipped, holds, patient_client, run_test, same, until
+
+# ---- a service that is played
+
+
+def shown(size, state="4 job-incoming", media="", token="TOKEN"):
+    """The reply to `job 5`."""
+    number, reason = state.split()
+    kind = f"type {media}\n" if media else ""
+    return (
+        f'job 5\nqueue q\nuser "ann"\ntitle "t"\noptions "submission={token}"\ncopies 1\npriority 50\n'
+        f"size {size}\npages 0\nattempts 0\n{kind}state {number}\nreason {reason}\nok 1\n"
+    )
+
+
+LISTED = 'job 5 q 4 job-incoming "ann" 0 0 "t"\nok 1\n'
+CLOSED = "ok type application/octet-stream stages 1\n"
+SENDS = [('create "q" ', "ok job 5\n"), ("send 5 3", "ok bytes 3\n")]
+
+
+def played(folder, connections, status, told="", patience=3):
+    """Submits three bytes to a service that is played."""
+    service = Played(folder, connections)
+    front = Front(folder, patience)
+    folder.write("doc", "abc")
+    ended = front.run("spool", "submit", "q", folder.at("doc"))
+    service.end()
+    same("status", ended.returncode, status)
+    text = ended.stdout.decode() + ended.stderr.decode()
+    holds(f"told {text!r}, without {told!r}", told in text)
+
+
+def played_accepted(folder):
+    played(folder, [SENDS + [("close 5 ", CLOSED)]], 0, "request id is q-5 (1 file(s))")
+
+
+def played_unprintable(folder):
+    played(folder, [SENDS + [("close 5 ", "ok type a/b unprintable\n")]], 4, "job 5")
+
+
+def played_refused_create(folder):
+    played(folder, [[('create "q" ', "error 1 NoQueue\n")]], 1, "spool: error 1 NoQueue\n")
+
+
+def played_refused_send(folder):
+    steps = [SENDS[0], ("send 5 3", "error 7 TooLong\n"), ("cancel 5", "ok\n")]
+    played(folder, [steps], 1, "spool: error 7 TooLong, job 5 canceled\n")
+
+
+def played_refused_close(folder):
+    played(folder, [SENDS + [("close 5 ", "error 5 NoJob\n"), ("cancel 5", "error 5 NoJob\n")]], 1, "error 5 NoJob, job 5 isn't printed")
+
+
+def played_other_size(folder):
+    steps = [SENDS[0], ("send 5 3", "ok bytes 9\n"), ("cancel 5", "ok\n")]
+    played(folder, [steps], 1, "job 5 canceled")
+
+
+def played_put_off(folder):
+    steps = [('create "q" ', "error full\n"), SENDS[0], ("send 5 3", "error memory\n"), SENDS[1], ("close 5 ", "error full\n"), ("close 5 ", CLOSED)]
+    played(folder, [steps], 0, "q-5")
+
+
+def played_full_for_good(folder):
+    steps = [SENDS[0]] + [("send 5 3", "error full\n")] * 21 + [("cancel 5", "ok\n")]
+    played(folder, [steps], 1, "error full, job 5 canceled")
+
+
+def played_lost_create(folder):
+    # It was made: the job with the token is gone on with.
+    second = [("jobs", LISTED), ("job 5", shown(0)), SENDS[1], ("close 5 ", CLOSED)]
+    played(folder, [[('create "q" ', None)], second], 0, "q-5")
+
+
+def played_create_not_done(folder):
+    second = [("jobs", "ok 0\n"), *SENDS, ("close 5 ", CLOSED)]
+    played(folder, [[('create "q" ', None)], second], 0, "q-5")
+
+
+def played_find_without_an_answer(folder):
+    # A listing that fails doesn't tell that the job isn't there: it is asked for again.
+    second = [("jobs", "error busy\n")]
+    third = [("jobs", "error memory\n"), ("jobs", LISTED), ("job 5", shown(0)), SENDS[1], ("close 5 ", CLOSED)]
+    played(folder, [[('create "q" ', None)], second, third], 0, "q-5")
+
+
+def played_foreign_jobs(folder):
+    # A job of another token, of another user and one that has ended are none of its own.
+    rows = 'job 5 q 4 job-incoming "ann" 0 0 "t"\njob 6 q 4 job-incoming "bob" 0 0 "t"\njob 7 q 9 job-completed-successfully "ann" 0 0 "t"\nok 3\n'
+    second = [("jobs", rows), ("job 5", shown(0, token="0" * 32)), *SENDS, ("close 5 ", CLOSED)]
+    played(folder, [[('create "q" ', None)], second], 0, "q-5")
+
+
+def played_lost_send(folder):
+    for size, more in ((0, [SENDS[1]]), (3, [])):
+        second = [("job 5", shown(size)), *more, ("close 5 ", CLOSED)]
+        played(folder, [[SENDS[0], ("send 5 3", None)], second], 0, "q-5")
+
+
+def played_lost_send_other_size(folder):
+    second = [("job 5", shown(2)), ("cancel 5", "ok\n")]
+    played(folder, [[SENDS[0], ("send 5 3", None)], second], 1, "job 5 canceled")
+
+
+def played_lost_send_job_gone(folder):
+    for reply in ("error job\n", shown(0, "7 job-canceled-by-user")):
+        played(folder, [[SENDS[0], ("send 5 3", None)], [("job 5", reply)]], 1, "somebody has ended the job")
+
+
+def played_lost_close(folder):
+    lost = SENDS + [("close 5 ", None)]
+    played(folder, [lost, [("job 5", shown(3)), ("close 5 ", CLOSED)]], 0, "q-5")
+    played(folder, [lost, [("job 5", shown(3, "3 none", "a/b"))]], 0, "q-5")
+    played(folder, [lost, [("job 5", shown(3, "9 job-completed-successfully", "a/b"))]], 0, "q-5")
+    played(folder, [lost, [("job 5", shown(3, "8 no-filter", "a/b"))]], 4, "job 5")
+    played(folder, [lost, [("job 5", shown(3, "7 job-canceled-by-user"))]], 1, "somebody has ended the job")
+    played(folder, [lost, [("job 5", "error job\n")]], 3, "job 5")
+
+
+def played_close_not_incoming(folder):
+    # Somebody ended the job, or an earlier close was served: `job` tells which.
+    steps = SENDS + [("close 5 ", "error 6 NotIncoming\n")]
+    played(folder, [steps + [("job 5", shown(3, "3 none", "a/b"))]], 0, "q-5")
+    played(folder, [steps + [("job 5", shown(3, "7 job-canceled-by-user"))]], 1, "job 5")
+
+
+def played_dead_at_close(folder):
+    # After `error disk` a close may have been done, so it is asked again on a new connection.
+    second = [("job 5", shown(3, "3 none", "a/b"))]
+    played(folder, [SENDS + [("close 5 ", "error disk\n")], second], 0, "q-5")
+
+
+def played_dead_for_good(folder):
+    # A spool that is dead answers what is asked, and does nothing: that comes to an end.
+    look = [("job 5", shown(3)), ("close 5 ", "error dead\n")]
+    played(folder, [SENDS + [("close 5 ", "error dead\n")]] + [look] * 10, 3, "job 5", patience=1)
+
+
+def played_lost_order(folder):
+    # A command that isn't said again: its reply tells whether it was done, or nothing does.
+    service = Played(folder, [[("cancel 7", None)], [("cancel 8", "ok\n")], [("accept", None)]])
+    front = Front(folder, 1)
+    told = front.fails("spool", "cancel", "7", "8", status=3)
+    holds(f"told {told!r}", told.startswith("spool: job 7: ") and "job 8" not in told)
+    front.fails("spool", "queue", "accept", "q", status=3)
+    service.end()
+
+
+def played_nobody(folder):
+    played(folder, [SENDS + [("close 5 ", None)]], 3, "job 5", patience=1)
+    played(folder, [[SENDS[0], ("send 5 3", None)]], 1, "nobody serves", patience=1)
+    same("status with no service", Front(folder, 1).run("spool", "submit", "q", folder.at("doc")).returncode, 1)
+
+
+# ---- each word over a running service
+
+
+def office(folder, more=""):
+    """A service with a queue that prints at once, and its front."""
+    folder.start()
+    client = Client(folder)
+    folder.queue(client, "q")
+    return client, Front(folder)
+
+
+def submits_a_file(folder):
+    client, front = office(folder)
+    folder.write("letter", "a letter\n")
+    job = number_of(front.says("spool", "submit", "q", folder.at("letter"), "--title", "T", "--copies", "2", "--priority", "7", "-o", "media=a4 sides=two"))
+    client.until_ended([job])
+    same("printed", folder.printed(), "a letter\n")
+    fields = client.fields(job)
+    same("user and title", (fields["user"], fields["title"]), ('"ann"', '"T"'))
+    same("copies and priority", (fields["copies"], fields["priority"]), ("2", "7"))
+    holds(f"options {fields['options']}", "media=a4" in fields["options"] and "sides=two" in fields["options"])
+
+
+def submits_the_input(folder):
+    client, front = office(folder)
+    text = bytes(random.randrange(256) for _ in range(1000)) * 150
+    job = number_of(front.says("spool", "submit", "q", "-", text=text))
+    client.until_ended([job])
+    same("size", client.fields(job)["size"], str(len(text)))
+    with open(folder.at("printed"), "rb") as file:
+        holds("the document is printed as it was", file.read() == text)
+
+
+def submits_several(folder):
+    client, front = office(folder)
+    for name in ("a", "b", "c"):
+        folder.write(name, name)
+    lines = front.says("spool", "submit", "q", *(folder.at(name) for name in "abc")).splitlines()
+    jobs = [number_of(line) for line in lines]
+    same("jobs", len(set(jobs)), 3)
+    client.until_ended(jobs)
+    front.fails("spool", "submit", "q", folder.at("a"), folder.at("missing"), folder.at("b"))
+    same("jobs in all", len(client.states()), 5)
+
+
+def submits_nothing(folder):
+    client, front = office(folder)
+    folder.write("empty", "")
+    job = number_of(front.says("spool", "submit", "q", folder.at("empty")))
+    client.until_ended([job])
+
+
+def submits_held(folder):
+    client, front = office(folder)
+    folder.write("a", "a")
+    job = number_of(front.says("spool", "submit", "q", folder.at("a"), "--hold"))
+    same("held", client.state(job).split()[0], "4")
+    front.says("spool", "release", str(job))
+    client.until_ended([job])
+    job = number_of(front.says("spool", "submit", "q", folder.at("a"), "--at", str(int(time.time()) + 3)))
+    same("held", client.state(job).split()[0], "4")
+    client.until_ended([job])
+
+
+def submits_by_a_moment(folder):
+    client, front = office(folder)
+    folder.write("a", "a")
+    moment = int(time.time()) + 1000
+    job = number_of(front.says("spool", "submit", "q", folder.at("a"), "--by", str(moment)))
+    same("by", client.fields(job)["by"], str(moment))
+
+
+def submits_and_waits(folder):
+    client, front = office(folder)
+    folder.write("a", "a")
+    front.says("spool", "submit", "q", folder.at("a"), "--wait")
+    folder.queue(client, "slow", 3)
+    child = front.start("spool", "submit", "slow", folder.at("a"), "--wait")
+    until("a second job", lambda: len(client.states()) == 2)
+    until("that it is accepted", lambda: not client.state(2).startswith("4"))
+    same("cancel", client.ask("cancel 2\n"), "ok")
+    told = child.communicate(timeout=20)[1].decode()
+    same(f"status, which told {told!r}", child.returncode, 5)
+    holds(f"told {told!r}", "job 2 is canceled" in told)
+
+
+def submits_and_cannot_say_so(folder):
+    """The status tells what became of the job, also where its number can't be told."""
+    client, front = office(folder)
+    folder.write("a", "a")
+    with open("/dev/full", "w") as full:
+        for words in ([], ["--wait"]):
+            ended = subprocess.run(front.command(["spool", "submit", "q", folder.at("a"), *words]), stdout=full, stderr=full, env=front.environment, timeout=60)
+            same("status", ended.returncode, 0)
+    client.until_ended([1, 2])
+
+
+def submits_and_loses_the_service(folder):
+    """A job that is accepted, and whose end can't be waited for."""
+    client, front = office(folder)
+    folder.write("a", "a")
+    folder.queue(client, "slow", 60)
+    front.environment["SPOOL_PATIENCE"] = "1"
+    child = front.start("spool", "submit", "slow", folder.at("a"), "--wait")
+    until("that it is accepted", lambda: client.states() and not client.state(1).startswith("4"))
+    folder.kill()
+    told = child.communicate(timeout=20)[1].decode()
+    same(f"status, which told {told!r}", child.returncode, 3)
+    holds(f"told {told!r}", "it isn't known how job 1 ends: nobody serves" in told)
+
+
+def submits_and_is_refused(folder):
+    client, front = office(folder)
+    folder.write("a", "a")
+    holds("no queue", "error 1 NoQueue" in front.fails("spool", "submit", "none", folder.at("a")))
+    same("reject", client.ask("reject q\n"), "ok")
+    holds("rejecting", "error 4 NotAccepting" in front.fails("spool", "submit", "q", folder.at("a")))
+    same("jobs", client.states(), {})
+    front.fails("spool", "submit", "q", folder.at("a"), "--copies", "0", status=2)
+    front.fails("spool", "submit", status=2)
+    front.fails("spool", "bogus", status=2)
+    front.says("spool", "--help")
+
+
+def submits_what_is_too_long(folder):
+    folder.size = 100_000_000
+    client, front = office(folder)
+    told = front.fails("spool", "submit", "q", "-", text=b"x" * 16_777_217)
+    same("told", told, "spool: error 7 TooLong, job 1 canceled\n")
+    same("state", client.state(1), "7 job-canceled-by-user")
+
+
+def submits_what_cannot_be_printed(folder):
+    folder.two_stages(0)
+    client, front = office(folder)
+    same("queue", client.ask("queue p slow:/0 c/d retry-current-job 0 0\n"), "ok")
+    folder.write("a.x", "a")
+    front.fails("spool", "submit", "p", folder.at("a.x"), status=4)
+    same("state", client.state(1), "8 no-filter")
+
+
+def status_and_json(folder):
+    client, front = office(folder)
+    job = client.create("q", r'a \"b\" \\c')
+    rows = json.loads(front.says("spool", "status", "--json"))
+    same("a job", (rows[0]["number"], rows[0]["queue"], rows[0]["title"]), (job, "q", 'a "b" \\c'))
+    same("queues", [row["name"] for row in json.loads(front.says("spool", "queues", "--json"))], ["q"])
+    same("the job", json.loads(front.says("spool", "status", str(job), "--json"))["asked"]["number"], job)
+    holds("a table", 'a "b" \\c' in front.says("spool", "status"))
+    holds("another queue", 'a "b"' not in front.says("spool", "status", "-q", "other"))
+    holds("the job", "q" in front.says("spool", "status", str(job)))
+    holds("no job", "no such job" in front.fails("spool", "status", "77"))
+    holds("queues", "q" in front.says("spool", "queues"))
+    holds("devices", "spool_shell --devices" in front.fails("spool", "devices"))
+
+
+def status_check(folder):
+    folder.two_stages(0)
+    client, front = office(folder)
+    front.environment |= {"SPOOL_TYPES": folder.at("types"), "SPOOL_CONVS": folder.at("convs")}
+    folder.queue(client, "b", target="a/b")
+    same("check", front.says("spool", "check"), f"{folder.socket} serves\nqueue b prints a/b\nqueue q prints {TYPE}\n")
+    folder.queue(client, "d", target="c/d")
+    same("disable", client.ask("disable b\n"), "ok")
+    same("reject", client.ask("reject q\n"), "ok")
+    told = front.says("spool", "check", status=1).splitlines()[1:]
+    same("check", told, ["queue b is stopped", "queue d prints nothing: no chain of filters leads to c/d", "queue q takes no jobs"])
+    missing = front.fails("spool", "check", environment={"SPOOL_CONVS": folder.at("missing")})
+    same("told", missing, f"spool: file {folder.at('missing')}\n")
+
+
+def status_of_two_services(folder):
+    client, front = office(folder)
+    other = Folder()
+    try:
+        other.start()
+        folder.queue(Client(other), "z")
+        folder.write("a", "a")
+        sockets = ["--socket", folder.socket, "--socket", other.socket]
+        names = [row["name"] for row in json.loads(front.says("spool", "queues", "--json", *sockets))]
+        same("queues", names, ["q", "z"])
+        job = number_of(front.says("spool", "submit", "z", folder.at("a"), *sockets))
+        Client(other).until_ended([job])
+        same("jobs of the first", client.states(), {})
+        same("status over all", len(json.loads(front.says("spool", "status", "--json", *sockets))), 1)
+        holds("the job of the second", '"queue":"z"' in front.says("spool", "status", str(job), "--json", *sockets).replace(" ", ""))
+        # A number alone doesn't tell whose job it is.
+        for words in (["cancel", str(job)], ["watch"], ["queue", "add", "new", "slow:/0"]):
+            holds(f"{words}", "asked of one" in front.fails("spool", *words, *sockets))
+        holds("no queue", "no service has this queue" in front.fails("spool", "submit", "none", folder.at("a"), *sockets))
+        Client(other).create("z")
+        same("cancel -a", front.says("cancel", "-a", *sockets), "")
+        same("canceled", Client(other).state(2).split()[0], "7")
+    finally:
+        other.end()
+        other.remove()
+
+
+def status_page(folder):
+    client, front = office(folder)
+    client.create("q", "<script>alert(1)</script>")
+    front.says("spool", "page", folder.at("page.html"))
+    text = folder.read("page.html")
+    holds("no script", "<script" not in text and "&lt;script" in text)
+    holds("nothing unfinished", not os.path.exists(folder.at("page.html.new")))
+    child = front.start("spool", "page", folder.at("live.html"), "--follow")
+    until("a page", lambda: "refresh" in folder.read("live.html"))
+    client.create("q", "later")
+    until("a newer page", lambda: "later" in folder.read("live.html"))
+    child.kill()
+    child.communicate()
+
+
+def status_page_in_a_browser(folder):
+    """Debian's package chromium shows the page: its cells, and no markup of a title."""
+    browser = shutil.which("chromium")
+    if not browser:
+        raise Skipped("chromium isn't installed")
+    client, front = office(folder)
+    client.create("q", "<script>document.title='run'</script><b>bold</b>")
+    front.says("spool", "page", folder.at("page.html"))
+    words = ["--headless", "--no-sandbox", "--disable-gpu", f"--user-data-dir={folder.at('browser')}", "--dump-dom"]
+    shown = subprocess.run([browser, *words, f"file://{folder.at('page.html')}"], capture_output=True, timeout=120).stdout.decode()
+    holds("the title is a text", "&lt;b&gt;bold&lt;/b&gt;" in shown and "<title>Printers and jobs</title>" in shown)
+    same("rows", (shown.count("<tr>"), shown.count("<script")), (4, 0))
+
+
+def status_watch(folder):
+    client, front = office(folder)
+    child = front.start("spool", "watch")
+    time.sleep(0.5)
+    client.create("q", "seen")
+    line = child.stdout.readline().decode()
+    holds(f"watched {line!r}", line.startswith("job 1 q "))
+    child.kill()
+    child.communicate()
+
+
+def acts_on_jobs(folder):
+    client, front = office(folder)
+    client.ask("disable q\n")
+    jobs = [client.submit("q") for _ in range(4)]
+    front.says("spool", "hold", str(jobs[0]))
+    same("held", client.state(jobs[0]).split()[0], "4")
+    front.says("spool", "release", str(jobs[0]))
+    front.says("spool", "cancel", *map(str, jobs[:2]))
+    same("canceled", [client.state(job).split()[0] for job in jobs], ["7", "7", "3", "3"])
+    front.says("spool", "purge", str(jobs[0]))
+    same("purged", client.state(jobs[0]), "")
+    holds("twice", "error" in front.fails("spool", "cancel", str(jobs[1]), str(jobs[2])))
+    same("the other", client.state(jobs[2]).split()[0], "7")
+
+
+def acts_on_queues(folder):
+    client, front = office(folder)
+    front.says("spool", "queue", "add", "new", "slow:/0", "--media", "application/octet-stream")
+    front.says("spool", "queue", "set", "new", "--info", "An info", "--location", "A room")
+    front.says("spool", "queue", "reject", "new")
+    front.says("spool", "queue", "disable", "new")
+    rows = {line.split()[1]: line for line in client.listing("queues\n")}
+    holds(f"row {rows['new']}", rows["new"].startswith("queue new 5 rejecting application/octet-stream "))
+    front.says("spool", "queue", "accept", "new")
+    front.says("spool", "queue", "enable", "new")
+    rows = {line.split()[1]: line for line in client.listing("queues\n")}
+    holds(f"row {rows['new']}", rows["new"].startswith("queue new 3 accepting "))
+    holds("twice", "error 2 QueueExists" in front.fails("spool", "queue", "add", "new", "slow:/0", "--media", "a/b"))
+
+
+# ---- kills
+
+
+def kills(folder):
+    """Documents are submitted while the service is killed again and again. Each that was accepted is there once, and none twice."""
+    client, front = office(folder)
+    client.close()
+    front.environment["SPOOL_PATIENCE"] = "60"
+    count = 1000 if Folder.is_long else 60
+    starts, stop = [0], threading.Event()
+
+    def killer():
+        while not stop.is_set():
+            end = time.time() + random.uniform(0.05, 0.6)
+            while time.time() < end and not stop.is_set():
+                if folder.running.poll() is not None:
+                    folder.launch()
+                time.sleep(0.01)
+            folder.kill()
+            folder.launch()
+            starts[0] += 1
+
+    thread = threading.Thread(target=killer)
+    thread.start()
+    statuses, index = {}, 0
+    began = time.time()
+    try:
+        while starts[0] < count and time.time() - began < count * 3:
+            index += 1
+            title = f"document-{index:06d}"
+            text = (title + "\n" + "x" * random.choice([0, 10, 70_000, 200_000])).encode()
+            ended = front.run("spool", "submit", "q", "-", "--title", title, text=text)
+            statuses[title] = (ended.returncode, len(text), ended.stderr.decode())
+    finally:
+        stop.set()
+        thread.join()
+    client = patient_client(folder)
+    jobs = {}
+    for line in client.listing("jobs\n"):
+        words = line.split()
+        if words[4] != "job-incoming" and not (words[3] == "7"):
+            jobs.setdefault(line.split('"')[3], []).append((words[1], int(words[6])))
+    print(f"  {index} documents, {starts[0]} kills: {sum(1 for ended in statuses.values() if ended[0] == 0)} accepted")
+    for title, (status, size, told) in statuses.items():
+        found = jobs.get(title, [])
+        holds(f"{title}, status {status}: {told!r}", status in (0, 1, 3))
+        if status == 0:
+            same(f"jobs of {title}", [size for _, size in found], [size])
+        if status == 1:
+            same(f"jobs of {title}", found, [])
+        holds(f"{title}: {found}", len(found) <= 1)
+
+
+# ---- a terminal
+
+
+def columns_of(line):
+    return sum(0 if unicodedata.combining(c) else 2 if unicodedata.east_asian_width(c) in "WF" else 1 for c in line)
+
+
+def fits_terminals(folder):
+    client, front = office(folder)
+    for title in ("short", "a long title " * 10, "中文" * 30, "é" * 100):
+        client.create("q", title)
+    for width in (40, 60, 79, 80, 100, 132, 200):
+        for words in (["spool", "status"], ["spool", "queues"], ["spool", "status", "1"]):
+            text, status = front.on_terminal(*words, columns=width)
+            same("status", status, 0)
+            for line in text.splitlines():
+                holds(f"{words} at {width} columns: {line!r}", columns_of(line) <= width)
+    folder.write("a", "a")
+    text, status = front.on_terminal("spool", "submit", "q", folder.at("a"), "--wait")
+    same("status", status, 0)
+    holds(f"its way is told: {text!r}", "bytes sent" in text and "done" in text)
+
+
+# ---- scripts that were written for CUPS
+
+
+def lp_scripts(folder):
+    client, front = office(folder)
+    folder.write("a.txt", "a\n")
+    job = number_of(front.says("lp", "-d", "q", "-n", "2", "-t", "Title", "-o", "media=a4", folder.at("a.txt")))
+    client.until_ended([job])
+    fields = client.fields(job)
+    same("copies, title", (fields["copies"], fields["title"]), ("2", '"Title"'))
+    same("an input", front.says("lp", text=b"piped").split()[:3], ["request", "id", "is"])
+    same("by the environment", front.says("lp", text=b"x", environment={"LPDEST": "q"}).split()[:3], ["request", "id", "is"])
+    front.says("lpr", "-P", "q", folder.at("a.txt"))
+    client.until_ended([2, 3, 4])
+    client.ask("disable q\n")
+    job = number_of(front.says("lp", "-d", "q", folder.at("a.txt")))
+    same("lpstat -o", front.says("lpstat", "-o", "q").split()[0], f"q-{job}")
+    holds("lpstat -p", "printer q " in front.says("lpstat", "-p", "q"))
+    holds("lpstat -a", "q accepting" in front.says("lpstat", "-a"))
+    holds("lpstat -r", "scheduler is running" in front.says("lpstat", "-r"))
+    holds("lpstat -d", "system default destination: q" in front.says("lpstat", "-d"))
+    holds("lpstat -t", "scheduler is running" in front.says("lpstat", "-t"))
+    holds("lpq", "ann" in front.says("lpq", "-P", "q"))
+    front.says("cancel", f"q-{job}")
+    same("canceled", client.state(job).split()[0], "7")
+    job = number_of(front.says("lp", "-d", "q", folder.at("a.txt")))
+    front.says("lprm", "-P", "q", str(job))
+    same("removed", client.state(job).split()[0], "7")
+    same("nothing", front.says("lpstat", "-o"), "")
+    front.fails("lp", "-d", "none", folder.at("a.txt"))
+    front.fails("lp", "-Z", status=2)
+
+
+TESTS = [test for name, test in list(globals().items()) if name.startswith(("played_", "submits_", "status_", "acts_"))]
+TESTS += [kills, fits_terminals, lp_scripts]
+
+
+def main():
+    flags = [word for word in sys.argv[1:] if word.startswith("--")]
+    words = [word for word in sys.argv[1:] if not word.startswith("--")]
+    if "--list" in flags:
+        print("\n".join(test.__name__ for test in TESTS))
+        return 0
+    Folder.is_long = "--long" in flags
+    Folder.service = os.path.abspath(words[0] if words else Folder.service)
+    Front.program = os.path.abspath(words[1] if len(words) > 1 else Front.program)
+    for program in (Folder.service, Front.program):
+        if not os.path.exists(program):
+            sys.exit(f"no program {program}: run `rt run` in its crate's folder first")
+    names = words[2:]
+    unknown = set(names) - {test.__name__ for test in TESTS}
+    if unknown:
+        sys.exit(f"no test {' '.join(unknown)}: --list prints them")
+    ends = [run_test(test) for test in TESTS if not names or test.__name__ in names]
+    passed, skipped = ends.count("passed"), ends.count("skipped")
+    print(f"{passed} of {len(ends) - skipped}" + (f", {skipped} left out" if skipped else ""))
+    return 1 if "failed" in ends else 0
+
+
+if __name__ == "__main__":
+    sys.exit(main())
