@@ -23,7 +23,6 @@ PROMISED = {
     "cheapest-first-step",
     "checkpoint-does-nothing",
     "closes-current-first",
-    "disk-fault-is-a-refusal",
     "document-to-every-stage",
     "drive-appends-nothing",
     "drops-cut-line",
