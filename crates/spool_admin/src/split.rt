@@ -7,7 +7,7 @@ use crate::record::{noted, part_in, part_name, words_of};
 use crate::words::Split;
 use spool_core::Spool;
 use spool_disk::{Disk, FileDisk};
-use spool_host::ShellFault;
+use spool_host::{NamedDisk, ShellFault};
 use std::fs::{File, Files};
 use std::time::Clock;
 
@@ -34,28 +34,60 @@ pub fn split<R: Files<File = File> + Clock + AllocGlobal>(
 ) -> Result<(), AdminFault> {
     let source = Folder::own(rt, asked.from)?;
     let target = Folder::own(rt, asked.into)?;
+    split_into(rt, &source, &target, asked)
+}
+
+fn split_into<R: Files<File = File> + Clock + AllocGlobal>(
+    rt: &R,
+    source: &Folder<'_>,
+    target: &Folder<'_>,
+    asked: &Split<'_>,
+) -> Result<(), AdminFault> {
     let words = words_of(rt.alloc(), asked.into, &asked.queues)?;
-    if let Some(part) = begun(rt, &source, &words)? {
-        if !source.has(rt, REST)? {
-            // The earlier call may have been killed before its change over was synced, and a power cut would still undo it.
-            source.sync()?;
-            return finish(rt, &source, &target, &part);
+    match begun(rt, source, &words)? {
+        Some(part) if was_changed_over(rt, source)? => finish(rt, source, target, &part),
+        Some(part) => {
+            give_up(rt, source, target, &part)?;
+            begin(rt, source, target, &words, &asked.queues)
         }
-        give_up(rt, &source, &target, &part)?;
+        None => begin(rt, source, target, &words, &asked.queues),
     }
+}
+
+// Whether the earlier call has made its change over. It may have been killed before that was synced, and a power cut would still
+// undo it, so it is synced now.
+fn was_changed_over<R: Files<File = File> + AllocGlobal>(
+    rt: &R,
+    source: &Folder<'_>,
+) -> Result<bool, AdminFault> {
+    if source.has(rt, REST)? {
+        return Ok(false);
+    }
+    source.sync()?;
+    Ok(true)
+}
+
+// Splits the spool, of which no earlier call has left anything.
+fn begin<R: Files<File = File> + Clock + AllocGlobal>(
+    rt: &R,
+    source: &Folder<'_>,
+    target: &Folder<'_>,
+    words: &str,
+    queues: &[&str],
+) -> Result<(), AdminFault> {
     if target.has(rt, NAME)? {
         return Err(AdminFault::Taken);
     }
     let part = part_now(rt)?;
-    match prepare(rt, &source, &target, &part, &words, &asked.queues) {
+    match prepare(rt, source, target, &part, words, queues) {
         Ok(()) => {}
         Err(fault) => {
-            let _ = give_up(rt, &source, &target, &part);
+            let _ = give_up(rt, source, target, &part);
             return Err(fault);
         }
     }
-    change_over(rt, &source, &target, &part)?;
-    finish(rt, &source, &target, &part)
+    change_over(rt, source, target, &part)?;
+    finish(rt, source, target, &part)
 }
 
 // Gives the rest the spool's name. From then on the jobs of the queues are in the part alone.
@@ -85,27 +117,43 @@ fn prepare<R: Files<File = File> + Clock + AllocGlobal>(
     words: &str,
     queues: &[&str],
 ) -> Result<(), AdminFault> {
-    let alloc = rt.alloc();
-    let names = names_of(alloc, queues)?;
-    let disk = source.owned.device_there(rt)?;
-    let size = disk.len();
-    let mut whole = match Spool::load(alloc, disk) {
-        Ok(whole) => whole,
-        Err(error) => return Err(AdminFault::from(error.fault)),
-    };
+    let names = names_of(rt.alloc(), queues)?;
+    let (mut whole, size) = whole_spool(rt, source)?;
     if !has_queues(whole.table(), &names) {
         return Err(AdminFault::Queue);
     }
-    let rest_disk = begin_rest(rt, source, size)?;
+    let disks = begin_halves(rt, source, target, part, words, size)?;
+    drop(list_halves(rt.alloc(), &mut whole, &names, disks)?);
+    Ok(())
+}
+
+// The spool that is to be split, and the length of its file.
+fn whole_spool<'r, R: Files<File = File> + Clock + AllocGlobal>(
+    rt: &'r R,
+    source: &Folder<'_>,
+) -> Result<(Spool<NamedDisk<'r, R>>, u64), AdminFault> {
+    let disk = source.owned.device_there(rt)?;
+    let size = disk.len();
+    match Spool::load(rt.alloc(), disk) {
+        Ok(whole) => Ok((whole, size)),
+        Err(error) => Err(AdminFault::from(error.fault)),
+    }
+}
+
+// The two files before anything is in them, in the folders of the whole and of the part.
+fn begin_halves<R: Files<File = File> + Clock + AllocGlobal>(
+    rt: &R,
+    source: &Folder<'_>,
+    target: &Folder<'_>,
+    part: &str,
+    words: &str,
+    size: u64,
+) -> Result<Halves<FileDisk>, AdminFault> {
+    let rest = begin_rest(rt, source, size)?;
     record(rt, source, part, words)?;
     let about = source.about(rt, NAME)?;
-    let part_disk = target.put_zeros(rt, part, size, &about)?;
-    let disks = Halves {
-        part: part_disk,
-        rest: rest_disk,
-    };
-    drop(list_halves(alloc, &mut whole, &names, disks)?);
-    Ok(())
+    let part = target.put_zeros(rt, part, size, &about)?;
+    Ok(Halves { part, rest })
 }
 
 // A file for the rows that stay.
