@@ -141,7 +141,7 @@ def is_split(place, old, names=("lab",)):
 
 def next_number(place, root, queue):
     reply, = place.serve(root, f'create {queue} ann "More" 1 50 ""')
-    return int(reply.split()[1])
+    return int(reply.split()[-1])
 
 
 # ---- splitting
