@@ -10,6 +10,7 @@ Each TEST is the name of a function below; without one all are run. --list print
 | played_* | a service that is played: each loss, each refusal, and each status of a submission |
 | submits_*, status_*, acts_* | each word over a running service |
 | status_page_in_a_browser | the page, as Chromium reads it (Debian's package chromium) |
+| refuses_memory | each allocation of a submission is refused in turn: the status is true |
 | kills | a service that is killed while documents are submitted: each is accepted once (60 of them, 1,000 with --long) |
 | fits_terminals | what is shown on a terminal of 40 to 200 columns |
 | lp_scripts | lines of scripts that were written for CUPS |
@@ -449,6 +450,39 @@ def acts_on_queues(folder):
     holds("twice", "error 2 QueueExists" in front.fails("spool", "queue", "add", "new", "slow:/0", "--media", "a/b"))
 
 
+# ---- without memory
+
+
+def refuses_memory(folder):
+    """Each allocation of a submission is refused in turn, and its status is true: accepted once, never, or not known. Words that
+    find no memory count as words that can't be read."""
+    if not shutil.which("gcc"):
+        raise Skipped("gcc isn't installed (Debian's package gcc)")
+    library = folder.at("count_allocations.so")
+    source = os.path.join(os.path.dirname(os.path.abspath(__file__)), "count_allocations.c")
+    subprocess.run(["gcc", "-O2", "-shared", "-fPIC", "-o", library, source], check=True)
+    client, front = office(folder)
+    text = b"x" * 70_000
+    refused, ends = 0, {}
+    while True:
+        refused += 1
+        counted = folder.at("counted")
+        title = f"document-{refused:06d}"
+        more = {"LD_PRELOAD": library, "REFUSED": str(refused), "COUNTED": counted}
+        ended = front.run("spool", "submit", "q", "-", "--title", title, text=text, environment=more)
+        told = ended.stderr.decode()
+        ends.setdefault(ended.returncode, []).append(refused)
+        holds(f"allocation {refused}, status {ended.returncode}: {told!r}", ended.returncode in (0, 1, 2, 3))
+        closed = [row for row in client.listing("jobs\n") if title in row and row.split()[4] != "job-incoming" and row.split()[3] != "7"]
+        if ended.returncode != 3:
+            same(f"jobs that were closed, where allocation {refused} was refused: {told!r}", len(closed), 1 if ended.returncode == 0 else 0)
+        if " refused " not in folder.read("counted"):
+            break
+        os.remove(counted)
+    same("status with all of it", ended.returncode, 0)
+    print(f"  {refused - 1} allocations: " + ", ".join(f"status {status} for {len(which)}" for status, which in sorted(ends.items())))
+
+
 # ---- kills
 
 
@@ -559,7 +593,7 @@ def lp_scripts(folder):
 
 
 TESTS = [test for name, test in list(globals().items()) if name.startswith(("played_", "submits_", "status_", "acts_"))]
-TESTS += [kills, fits_terminals, lp_scripts]
+TESTS += [refuses_memory, kills, fits_terminals, lp_scripts]
 
 
 def main():
