@@ -133,7 +133,7 @@ def played_lost_send_other_size(folder):
 
 
 def played_lost_send_job_gone(folder):
-    for reply in ("error job\n", shown(0, "7 job-canceled-by-user")):
+    for reply in ("error job\n", shown(0, "7 canceled")):
         played(folder, [[SENDS[0], ("send 5 3", None)], [("job 5", reply)]], 1, "somebody has ended the job")
 
 
@@ -143,7 +143,7 @@ def played_lost_close(folder):
     played(folder, [lost, [("job 5", shown(3, "3 none", "a/b"))]], 0, "q-5")
     played(folder, [lost, [("job 5", shown(3, "9 job-completed-successfully", "a/b"))]], 0, "q-5")
     played(folder, [lost, [("job 5", shown(3, "8 no-filter", "a/b"))]], 4, "job 5")
-    played(folder, [lost, [("job 5", shown(3, "7 job-canceled-by-user"))]], 1, "somebody has ended the job")
+    played(folder, [lost, [("job 5", shown(3, "7 canceled"))]], 1, "somebody has ended the job")
     played(folder, [lost, [("job 5", "error job\n")]], 3, "job 5")
 
 
@@ -151,7 +151,7 @@ def played_close_not_incoming(folder):
     # Somebody ended the job, or an earlier close was served: `job` tells which.
     steps = SENDS + [("close 5 ", "error 6 NotIncoming\n")]
     played(folder, [steps + [("job 5", shown(3, "3 none", "a/b"))]], 0, "q-5")
-    played(folder, [steps + [("job 5", shown(3, "7 job-canceled-by-user"))]], 1, "job 5")
+    played(folder, [steps + [("job 5", shown(3, "7 canceled"))]], 1, "job 5")
 
 
 def played_dead_at_close(folder):
@@ -311,7 +311,7 @@ def submits_what_is_too_long(folder):
     client, front = office(folder)
     told = front.fails("spool", "submit", "q", "-", text=b"x" * 16_777_217)
     same("told", told, "spool: error 7 TooLong, job 1 canceled\n")
-    same("state", client.state(1), "7 job-canceled-by-user")
+    same("state", client.state(1), "7 canceled")
 
 
 def submits_what_cannot_be_printed(folder):
