@@ -23,53 +23,16 @@ import stat
 import subprocess
 import sys
 import tempfile
-from dataclasses import replace
 
 import journal
 import spool_model as model
 import traces
-from journal import cancel, close, hold, image, send, start
-from stories import LAB, Q, Difference, of_lab, of_q, same, spelled
+from admin_parts import ADMIN, ERRORS, KILLED, LOCK, NAME, OWNED, SECONDS, SHELL, SIZE, administer, image_of, in_second_area
+from journal import image
+from stories import Q, Difference, of_q, same, spelled
 
-HERE = os.path.dirname(os.path.abspath(__file__))
-
-
-def program(at, name):
-    built = os.path.join(HERE, "..", "crates", name, "out", name)
-    return os.path.abspath(sys.argv[at] if len(sys.argv) > at else built)
-
-
-ADMIN = program(1, "spool_admin")
-SHELL = program(2, "spool_shell")
-SECONDS = 60
-SIZE = 8_192
 LARGER = 20_001
-NAME = "spool.disk"
 UNFINISHED = "spool.disk.new"
-LOCK = "spool.lock"
-OWNED = "spool: disk\nspool: cause: owned\n"
-
-# The calls that may be killed at, and those of them that fail, with an error.
-ERRORS = {"open": "EIO", "openat": "EIO", "flock": "ENOLCK", "statx": "EIO", "fstat": "EIO", "lstat": "EIO", "newfstatat": "EIO",
-          "read": "EIO", "pread64": "EIO", "write": "ENOSPC", "pwrite64": "EIO", "fsync": "EIO", "fdatasync": "EIO", "fchown": "EPERM",
-          "fchmod": "EPERM", "rename": "EIO", "renameat": "EIO", "renameat2": "EIO", "unlink": "EIO", "unlinkat": "EIO", "close": "EIO"}
-KILLED = (*ERRORS, "mmap", "munmap", "brk", "exit_group", "lseek", "fcntl")
-
-# Queues, and jobs of each phase: their documents are coming, they wait, are held, are processing, or have ended.
-EVENTS = (Q.event(), LAB.event(), of_q(1).event(), send(1, b"first"), send(1, b" and last"), close(1),
-          of_q(2, title="Coming").event(), send(2, b"half of it"), of_lab(3).event(), send(3, b"held " * 60), close(3), hold(3),
-          of_lab(4).event(), close(4), cancel(4), of_lab(5).event(), send(5, b"printing"), close(5), start(5))
-
-
-def image_of(version=journal.NEWEST, size=SIZE, epoch=1):
-    return image(size, [spelled(event, version) for event in EVENTS], epoch=epoch, version=version)
-
-
-def in_second_area(file, epoch=7):
-    """The same spool with its areas changed over, and an older one in the other area."""
-    first, second = journal.halves(file)
-    rest = file[2 * len(first):]
-    return journal.area(len(first), epoch - 1, [spelled(Q.event())]) + journal.header(epoch, version=first[1]) + first[journal.HEADER:] + rest
 
 
 def names_in(root):
@@ -95,17 +58,13 @@ class Place:
         with open(self.file, "rb") as file:
             return file.read()
 
-    def admin(self, *words, before=()):
-        done = subprocess.run([*before, ADMIN, *words], capture_output=True, text=True, timeout=SECONDS)
-        return done.returncode, done.stdout, done.stderr
-
     def grow(self, size=LARGER):
-        same("the end of `grow`", self.admin("grow", self.root, str(size)), (0, "", ""))
+        same("the end of `grow`", administer("grow", self.root, str(size)), (0, "", ""))
 
     def refuses(self, fault, *words):
         """The file, and its folder, are as they were."""
         before, names = self.content(), names_in(self.root)
-        same("the end", self.admin(*(words or ("grow", self.root, str(LARGER)))), (1, "", fault))
+        same("the end", administer(*(words or ("grow", self.root, str(LARGER)))), (1, "", fault))
         same("the file is as it was", self.content() == before, True)
         same("the names", names_in(self.root), names)
 
@@ -148,7 +107,7 @@ def a_look_tells_what_there_is(folder):
     for file in (image(SIZE), image_of(), image_of(1), in_second_area(image_of()), image_of(size=8_193), image_of(epoch=2 ** 64 - 1)):
         place = Place(folder, file)
         times = os.stat(place.file).st_mtime_ns, os.stat(place.file).st_ctime_ns, os.stat(place.root).st_mtime_ns
-        same("what is shown", place.admin("look", place.root), (0, looked(file), ""))
+        same("what is shown", administer("look", place.root), (0, looked(file), ""))
         same("the file is as it was", place.content() == file, True)
         same("the times", (os.stat(place.file).st_mtime_ns, os.stat(place.file).st_ctime_ns, os.stat(place.root).st_mtime_ns), times)
 
@@ -158,9 +117,9 @@ def a_look_at_no_spool(folder):
     place = Place(folder, bytes(SIZE))
     place.refuses("spool: not-a-spool\n", "look", place.root)
     absent = Place(folder)
-    same("no file", absent.admin("look", absent.root), (1, "", "spool: disk\nspool: cause: absent\n"))
+    same("no file", administer("look", absent.root), (1, "", "spool: disk\nspool: cause: absent\n"))
     same("no spool is made", os.listdir(absent.root), [LOCK])
-    same("no folder", absent.admin("look", f"{absent.root}/none"), (1, "", "spool: disk\nspool: cause: absent\n"))
+    same("no folder", administer("look", f"{absent.root}/none"), (1, "", "spool: disk\nspool: cause: absent\n"))
 
 
 # ---- growing
@@ -249,10 +208,10 @@ def words_that_say_nothing(folder):
     root = place.root
     for words in ((), ("look",), ("grow",), ("grow", root), ("look", root, "8192"), ("grow", root, "4095"), ("grow", root, "1073741825"),
                   ("grow", root, "x"), ("shrink", root), ("look", ""), ("grow", root, "8192", "1"), ("--size", "8192", root)):
-        status, shown, told = place.admin(*words)
+        status, shown, told = administer(*words)
         same(f"the end of {words}", (status, shown, told.startswith("error: ")), (2, "", True))
     same("the file is as it was", place.content() == image_of(), True)
-    status, shown, told = place.admin("--help")
+    status, shown, told = administer("--help")
     same("the help", (status, "DIR" in shown and "BYTES" in shown, told), (0, True, ""))
 
 
@@ -264,7 +223,7 @@ def traced(place, *inject):
     strace = ["strace", "-qq", "-y", "-xx", "-s", "20", "-o", trace, "-e", "trace=" + ",".join(f"?{name}" for name in KILLED)]
     for words in inject:
         strace += ["-e", f"inject={words}"]
-    done = place.admin("grow", place.root, str(LARGER), before=strace)
+    done = administer("grow", place.root, str(LARGER), before=strace)
     counts = {}
     with open(trace, encoding="ascii") as file:
         lines = [line.rstrip("\n") for line in file]

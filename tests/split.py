@@ -31,48 +31,12 @@ from concurrent.futures import ThreadPoolExecutor
 import journal
 import spool_model as model
 import traces
-from journal import cancel, close, hold, image, send, start
+from admin_parts import ADMIN, ERRORS, KILLED, LOCK, NAME, OWNED, SECONDS, SHELL, SIZE, administer, image_of, in_second_area
+from journal import close, image, send
 from stories import LAB, Q, Difference, of_lab, of_q, same, spelled
 
-HERE = os.path.dirname(os.path.abspath(__file__))
-
-
-def program(at, name):
-    built = os.path.join(HERE, "..", "crates", name, "out", name)
-    return os.path.abspath(sys.argv[at] if len(sys.argv) > at else built)
-
-
-ADMIN = program(1, "spool_admin")
-SHELL = program(2, "spool_shell")
-SECONDS = 60
 SIDE_BY_SIDE = 4
-SIZE = 8_192
-NAME = "spool.disk"
 PART = "spool.part."
-LOCK = "spool.lock"
-OWNED = "spool: disk\nspool: cause: owned\n"
-
-# The calls that may be killed at, and those of them that fail, with an error.
-ERRORS = {"open": "EIO", "openat": "EIO", "flock": "ENOLCK", "statx": "EIO", "fstat": "EIO", "lstat": "EIO", "newfstatat": "EIO",
-          "read": "EIO", "pread64": "EIO", "write": "ENOSPC", "pwrite64": "EIO", "fsync": "EIO", "fdatasync": "EIO", "fchown": "EPERM",
-          "fchmod": "EPERM", "rename": "EIO", "renameat": "EIO", "renameat2": "EIO", "unlink": "EIO", "unlinkat": "EIO", "close": "EIO"}
-KILLED = (*ERRORS, "mmap", "munmap", "brk", "exit_group", "lseek", "fcntl")
-
-# Queues, and jobs of each phase: their documents are coming, they wait, are held, are processing, or have ended.
-EVENTS = (Q.event(), LAB.event(), of_q(1).event(), send(1, b"first"), send(1, b" and last"), close(1),
-          of_q(2, title="Coming").event(), send(2, b"half of it"), of_lab(3).event(), send(3, b"held " * 60), close(3), hold(3),
-          of_lab(4).event(), close(4), cancel(4), of_lab(5).event(), send(5, b"printing"), close(5), start(5))
-
-
-def image_of(version=journal.NEWEST, size=SIZE, epoch=1):
-    return image(size, [spelled(event, version) for event in EVENTS], epoch=epoch, version=version)
-
-
-def in_second_area(file, epoch=7):
-    """The same spool with its areas changed over, and an older one in the other area."""
-    first, second = journal.halves(file)
-    rest = file[2 * len(first):]
-    return journal.area(len(first), epoch - 1, [spelled(Q.event())]) + journal.header(epoch, version=first[1]) + first[journal.HEADER:] + rest
 
 
 def half_of(file, names, named):
@@ -102,12 +66,8 @@ class Place:
         with open(os.path.join(root, name), "rb") as file:
             return file.read()
 
-    def admin(self, *words, before=()):
-        done = subprocess.run([*before, ADMIN, *words], capture_output=True, text=True, timeout=SECONDS)
-        return done.returncode, done.stdout, done.stderr
-
     def split(self, *queues):
-        same("the end of `split`", self.admin("split", self.source, self.target, *(queues or ("lab",))), (0, "", ""))
+        same("the end of `split`", administer("split", self.source, self.target, *(queues or ("lab",))), (0, "", ""))
 
     def names(self):
         """The names in both folders, beside those of the locks' files, which stay."""
@@ -116,7 +76,7 @@ class Place:
     def refuses(self, fault, *queues, words=None):
         """Both folders are as they were."""
         names, before = self.names(), self.content(self.source)
-        same("the end", self.admin(*(words or ("split", self.source, self.target, *(queues or ("lab",))))), (1, "", fault))
+        same("the end", administer(*(words or ("split", self.source, self.target, *(queues or ("lab",))))), (1, "", fault))
         same("the names", self.names(), names)
         same("the file is as it was", self.content(self.source) == before, True)
 
@@ -209,9 +169,9 @@ def what_is_refused(folder):
     os.link(os.path.join(place.source, NAME), os.path.join(place.top, "second"))
     place.refuses("spool: disk\nspool: cause: no file\n")
     place = Place(folder)
-    same("no file", place.admin("split", place.source, place.target, "q"), (1, "", "spool: disk\nspool: cause: absent\n"))
+    same("no file", administer("split", place.source, place.target, "q"), (1, "", "spool: disk\nspool: cause: absent\n"))
     same("nothing is made", place.names(), ([], []))
-    same("no folder", place.admin("split", place.source, f"{place.top}/none", "q"), (1, "", "spool: disk\nspool: cause: absent\n"))
+    same("no folder", administer("split", place.source, f"{place.top}/none", "q"), (1, "", "spool: disk\nspool: cause: absent\n"))
 
 
 def rows_that_do_not_fit(folder):
@@ -240,7 +200,7 @@ def words_that_say_nothing(folder):
     place = Place(folder, image_of())
     for words in (("split",), ("split", place.source), ("split", place.source, place.target), ("split", place.source, place.target, ""),
                   ("join", place.source, place.target, "lab"), ("look", place.source, "lab"), ("grow", place.source, "8192", "lab")):
-        status, shown, told = place.admin(*words)
+        status, shown, told = administer(*words)
         same(f"the end of {words}", (status, shown, told.startswith("error: ")), (2, "", True))
     same("the file is as it was", place.content(place.source) == image_of(), True)
 
@@ -261,7 +221,7 @@ def traced(place, *inject):
     strace = ["strace", "-qq", "-y", "-xx", "-s", "20", "-o", trace, "-e", "trace=" + ",".join(f"?{name}" for name in KILLED)]
     for words in inject:
         strace += ["-e", f"inject={words}"]
-    done = place.admin("split", place.source, place.target, "lab", before=strace)
+    done = administer("split", place.source, place.target, "lab", before=strace)
     counts = {}
     with open(trace, encoding="ascii") as file:
         lines = [line.rstrip("\n") for line in file]
@@ -285,7 +245,7 @@ def is_whole_or_split(place, what):
 def goes_on(place, what):
     """The same command, given again, ends with both halves, whatever the one before left."""
     was_split = is_whole_or_split(place, what)
-    status, shown, told = place.admin("split", place.source, place.target, "lab")
+    status, shown, told = administer("split", place.source, place.target, "lab")
     # Where nothing was left to do but to end.
     done = was_split and (status, shown, told) == (1, "", "spool: queue\n") or (status, shown, told) == (1, "", "spool: taken\n")
     same(f"{what}: the end of the next one", done or (status, shown, told) == (0, "", ""), True)

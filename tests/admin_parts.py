@@ -1,0 +1,54 @@
+"""What the tests of spool_admin share (grow.py, split.py): the programs, the spools that they look at, and the calls at which they
+are killed or that fail.
+"""
+import os
+import subprocess
+import sys
+
+import journal
+from journal import cancel, close, hold, image, send, start
+from stories import LAB, Q, of_lab, of_q, spelled
+
+HERE = os.path.dirname(os.path.abspath(__file__))
+
+
+def program(at, name):
+    built = os.path.join(HERE, "..", "crates", name, "out", name)
+    return os.path.abspath(sys.argv[at] if len(sys.argv) > at else built)
+
+
+ADMIN = program(1, "spool_admin")
+SHELL = program(2, "spool_shell")
+SECONDS = 60
+SIZE = 8_192
+NAME = "spool.disk"
+LOCK = "spool.lock"
+OWNED = "spool: disk\nspool: cause: owned\n"
+
+# The calls that may be killed at, and those of them that fail, with an error.
+ERRORS = {"open": "EIO", "openat": "EIO", "flock": "ENOLCK", "statx": "EIO", "fstat": "EIO", "lstat": "EIO", "newfstatat": "EIO",
+          "read": "EIO", "pread64": "EIO", "write": "ENOSPC", "pwrite64": "EIO", "fsync": "EIO", "fdatasync": "EIO", "fchown": "EPERM",
+          "fchmod": "EPERM", "rename": "EIO", "renameat": "EIO", "renameat2": "EIO", "unlink": "EIO", "unlinkat": "EIO", "close": "EIO"}
+KILLED = (*ERRORS, "mmap", "munmap", "brk", "exit_group", "lseek", "fcntl")
+
+# Queues, and jobs of each phase: their documents are coming, they wait, are held, are processing, or have ended.
+EVENTS = (Q.event(), LAB.event(), of_q(1).event(), send(1, b"first"), send(1, b" and last"), close(1),
+          of_q(2, title="Coming").event(), send(2, b"half of it"), of_lab(3).event(), send(3, b"held " * 60), close(3), hold(3),
+          of_lab(4).event(), close(4), cancel(4), of_lab(5).event(), send(5, b"printing"), close(5), start(5))
+
+
+def image_of(version=journal.NEWEST, size=SIZE, epoch=1):
+    return image(size, [spelled(event, version) for event in EVENTS], epoch=epoch, version=version)
+
+
+def in_second_area(file, epoch=7):
+    """The same spool with its areas changed over, and an older one in the other area."""
+    first, second = journal.halves(file)
+    rest = file[2 * len(first):]
+    return journal.area(len(first), epoch - 1, [spelled(Q.event())]) + journal.header(epoch, version=first[1]) + first[journal.HEADER:] + rest
+
+
+def administer(*words, before=()):
+    """The end of spool_admin with these words, and what it wrote. `before` is a command that runs it."""
+    done = subprocess.run([*before, ADMIN, *words], capture_output=True, text=True, timeout=SECONDS)
+    return done.returncode, done.stdout, done.stderr
