@@ -488,6 +488,8 @@ def refuses_memory(folder):
 
 def kills(folder):
     """Documents are submitted while the service is killed again and again. Each that was accepted is there once, and none twice."""
+    # No job that has ended is forgotten before it is looked at.
+    folder.words = ["--keep", "100000"]
     client, front = office(folder)
     client.close()
     front.environment["SPOOL_PATIENCE"] = "60"
