@@ -46,7 +46,7 @@ PROGRAMS = {
     **dict.fromkeys(["imagetobrf", "imagetoubrl", "vectortobrf", "vectortoubrl"], "convert"),
     **dict.fromkeys(["cgmtopdf", "cmxtopdf", "emftopdf", "svgtopdf", "wmftopdf", "xfigtopdf"], "inkscape"),
 }
-BRAILLE = ("brf", "ubrl", "index", "embosser", "vector", "svg", "cgm", "cmx", "emf", "wmf", "xfig", "imagetobrf", "imagetoubrl")
+BRAILLE = ("brf", "ubrl", "index", "embosser", "vector", "svg", "cgm", "cmx", "emf", "wmf", "xfig", "imagetobrf", "imagetoubrl", "imageubrl")
 
 # What a file for printers has to begin with that has no type of its own, by the filter.
 PRINTERS = {
