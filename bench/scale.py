@@ -1,13 +1,14 @@
 #!/usr/bin/env python3
-"""What one spool carries: scale.py [--costs FILE] [FOLDER [SHELL [SERVICE]]]
+"""What one spool carries: scale.py [--costs FILE] [FOLDER [SHELL [SERVICE [ADMIN]]]]
 
-It runs crates/spool_shell/out/spool_shell and crates/spool_service/out/spool_service (made by `rt run` in those folders), or the
-programs that are named, in new folders under FOLDER (here, where none is given), and prints
+It runs crates/spool_shell/out/spool_shell, crates/spool_service/out/spool_service and crates/spool_admin/out/spool_admin (made by
+`rt run` in those folders), or the programs that are named, in new folders under FOLDER (here, where none is given), and prints
 
 - `events`: events a second by one program, which waits for each reply of the disk, beside two writes and two syncs each by a plain program
   (floor.c), in turns;
 - `openings`: the seconds until a spool of so many waiting jobs has answered, those of a checkpoint, and the memory of the program;
 - `queues`: the same of 64 queues, with the jobs shared among them;
+- `splits`: the seconds until half of these queues are a spool of their own, those of a processor, and the memory of the program;
 - `bytes`: documents of 16 MiB until a spool of the greatest file is full, and an opening and a checkpoint of it;
 - `clients`: jobs of a KiB a second that are made, sent and closed, by 1 to 64 clients on 64 queues, beside the floor of their events.
 
@@ -161,6 +162,22 @@ def of_queues(folder, shell, costs):
     openings(folder, shell, costs, QUEUES)
 
 
+def splits(folder, admin, _costs):
+    names = [f"q{number:02d}" for number in range(0, QUEUES, 2)]
+    for count in COUNTS:
+        contents = spool(many_rows(count, QUEUES))
+        root, into = written(folder, contents), tempfile.mkdtemp(dir=folder)
+        start = time.perf_counter()
+        running = subprocess.Popen([admin, "split", root, into, *names])
+        _, status, usage = os.wait4(running.pid, 0)
+        took = time.perf_counter() - start
+        running.returncode = os.waitstatus_to_exitcode(status)
+        same("the end of `split`", running.returncode, 0)
+        raw = timed(lambda: written(folder, contents))
+        print(f"  {count:9,} jobs: {took:.2f} s (its bytes written in {raw:.2f} s), {usage.ru_utime + usage.ru_stime:.2f} s of a processor,"
+              f" {usage.ru_maxrss / 1024:,.0f} MiB", flush=True)
+
+
 # ---- bytes
 
 
@@ -228,14 +245,17 @@ def main():
     room = words[0] if words else "."
     shell = os.path.abspath(words[1] if len(words) > 1 else BUILT.format("spool_shell"))
     Folder.service = os.path.abspath(words[2] if len(words) > 2 else service_parts.BUILT)
-    for program in (shell, Folder.service):
+    admin = os.path.abspath(words[3] if len(words) > 3 else BUILT.format("spool_admin"))
+    for program in (shell, Folder.service, admin):
         if not os.path.exists(program):
             sys.exit(f"no program {program}: run `rt run` in its crate first")
     costs = {}
     with tempfile.TemporaryDirectory(dir=room) as folder:
-        for name, part in (("events", events), ("openings", openings), ("queues", of_queues), ("bytes", of_bytes), ("clients", clients)):
+        parts = (("events", events, shell), ("openings", openings, shell), ("queues", of_queues, shell), ("splits", splits, admin),
+                 ("bytes", of_bytes, shell), ("clients", clients, shell))
+        for name, part, program in parts:
             print(name, flush=True)
-            part(folder, shell, costs)
+            part(folder, program, costs)
     if file:
         with open(file, "w", encoding="ascii") as out:
             json.dump(costs, out, indent=1)
