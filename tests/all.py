@@ -64,6 +64,7 @@ SCRIPTS = {
     "promises.py": [],
     "cups_types.py": [CUPS_TYPES],
     "grow.py": [],
+    "split.py": [],
     "large.py": [],
 }
 
@@ -133,7 +134,7 @@ def wants():
         missing["front.py"] = (False, "the page in a browser (Debian's package chromium)")
     if not shutil.which("strace"):
         missing["syncs.py"] = (True, "strace (Debian's package strace)")
-        missing["grow.py"] = (False, "kills at each call (Debian's package strace)")
+        missing["grow.py"] = missing["split.py"] = (False, "kills at each call (Debian's package strace)")
         missing["children.py"] = (False, "what the system refuses (Debian's package strace)")
         missing["service.py"] = (False, "power cuts (Debian's package strace)")
     elif os.geteuid():

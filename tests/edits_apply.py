@@ -23,7 +23,6 @@ PROMISED = {
     "cheapest-first-step",
     "checkpoint-does-nothing",
     "closes-current-first",
-    "disk-fault-is-a-refusal",
     "document-to-every-stage",
     "drive-appends-nothing",
     "drops-cut-line",
@@ -35,7 +34,6 @@ PROMISED = {
     "header-in-one-write",
     "keeps-after-full",
     "keeps-no-disk",
-    "kills-without-grace",
     "next-stage-after-cancel",
     "ok-before-apply",
     "ok-before-second-sync",
@@ -50,7 +48,6 @@ PROMISED = {
     "stops-all-queues",
     "takes-away-and-puts-back",
     "tick-ignores-the-look",
-    "title-goes-in-as-it-is",
     "waits-for-a-purged-job-forever",
 }
 

@@ -125,7 +125,7 @@ def options():
         for option in sorted(known | told):
             check(option in told, f"{name} lacks --{option}")
             check(option in known, f"{name} has --{option}, which {program} doesn't know")
-    tasks = {it for pair in re.findall(r'task == "([a-z]+)"|"([a-z]+)" => (?:Ok\()?[a-z]+_of', source("spool_admin/src/words.rt")) for it in pair if it}
+    tasks = set(re.findall(r'"([a-z]+)" => (?:Ok\()?[a-z]+_of', source("spool_admin/src/words.rt")))
     check(tasks, "the tasks of spool_admin can't be read")
     for task in sorted(tasks):
         check(task in items_of("spool_admin.8"), f"spool_admin.8 lacks {task}")

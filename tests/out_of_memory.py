@@ -80,7 +80,7 @@ PASSED_ON = {
     ("spool_engine", "serve_whole"): 1,
     ("spool_engine", "take_piece"): 1,
     ("spool_admin", "no_task"): 1,
-    ("spool_admin", "read_words"): 1,
+    ("spool_admin", "read_words"): 2,
     # The text is written into memory, so that nothing else can be wanted; an error of the system whose kind says so.
     ("spool_front", "close_line"): 1,
     ("spool_front", "from"): 1,

@@ -3,9 +3,6 @@
 /// How many bytes are read of a client before the others have their turn.
 pub const PIECE: usize = 16_384;
 
-/// How many bytes of a line are waited for before the engine's reader gets them.
-pub const LONGEST_LINE: usize = 4_096;
-
 /// How many steps a client's turn has at most: a line that says nothing takes one too.
 pub const MOST_STEPS: usize = 256;
 

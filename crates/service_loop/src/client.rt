@@ -1,24 +1,23 @@
 //! A client: what came of its text, and what it hasn't taken of its replies.
 //!
-//! Of its text no more is read than a piece beyond a line's beginning, and the engine's reader gets it line by line, so that
-//! a word of the service is found where a line begins, and never inside a document.
-ghost use Rattle.std.specs.Prelude.{◌≡◌, ◌==◌, position};
+//! Of its text no more is read than a piece beyond a line's beginning. What it asks for is what its reader gives
+//! (`client_reader`), in order.
+ghost use Rattle.std.specs.Prelude.{◌≡◌};
 ghost use Rattle.service_loop.specs.Clients.{listens, unread, watches};
 
-use crate::bounds::{LONGEST_LINE, MOST_STEPS, PIECE};
+use crate::bounds::{MOST_STEPS, PIECE};
 use crate::office::Office;
 use child_pipeline::Children;
-use command_lines::{Command, Commands, Wanted};
+use client_reader::{Ask, Next, Reader};
+use command_lines::Command;
 use service_rules::bounds::MOST_UNREAD;
 use service_rules::is_served_on;
-use service_texts::{OwnWord, has_settled, job_told, own_word, shown_job};
+use service_texts::{OwnWord, has_settled, job_told, shown_job};
 use spool_disk::Disk;
 use spool_engine::rounded_text;
 use spool_types::JobId;
 use std::alloc::{AllocError, Global};
 use std::io::{ErrorKind, Read, Write};
-
-const LINE_FEED: u8 = b'\n';
 
 // What one is told who asks for what isn't there.
 const NO_JOB: &[u8] = b"error job\n";
@@ -84,12 +83,8 @@ impl Turn {
 
 // What a client asks for next.
 enum Asked {
-    Command(Command),
-    Own(OwnWord),
-    // Nothing yet: a step was made.
-    Again,
-    // More of its text is wanted.
-    Text,
+    // What its reader gives next.
+    Next(Next),
     // That a job has ended.
     End,
 }
@@ -97,9 +92,8 @@ enum Asked {
 #[derive(Drop)]
 pub struct Client<L: Read + Write + Drop> {
     line: L,
-    // What was read and the reader of commands hasn't got.
-    text: Vec<u8>,
-    commands: Commands,
+    // Of what was read of it.
+    reader: Reader,
     // The replies, of which so many bytes were taken.
     replies: Vec<u8>,
     taken: usize,
@@ -121,8 +115,7 @@ impl<L: Read + Write + Drop> Client<L> {
     pub fn new(alloc: Global, line: L, now: u64) -> Client<L> {
         Client {
             line,
-            text: Vec::new(alloc),
-            commands: Commands::new(alloc),
+            reader: Reader::new(alloc),
             replies: Vec::new(alloc),
             taken: 0,
             readable: true,
@@ -212,21 +205,17 @@ impl<L: Read + Write + Drop> Client<L> {
                 break;
             }
             match self.next_asked(office)? {
-                Asked::Again => {}
-                Asked::Command(command) => {
-                    self.answer(office, command, turn)?;
+                Asked::Next(Next::Again) => {}
+                Asked::Next(Next::Asked(ask)) => {
+                    self.answer(office, ask, turn)?;
                     served += 1;
                 }
-                Asked::Own(word) => {
-                    self.answer_own(office, word, turn)?;
-                    served += 1;
-                }
-                Asked::Text if self.readable => {
+                Asked::Next(Next::Text) if self.readable => {
                     if !self.read(now)? {
                         return Ok(false);
                     }
                 }
-                Asked::Text | Asked::End => {
+                Asked::Next(Next::Text) | Asked::End => {
                     turn.more = false;
                     break;
                 }
@@ -235,8 +224,7 @@ impl<L: Read + Write + Drop> Client<L> {
         Ok(true)
     }
 
-    // What it asks for next. Of a line that is no word of the service the engine's reader gets the whole, and of a send no
-    // more than its bytes.
+    // What it asks for next.
     fn next_asked<D: Disk, C: Children>(
         &mut self,
         office: &Office<'_, D, C>,
@@ -244,32 +232,7 @@ impl<L: Read + Write + Drop> Client<L> {
         if !self.is_told_end(office)? {
             return Ok(Asked::End);
         }
-        if let Some(command) = self.commands.next()? {
-            return Ok(Asked::Command(command));
-        }
-        let count = match self.commands.wanted() {
-            Wanted::Line => match line_end(&self.text) {
-                Some(at) => {
-                    if let Some(word) = own_word(&self.text[..at]) {
-                        self.text.drain(..at + 1);
-                        return Ok(Asked::Own(word));
-                    }
-                    at + 1
-                }
-                None if LONGEST_LINE < self.text.len() => self.text.len(),
-                None => return Ok(Asked::Text),
-            },
-            Wanted::Rest => match line_end(&self.text) {
-                Some(at) => at + 1,
-                None => self.text.len(),
-            },
-            Wanted::Bytes(count) => count,
-        };
-        if self.text.is_empty() {
-            return Ok(Asked::Text);
-        }
-        feed(&mut self.commands, &mut self.text, count)?;
-        Ok(Asked::Again)
+        Ok(Asked::Next(self.reader.next()?))
     }
 
     // Tells it the end of the job that it waits for, if that has come. Whether it waits for none then.
@@ -290,14 +253,26 @@ impl<L: Read + Write + Drop> Client<L> {
         Ok(true)
     }
 
-    // Serves a command of the engine. A round is a tick here: it would wait for the children, and all others with it.
+    // Serves what it asked for.
     fn answer<D: Disk, C: Children>(
         &mut self,
         office: &mut Office<'_, D, C>,
-        command: Command,
+        ask: Ask,
         turn: &mut Turn,
     ) -> Result<(), ClientFault> {
         turn.served = true;
+        match ask {
+            Ask::Command(command) => self.answer_command(office, command),
+            Ask::Own(word) => self.answer_own(office, word, turn),
+        }
+    }
+
+    // Serves a command of the engine. A round is a tick here: it would wait for the children, and all others with it.
+    fn answer_command<D: Disk, C: Children>(
+        &mut self,
+        office: &mut Office<'_, D, C>,
+        command: Command,
+    ) -> Result<(), ClientFault> {
         match command {
             Command::Round | Command::Drain(_) => {
                 let counts = office.tick();
@@ -319,7 +294,6 @@ impl<L: Read + Write + Drop> Client<L> {
         word: OwnWord,
         turn: &mut Turn,
     ) -> Result<(), ClientFault> {
-        turn.served = true;
         match word {
             OwnWord::Job(job) => {
                 let text = shown_job(*self.replies.allocator(), office.engine.table(), job)?;
@@ -415,7 +389,7 @@ impl<L: Read + Write + Drop> Client<L> {
             }
             Ok(count) => {
                 self.stirred = now;
-                self.text.extend_from_slice(&piece[..count])?;
+                self.reader.take(&piece[..count])?;
                 Ok(true)
             }
             Err(error) if error.kind() == ErrorKind::WouldBlock => {
@@ -425,19 +399,4 @@ impl<L: Read + Write + Drop> Client<L> {
             Err(error) => Ok(error.kind() == ErrorKind::Interrupted),
         }
     }
-}
-
-// Feeds the first bytes of a text, which are gone from it then.
-fn feed(commands: &mut Commands, text: &mut Vec<u8>, count: usize) -> Result<(), ClientFault> {
-    let count = count.min(text.len());
-    commands.feed(&text[..count])?;
-    text.drain(..count);
-    Ok(())
-}
-
-// Where the first line of a text ends.
-fn line_end(text: &[u8]) -> Option<usize>
-    ensures { result ≡ position (λ b. b == 10) text.now }
-{
-    text.iter().position(|b| *b == LINE_FEED)
 }

@@ -2,11 +2,14 @@
 ghost use Rattle.std.specs.Prelude.{◌≡◌, OnErr, OnOk};
 ghost use Rattle.std.specs.Process.{exit_status};
 ghost use Rattle.spool_host.specs.Faults.{of_opening};
-ghost use Rattle.spool_admin.specs.Faults.{of_checkpoint};
+ghost use Rattle.spool_host.specs.declared.fault.ShellFault.TheVariants.{Memory};
+ghost use Rattle.spool_admin.specs.Faults.{of_checkpoint, of_half};
 ghost use Rattle.spool_admin.specs.declared.fault.AdminFault.TheVariants.{Shell};
 
 use spool_core::{CheckpointFault, OpenFault};
+use spool_halves::HalfFault;
 use spool_host::{DiskCause, ShellFault, tell_end};
+use std::alloc::AllocError;
 use std::process::ExitCode;
 use thiserror::Error;
 
@@ -25,6 +28,15 @@ pub enum AdminFault {
     /// The spool has the greatest epoch, so no listing can follow.
     #[error("epoch-end")]
     EpochEnd,
+    /// The spool has no queue of this name.
+    #[error("queue")]
+    Queue,
+    /// The folder that is to get a part has a spool already.
+    #[error("taken")]
+    Taken,
+    /// Another split of this spool was begun, and isn't finished.
+    #[error("unfinished")]
+    Unfinished,
 }
 
 impl From<ShellFault> for AdminFault {
@@ -32,6 +44,26 @@ impl From<ShellFault> for AdminFault {
 
     fn from(fault: ShellFault) -> AdminFault {
         AdminFault::Shell(fault)
+    }
+}
+
+impl From<AllocError> for AdminFault {
+    ghost from_gives = { λ _ told. told ≡ Shell Memory };
+
+    fn from(_error: AllocError) -> AdminFault {
+        AdminFault::Shell(ShellFault::Memory)
+    }
+}
+
+impl From<HalfFault> for AdminFault {
+    ghost from_gives = { λ fault told. told ≡ of_half fault };
+
+    fn from(fault: HalfFault) -> AdminFault {
+        match fault {
+            HalfFault::Memory => AdminFault::Shell(ShellFault::Memory),
+            HalfFault::Full => AdminFault::Full,
+            HalfFault::Disk => AdminFault::Shell(ShellFault::Disk(DiskCause::Failed)),
+        }
     }
 }
 

@@ -1,23 +1,34 @@
 //! The words of the command line.
-ghost use Rattle.std.specs.Prelude.{◌≡◌, IfNone, IfOk, IfSome, MatchResult, codes, false, map};
-ghost use Rattle.clap.specs.Words.{app_of, found_of, matches_of, rows_of, rule_of};
-ghost use Rattle.spool_host.specs.Words.{RefusesOnly, sizes};
-ghost use Rattle.spool_admin.specs.Words.{AreFaultless, AreTaken, HasTask, IsAsked, admin_app, needed, placed};
+ghost use Rattle.std.specs.Prelude.{◌≡◌, [], IfNone, IfOk, IfSome, MatchResult, codes, false, map};
+ghost use Rattle.std.specs.Option.{option_map};
+ghost use Rattle.clap.specs.Words.{IsUnsignedIn, app_of, first_of, found_of, matches_of, rows_of, rule_of};
+ghost use Rattle.spool_host.specs.Words.{RefusesOnly, number_of};
+ghost use Rattle.spool_admin.specs.Words.{AreFaultless, ArePlaces, AreTaken, HasTask, IsAsked, IsFor, IsGrow, IsLook, IsOfTask, IsSize, IsSplit, admin_app, needed, rest_of, several};
 
 use clap::builder::ValueParser;
 use clap::error::ErrorKind;
-use clap::{Arg, ArgMatches, Command};
+use clap::{Arg, ArgAction, ArgMatches, Command};
 use spool_host::{GREATEST_SIZE, LEAST_SIZE, WordsFault, words_fault};
 use std::alloc::{AllocError, Global};
 use std::convert::AsStr;
 
 /// What the words ask for.
-#[derive(Clone, Copy)]
+#[derive(Drop)]
 pub enum Asked<'a> {
     /// What there is in the spool of this folder.
     Look(&'a str),
     /// A file of so many bytes for it.
     Grow(&'a str, u64),
+    /// A spool of its own for some of its queues.
+    Split(Split<'a>),
+}
+
+/// What is to be split: the folder of the whole spool, the one that gets a part of it, and the queues in that part, at least one.
+#[derive(Drop)]
+pub struct Split<'a> {
+    pub from: &'a str,
+    pub into: &'a str,
+    pub queues: Vec<&'a str>,
 }
 
 /// Reads the words of the command line, of which the first is the program's name.
@@ -33,9 +44,10 @@ pub fn read_words<'a, S: AsStr>(alloc: Global, words: &'a [S]) -> Result<Asked<'
         Ok(matches) => matches,
         Err(fault) => return Err(fault),
     };
-    match task_of(&matches) {
-        Some(asked) => Ok(asked),
-        None => Err(no_task(&mut command)),
+    match task_of(alloc, &matches) {
+        Ok(Some(asked)) => Ok(asked),
+        Ok(None) => Err(no_task(&mut command)),
+        Err(_) => Err(WordsFault::Memory),
     }
 }
 
@@ -56,20 +68,108 @@ fn parse<'a, S: AsStr>(
 }
 
 // What is asked for by the values that were found, if they are those of a task.
-fn task_of<'a>(matches: &ArgMatches<'a>) -> Option<Asked<'a>>
-    ensures asked { IfSome result (IsAsked (rows_of (found_of matches.now))) }
-    ensures none { IfNone result (¬ (HasTask (rows_of (found_of matches.now)))) }
+fn task_of<'a>(alloc: Global, matches: &ArgMatches<'a>) -> Result<Option<Asked<'a>>, AllocError>
+    ensures asked { IfOk result (λ found. IfSome found (IsAsked (rows_of (found_of matches.now)))) }
+    ensures none { IfOk result (λ found. IfNone found (¬ (HasTask (rows_of (found_of matches.now))))) }
 {
-    let task = matches.get_str("task")?;
-    let dir = matches.get_str("dir")?;
-    if task == "grow" {
-        let size = matches.get_one::<u64>("bytes")?;
-        return Some(Asked::Grow(dir, size));
+    let Some(task) = text_given(matches, "task") else {
+        return Ok(None);
+    };
+    let Some(dir) = text_given(matches, "dir") else {
+        return Ok(None);
+    };
+    asked_with_rest(alloc, matches, task, dir)
+}
+
+// The text of a word that is given once.
+fn text_given<'a>(matches: &ArgMatches<'a>, name: &str) -> Option<&'a str>
+    ensures { option_map (λ text. text.now) result ≡ first_of name.now (rows_of (found_of matches.now)) }
+{
+    matches.get_str(name)
+}
+
+// What a task asks for with the words behind the folder, if any are given.
+fn asked_with_rest<'a>(
+    alloc: Global,
+    matches: &ArgMatches<'a>,
+    task: &'a str,
+    dir: &'a str,
+) -> Result<Option<Asked<'a>>, AllocError>
+    ensures asked { IfOk result (λ found. IfSome found (IsFor task.entry.now dir.entry.now (rest_of (rows_of (found_of matches.now))))) }
+    ensures none { IfOk result (λ found. IfNone found (¬ (IsOfTask task.entry.now (rest_of (rows_of (found_of matches.now)))))) }
+{
+    match matches.get_strs("rest") {
+        Some(rest) => asked_of(alloc, task, dir, rest),
+        None => asked_of(alloc, task, dir, &[]),
     }
-    if task == "look" && matches.get_str("bytes").is_none() {
-        return Some(Asked::Look(dir));
+}
+
+// What these words ask for, if they are those of a task.
+fn asked_of<'a>(
+    alloc: Global,
+    task: &'a str,
+    dir: &'a str,
+    rest: &[&'a str],
+) -> Result<Option<Asked<'a>>, AllocError>
+    ensures asked { IfOk result (λ found. IfSome found (IsFor task.entry.now dir.entry.now (map (λ word. word.now) rest.now))) }
+    ensures none { IfOk result (λ found. IfNone found (¬ (IsOfTask task.entry.now (map (λ word. word.now) rest.now)))) }
+{
+    match task {
+        "look" => Ok(look_of(dir, rest)),
+        "grow" => Ok(grow_of(dir, rest)),
+        "split" => split_of(alloc, dir, rest),
+        _ => Ok(None),
     }
-    None
+}
+
+fn look_of<'a>(dir: &'a str, rest: &[&'a str]) -> Option<Asked<'a>>
+    ensures asked { IfSome result (IsLook dir.entry.now (map (λ word. word.now) rest.now)) }
+    ensures none { IfNone result (¬ (map (λ word. word.now) rest.now ≡ [])) }
+{
+    if rest.is_empty() {
+        Some(Asked::Look(dir))
+    } else {
+        None
+    }
+}
+
+fn grow_of<'a>(dir: &'a str, rest: &[&'a str]) -> Option<Asked<'a>>
+    ensures asked { IfSome result (IsGrow dir.entry.now (map (λ word. word.now) rest.now)) }
+    ensures none { IfNone result (¬ (IsSize (map (λ word. word.now) rest.now))) }
+{
+    match rest {
+        [text] => Some(Asked::Grow(dir, size_of(text)?)),
+        _ => None,
+    }
+}
+
+fn split_of<'a>(
+    alloc: Global,
+    dir: &'a str,
+    rest: &[&'a str],
+) -> Result<Option<Asked<'a>>, AllocError>
+    ensures asked { IfOk result (λ found. IfSome found (IsSplit dir.entry.now (map (λ word. word.now) rest.now))) }
+    ensures none { IfOk result (λ found. IfNone found (¬ (ArePlaces (map (λ word. word.now) rest.now)))) }
+{
+    match rest.split_first() {
+        Some((into, queues)) if !queues.is_empty() => Ok(Some(Asked::Split(Split {
+            from: dir,
+            into,
+            queues: queues.to_vec(alloc)?,
+        }))),
+        _ => Ok(None),
+    }
+}
+
+// The length that a text tells, if it is one that a file may have.
+fn size_of(text: &str) -> Option<u64>
+    ensures value { IfSome result (λ size. IsUnsignedIn 4096 1073741824 text.now × (size ≡ number_of text.now)) }
+    ensures none { IfNone result (¬ (IsUnsignedIn 4096 1073741824 text.now)) }
+{
+    match text.parse::<u64>() {
+        Ok(size) if LEAST_SIZE <= size && size <= GREATEST_SIZE => Some(size),
+        _ => None,
+    }
 }
 
 // The program's command, as clap knows it.
@@ -80,7 +180,7 @@ fn admin_command<'a>(alloc: Global) -> Result<Command<'a>, AllocError>
         alloc,
         "task",
         "TASK",
-        "`look` shows how full the spool is, and `grow` makes its file larger",
+        "`look DIR` shows how full the spool is, `grow DIR BYTES` makes its file larger, and `split DIR INTO QUEUE..` gives queues to another spool",
     );
     let dir = word(
         alloc,
@@ -88,12 +188,14 @@ fn admin_command<'a>(alloc: Global) -> Result<Command<'a>, AllocError>
         "DIR",
         "The folder of the spool's file, spool.disk, which no other program may have meanwhile",
     );
-    let bytes = length(alloc);
+    let rest = more_words(alloc);
     Command::new(alloc, "spool_admin")
-        .about("Looks at a print spool, or makes it larger, while no spooler runs")
+        .about(
+            "Looks at a print spool, makes it larger, or splits it by queues, while no spooler runs",
+        )
         .arg(task)?
         .arg(dir)?
-        .arg(bytes)
+        .arg(rest)
 }
 
 // A word that has to be there, and isn't empty.
@@ -108,22 +210,25 @@ fn word<'a>(alloc: Global, name: &'a str, value: &'a str, help: &'a str) -> Arg<
         .help(help)
 }
 
-// The length of the larger file.
-fn length<'a>(alloc: Global) -> Arg<'a>
-    ensures rule { rule_of result ≡ placed (codes "bytes") sizes }
+// The words behind the folder, as many as are wanted.
+fn more_words<'a>(alloc: Global) -> Arg<'a>
+    ensures rule { rule_of result ≡ several (codes "rest") }
     ensures local { result.global ≡ false }
 {
-    Arg::new(alloc, "bytes")
-        .value_name("BYTES")
-        .value_parser(ValueParser::Unsigned(LEAST_SIZE, GREATEST_SIZE))
-        .help("The length of the larger file. It goes with `grow` alone")
+    Arg::new(alloc, "rest")
+        .value_name("WORD")
+        .action(ArgAction::Append)
+        .value_parser(ValueParser::NonEmptyString)
+        .help(
+            "For `grow` the length of the larger file in bytes. For `split` the folder that gets the queues, and their names",
+        )
 }
 
 // The fault of values that are those of no task, in the form of clap's own.
 fn no_task(command: &mut Command<'_>) -> WordsFault {
     match command.error(
         ErrorKind::ValueValidation,
-        "neither `look DIR` nor `grow DIR BYTES` is asked for",
+        "none of `look DIR`, `grow DIR BYTES` and `split DIR INTO QUEUE..` is asked for",
     ) {
         Ok(error) => WordsFault::Refused(error),
         Err(_) => WordsFault::Memory,

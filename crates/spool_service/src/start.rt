@@ -12,6 +12,8 @@ use log::{Log, info};
 use mime_costs::Convs;
 use mime_rules::Types;
 use service_loop::{Keeping, Service, ServiceFault, Watch, WatchedChildren};
+use spool_disk::Disk;
+use spool_engine::Engine;
 use spool_host::{
     DiskCause, ShellFault, check_child_ends, launcher_in, open_folder_engine, read_rules,
     remove_if_there, tell_programs,
@@ -59,16 +61,49 @@ where
     C: Children + Drop,
 {
     let (folder, engine) = open_folder_engine(logged, rt, words.root, words.size, children, rules)?;
+    let served = serve_engine(logged, rt, words, watch, engine);
+    // The folder is this program's until the service has ended.
+    drop(folder);
+    served
+}
+
+// Serves the clients of the socket with this engine.
+fn serve_engine<L, H, D, C>(
+    logged: &L,
+    rt: &H,
+    words: &ServiceWords<'_>,
+    watch: &Watch,
+    engine: Engine<D, C>,
+) -> Result<(), ShellFault>
+where
+    L: Log,
+    H: Files<File = File> + Net + Processes + Clock + Clone + Drop + AllocGlobal,
+    D: Disk + Drop,
+    C: Children + Drop,
+{
     let keeping = keeping_of(words, disk_size(rt, words.root)?);
     let mut service = Service::new(logged, rt.alloc(), watch, engine, keeping)?;
+    serve_at_socket(logged, rt, words, &mut service)
+}
+
+// Serves the clients of the socket, which goes when the service has ended.
+fn serve_at_socket<L, H, D, C>(
+    logged: &L,
+    rt: &H,
+    words: &ServiceWords<'_>,
+    service: &mut Service<'_, L, D, C, SocketDoor>,
+) -> Result<(), ShellFault>
+where
+    L: Log,
+    H: Files<File = File> + Net + Processes + Clock + Clone + Drop + AllocGlobal,
+    D: Disk + Drop,
+    C: Children + Drop,
+{
     let socket = socket_name(rt, words)?;
     let mut door = open_door(rt, socket.as_str(), words.mode)?;
     info!(logged; "serves {}", socket.as_str());
     let served = service.serve(&mut door, &mut SystemTimes::new(rt), &mut Kills::new(rt));
     let _ = remove_if_there(rt, Path::new(socket.as_str()));
-    // The folder is this program's until the service has ended.
-    drop(service);
-    drop(folder);
     told_as(served)
 }
 

@@ -1,0 +1,246 @@
+//! A reader of what a client asks for.
+ghost use Rattle.std.specs.Prelude.{◌≡◌, ◌⊎◌, ℕ, ◌<◌, ◌≤◌, true, false, List, ◌++◌, length, take, drop, slice_index, vec_len, IfSome, IfNone, OnErr, OnOk, IfOk};
+ghost use Rattle.command_lines.specs.Lines.{has_lf};
+ghost use Rattle.command_lines.specs.Pending.{IsPartial};
+ghost use Rattle.command_lines.specs.Waits.{wanted_of};
+ghost use Rattle.client_reader.specs.Asks.{asks_of, own_of};
+ghost use Rattle.client_reader.specs.Reading.{Awaits, Gives, ends_within};
+ghost use Rattle.client_reader.specs.declared.ask.Ask.{Ask as AskOf};
+
+use crate::ask::{Ask, Next};
+use command_lines::{Commands, Wanted, line_by_line};
+use service_texts::{OwnWord, own_word};
+use std::alloc::{AllocError, Global};
+
+const LINE_FEED: u8 = b'\n';
+
+// How many bytes of a line are waited for before the reader of commands gets them, and how many a word of the service may have.
+const LONGEST_LINE: usize = 4_096;
+
+/// A reader of what a client asks for, from a text that comes in pieces.
+#[derive(Drop)]
+pub struct Reader {
+    commands: Commands,
+    // What came and the reader of commands hasn't got.
+    text: Vec<u8>,
+    // Whether the reader of commands was given the front of a line last.
+    within: bool,
+}
+
+impl Reader {
+    /// A reader before any text. It takes no memory yet.
+    pub fn new(alloc: Global) -> Reader
+        ensures { Awaits result asks_of }
+    {
+        Reader {
+            commands: Commands::new(alloc),
+            text: Vec::new(alloc),
+            within: false,
+        }
+    }
+
+    /// Takes the next piece of the text.
+    pub fn take(&mut self, piece: &[u8]) -> Result<(), AllocError>
+        ensures { (asks : List ℕ → List AskOf) → Awaits self.old asks → OnOk result (Awaits self.new (λ more. asks (piece.now ++ more))) }
+    {
+        self.text.extend_from_slice(piece)?;
+        Ok(())
+    }
+
+    /// What is asked for next. An `Err` has lost nothing, and the call may be made again.
+    pub fn next(&mut self) -> Result<Next, AllocError>
+        ensures ok { (asks : List ℕ → List AskOf) → Awaits self.old asks → IfOk result (λ next. Gives asks next self.new) }
+        ensures err { (asks : List ℕ → List AskOf) → Awaits self.old asks → OnErr result (Awaits self.new asks) }
+    {
+        line_by_line();
+        match self.commands.next()? {
+            Some(command) => Ok(Next::Asked(Ask::Command(command))),
+            None => self.next_of_text(),
+        }
+    }
+
+    // The same, where the reader of commands has none.
+    fn next_of_text(&mut self) -> Result<Next, AllocError>
+        requires { IsPartial self.old.commands.mode self.old.commands.held }
+        ensures ok { (asks : List ℕ → List AskOf) → Awaits self.old asks → IfOk result (λ next. Gives asks next self.new) }
+        ensures err { (asks : List ℕ → List AskOf) → Awaits self.old asks → OnErr result (Awaits self.new asks) }
+    {
+        if self.text.is_empty() {
+            return Ok(Next::Text);
+        }
+        match self.commands.wanted() {
+            Wanted::Bytes(count) => self.give_send(count),
+            Wanted::Line => self.next_of_part(),
+            Wanted::Rest => self.next_of_part(),
+        }
+    }
+
+    // The same, where a line is waited for, or the rest of one.
+    fn next_of_part(&mut self) -> Result<Next, AllocError>
+        requires partial { IsPartial self.old.commands.mode self.old.commands.held }
+        requires wanted { (wanted_of self.old.commands ≡ Wanted.Line) ⊎ (wanted_of self.old.commands ≡ Wanted.Rest) }
+        ensures ok { (asks : List ℕ → List AskOf) → Awaits self.old asks → IfOk result (λ next. Gives asks next self.new) }
+        ensures err { (asks : List ℕ → List AskOf) → Awaits self.old asks → OnErr result (Awaits self.new asks) }
+    {
+        if self.within {
+            self.give_rest()
+        } else {
+            self.next_of_line()
+        }
+    }
+
+    // The same, where the text stands at a line's beginning.
+    fn next_of_line(&mut self) -> Result<Next, AllocError>
+        requires partial { IsPartial self.old.commands.mode self.old.commands.held }
+        requires wanted { (wanted_of self.old.commands ≡ Wanted.Line) ⊎ (wanted_of self.old.commands ≡ Wanted.Rest) }
+        requires begins { self.old.within ≡ false }
+        ensures ok { (asks : List ℕ → List AskOf) → Awaits self.old asks → IfOk result (λ next. Gives asks next self.new) }
+        ensures err { (asks : List ℕ → List AskOf) → Awaits self.old asks → OnErr result (Awaits self.new asks) }
+    {
+        match line_end(&self.text) {
+            Some(at) => self.take_line(at),
+            None if LONGEST_LINE < self.text.len() => self.give_front(),
+            None => Ok(Next::Text),
+        }
+    }
+
+    // Takes a line that is a word of the service, or gives it on.
+    fn take_line(&mut self, at: usize) -> Result<Next, AllocError>
+        requires partial { IsPartial self.old.commands.mode self.old.commands.held }
+        requires wanted { (wanted_of self.old.commands ≡ Wanted.Line) ⊎ (wanted_of self.old.commands ≡ Wanted.Rest) }
+        requires begins { self.old.within ≡ false }
+        requires at { at < length self.old.text.items }
+        requires before { has_lf (take at self.old.text.items) ≡ false }
+        requires there { slice_index self.old.text.items at ≡ 10 }
+        ensures ok { (asks : List ℕ → List AskOf) → Awaits self.old asks → IfOk result (λ next. Gives asks next self.new) }
+        ensures err { (asks : List ℕ → List AskOf) → Awaits self.old asks → OnErr result (Awaits self.new asks) }
+    {
+        line_by_line();
+        match own_of(&self.text[..at]) {
+            Some(word) => {
+                self.skip(at + 1);
+                Ok(Next::Asked(Ask::Own(word)))
+            }
+            None => {
+                self.give(at + 1)?;
+                Ok(Next::Again)
+            }
+        }
+    }
+
+    // Gives on the front of a line that is too long.
+    fn give_front(&mut self) -> Result<Next, AllocError>
+        requires partial { IsPartial self.old.commands.mode self.old.commands.held }
+        requires wanted { (wanted_of self.old.commands ≡ Wanted.Line) ⊎ (wanted_of self.old.commands ≡ Wanted.Rest) }
+        requires begins { self.old.within ≡ false }
+        requires none { has_lf self.old.text.items ≡ false }
+        requires long { 4096 < length self.old.text.items }
+        ensures ok { (asks : List ℕ → List AskOf) → Awaits self.old asks → IfOk result (λ next. Gives asks next self.new) }
+        ensures err { (asks : List ℕ → List AskOf) → Awaits self.old asks → OnErr result (Awaits self.new asks) }
+    {
+        line_by_line();
+        let count = self.text.len();
+        self.give(count)?;
+        Ok(Next::Again)
+    }
+
+    // Gives on the rest of a line, or a part of it.
+    fn give_rest(&mut self) -> Result<Next, AllocError>
+        requires partial { IsPartial self.old.commands.mode self.old.commands.held }
+        requires wanted { (wanted_of self.old.commands ≡ Wanted.Line) ⊎ (wanted_of self.old.commands ≡ Wanted.Rest) }
+        requires within { self.old.within ≡ true }
+        ensures ok { (asks : List ℕ → List AskOf) → Awaits self.old asks → IfOk result (λ next. Gives asks next self.new) }
+        ensures err { (asks : List ℕ → List AskOf) → Awaits self.old asks → OnErr result (Awaits self.new asks) }
+    {
+        line_by_line();
+        match line_end(&self.text) {
+            Some(at) => {
+                self.give(at + 1)?;
+                Ok(Next::Again)
+            }
+            None => {
+                let count = self.text.len();
+                self.give(count)?;
+                Ok(Next::Again)
+            }
+        }
+    }
+
+    // Gives on bytes of a send, no more than it wants.
+    fn give_send(&mut self, count: usize) -> Result<Next, AllocError>
+        requires partial { IsPartial self.old.commands.mode self.old.commands.held }
+        requires wanted { wanted_of self.old.commands ≡ Wanted.Bytes count }
+        requires some { 0 < length self.old.text.items }
+        ensures ok { (asks : List ℕ → List AskOf) → Awaits self.old asks → IfOk result (λ next. Gives asks next self.new) }
+        ensures err { (asks : List ℕ → List AskOf) → Awaits self.old asks → OnErr result (Awaits self.new asks) }
+    {
+        line_by_line();
+        let there = self.text.len();
+        self.give(count.min(there))?;
+        Ok(Next::Again)
+    }
+
+    // Drops the first bytes of the text.
+    fn skip(&mut self, count: usize)
+        requires { count ≤ vec_len self.old.text }
+        ensures commands { self.new.commands ≡ self.old.commands }
+        ensures text { self.new.text.items ≡ drop count self.old.text.items }
+        ensures within { self.new.within ≡ self.old.within }
+    {
+        self.text.drain(..count);
+    }
+
+    // Gives the reader of commands the first bytes of the text, which are gone from it then.
+    fn give(&mut self, count: usize) -> Result<(), AllocError>
+        requires { count ≤ vec_len self.old.text }
+        ensures commands { OnOk result (self.new.commands ≡ record self.old.commands { held = self.old.commands.held ++ take count self.old.text.items }) }
+        ensures text { OnOk result (self.new.text.items ≡ drop count self.old.text.items) }
+        ensures within { OnOk result (self.new.within ≡ ends_within (take count self.old.text.items)) }
+        ensures lost_none { OnErr result (self.new.commands ≡ self.old.commands) }
+        ensures same_text { OnErr result (self.new.text.items ≡ self.old.text.items) }
+        ensures same_within { OnErr result (self.new.within ≡ self.old.within) }
+    {
+        let piece = &self.text[..count];
+        let within = ends_within(piece);
+        self.commands.feed(piece)?;
+        self.within = within;
+        self.text.drain(..count);
+        Ok(())
+    }
+}
+
+// What a line says to the service alone.
+fn own_of(line: &[u8]) -> Option<OwnWord>
+    ensures { result ≡ own_of line.now }
+{
+    if line.len() <= LONGEST_LINE {
+        own_word(line)
+    } else {
+        None
+    }
+}
+
+// Whether bytes end within a line.
+fn ends_within(bytes: &[u8]) -> bool
+    ensures { result ≡ ends_within bytes.now }
+{
+    match bytes.last() {
+        Some(b) => *b != LINE_FEED,
+        None => true,
+    }
+}
+
+// Where the first line feed is.
+fn line_end(text: &[u8]) -> Option<usize>
+    ensures at { IfSome result (λ at. at < length text.now) }
+    ensures before { IfSome result (λ at. has_lf (take at text.now) ≡ false) }
+    ensures there { IfSome result (λ at. slice_index text.now at ≡ 10) }
+    ensures none { IfNone result (has_lf text.now ≡ false) }
+{
+    for (i, b) in text.iter().enumerate() {
+        if *b == LINE_FEED {
+            return Some(i);
+        }
+    }
+    None
+}

@@ -1,0 +1,18 @@
+-- what the values don't ask for isn't asked for by the words
+use Rattle.std.proofs.Common.{◌≡◌, List, Option, Some, None, map, subst, sym}
+use Rattle.std.specs.Prelude.{IfNone}
+use Rattle.clap.specs.Words.{Row, found_of, matches_of, rows_of}
+use Rattle.spool_host.proofs.Refusals.{refuses}
+use Rattle.spool_admin.specs.Words.{AreTaken, HasTask, admin_app}
+use Rattle.spool_admin.proofs.words.read_words.Goals as goal
+
+no_task : {T : Type 0} (asked : Option T) (found given : List Row) → asked ≡ None → IfNone asked (HasTask found → ⊥) → found ≡ given → HasTask given → ⊥
+no_task None found given is never same has = never (subst HasTask (sym same) has)
+no_task (Some x) found given is never same has = cc
+
+pub returns-in-Ok-None-clause-taken : goal.returns-in-Ok-None-clause-taken
+returns-in-Ok-None-clause-taken g c =
+    let words = map g.S.AsStr.text c.args.words.now in
+    refuses (AreTaken words) c.no_task.result
+    (λ taken. no_task c.in-Ok-None.field-0 (rows_of (found_of c.in-Ok-parse.matches)) (matches_of admin_app words) c.in-Ok-None.field-0-is c.in-Ok-None.ensures.none
+    c.in-Ok-parse.ensures.found taken.1)

@@ -1,0 +1,169 @@
+//! A folder that is owned, and the names in it.
+ghost use Rattle.std.specs.Prelude.{IfErr, OnOk, replicate};
+ghost use Rattle.std.specs.Io.KnownBytes.{Appends};
+ghost use Rattle.spool_host.specs.Faults.{IsOfFolder};
+
+use spool_disk::FileDisk;
+use spool_host::{ShellFault, SpoolFolder, remove_if_there};
+use std::fs::{File, Files, Metadata, OpenFile, OpenOptions};
+use std::io::{ErrorKind, Write};
+use std::os::unix::fs::{MetadataExt, OpenOptionsExt, fchown};
+use std::path::Path;
+use std::time::Clock;
+use std::{fs, io};
+
+// How many zeros are written at once.
+const BLOCK: usize = 65_536;
+
+/// A folder that no other program has meanwhile.
+#[derive(Drop)]
+pub struct Folder<'a> {
+    pub owned: SpoolFolder<'a>,
+    path: Path<'a>,
+    folder: File,
+}
+
+impl<'a> Folder<'a> {
+    /// Takes the folder, which is there.
+    pub fn own<R: Files<File = File> + Clock + AllocGlobal>(
+        rt: &R,
+        dir: &'a str,
+    ) -> Result<Folder<'a>, ShellFault>
+        ensures { IfErr result IsOfFolder }
+    {
+        let owned = SpoolFolder::own(rt, dir)?;
+        let path = Path::new(dir);
+        let itself = path.join(rt.alloc(), ".")?;
+        let folder = File::open(rt, itself.as_path())?;
+        Ok(Folder {
+            owned,
+            path,
+            folder,
+        })
+    }
+
+    /// Whether something has this name.
+    pub fn has<R: Files + AllocGlobal>(&self, rt: &R, name: &str) -> Result<bool, ShellFault>
+        ensures { IfErr result IsOfFolder }
+    {
+        let path = self.path.join(rt.alloc(), name)?;
+        match fs::symlink_metadata(rt, path.as_path()) {
+            Ok(_) => Ok(true),
+            Err(error) if error.kind() == ErrorKind::NotFound => Ok(false),
+            Err(error) => Err(ShellFault::from(error)),
+        }
+    }
+
+    /// What the system tells of what has this name.
+    pub fn about<R: Files + AllocGlobal>(&self, rt: &R, name: &str) -> Result<Metadata, ShellFault>
+        ensures { IfErr result IsOfFolder }
+    {
+        let path = self.path.join(rt.alloc(), name)?;
+        Ok(fs::symlink_metadata(rt, path.as_path())?)
+    }
+
+    /// Gives what has the first name the other one, and syncs the folder.
+    pub fn rename<R: Files + AllocGlobal>(
+        &self,
+        rt: &R,
+        from: &str,
+        to: &str,
+    ) -> Result<(), ShellFault>
+        ensures { IfErr result IsOfFolder }
+    {
+        let from = self.path.join(rt.alloc(), from)?;
+        let to = self.path.join(rt.alloc(), to)?;
+        fs::rename(rt, from.as_path(), to.as_path())?;
+        self.sync()
+    }
+
+    /// Removes what has this name, if anything has, and syncs the folder.
+    pub fn remove<R: Files + AllocGlobal>(&self, rt: &R, name: &str) -> Result<(), ShellFault>
+        ensures { IfErr result IsOfFolder }
+    {
+        let path = self.path.join(rt.alloc(), name)?;
+        remove_if_there(rt, path.as_path())?;
+        self.sync()
+    }
+
+    /// The text of the file of this name, if there is one.
+    pub fn text<R: Files<File = File> + AllocGlobal>(
+        &self,
+        rt: &R,
+        name: &str,
+    ) -> Result<Option<String>, ShellFault>
+        ensures { IfErr result IsOfFolder }
+    {
+        let path = self.path.join(rt.alloc(), name)?;
+        match fs::read_to_string(rt, path.as_path()) {
+            Ok(text) => Ok(Some(text)),
+            Err(error) if error.kind() == ErrorKind::NotFound => Ok(None),
+            Err(error) => Err(ShellFault::from(error)),
+        }
+    }
+
+    /// Makes a file of this name with a text, synced. The folder is not synced.
+    pub fn put_text<R: Files<File = File> + AllocGlobal>(
+        &self,
+        rt: &R,
+        name: &str,
+        text: &str,
+    ) -> Result<(), ShellFault>
+        ensures { IfErr result IsOfFolder }
+    {
+        let path = self.path.join(rt.alloc(), name)?;
+        let mut file = new_file(rt, path.as_path())?;
+        file.write_all(text.as_bytes())?;
+        Ok(file.sync_all()?)
+    }
+
+    /// Makes a file of this name with so many zeros, with the owner and the mode that are told of another one, and syncs both it and
+    /// the folder.
+    pub fn put_zeros<R: Files<File = File> + AllocGlobal>(
+        &self,
+        rt: &R,
+        name: &str,
+        size: u64,
+        about: &Metadata,
+    ) -> Result<FileDisk, ShellFault>
+        ensures { IfErr result IsOfFolder }
+    {
+        let path = self.path.join(rt.alloc(), name)?;
+        let mut file = new_file(rt, path.as_path())?;
+        fchown(&file, Some(about.uid()), Some(about.gid()))?;
+        file.set_permissions(about.permissions())?;
+        write_zeros(&mut file, size)?;
+        file.sync_all()?;
+        self.sync()?;
+        Ok(FileDisk::new(file)?)
+    }
+
+    /// Syncs the names of the folder.
+    pub fn sync(&self) -> Result<(), ShellFault>
+        ensures { IfErr result IsOfFolder }
+    {
+        Ok(self.folder.sync_all()?)
+    }
+}
+
+// A file without bytes, which its owner alone may read. Nothing has its name before.
+fn new_file<R: Files<File = File>>(rt: &R, path: Path<'_>) -> io::Result<File> {
+    OpenOptions::new()
+        .read(true)
+        .write(true)
+        .create_new(true)
+        .mode(0o600)
+        .open(rt, path)
+}
+
+// Writes so many zeros.
+fn write_zeros<W: Write>(writer: &mut W, count: u64) -> io::Result<()>
+    ensures { OnOk result (Appends (W.contents writer.old) (W.contents writer.new) (replicate count 0)) }
+{
+    let zeros = [0u8; BLOCK];
+    let block = BLOCK as u64;
+    for _ in 0..count / block {
+        writer.write_all(&zeros)?;
+    }
+    writer.write_all(&zeros[..(count % block) as usize])
+}

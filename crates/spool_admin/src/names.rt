@@ -1,0 +1,55 @@
+//! The names of queues that are given to another spool.
+ghost use Rattle.std.specs.Prelude.{◌≡◌, ◌⊎◌, ◌++◌, ◌∷◌, [], IfErr, IfOk, OnOk, false, is_some, map};
+ghost use Rattle.std.specs.List.{list_all};
+ghost use Rattle.spool_types.specs.State.{queue_at};
+ghost use Rattle.spool_types.specs.Values.{is_queue_name};
+ghost use Rattle.spool_host.specs.declared.fault.ShellFault.TheVariants.{Memory};
+ghost use Rattle.spool_admin.specs.declared.fault.AdminFault.TheVariants.{Queue, Shell};
+
+use crate::fault::AdminFault;
+use job_table::Table;
+use spool_types::{QueueName, TextFault};
+use std::alloc::{AllocError, Global};
+
+/// The words as names of queues. One that can't be a name is that of no queue.
+pub fn names_of(alloc: Global, queues: &[&str]) -> Result<Vec<QueueName>, AdminFault>
+    ensures names { IfOk result (λ names. names.items ≡ map (λ queue. queue.now) queues.now) }
+    ensures fault { IfErr result (λ fault. (fault ≡ Shell Memory) ⊎ ((fault ≡ Queue) × (list_all (λ queue. is_queue_name queue.now) queues.now ≡ false))) }
+{
+    let mut names = Vec::new(alloc);
+    for queue in queues {
+        let name = name_of(alloc, queue)?;
+        push_name(&mut names, name)?;
+    }
+    Ok(names)
+}
+
+fn push_name(names: &mut Vec<QueueName>, name: QueueName) -> Result<(), AllocError>
+    ensures { OnOk result (names.new.items ≡ names.old.items ++ (name ∷ [])) }
+{
+    Ok(names.push(name)?)
+}
+
+fn name_of(alloc: Global, queue: &str) -> Result<QueueName, AdminFault>
+    ensures name { IfOk result (λ name. name ≡ queue.now) }
+    ensures fault { IfErr result (λ fault. (fault ≡ Shell Memory) ⊎ ((fault ≡ Queue) × (is_queue_name queue.now ≡ false))) }
+{
+    match QueueName::read(alloc, queue) {
+        Ok(name) => Ok(name),
+        Err(TextFault::Bad) => Err(AdminFault::Queue),
+        Err(TextFault::Memory) => Err(AdminFault::from(AllocError)),
+    }
+}
+
+/// Whether the table has a queue of each of these names.
+pub fn has_queues(table: &Table, names: &[QueueName]) -> bool
+    ensures { result ≡ list_all (λ name. is_some (queue_at table.now.state name)) names.now }
+{
+    names.iter().all(|name| has_queue(table, name))
+}
+
+fn has_queue(table: &Table, name: &QueueName) -> bool
+    ensures { result ≡ is_some (queue_at table.now.state name.now) }
+{
+    table.queue(name).is_some()
+}

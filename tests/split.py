@@ -1,0 +1,402 @@
+#!/usr/bin/env python3
+"""Splits spools by queues: split.py [ADMIN [SHELL]]
+
+ADMIN is the program, and crates/spool_admin/out/spool_admin (made by `rt run` in that folder) where none is given; SHELL is
+crates/spool_shell/out/spool_shell likewise. The spools are files that tests/journal.py spells: of both versions, in either area, with
+queues, documents and jobs of each phase, one of them processing.
+
+- `split` leaves two files of the old one's length, with its owner's mode. One lists exactly the rows and documents of the queues that
+  were named, and the other one all others. The highest number and the moment are the old ones in both, and a job that was processing
+  is so. The shell serves both, and each gives its next job a number that no job of either has.
+- What it refuses it names, and both folders are as they were: a queue that isn't there, a folder that has a spool or that another
+  program owns, the same folder twice, a spool that is damaged or isn't there, rows that don't fit, words that say nothing.
+- Under strace (Debian's package `strace`) it is killed at each of its system calls, and each fails once. Each job is in exactly one
+  spool then: the old spool is there and the other folder has none, or both halves are there, the named one perhaps under the name that
+  isn't served. The same command, given again, ends with both halves, and leaves no other name. From the calls it is seen what a power
+  cut may leave: the old file is never written to, both new ones are synced with their names before the change over, and each name is
+  synced before the next one is changed, also by a call that goes on where one was killed.
+
+The last line is `N of N`, with status 0, or the first difference, with status 1: its folder stays then, and is named. Without
+strace, or where it may not trace, what wants it is left out.
+"""
+import copy
+import os
+import shutil
+import stat
+import subprocess
+import sys
+import tempfile
+from concurrent.futures import ThreadPoolExecutor
+
+import journal
+import spool_model as model
+import traces
+from journal import cancel, close, hold, image, send, start
+from stories import LAB, Q, Difference, of_lab, of_q, same, spelled
+
+HERE = os.path.dirname(os.path.abspath(__file__))
+
+
+def program(at, name):
+    built = os.path.join(HERE, "..", "crates", name, "out", name)
+    return os.path.abspath(sys.argv[at] if len(sys.argv) > at else built)
+
+
+ADMIN = program(1, "spool_admin")
+SHELL = program(2, "spool_shell")
+SECONDS = 60
+SIDE_BY_SIDE = 4
+SIZE = 8_192
+NAME = "spool.disk"
+PART = "spool.part."
+LOCK = "spool.lock"
+OWNED = "spool: disk\nspool: cause: owned\n"
+
+# The calls that may be killed at, and those of them that fail, with an error.
+ERRORS = {"open": "EIO", "openat": "EIO", "flock": "ENOLCK", "statx": "EIO", "fstat": "EIO", "lstat": "EIO", "newfstatat": "EIO",
+          "read": "EIO", "pread64": "EIO", "write": "ENOSPC", "pwrite64": "EIO", "fsync": "EIO", "fdatasync": "EIO", "fchown": "EPERM",
+          "fchmod": "EPERM", "rename": "EIO", "renameat": "EIO", "renameat2": "EIO", "unlink": "EIO", "unlinkat": "EIO", "close": "EIO"}
+KILLED = (*ERRORS, "mmap", "munmap", "brk", "exit_group", "lseek", "fcntl")
+
+# Queues, and jobs of each phase: their documents are coming, they wait, are held, are processing, or have ended.
+EVENTS = (Q.event(), LAB.event(), of_q(1).event(), send(1, b"first"), send(1, b" and last"), close(1),
+          of_q(2, title="Coming").event(), send(2, b"half of it"), of_lab(3).event(), send(3, b"held " * 60), close(3), hold(3),
+          of_lab(4).event(), close(4), cancel(4), of_lab(5).event(), send(5, b"printing"), close(5), start(5))
+
+
+def image_of(version=journal.NEWEST, size=SIZE, epoch=1):
+    return image(size, [spelled(event, version) for event in EVENTS], epoch=epoch, version=version)
+
+
+def in_second_area(file, epoch=7):
+    """The same spool with its areas changed over, and an older one in the other area."""
+    first, second = journal.halves(file)
+    rest = file[2 * len(first):]
+    return journal.area(len(first), epoch - 1, [spelled(Q.event())]) + journal.header(epoch, version=first[1]) + first[journal.HEADER:] + rest
+
+
+def half_of(file, names, named):
+    """The table of the rows of the named queues, or of all others."""
+    table = copy.deepcopy(model.standing(file))
+    table.queues = {name: queue for name, queue in table.queues.items() if (name in names) == named}
+    table.jobs = {number: job for number, job in table.jobs.items() if (job.queue in names) == named}
+    return table
+
+
+class Place:
+    """The folder of a spool with these bytes, and a folder beside it."""
+
+    def __init__(self, folder, content=None):
+        self.top = tempfile.mkdtemp(dir=folder)
+        self.source, self.target = (os.path.join(self.top, name) for name in ("from", "into"))
+        os.mkdir(self.source)
+        os.mkdir(self.target)
+        if content is not None:
+            with open(os.path.join(self.source, NAME), "wb") as file:
+                file.write(content)
+            # Those of an earlier program.
+            for root in (self.source, self.target):
+                os.close(os.open(os.path.join(root, LOCK), os.O_CREAT, 0o600))
+
+    def content(self, root, name=NAME):
+        with open(os.path.join(root, name), "rb") as file:
+            return file.read()
+
+    def admin(self, *words, before=()):
+        done = subprocess.run([*before, ADMIN, *words], capture_output=True, text=True, timeout=SECONDS)
+        return done.returncode, done.stdout, done.stderr
+
+    def split(self, *queues):
+        same("the end of `split`", self.admin("split", self.source, self.target, *(queues or ("lab",))), (0, "", ""))
+
+    def names(self):
+        """The names in both folders, beside those of the locks' files, which stay."""
+        return tuple(sorted(name for name in os.listdir(root) if name != LOCK) for root in (self.source, self.target))
+
+    def refuses(self, fault, *queues, words=None):
+        """Both folders are as they were."""
+        names, before = self.names(), self.content(self.source)
+        same("the end", self.admin(*(words or ("split", self.source, self.target, *(queues or ("lab",))))), (1, "", fault))
+        same("the names", self.names(), names)
+        same("the file is as it was", self.content(self.source) == before, True)
+
+    def serve(self, root, *commands):
+        script = "".join(f"{command}\n" for command in commands)
+        done = subprocess.run([SHELL, "--root", root], input=script, capture_output=True, text=True, timeout=SECONDS)
+        same("the shell's end", (done.returncode, done.stderr), (0, ""))
+        return done.stdout.splitlines()
+
+
+def is_listed(file, table, size):
+    """The bytes list exactly this table, in the newest version."""
+    payloads, _ = journal.current(file)
+    return (len(file), payloads, journal.current_version(file)) == (size, table.listing(), journal.NEWEST)
+
+
+def is_split(place, old, names=("lab",)):
+    same("the names", place.names(), ([NAME], [NAME]))
+    same("what went", is_listed(place.content(place.target), half_of(old, names, True), len(old)), True)
+    same("what stayed", is_listed(place.content(place.source), half_of(old, names, False), len(old)), True)
+
+
+def next_number(place, root, queue):
+    reply, = place.serve(root, f'create {queue} ann "More" 1 50 ""')
+    return int(reply.split()[-1])
+
+
+# ---- splitting
+
+def each_row_is_in_one_half(folder):
+    for file in (image_of(), image_of(1), in_second_area(image_of()), in_second_area(image_of(1)), image_of(size=8_193)):
+        for names in (("lab",), ("q",), ("q", "lab"), ("lab", "lab")):
+            place = Place(folder, file)
+            os.chmod(os.path.join(place.source, NAME), 0o640)
+            place.split(*names)
+            is_split(place, file, names)
+            for root in (place.source, place.target):
+                same("the mode", stat.S_IMODE(os.stat(os.path.join(root, NAME)).st_mode), 0o640)
+
+
+def both_are_served(folder):
+    file = image_of()
+    place = Place(folder, file)
+    place.split()
+    for root, named in ((place.source, False), (place.target, True)):
+        # The attempt that was under way is given up by the opening of its half, as by that of the whole.
+        table = half_of(file, ("lab",), named)
+        table.reopen()
+        same("what the shell lists", place.serve(root, "jobs", "queues"), [*table.jobs_reply(), *table.queues_reply()])
+    same("the next numbers", (next_number(place, place.source, "q"), next_number(place, place.target, "lab")), (6, 6))
+
+
+def documents_are_whole(folder):
+    """Documents of several pieces, and of none."""
+    long = bytes(range(256)) * 600
+    events = [Q.event(), LAB.event()]
+    for number, data in ((1, long), (2, b""), (3, long[:65_536]), (4, long[1:65_536])):
+        events.append((of_q if number % 2 else of_lab)(number).event())
+        events += [send(number, data[at:at + 65_536]) for at in range(0, len(data), 65_536)]
+        events.append(close(number))
+    file = image(1_000_000, [spelled(event) for event in events])
+    place = Place(folder, file)
+    place.split()
+    is_split(place, file)
+
+
+def a_half_is_split_again(folder):
+    place = Place(folder, image_of())
+    place.split()
+    half = place.content(place.source)
+    second = Place(folder, half)
+    second.split("q")
+    is_split(second, half, ("q",))
+
+
+# ---- what is refused
+
+def what_is_refused(folder):
+    Place(folder, image_of()).refuses("spool: queue\n", "lab", "none")
+    Place(folder, image_of()).refuses("spool: queue\n", "no name")
+    place = Place(folder, image_of())
+    with open(os.path.join(place.target, NAME), "wb") as file:
+        file.write(image(SIZE))
+    place.refuses("spool: taken\n")
+    place = Place(folder, image_of())
+    place.refuses(OWNED, words=("split", place.source, place.source, "lab"))
+    damaged = in_second_area(image(SIZE, [spelled(Q.event()), b"\xFF"]))
+    Place(folder, damaged).refuses(f"spool: damaged {SIZE // 2 + journal.places([spelled(Q.event())])[-1]}\n", "q")
+    place = Place(folder, image_of())
+    os.link(os.path.join(place.source, NAME), os.path.join(place.top, "second"))
+    place.refuses("spool: disk\nspool: cause: no file\n")
+    place = Place(folder)
+    same("no file", place.admin("split", place.source, place.target, "q"), (1, "", "spool: disk\nspool: cause: absent\n"))
+    same("nothing is made", place.names(), ([], []))
+    same("no folder", place.admin("split", place.source, f"{place.top}/none", "q"), (1, "", "spool: disk\nspool: cause: absent\n"))
+
+
+def rows_that_do_not_fit(folder):
+    """Rows are longer than the events that led to them."""
+    events = [Q.event()]
+    while len(image(SIZE, [*map(spelled, events)])) == SIZE and model.reading(image(SIZE, [*map(spelled, events)])).gate < SIZE // 2 - 60:
+        events.append(of_q(len(events)).event())
+    Place(folder, image(SIZE, [*map(spelled, events)])).refuses("spool: full\n", "q")
+
+
+def a_running_shell_keeps_it(folder):
+    place = Place(folder, image_of())
+    pipe = subprocess.PIPE
+    for root in (place.source, place.target):
+        shell = subprocess.Popen([SHELL, "--root", root], stdin=pipe, stdout=pipe, stderr=pipe, text=True)
+        try:
+            shell.stdin.write("jobs\n")
+            shell.stdin.flush()
+            shell.stdout.readline()
+            place.refuses(OWNED)
+        finally:
+            shell.communicate()
+
+
+def words_that_say_nothing(folder):
+    place = Place(folder, image_of())
+    for words in (("split",), ("split", place.source), ("split", place.source, place.target), ("split", place.source, place.target, ""),
+                  ("join", place.source, place.target, "lab"), ("look", place.source, "lab"), ("grow", place.source, "8192", "lab")):
+        status, shown, told = place.admin(*words)
+        same(f"the end of {words}", (status, shown, told.startswith("error: ")), (2, "", True))
+    same("the file is as it was", place.content(place.source) == image_of(), True)
+
+
+def another_split_waits_for_the_first(folder):
+    """What was begun with other words is finished first."""
+    place = Place(folder, image_of())
+    with open(os.path.join(place.source, "spool.split"), "w", encoding="ascii") as file:
+        file.write(f"{PART}1\n{place.target}\nq\n")
+    place.refuses("spool: unfinished\n")
+
+
+# ---- kills, failures and cuts
+
+def traced(place, *inject):
+    """A `split` under strace, and its calls."""
+    trace = os.path.join(place.top, "trace")
+    strace = ["strace", "-qq", "-y", "-xx", "-s", "20", "-o", trace, "-e", "trace=" + ",".join(f"?{name}" for name in KILLED)]
+    for words in inject:
+        strace += ["-e", f"inject={words}"]
+    done = place.admin("split", place.source, place.target, "lab", before=strace)
+    counts = {}
+    with open(trace, encoding="ascii") as file:
+        lines = [line.rstrip("\n") for line in file]
+    return done, [traces.Call(line, counts) for line in lines if traces.LINE.fullmatch(line)]
+
+
+def is_whole_or_split(place, what):
+    """Each job is in exactly one spool: the folder's, or the other folder's file, which may still have a name that isn't served."""
+    old = image_of()
+    source, target = place.names()
+    parts = [name for name in target if name == NAME or name.startswith(PART)]
+    if place.content(place.source) == old:
+        same(f"{what}: the other folder has no spool", NAME in target, False)
+        return False
+    same(f"{what}: what stayed", is_listed(place.content(place.source), half_of(old, ("lab",), False), SIZE), True)
+    same(f"{what}: there is one part", len(parts), 1)
+    same(f"{what}: what went", is_listed(place.content(place.target, parts[0]), half_of(old, ("lab",), True), SIZE), True)
+    return True
+
+
+def goes_on(place, what):
+    """The same command, given again, ends with both halves, whatever the one before left."""
+    was_split = is_whole_or_split(place, what)
+    status, shown, told = place.admin("split", place.source, place.target, "lab")
+    # Where nothing was left to do but to end.
+    done = was_split and (status, shown, told) == (1, "", "spool: queue\n") or (status, shown, told) == (1, "", "spool: taken\n")
+    same(f"{what}: the end of the next one", done or (status, shown, told) == (0, "", ""), True)
+    is_split(place, image_of())
+
+
+def all_calls(folder):
+    done, calls = traced(Place(folder, image_of()))
+    same("the end of `split`", done, (0, "", ""))
+    return calls
+
+
+def side_by_side(check, calls):
+    """Each has folders of its own, and waits for syncs most of its time."""
+    with ThreadPoolExecutor(SIDE_BY_SIDE) as pool:
+        try:
+            for _ in pool.map(check, calls):
+                pass
+        except BaseException:
+            pool.shutdown(cancel_futures=True)
+            raise
+
+
+def it_is_killed_at_each_call(folder):
+    def killed(call):
+        place = Place(folder, image_of())
+        (status, _, _), _ = traced(place, f"{call.name}:signal=KILL:when={call.number}")
+        same(f"the status, killed at {call}", status in (-9, 137), True)
+        goes_on(place, f"killed at {call}")
+        shutil.rmtree(place.top)
+
+    side_by_side(killed, all_calls(folder))
+
+
+def each_call_fails_once(folder):
+    def failing(call):
+        place = Place(folder, image_of())
+        (status, shown, told), _ = traced(place, f"{call.name}:error={ERRORS[call.name]}:when={call.number}")
+        same(f"the end, where {call} fails", (status in (0, 1), shown, told.startswith("spool: ") == (status == 1)), (True, "", True))
+        same(f"all went well, where {call} fails", status == 1 or is_whole_or_split(place, f"failed at {call}"), True)
+        goes_on(place, f"failed at {call}")
+        shutil.rmtree(place.top)
+
+    calls = all_calls(folder)
+    begun = next(at for at, call in enumerate(calls) if any("/from" in path for path in call.paths()))
+    side_by_side(failing, [call for call in calls[begun:] if call.name in ERRORS])
+
+
+def a_power_cut_leaves_one_or_the_other(folder):
+    """Nothing that a later step rests on is unsynced: bytes of a file before its name is changed, and a name before the next one."""
+    unsynced, renamed = set(), []
+    pending = None
+    for call in all_calls(folder):
+        path = call.files[0] if call.files else ""
+        if call.name in ("write", "pwrite64"):
+            same(f"{call} isn't on a spool's file", os.path.basename(path) != NAME, True)
+            unsynced.add(path)
+        elif call.name in ("fsync", "fdatasync"):
+            unsynced.discard(path)
+            if pending and path == pending:
+                pending = None
+        elif call.name.startswith("rename"):
+            same(f"the name before {call} is synced", pending, None)
+            names = [os.fsdecode(text) for text in call.texts]
+            renamed.append(tuple(map(os.path.basename, names)))
+            pending = os.path.dirname(names[1])
+            if renamed[-1][1] == NAME:
+                same(f"all is synced before {call}", unsynced, set())
+            # The file keeps its bytes under its new name.
+            unsynced = {names[1] if one == names[0] else one for one in unsynced}
+    same("the last name is synced", pending, None)
+    same("the change over comes before the part's name", [to for _, to in renamed if to == NAME], [NAME, NAME])
+    same("the change over is the rest's", renamed[-2][0], "spool.rest")
+
+
+def a_power_cut_behind_a_kill(folder):
+    """One that is killed before its change over is synced, and given again: it is synced before the part has its name."""
+    calls = all_calls(folder)
+    over = next(at for at, call in enumerate(calls) if call.name.startswith("rename") and b"/spool.rest" in call.texts[0])
+    sync = next(call for call in calls[over:] if call.name in ("fsync", "fdatasync"))
+    place = Place(folder, image_of())
+    (status, _, _), _ = traced(place, f"{sync.name}:signal=KILL:when={sync.number}")
+    same("the status, killed at the sync of the change over", status in (-9, 137), True)
+    same("the part waits", is_whole_or_split(place, "killed at the sync"), True)
+    done, calls = traced(place)
+    same("the end of the next one", done, (0, "", ""))
+    named = next(at for at, call in enumerate(calls) if call.name.startswith("rename"))
+    synced = [call.files[0] for call in calls[:named] if call.name in ("fsync", "fdatasync")]
+    same("the change over is synced before the part has its name", place.source in synced, True)
+    is_split(place, image_of())
+
+
+PLAIN = [each_row_is_in_one_half, both_are_served, documents_are_whole, a_half_is_split_again, what_is_refused, rows_that_do_not_fit,
+         a_running_shell_keeps_it, words_that_say_nothing, another_split_waits_for_the_first]
+TRACED = [it_is_killed_at_each_call, each_call_fails_once, a_power_cut_leaves_one_or_the_other, a_power_cut_behind_a_kill]
+
+
+def main():
+    for path in (ADMIN, SHELL):
+        if not os.path.exists(path):
+            sys.exit(f"no program {path}: run `rt run` in its crate first")
+    tests = PLAIN + (TRACED if traces.may_trace() else [])
+    for test in tests:
+        folder = tempfile.mkdtemp(prefix="split-")
+        try:
+            test(folder)
+        except (Difference, AssertionError, OSError, subprocess.TimeoutExpired) as difference:
+            print(f"{test.__name__}: {difference}, in {folder}")
+            sys.exit(1)
+        shutil.rmtree(folder)
+    print(f"{len(tests)} of {len(tests)}")
+
+
+main()
