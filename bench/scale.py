@@ -10,7 +10,7 @@ It runs crates/spool_shell/out/spool_shell, crates/spool_service/out/spool_servi
 - `queues`: the same of 64 queues, with the jobs shared among them;
 - `splits`: the seconds until half of these queues are a spool of their own, those of a processor, and the memory of the program;
 - `bytes`: documents of 16 MiB until a spool of the greatest file is full, and an opening and a checkpoint of it;
-- `clients`: jobs of a KiB a second that are made, sent and closed, by 1 to 64 clients on 64 queues, beside the floor of their events.
+- `clients`: jobs of a KiB a second that are made, sent and closed, by 1 to 63 clients on 64 queues, beside the floor of their events.
 
 With `--costs` the figures that `many_spools.py` takes are written to FILE. Times depend on the machine and its disk, and on what else it
 does, so each stands beside its floor, measured just before and after; no test reads them. It takes some five minutes.
@@ -38,7 +38,8 @@ COUNTS = (1_000, 10_000, 100_000, 1_000_000)
 GREATEST = 1_073_741_824
 DOCUMENT = 16_777_216
 PIECE = 65_536
-CLIENTS = (1, 4, 16, 64)
+# With the one that makes the queues, 63 are as many as the service lets in.
+CLIENTS = (1, 4, 16, 63)
 ACCEPTED = 192
 
 
