@@ -24,8 +24,8 @@ const TASKS: &str = "Tasks:
   purge JOB..             forget jobs that have ended
   end JOB..               end the child that holds a queue up
   queue add NAME URI      make a queue; also queue set, accept, reject, enable, disable
-  devices                 show the devices that backends find
-  check                   see whether the service can print
+  devices                 tell which command lists devices
+  check                   see whether the service is there, and whether each queue can print
   page FILE               write the queues and jobs as a page
 
 `spool TASK --help` tells more of each. As lp, lpr, lpstat, cancel, lpq and lprm it takes their options.";
@@ -57,9 +57,13 @@ pub fn command_for<'a>(alloc: Global, form: Form) -> Result<Command<'a>, AllocEr
         Form::Devices => task_command(
             alloc,
             "spool devices",
-            "Shows the devices that backends find",
+            "Tells which command lists the devices that backends find",
         ),
-        Form::Check => task_command(alloc, "spool check", "Sees whether the service can print"),
+        Form::Check => task_command(
+            alloc,
+            "spool check",
+            "Sees whether the service is there, and whether each queue can print",
+        ),
         Form::Page => page_command(alloc),
         Form::Lp => programs::lp_command(alloc),
         Form::Lpr => programs::lpr_command(alloc),

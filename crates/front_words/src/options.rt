@@ -61,7 +61,7 @@ fn socket_option<'a>(alloc: Global) -> Arg<'a>
         alloc,
         "socket",
         "SOCKET",
-        "Ask the service on this socket; given twice, the second where the first is gone",
+        "Ask the service on this socket; each one that is given is asked",
     )
     .action(ArgAction::Append)
 }
