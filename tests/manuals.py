@@ -210,13 +210,15 @@ def parts_of(text):
 def faults():
     """What `#[error(..)]` of the programs tells."""
     pages = {
-        "spool_shell.8": ["fault", "reasons", "fitness", "shortage"],
-        "spool_admin.8": [],
+        "spool_shell.8": [
+            *(f"spool_host/src/{it}.rt" for it in ("fault", "reasons", "shortage")),
+            "program_fitness/src/lib.rt",
+        ],
+        "spool_admin.8": ["spool_admin/src/fault.rt"],
     }
     for name, files in pages.items():
         said = words_of(name) + " " + (words_of("spool_service.8") if name == "spool_shell.8" else "")
-        sources = [f"spool_host/src/{it}.rt" for it in files] or ["spool_admin/src/fault.rt"]
-        for file in sources:
+        for file in files:
             for text in re.findall(r'#\[error\("([^"]+)"\)\]', source(file)):
                 for part in parts_of(text):
                     check(part in said, f"{name} lacks `{part}` ({file})")

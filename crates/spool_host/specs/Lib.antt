@@ -3,7 +3,6 @@ pub mod ChildFiles
 pub mod DeviceLines
 pub mod Ending
 pub mod Faults
-pub mod Fitness
 pub mod Launching
 pub mod Leftovers
 pub mod NamedDisk

@@ -53,7 +53,6 @@ ghost use Rattle.spool_host.specs.Launching.{TellsEnd, TellsNoEnd, device_for, i
 use crate::child_files::{
     ChildPaths, has_room, make_file, make_file_of, output_to_hand, probe_path, read_at_most,
 };
-use crate::fitness::obstacle_of;
 use crate::reasons::{Reason, StageRun, reason_of};
 use crate::script::Call;
 use crate::serving::place_in;
@@ -65,6 +64,7 @@ use child_pipeline::{
 };
 use filter_args::Place;
 use log::Log;
+use program_fitness::obstacle_of;
 use program_lists::{ListedProgram, ProgramList};
 use spool_types::{Exit, JobId, LONGEST_DOCUMENT};
 use std::alloc::{AllocError, Global};

@@ -82,7 +82,8 @@
 //! - `read`, `write`: standard input or standard output failed.
 //!
 //! A child that can't be started, or whose end can't be known, is no fault of the program: its stage ends so. Why is told in
-//! a line `spool: job N ..` ([`reasons`]), and a program that can't be run as it is in a line at the start ([`fitness`]).
+//! a line `spool: job N ..` ([`reasons`]), and a program that can't be run as it is (`program_fitness`) in a line at the start
+//! ([`fitness`]).
 #![tactic(auto)]
 
 mod begun;

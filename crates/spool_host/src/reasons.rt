@@ -4,10 +4,10 @@ ghost use Rattle.std.specs.List.{list_any};
 ghost use Rattle.stderr_lines.specs.Reports.{report_of};
 ghost use Rattle.spool_host.specs.Reasons.{bad_end, is_message, may_pass};
 
-use crate::fitness::Obstacle;
 use crate::shortage::Shortage;
 use child_pipeline::{Finish, Program};
 use log::{Log, error};
+use program_fitness::Obstacle;
 use spool_types::{AttemptNumber, Effect, Exit, JobId, LONGEST_DOCUMENT, StageNumber};
 use std::alloc::{AllocError, Global};
 use stderr_lines::Lines;
