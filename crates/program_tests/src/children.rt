@@ -70,9 +70,31 @@ fn has_four_places<C: Children>(children: &mut C) -> bool {
     matches!(children.places(), Some(places) if places.count == 4)
 }
 
-#[test]
-fn a_look_waits_for_nobody(rt: HostRuntime) -> Result<(), Fail> {
-    fs::create_dir(&rt, DIR)?;
+// Whether a look at a child waits for nobody, and looks then see its end.
+fn is_seen_to_end<C: Children, R: Clock>(
+    rt: &R,
+    alloc: Global,
+    children: &mut C,
+) -> Result<bool, Fail> {
+    let mut looked = started(alloc, children, 2, "/bin/sleep 2; exit 3")?;
+    let waits = children.has_ended(&mut looked);
+    let ends = ends_soon(rt, children, &mut looked) && children.has_ended(&mut looked);
+    Ok(!waits && ends && ends_with(children, looked, 3))
+}
+
+// The same, beside a child at which nobody looks.
+fn two_are_seen_to_end<C: Children, R: Clock>(
+    rt: &R,
+    alloc: Global,
+    children: &mut C,
+) -> Result<bool, Fail> {
+    let unseen = started(alloc, children, 1, "/bin/sleep 1; exit 4")?;
+    let seen = is_seen_to_end(rt, alloc, children)?;
+    Ok(seen && ends_with(children, unseen, 4))
+}
+
+// The same of the launcher, which has four places before and behind it.
+fn launcher_is_looked_at(rt: HostRuntime) -> Result<bool, Fail> {
     let logged = Logged::new(
         rt,
         Level::Warn,
@@ -86,16 +108,16 @@ fn a_look_waits_for_nobody(rt: HostRuntime) -> Result<(), Fail> {
     };
     let (mut launcher, place) = launcher_in(&logged, &rt, DIR, list)?;
     drop(place);
-    assert!(rt; has_four_places(&mut launcher));
-    let mut looked = started(rt.alloc(), &mut launcher, 1, "/bin/sleep 2; exit 3")?;
-    let unseen = started(rt.alloc(), &mut launcher, 2, "/bin/sleep 1; exit 4")?;
-    assert!(rt; !launcher.has_ended(&mut looked));
-    assert!(rt; ends_soon(&rt, &mut launcher, &mut looked));
-    assert!(rt; launcher.has_ended(&mut looked));
-    assert!(rt; ends_with(&mut launcher, looked, 3));
-    // Nobody looked at this one.
-    assert!(rt; ends_with(&mut launcher, unseen, 4));
-    assert!(rt; has_four_places(&mut launcher));
+    let before = has_four_places(&mut launcher);
+    let seen = two_are_seen_to_end(&rt, rt.alloc(), &mut launcher)?;
+    Ok(before && seen && has_four_places(&mut launcher))
+}
+
+#[test]
+fn a_look_waits_for_nobody(rt: HostRuntime) -> Result<(), Fail> {
+    fs::create_dir(&rt, DIR)?;
+    let looked = launcher_is_looked_at(rt)?;
+    assert!(rt; looked);
     fs::remove_dir_all(&rt, DIR)?;
     Ok(())
 }
