@@ -1,9 +1,11 @@
 -- What is still to be asked for, where this is the text that follows.
-use Rattle.std.specs.Prelude.{◌≡◌, ℕ, ◌-◌, ◌≤◌, Bool, true, false, not, List, ◌∷◌, ◌++◌, length, map}
-use Rattle.command_lines.specs.Lines.{after_line}
-use Rattle.command_lines.specs.Pending.{Pending, to_come}
+use Rattle.std.specs.Prelude.{◌≡◌, ◌⊎◌, ℕ, ◌-◌, ◌<◌, ◌≤◌, Bool, true, false, not, List, [], ◌∷◌, ◌++◌, length, map}
+use Rattle.command_lines.specs.Lines.{after_line, has_lf}
+use Rattle.command_lines.specs.Pending.{Pending, IsPartial, to_come}
 use Rattle.command_lines.specs.Text.{commands_of, after_bytes, is_lf_at, sent}
+use Rattle.command_lines.specs.Waits.{wanted_of}
 use Rattle.command_lines.specs.declared.command.Command.{Command}
+use Rattle.command_lines.specs.declared.commands.Wanted.TheVariants as wants
 use Rattle.client_reader.specs.Asks.{asks_of, after_send}
 use Rattle.client_reader.specs.declared.ask.Ask.{Ask}
 use Rattle.client_reader.specs.declared.ask.Ask.TheVariants as asking
@@ -57,3 +59,21 @@ abbrev pub Gives : (List ℕ → List Ask) → Next → Reader → Type 0
 Gives asks (nexts.Asked ask) new = (others : List ℕ → List Ask) × ((more : List ℕ) → asks more ≡ ask ∷ others more) × Awaits new others
 Gives asks nexts.Again new = Awaits new asks
 Gives asks nexts.Text new = Awaits new asks
+
+-- the text that is left is the front of a line, which may become whole
+pub record IsFrontOnly (r : Reader) : Type 0 where
+  pub wanted : (wanted_of r.commands ≡ wants.Line) ⊎ (wanted_of r.commands ≡ wants.Rest)
+  pub begins : r.within ≡ false
+  pub unended : has_lf r.text.items ≡ false
+  pub fits : length r.text.items ≤ 4096
+
+-- nothing can be given without more of the text: no command is whole, and no text is left or the front of a line
+pub record WantsText (r : Reader) : Type 0 where
+  pub partial : IsPartial r.commands.mode r.commands.held
+  pub left : (r.text.items ≡ []) ⊎ IsFrontOnly r
+
+-- Each step comes further: where it gives nothing less of the text is left than before, or more of it is wanted.
+abbrev pub ComesFurther : ℕ → Next → Reader → Type 0
+ComesFurther before (nexts.Asked ask) new = length new.text.items ≤ before
+ComesFurther before nexts.Again new = length new.text.items < before
+ComesFurther before nexts.Text new = WantsText new

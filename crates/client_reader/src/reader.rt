@@ -4,7 +4,7 @@ ghost use Rattle.command_lines.specs.Lines.{has_lf};
 ghost use Rattle.command_lines.specs.Pending.{IsPartial};
 ghost use Rattle.command_lines.specs.Waits.{wanted_of};
 ghost use Rattle.client_reader.specs.Asks.{asks_of, own_of};
-ghost use Rattle.client_reader.specs.Reading.{Awaits, Gives, ends_within};
+ghost use Rattle.client_reader.specs.Reading.{Awaits, ComesFurther, Gives, ends_within};
 ghost use Rattle.client_reader.specs.declared.ask.Ask.{Ask as AskOf};
 
 use crate::ask::{Ask, Next};
@@ -47,10 +47,12 @@ impl Reader {
         Ok(())
     }
 
-    /// What is asked for next. An `Err` has lost nothing, and the call may be made again.
+    /// What is asked for next. An `Err` has lost nothing, and the call may be made again. Calls that give nothing get on: no more of
+    /// them answer [`Next::Again`] in a row than the text has bytes.
     pub fn next(&mut self) -> Result<Next, AllocError>
         ensures ok { (asks : List ℕ → List AskOf) → Awaits self.old asks → IfOk result (λ next. Gives asks next self.new) }
         ensures err { (asks : List ℕ → List AskOf) → Awaits self.old asks → OnErr result (Awaits self.new asks) }
+        ensures further { IfOk result (λ next. ComesFurther (length self.old.text.items) next self.new) }
     {
         line_by_line();
         match self.commands.next()? {
@@ -64,6 +66,7 @@ impl Reader {
         requires { IsPartial self.old.commands.mode self.old.commands.held }
         ensures ok { (asks : List ℕ → List AskOf) → Awaits self.old asks → IfOk result (λ next. Gives asks next self.new) }
         ensures err { (asks : List ℕ → List AskOf) → Awaits self.old asks → OnErr result (Awaits self.new asks) }
+        ensures further { IfOk result (λ next. ComesFurther (length self.old.text.items) next self.new) }
     {
         if self.text.is_empty() {
             return Ok(Next::Text);
@@ -79,8 +82,10 @@ impl Reader {
     fn next_of_part(&mut self) -> Result<Next, AllocError>
         requires partial { IsPartial self.old.commands.mode self.old.commands.held }
         requires wanted { (wanted_of self.old.commands ≡ Wanted.Line) ⊎ (wanted_of self.old.commands ≡ Wanted.Rest) }
+        requires some { 0 < length self.old.text.items }
         ensures ok { (asks : List ℕ → List AskOf) → Awaits self.old asks → IfOk result (λ next. Gives asks next self.new) }
         ensures err { (asks : List ℕ → List AskOf) → Awaits self.old asks → OnErr result (Awaits self.new asks) }
+        ensures further { IfOk result (λ next. ComesFurther (length self.old.text.items) next self.new) }
     {
         if self.within {
             self.give_rest()
@@ -96,6 +101,7 @@ impl Reader {
         requires begins { self.old.within ≡ false }
         ensures ok { (asks : List ℕ → List AskOf) → Awaits self.old asks → IfOk result (λ next. Gives asks next self.new) }
         ensures err { (asks : List ℕ → List AskOf) → Awaits self.old asks → OnErr result (Awaits self.new asks) }
+        ensures further { IfOk result (λ next. ComesFurther (length self.old.text.items) next self.new) }
     {
         match line_end(&self.text) {
             Some(at) => self.take_line(at),
@@ -114,6 +120,7 @@ impl Reader {
         requires there { slice_index self.old.text.items at ≡ 10 }
         ensures ok { (asks : List ℕ → List AskOf) → Awaits self.old asks → IfOk result (λ next. Gives asks next self.new) }
         ensures err { (asks : List ℕ → List AskOf) → Awaits self.old asks → OnErr result (Awaits self.new asks) }
+        ensures further { IfOk result (λ next. ComesFurther (length self.old.text.items) next self.new) }
     {
         line_by_line();
         match own_of(&self.text[..at]) {
@@ -137,6 +144,7 @@ impl Reader {
         requires long { 4096 < length self.old.text.items }
         ensures ok { (asks : List ℕ → List AskOf) → Awaits self.old asks → IfOk result (λ next. Gives asks next self.new) }
         ensures err { (asks : List ℕ → List AskOf) → Awaits self.old asks → OnErr result (Awaits self.new asks) }
+        ensures further { IfOk result (λ next. ComesFurther (length self.old.text.items) next self.new) }
     {
         line_by_line();
         let count = self.text.len();
@@ -149,8 +157,10 @@ impl Reader {
         requires partial { IsPartial self.old.commands.mode self.old.commands.held }
         requires wanted { (wanted_of self.old.commands ≡ Wanted.Line) ⊎ (wanted_of self.old.commands ≡ Wanted.Rest) }
         requires within { self.old.within ≡ true }
+        requires some { 0 < length self.old.text.items }
         ensures ok { (asks : List ℕ → List AskOf) → Awaits self.old asks → IfOk result (λ next. Gives asks next self.new) }
         ensures err { (asks : List ℕ → List AskOf) → Awaits self.old asks → OnErr result (Awaits self.new asks) }
+        ensures further { IfOk result (λ next. ComesFurther (length self.old.text.items) next self.new) }
     {
         line_by_line();
         match line_end(&self.text) {
@@ -173,6 +183,7 @@ impl Reader {
         requires some { 0 < length self.old.text.items }
         ensures ok { (asks : List ℕ → List AskOf) → Awaits self.old asks → IfOk result (λ next. Gives asks next self.new) }
         ensures err { (asks : List ℕ → List AskOf) → Awaits self.old asks → OnErr result (Awaits self.new asks) }
+        ensures further { IfOk result (λ next. ComesFurther (length self.old.text.items) next self.new) }
     {
         line_by_line();
         let there = self.text.len();
