@@ -1,5 +1,5 @@
 -- What a program of the file begins with, and how its line ends.
-use Rattle.std.specs.Prelude.{ℕ, Bool, ◌||◌, nat_eq, List, ◌∷◌, [], codes, Option, unwrap_or}
+use Rattle.std.specs.Prelude.{ℕ, Bool, ◌||◌, nat_eq, List, ◌∷◌, [], codes, unwrap_or}
 use Rattle.std.specs.List.{ends_with, starts_with}
 use Rattle.program_lists.specs.declared.line.ListedProgram.{ListedProgram}
 

@@ -10,8 +10,9 @@
 //! - What the system tells of a file no clause says; `tests/children.py` shows it.
 #![tactic(auto)]
 
-ghost use Rattle.std.specs.Prelude.{◌≡◌};
+ghost use Rattle.std.specs.Prelude.{◌≡◌, IsTrue, Some};
 ghost use Rattle.program_fitness.specs.Fitness.{begins_right, ends_with_return};
+ghost use Rattle.program_fitness.specs.declared.Obstacle.TheVariants.{Return};
 
 use program_lists::ListedProgram;
 use std::fs::{File, Files};
@@ -44,7 +45,9 @@ pub enum Obstacle {
 pub fn obstacle_of_program<R: Files<File = File>>(
     rt: &R,
     program: &ListedProgram,
-) -> Option<Obstacle> {
+) -> Option<Obstacle>
+    ensures { IsTrue (ends_with_return program.now) → result ≡ Some Return }
+{
     if ends_with_return(program) {
         return Some(Obstacle::Return);
     }
