@@ -168,9 +168,7 @@ program() {
 }
 
 programs() {
-    if [ -n "$front" ]; then
-        front "$1"
-    fi
+    front "$1"
     for name in spool_shell spool_service spool_admin; do
         program "$1" $name "$prefix/sbin/$name"
     done
@@ -245,10 +243,7 @@ if [ -n "$remove" ]; then
     exit 0
 fi
 
-# Where the front isn't one of the crates the others go without it.
-front=
-[ ! -d "$here/crates/spool_front" ] || front=spool_front
-for name in $front spool_shell spool_service spool_admin spool_tools; do
+for name in spool_front spool_shell spool_service spool_admin spool_tools; do
     [ -x "$here/crates/$name/out/$name" ] || fail "crates/$name/out has no program: run \`rt run\` in crates/$name first"
 done
 : > "$work/made"
