@@ -4,6 +4,7 @@ ghost use Rattle.service_rules.specs.Places.{IsAdmission};
 ghost use Rattle.service_loop.specs.Clients.{heard_of};
 
 use crate::client::{Client, Parting, Turn};
+use crate::connection::Connection;
 use crate::door::Door;
 use crate::office::Office;
 use child_pipeline::Children;
@@ -12,7 +13,6 @@ use service_rules::{Admission, Client as Heard, admit};
 use slab::Slab;
 use spool_disk::Disk;
 use std::alloc::{AllocError, Global};
-use std::io::{Read, Write};
 
 // What one is told for whom there is no place.
 const BUSY: &[u8] = b"error busy\n";
@@ -28,14 +28,14 @@ pub struct Turns {
 }
 
 #[derive(Drop)]
-pub struct Clients<L: Read + Write + Drop> {
+pub struct Clients<L: Connection> {
     alloc: Global,
     places: Slab<Client<L>>,
     // When each was heard last, listed where a newcomer wants a place.
     heard: Vec<Heard>,
 }
 
-impl<L: Read + Write + Drop> Clients<L> {
+impl<L: Connection> Clients<L> {
     pub fn new(alloc: Global) -> Result<Clients<L>, AllocError> {
         Ok(Clients {
             alloc,
@@ -153,7 +153,7 @@ impl<L: Read + Write + Drop> Clients<L> {
 }
 
 // Lists when each client was heard last.
-fn list_heard<L: Read + Write + Drop>(
+fn list_heard<L: Connection>(
     places: &Slab<Client<L>>,
     list: &mut Vec<Heard>,
 ) -> Result<(), AllocError>

@@ -50,6 +50,7 @@ mod bounds;
 mod children;
 mod client;
 mod clients;
+mod connection;
 mod door;
 mod endings;
 mod fault;
@@ -61,6 +62,7 @@ mod signals;
 mod times;
 
 pub use children::{Run, Watch, WatchedChildren, WatchedTicket};
+pub use connection::Connection;
 pub use door::{Coming, Door, Sign};
 pub use fault::ServiceFault;
 pub use laws::nothing_is_due_before;

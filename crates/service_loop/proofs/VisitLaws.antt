@@ -1,0 +1,231 @@
+-- One visit of a client and then another are one.
+use Rattle.std.proofs.Common.{◌≡◌, ◌⊎◌, inl, inr, Result, ℕ, ◌+◌, ◌-◌, ◌≤◌, take, List, [], ◌∷◌, ◌++◌, length, drop, Option, None, Some, Ok, true, false, refl, ap, sym, ◌∙◌, subst, append_assoc, arith}
+use Rattle.std.specs.Io.KnownBytes.{Appends, Keeps, append_known}
+use Rattle.std.proofs.lemmas.List.Concat.{flat_map-cons}
+use Rattle.std.proofs.lemmas.List.{append-nil, drop-append-le, drop-drop, length-append, length-drop, take-append-drop, take_all}
+use Rattle.spool_disk.specs.Disk.{DiskView}
+use Rattle.service_texts.specs.declared.own_words.OwnWord.{OwnWord}
+use Rattle.print_rounds.specs.Courses.{Course}
+use Rattle.print_rounds.specs.declared.outcome.Round.{Round}
+use Rattle.print_rounds.specs.declared.outcome.RoundFault.{RoundFault}
+use Rattle.client_reader.specs.Reading.{Awaits}
+use Rattle.client_reader.specs.declared.ask.Ask.{Ask}
+use Rattle.client_reader.specs.declared.ask.Ask.TheVariants as asking
+use Rattle.command_lines.specs.declared.command.Command.{Command}
+use Rattle.command_lines.specs.declared.command.Command.TheVariants as commands
+use Rattle.spool_engine.specs.EventTurns.{Setting, setting}
+use Rattle.spool_engine.specs.Rounds.{round_line}
+use Rattle.spool_engine.specs.Ticks.{Ticked, IsTicked}
+use Rattle.spool_engine.specs.Runs.{Engine, Serves, Turn, is_round, texts_of}
+use Rattle.service_loop.specs.Deeds.{Deed, answers, ticks, says, ends, IsSaid, IsEndTold, IsDeed, AreDeeds, after_deed, asks_by, asks_in, text_by, texts_in}
+use Rattle.service_loop.specs.Lines.{LineView}
+use Rattle.service_loop.specs.Visits.{IsWithin, told_to, AsksFirst, Asks, IsTold, Goes, IsAdded, IsAnswered, IsVisit}
+use Rattle.service_loop.specs.declared.client.Client.{Client}
+
+first_then : (a b c : Option (List ℕ)) (f g h : List ℕ → List Ask) (xs ys : List Ask) → AsksFirst a f xs b g → AsksFirst b g ys c h → AsksFirst a f (xs ++ ys) c h
+first_then None b c f g h xs ys p q = tt
+first_then (Some r) None c f g h xs ys p q = absurd p
+first_then (Some r) (Some s) None f g h xs ys p q = q
+first_then (Some r) (Some s) (Some t) f g h xs ys p q = p ∙ ap (λ l. xs ++ l) q ∙ sym (append_assoc xs ys (h t))
+
+appends_then : (a b c : Option (List ℕ)) (xs ys : List ℕ) → Appends a b xs → Appends b c ys → Appends a c (xs ++ ys)
+appends_then None b c xs ys p q = tt
+appends_then (Some r) None c xs ys p q = absurd p
+appends_then (Some r) (Some s) None xs ys p q = q
+appends_then (Some r) (Some s) (Some t) xs ys p q = q ∙ ap (λ l. l ++ ys) p ∙ append_assoc r xs ys
+
+module _ {L : Type 0} (view : LineView L) where
+  pub goes_then : (a b c : Client L) (xs ys : List Ask) (s t : List ℕ) → Goes view a xs s b → Goes view b ys t c → Goes view a (xs ++ ys) (s ++ t) c
+  goes_then a b c xs ys s t one two = record {
+    asked = λ awaited awaits.
+        let first = one.asked awaited awaits in
+        let then = two.asked first.0 first.1 in
+        (then.0, then.1, first_then (view.remaining a.line) (view.remaining b.line) (view.remaining c.line) awaited first.0 then.0 xs ys first.2 then.2);
+    told = λ within.
+        let first = one.told within in
+        let then = two.told first.within in
+        record { within = then.within; told = appends_then (told_to view a) (told_to view b) (told_to view c) s t first.told then.told };
+  }
+
+-- ## A text is added
+
+asks_none : (known : Option (List ℕ)) (f : List ℕ → List Ask) → AsksFirst known f [] known f
+asks_none None f = tt
+asks_none (Some rest) f = refl
+
+appends_behind : (known : Option (List ℕ)) (untaken text : List ℕ) → Appends (append_known known untaken) (append_known known (untaken ++ text)) text
+appends_behind None untaken text = tt
+appends_behind (Some said) untaken text = sym (append_assoc said untaken text)
+
+module _ {L : Type 0} (view : LineView L) where
+  pub goes_added : (a : Client L) (text : List ℕ) (b : Client L) → IsAdded a text b → Goes view a [] text b
+  goes_added a text b added = record {
+    asked = λ awaited awaits. (awaited, rw added.reader awaits, rw added.line (asks_none (view.remaining a.line) awaited));
+    told = λ within. record {
+      within = rw (added.taken, added.replies, length-append a.replies.items text) (omega arith);
+      told =
+          rw (added.line, added.taken, added.replies, drop-append-le a.taken a.replies.items text within)
+          (appends_behind (view.contents a.line) (drop a.taken a.replies.items) text);
+    };
+  }
+
+-- ## Some of its replies are written
+
+asks_kept : (old new : Option (List ℕ)) (f : List ℕ → List Ask) → Keeps old new → AsksFirst old f [] new f
+asks_kept None new f kept = tt
+asks_kept (Some rest) None f kept = absurd kept
+asks_kept (Some rest) (Some left) f kept = ap f (sym kept)
+
+appends_moved : (old new : Option (List ℕ)) (untaken : List ℕ) (count : ℕ) → Appends old new (take count untaken) →
+    Appends (append_known old untaken) (append_known new (drop count untaken)) []
+appends_moved None new untaken count wrote = tt
+appends_moved (Some said) None untaken count wrote = absurd wrote
+appends_moved (Some said) (Some now) untaken count wrote =
+    ap (λ l. l ++ drop count untaken) wrote ∙ append_assoc said (take count untaken) (drop count untaken)
+    ∙ ap (λ l. said ++ l) (take-append-drop count untaken) ∙ sym (append-nil (said ++ untaken))
+
+-- what is given to the line to write are all bytes that weren't taken
+pub unwritten : (given items : List ℕ) (taken : ℕ) → given ≡ items → take (length given - taken) (drop taken given) ≡ drop taken items
+unwritten given items taken same = take_all (length given - taken) (drop taken given) (omega (arith, length-drop taken given)) ∙ ap (drop taken) same
+
+-- so many of the bytes were written that weren't taken yet
+pub record IsWritten {L : Type 0} (view : LineView L) (old : Client L) (count : ℕ) (new : Client L) : Type 0 where
+  pub kept : Keeps (view.remaining old.line) (view.remaining new.line)
+  pub wrote : Appends (view.contents old.line) (view.contents new.line) (take count (drop old.taken old.replies.items))
+  pub reader : new.reader ≡ old.reader
+  pub taken : new.taken ≡ old.taken + count
+  pub replies : new.replies.items ≡ old.replies.items
+  pub within : count ≤ length old.replies.items - old.taken
+
+pub goes_written : {L : Type 0} (view : LineView L) (old : Client L) (count : ℕ) (new : Client L) → IsWritten view old count new → Goes view old [] [] new
+goes_written view old count new written = record {
+  asked = λ awaited awaits. (awaited, rw written.reader awaits, asks_kept (view.remaining old.line) (view.remaining new.line) awaited written.kept);
+  told = λ within.
+      let fits = written.within in
+      record {
+        within = rw (written.taken, written.replies) (omega arith);
+        told =
+            rw (written.taken, written.replies, ← drop-drop count old.taken old.replies.items)
+            (appends_moved (view.contents old.line) (view.contents new.line) (drop old.taken old.replies.items) count written.wrote);
+      };
+}
+
+-- nothing was added
+pub added_none : {L : Type 0} (a b : Client L) → b.line ≡ a.line → b.reader ≡ a.reader → b.taken ≡ a.taken → b.replies.items ≡ a.replies.items → IsAdded a [] b
+added_none a b line reader taken replies = record { line = line; reader = reader; taken = taken; replies = replies ∙ sym (append-nil a.replies.items) }
+
+-- ## Deeds
+
+module _ {D : Type 0} where
+  text_of_one : (t : Turn D) → texts_of (t ∷ []) ≡ t.text
+  text_of_one t = flat_map-cons (λ (x : Turn D). x.text) t [] ∙ append-nil t.text
+
+  deeds_then : (v : Setting D) (s : Course D) (xs : List (Deed D)) (m : Course D) (ys : List (Deed D)) (t : Course D) → AreDeeds v s xs m → AreDeeds v m ys t → AreDeeds v s (xs ++ ys) t
+  deeds_then v s [] m ys t one two = subst (λ x. AreDeeds v x ys t) one two
+  deeds_then v s (x ∷ xs) m ys t one two = (one.0, deeds_then v (after_deed s x) xs m ys t one.1 two)
+
+  pub asks_in-append : (xs ys : List (Deed D)) → asks_in (xs ++ ys) ≡ asks_in xs ++ asks_in ys
+  asks_in-append [] ys = refl
+  asks_in-append (x ∷ xs) ys = ap (λ l. asks_by x ++ l) (asks_in-append xs ys) ∙ sym (append_assoc (asks_by x) (asks_in xs) (asks_in ys))
+
+  pub texts_in-append : (xs ys : List (Deed D)) → texts_in (xs ++ ys) ≡ texts_in xs ++ texts_in ys
+  texts_in-append [] ys = refl
+  texts_in-append (x ∷ xs) ys = ap (λ l. text_by x ++ l) (texts_in-append xs ys) ∙ sym (append_assoc (text_by x) (texts_in xs) (texts_in ys))
+
+-- ## What was asked for was done
+
+module _ {D L : Type 0} (device : DiskView D) where
+  -- the engine answered a command
+  pub answered_by_turn : (e e1 : Engine D) (c c1 : Client L) (command : Command) (t : Turn D) → e1.mime ≡ e.mime → e1.place ≡ e.place → is_round command ≡ false →
+      Serves (setting device e.mime e.place) e.course command t e1.course (Ok tt) (Some c.replies.items) (Some c1.replies.items) →
+      c1.line ≡ c.line → c1.reader ≡ c.reader → c1.taken ≡ c.taken → IsAnswered device e c (asking.Command command) e1 c1
+  answered_by_turn e e1 c c1 command t mime place other served line reader taken = record {
+    mime = mime;
+    place = place;
+    deed = answers t;
+    asked = ap (λ x. asking.Command x ∷ []) served.command;
+    is = record { command = ap is_round served.command ∙ other; turn = served.legal };
+    next = served.next;
+    added = record { line = line; reader = reader; taken = taken; replies = served.wrote ∙ ap (λ l. c.replies.items ++ l) (text_of_one t) };
+  }
+
+  -- a round was answered by a tick
+  pub answered_by_tick : (e e1 : Engine D) (c c1 : Client L) (command : Command) (counts : Result Round RoundFault) (text : List ℕ) (t : Ticked D) →
+      t.next ≡ e1.course → t.result ≡ counts → e1.mime ≡ e.mime → e1.place ≡ e.place → is_round command ≡ true →
+      IsTicked (setting device e.mime e.place) e.course t → text ≡ round_line counts → IsAdded c text c1 → IsAnswered device e c (asking.Command command) e1 c1
+  answered_by_tick e e1 c c1 command counts text t next result mime place round ticked told added = record {
+    mime = mime;
+    place = place;
+    deed = ticks command t text;
+    asked = refl;
+    is = record { round = round; tick = ticked; told = told ∙ sym (ap round_line result) };
+    next = next;
+    added = added;
+  }
+
+  -- a word of the service was answered
+  pub answered_by_word : (e : Engine D) (c c1 : Client L) (word : OwnWord) (text : List ℕ) → IsSaid e.course.spool.state word text → IsAdded c text c1 →
+      IsAnswered device e c (asking.Own word) e c1
+  answered_by_word e c c1 word text said added = record {
+    mime = refl;
+    place = refl;
+    deed = says word text;
+    asked = refl;
+    is = said;
+    next = refl;
+    added = added;
+  }
+
+-- ## Visits
+
+module _ {D L : Type 0} (device : DiskView D) (view : LineView L) where
+  -- some deeds were done
+  abbrev pub Visited : Engine D → Client L → Engine D → Client L → Type 0
+  Visited old c new c' = (deeds : List (Deed D)) × IsVisit device view old c deeds new c'
+
+  pub visit_then : (e : Engine D) (c : Client L) (xs : List (Deed D)) (e1 : Engine D) (c1 : Client L) (ys : List (Deed D)) (e2 : Engine D) (c2 : Client L) →
+      IsVisit device view e c xs e1 c1 → IsVisit device view e1 c1 ys e2 c2 → IsVisit device view e c (xs ++ ys) e2 c2
+  visit_then e c xs e1 c1 ys e2 c2 one two = record {
+    mime = two.mime ∙ one.mime;
+    place = two.place ∙ one.place;
+    deeds =
+        deeds_then (setting device e.mime e.place) e.course xs e1.course ys e2.course one.deeds
+        (subst (λ m. AreDeeds (setting device m e.place) e1.course ys e2.course) one.mime
+        (subst (λ p. AreDeeds (setting device e1.mime p) e1.course ys e2.course) one.place two.deeds));
+    client = rw (asks_in-append xs ys, texts_in-append xs ys) (goes_then view c c1 c2 (asks_in xs) (asks_in ys) (texts_in xs) (texts_in ys) one.client two.client);
+  }
+
+  -- a client that asked for nothing and was told nothing, of an engine that is as it was
+  pub visit_none : (e : Engine D) (c c1 : Client L) → Goes view c [] [] c1 → Visited e c e c1
+  visit_none e c c1 goes = ([], record { mime = refl; place = refl; deeds = refl; client = goes })
+
+  pub visited_then : (e : Engine D) (c : Client L) (e1 : Engine D) (c1 : Client L) (e2 : Engine D) (c2 : Client L) →
+      Visited e c e1 c1 → Visited e1 c1 e2 c2 → Visited e c e2 c2
+  visited_then e c e1 c1 e2 c2 one two = (one.0 ++ two.0, visit_then e c one.0 e1 c1 two.0 e2 c2 one.1 two.1)
+
+  -- what was asked for was done
+  pub visit_answered : (e : Engine D) (c c1 : Client L) (ask : Ask) (e1 : Engine D) (c2 : Client L) → Goes view c (ask ∷ []) [] c1 → IsAnswered device e c1 ask e1 c2 → Visited e c e1 c2
+  visit_answered e c c1 ask e1 c2 asked done = (done.deed ∷ [], record {
+    mime = done.mime;
+    place = done.place;
+    deeds = (done.is, sym done.next);
+    client = rw (done.asked, append-nil (text_by done.deed)) (goes_then view c c1 c2 (ask ∷ []) [] [] (text_by done.deed) asked (goes_added view c1 (text_by done.deed) c2 done.added));
+  })
+
+  -- the end of a job was told
+  pub visit_ended : (e : Engine D) (c c1 : Client L) (job : ℕ) (text : List ℕ) → IsEndTold e.course.spool.state job text → IsAdded c text c1 → Visited e c e c1
+  visit_ended e c c1 job text told added = (ends job text ∷ [], record {
+    mime = refl;
+    place = refl;
+    deeds = (told, refl);
+    client = rw (append-nil text) (goes_added view c text c1 added);
+  })
+
+pub is_round_one : (command : Command) → (command ≡ commands.Round) ⊎ ((n : ℕ) × (command ≡ commands.Drain n)) → is_round command ≡ true
+is_round_one command (inl e) = ap is_round e
+is_round_one command (inr e) = ap is_round e.1
+
+pub is_no_round : (command : Command) → (command ≡ commands.Round → ⊥) → ((n : ℕ) → command ≡ commands.Drain n → ⊥) → is_round command ≡ false
+is_no_round commands.Round not_round not_drain = absurd (not_round refl)
+is_no_round (commands.Drain n) not_round not_drain = absurd (not_drain n refl)
+is_no_round command not_round not_drain = refl

@@ -1,0 +1,10 @@
+-- what was done so far
+use Rattle.std.proofs.Common.{◌≤◌}
+use Rattle.service_loop.proofs.VisitLaws.{Visited}
+use Rattle.service_loop.proofs.client.Client.serve_some.Given as goal
+
+abbrev pub invariant-loop : goal.invariant-loop
+invariant-loop g l = record {
+  counted : l.served ≤ l.counter;
+  visited : Visited g.D.Disk.device g.L.Connection.view l.fn.office.engine l.fn.self l.office.engine l.self;
+}
