@@ -8,6 +8,8 @@ use Rattle.service_texts.specs.declared.own_words.OwnWord.{OwnWord}
 use Rattle.print_rounds.specs.Courses.{Course}
 use Rattle.print_rounds.specs.declared.outcome.Round.{Round}
 use Rattle.print_rounds.specs.declared.outcome.RoundFault.{RoundFault}
+use Rattle.client_reader.specs.Asks.{asks_of}
+use Rattle.client_reader.specs.Calls.{AreFirstOf}
 use Rattle.client_reader.specs.Reading.{Awaits}
 use Rattle.client_reader.specs.declared.ask.Ask.{Ask}
 use Rattle.client_reader.specs.declared.ask.Ask.TheVariants as asking
@@ -19,7 +21,7 @@ use Rattle.spool_engine.specs.Ticks.{Ticked, IsTicked}
 use Rattle.spool_engine.specs.Runs.{Engine, Serves, Turn, is_round, texts_of}
 use Rattle.service_loop.specs.Deeds.{Deed, answers, ticks, says, ends, IsSaid, IsEndTold, IsDeed, AreDeeds, after_deed, asks_by, asks_in, text_by, texts_in}
 use Rattle.service_loop.specs.Lines.{LineView}
-use Rattle.service_loop.specs.Visits.{IsWithin, told_to, AsksFirst, Asks, IsTold, Goes, IsAdded, IsAnswered, IsVisit}
+use Rattle.service_loop.specs.Visits.{AreVisits, AsksFirst, Goes, HasAll, IsAdded, IsAnswered, IsEntry, IsVisit, IsVisitBy, Visit, turns, changes, signs, client_after, deeds_by, deeds_of, told_to}
 use Rattle.service_loop.specs.declared.client.Client.{Client}
 
 first_then : (a b c : Option (List ℕ)) (f g h : List ℕ → List Ask) (xs ys : List Ask) → AsksFirst a f xs b g → AsksFirst b g ys c h → AsksFirst a f (xs ++ ys) c h
@@ -229,3 +231,45 @@ pub is_no_round : (command : Command) → (command ≡ commands.Round → ⊥) �
 is_no_round commands.Round not_round not_drain = absurd (not_round refl)
 is_no_round (commands.Drain n) not_round not_drain = absurd (not_drain n refl)
 is_no_round command not_round not_drain = refl
+
+-- ## All that becomes of a client
+
+first_of : (known left : Option (List ℕ)) (text : List ℕ) (f g : List ℕ → List Ask) (asks : List Ask) → known ≡ Some text → AsksFirst known f asks left g → AreFirstOf asks (f text)
+first_of None left text f g asks e first = absurd (cc)
+first_of (Some rest) None text f g asks e first = absurd first
+first_of (Some rest) (Some more) text f g asks e first = (g more, ap f (let same : text ≡ rest = cc in same) ∙ first)
+
+module _ {D L : Type 0} (device : DiskView D) (view : LineView L) where
+  goes_by : (c : Client L) (x : Visit D L) → IsVisitBy device view c x → Goes view c (asks_in (deeds_by x)) (texts_in (deeds_by x)) (client_after x)
+  goes_by c (turns old done new c1) is = is.client
+  goes_by c (changes text told c1) is = rw (append-nil told) (goes_added view c told c1 is.1)
+  goes_by c (signs c1) is = is
+
+  goes_all : (c : Client L) (xs : List (Visit D L)) (c1 : Client L) → AreVisits device view c xs c1 → Goes view c (asks_in (deeds_of xs)) (texts_in (deeds_of xs)) c1
+  goes_all c [] c1 same = rw same (goes_added view c [] c (added_none c c refl refl refl refl))
+  goes_all c (x ∷ xs) c1 are =
+      rw (asks_in-append (deeds_by x) (deeds_of xs), texts_in-append (deeds_by x) (deeds_of xs))
+      (goes_then view c (client_after x) c1 (asks_in (deeds_by x)) (asks_in (deeds_of xs)) (texts_in (deeds_by x)) (texts_in (deeds_of xs))
+      (goes_by c x are.0) (goes_all (client_after x) xs c1 are.1))
+
+  pub answers_come_in_order : (own : L) (c : Client L) (xs : List (Visit D L)) (c1 : Client L) → IsEntry own c → AreVisits device view c xs c1 →
+      (text : List ℕ) → view.remaining own ≡ Some text → AreFirstOf (asks_in (deeds_of xs)) (asks_of text)
+  answers_come_in_order own c xs c1 entry are text brings =
+      let asked = (goes_all c xs c1 are).asked asks_of entry.reader in
+      first_of (view.remaining c.line) (view.remaining c1.line) text asks_of asked.0 (asks_in (deeds_of xs)) (ap view.remaining entry.line ∙ brings) asked.2
+
+  has_all : (known now : Option (List ℕ)) (said text untaken : List ℕ) → known ≡ Some said → Appends (append_known known []) (append_known now untaken) text →
+      (written : List ℕ) × (now ≡ Some written) × (written ++ untaken ≡ said ++ text)
+  has_all None now said text untaken e appends = absurd (cc)
+  has_all (Some before) None said text untaken e appends = absurd appends
+  has_all (Some before) (Some written) said text untaken e appends =
+      (written, refl, appends ∙ ap (λ l. l ++ text) (append-nil before ∙ (let same : before ≡ said = cc in same)))
+
+  pub told_once : (own : L) (c : Client L) (xs : List (Visit D L)) (c1 : Client L) → IsEntry own c → AreVisits device view c xs c1 →
+      (said : List ℕ) → view.contents own ≡ Some said → HasAll view said (texts_in (deeds_of xs)) c1
+  told_once own c xs c1 entry are said holds =
+      let told = (goes_all c xs c1 are).told (rw entry.taken (omega arith)) in
+      let none : drop c.taken c.replies.items ≡ [] = (rw (entry.taken, entry.replies) refl) in
+      let appends = subst (λ (l : List ℕ). Appends (append_known (view.contents c.line) l) (told_to view c1) (texts_in (deeds_of xs))) none told.told in
+      let all = has_all (view.contents c.line) (view.contents c1.line) said (texts_in (deeds_of xs)) (drop c1.taken c1.replies.items) (ap view.contents entry.line ∙ holds) appends in
+      record { written = all.0; contents = all.1; all = all.2 }

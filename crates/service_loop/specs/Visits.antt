@@ -9,7 +9,7 @@ use Rattle.client_reader.specs.declared.ask.Next.{Next}
 use Rattle.client_reader.specs.declared.ask.Next.TheVariants as nexts
 use Rattle.spool_engine.specs.EventTurns.{setting}
 use Rattle.spool_engine.specs.Runs.{Engine}
-use Rattle.service_loop.specs.Deeds.{Deed, IsDeed, AreDeeds, after_deed, asks_by, asks_in, text_by, texts_in}
+use Rattle.service_loop.specs.Deeds.{Deed, tells, IsDeed, AreDeeds, after_deed, asks_by, asks_in, text_by, texts_in}
 use Rattle.service_loop.specs.Lines.{LineView}
 use Rattle.service_loop.specs.declared.client.Client.{Client}
 use Rattle.service_loop.specs.declared.client.Parting.{Parting}
@@ -90,3 +90,45 @@ IsToldOf text told = (told ≡ []) ⊎ (told ≡ text) ⊎ (told ≡ codes "miss
 abbrev pub is_starved : Option Parting → Bool
 is_starved (Some Memory) = true
 is_starved parting = false
+
+-- ## All that becomes of a client
+
+pub data Visit (D L : Type 0) : Type 0 where
+  -- it had a turn, between these engines
+  turns : Engine D → List (Deed D) → Engine D → Client L → Visit D L
+  -- a text came that tells what has changed, and it was told this of it
+  changes : List ℕ → List ℕ → Client L → Visit D L
+  -- there was a sign of it
+  signs : Client L → Visit D L
+
+abbrev pub client_after : {D L : Type 0} → Visit D L → Client L
+client_after (turns old done new c) = c
+client_after (changes text told c) = c
+client_after (signs c) = c
+
+abbrev pub deeds_by : {D L : Type 0} → Visit D L → List (Deed D)
+deeds_by (turns old done new c) = done
+deeds_by (changes text told c) = tells told ∷ []
+deeds_by (signs c) = []
+
+-- as the functions of the loop say of each
+abbrev pub IsVisitBy : {D L : Type 0} → DiskView D → LineView L → Client L → Visit D L → Type 0
+IsVisitBy device view c (turns old done new c') = IsVisit device view old c done new c'
+IsVisitBy device view c (changes text told c') = IsToldOf text told × IsAdded c told c'
+IsVisitBy device view c (signs c') = Goes view c [] [] c'
+
+-- each is a visit of what the one before it left; meanwhile the engine serves others
+abbrev pub AreVisits : {D L : Type 0} → DiskView D → LineView L → Client L → List (Visit D L) → Client L → Type 0
+AreVisits device view c [] c' = c' ≡ c
+AreVisits device view c (x ∷ xs) c' = IsVisitBy device view c x × AreVisits device view (client_after x) xs c'
+
+-- what was done for it, in order
+abbrev pub deeds_of : {D L : Type 0} → List (Visit D L) → List (Deed D)
+deeds_of [] = []
+deeds_of (x ∷ xs) = deeds_by x ++ deeds_of xs
+
+-- its line has this text behind what was said before, but for what it hasn't taken
+pub record HasAll {L : Type 0} (view : LineView L) (said text : List ℕ) (c : Client L) : Type 0 where
+  pub written : List ℕ
+  pub contents : view.contents c.line ≡ Some written
+  pub all : written ++ drop c.taken c.replies.items ≡ said ++ text

@@ -65,7 +65,7 @@ pub use children::{Run, Watch, WatchedChildren, WatchedTicket};
 pub use connection::Connection;
 pub use door::{Coming, Door, Sign};
 pub use fault::ServiceFault;
-pub use laws::nothing_is_due_before;
+pub use laws::{clients_of_the_loop_stay_apart, nothing_is_due_before};
 pub use service::{Keeping, Service};
 pub use signals::{Signal, Signals};
 pub use times::Times;
