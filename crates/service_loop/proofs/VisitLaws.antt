@@ -1,6 +1,6 @@
 -- One visit of a client and then another are one.
 use Rattle.std.proofs.Common.{◌≡◌, ◌⊎◌, inl, inr, Result, ℕ, ◌+◌, ◌-◌, ◌≤◌, take, List, [], ◌∷◌, ◌++◌, length, drop, Option, None, Some, Ok, true, false, refl, ap, sym, ◌∙◌, subst, append_assoc, arith}
-use Rattle.std.specs.Io.KnownBytes.{Appends, Keeps, append_known}
+use Rattle.std.specs.Io.KnownBytes.{Appends, Consumes, Keeps, append_known}
 use Rattle.std.proofs.lemmas.List.Concat.{flat_map-cons}
 use Rattle.std.proofs.lemmas.List.{append-nil, drop-append-le, drop-drop, length-append, length-drop, take-append-drop, take_all}
 use Rattle.spool_disk.specs.Disk.{DiskView}
@@ -10,9 +10,11 @@ use Rattle.print_rounds.specs.declared.outcome.Round.{Round}
 use Rattle.print_rounds.specs.declared.outcome.RoundFault.{RoundFault}
 use Rattle.client_reader.specs.Asks.{asks_of}
 use Rattle.client_reader.specs.Calls.{AreFirstOf}
-use Rattle.client_reader.specs.Reading.{Awaits}
+use Rattle.client_reader.specs.Reading.{Awaits, Gives}
 use Rattle.client_reader.specs.declared.ask.Ask.{Ask}
 use Rattle.client_reader.specs.declared.ask.Ask.TheVariants as asking
+use Rattle.client_reader.specs.declared.ask.Next.{Next}
+use Rattle.client_reader.specs.declared.ask.Next.TheVariants as nexts
 use Rattle.command_lines.specs.declared.command.Command.{Command}
 use Rattle.command_lines.specs.declared.command.Command.TheVariants as commands
 use Rattle.spool_engine.specs.EventTurns.{Setting, setting}
@@ -21,7 +23,7 @@ use Rattle.spool_engine.specs.Ticks.{Ticked, IsTicked}
 use Rattle.spool_engine.specs.Runs.{Engine, Serves, Turn, is_round, texts_of}
 use Rattle.service_loop.specs.Deeds.{Deed, answers, ticks, says, ends, IsSaid, IsEndTold, IsDeed, AreDeeds, after_deed, asks_by, asks_in, text_by, texts_in}
 use Rattle.service_loop.specs.Lines.{LineView}
-use Rattle.service_loop.specs.Visits.{AreVisits, AsksFirst, Goes, HasAll, IsAdded, IsAnswered, IsEntry, IsVisit, IsVisitBy, Visit, turns, changes, signs, client_after, deeds_by, deeds_of, told_to}
+use Rattle.service_loop.specs.Visits.{AreVisits, Asks, AsksFirst, GivesNext, Goes, HasAll, IsAdded, IsAnswered, IsEntry, IsVisit, IsVisitBy, Visit, turns, changes, signs, client_after, deeds_by, deeds_of, told_to}
 use Rattle.service_loop.specs.declared.client.Client.{Client}
 
 first_then : (a b c : Option (List ℕ)) (f g h : List ℕ → List Ask) (xs ys : List Ask) → AsksFirst a f xs b g → AsksFirst b g ys c h → AsksFirst a f (xs ++ ys) c h
@@ -54,6 +56,14 @@ module _ {L : Type 0} (view : LineView L) where
 asks_none : (known : Option (List ℕ)) (f : List ℕ → List Ask) → AsksFirst known f [] known f
 asks_none None f = tt
 asks_none (Some rest) f = refl
+
+asks_one : (known : Option (List ℕ)) (f g : List ℕ → List Ask) (ask : Ask) → ((more : List ℕ) → f more ≡ ask ∷ g more) → AsksFirst known f (ask ∷ []) known g
+asks_one None f g ask gives = tt
+asks_one (Some rest) f g ask gives = gives rest
+
+keeps_same : (known : Option (List ℕ)) → Keeps known known
+keeps_same None = tt
+keeps_same (Some said) = refl
 
 appends_behind : (known : Option (List ℕ)) (untaken text : List ℕ) → Appends (append_known known untaken) (append_known known (untaken ++ text)) text
 appends_behind None untaken text = tt
@@ -112,9 +122,64 @@ goes_written view old count new written = record {
       };
 }
 
+-- ## A piece is read
+
+asks_read : (old new : Option (List ℕ)) (f : List ℕ → List Ask) (piece : List ℕ) → Consumes old new piece → AsksFirst old f [] new (λ more. f (piece ++ more))
+asks_read None new f piece consumes = tt
+asks_read (Some rest) None f piece consumes = absurd consumes
+asks_read (Some rest) (Some left) f piece consumes = ap f consumes
+
+appends_kept : (old new : Option (List ℕ)) (untaken : List ℕ) → Keeps old new → Appends (append_known old untaken) (append_known new untaken) []
+appends_kept None new untaken kept = tt
+appends_kept (Some said) None untaken kept = absurd kept
+appends_kept (Some said) (Some now) untaken kept = ap (λ l. l ++ untaken) kept ∙ sym (append-nil (said ++ untaken))
+
+-- a piece came of its line, and its reader took it
+pub record IsRead {L : Type 0} (view : LineView L) (old : Client L) (piece : List ℕ) (new : Client L) : Type 0 where
+  pub consumed : Consumes (view.remaining old.line) (view.remaining new.line) piece
+  pub kept : Keeps (view.contents old.line) (view.contents new.line)
+  pub took : (asks : List ℕ → List Ask) → Awaits old.reader asks → Awaits new.reader (λ more. asks (piece ++ more))
+  pub taken : new.taken ≡ old.taken
+  pub replies : new.replies.items ≡ old.replies.items
+
+pub goes_read : {L : Type 0} (view : LineView L) (old : Client L) (piece : List ℕ) (new : Client L) → IsRead view old piece new → Goes view old [] [] new
+goes_read view old piece new read = record {
+  asked = λ awaited awaits. ((λ more. awaited (piece ++ more)), read.took awaited awaits, asks_read (view.remaining old.line) (view.remaining new.line) awaited piece read.consumed);
+  told = λ within. record {
+    within = rw (read.taken, read.replies) within;
+    told = rw (read.taken, read.replies) (appends_kept (view.contents old.line) (view.contents new.line) (drop old.taken old.replies.items) read.kept);
+  };
+}
+
+-- ## What is asked for next is given
+
+goes_asked : {L : Type 0} (view : LineView L) (old : Client L) (asks : List Ask) (new : Client L) → Asks view old asks new → new.line ≡ old.line → new.taken ≡ old.taken → new.replies.items ≡ old.replies.items →
+    Goes view old asks [] new
+goes_asked view old asks new asked line taken replies = record {
+  asked = asked;
+  told = λ within. record {
+    within = rw (taken, replies) within;
+    told = rw (line, taken, replies) (appends_kept (view.contents old.line) (view.contents old.line) (drop old.taken old.replies.items) (keeps_same (view.contents old.line)));
+  };
+}
+
+pub gives_next : {L : Type 0} (view : LineView L) (old : Client L) (next : Next) (new : Client L) → ((asks : List ℕ → List Ask) → Awaits old.reader asks → Gives asks next new.reader) →
+    new.line ≡ old.line → new.taken ≡ old.taken → new.replies.items ≡ old.replies.items → GivesNext view old next new
+gives_next view old (nexts.Asked ask) new gives line taken replies =
+    goes_asked view old (ask ∷ []) new
+    (λ awaited awaits. let g = gives awaited awaits in (g.0, g.2, rw line (asks_one (view.remaining old.line) awaited g.0 ask g.1)))
+    line taken replies
+gives_next view old nexts.Again new gives line taken replies =
+    goes_asked view old [] new (λ awaited awaits. (awaited, gives awaited awaits, rw line (asks_none (view.remaining old.line) awaited))) line taken replies
+gives_next view old nexts.Text new gives line taken replies =
+    goes_asked view old [] new (λ awaited awaits. (awaited, gives awaited awaits, rw line (asks_none (view.remaining old.line) awaited))) line taken replies
+
 -- nothing was added
 pub added_none : {L : Type 0} (a b : Client L) → b.line ≡ a.line → b.reader ≡ a.reader → b.taken ≡ a.taken → b.replies.items ≡ a.replies.items → IsAdded a [] b
 added_none a b line reader taken replies = record { line = line; reader = reader; taken = taken; replies = replies ∙ sym (append-nil a.replies.items) }
+
+pub goes_none : {L : Type 0} (view : LineView L) (c : Client L) → Goes view c [] [] c
+goes_none view c = goes_added view c [] c (added_none c c refl refl refl refl)
 
 -- ## Deeds
 
@@ -246,7 +311,7 @@ module _ {D L : Type 0} (device : DiskView D) (view : LineView L) where
   goes_by c (signs c1) is = is
 
   goes_all : (c : Client L) (xs : List (Visit D L)) (c1 : Client L) → AreVisits device view c xs c1 → Goes view c (asks_in (deeds_of xs)) (texts_in (deeds_of xs)) c1
-  goes_all c [] c1 same = rw same (goes_added view c [] c (added_none c c refl refl refl refl))
+  goes_all c [] c1 same = rw same (goes_none view c)
   goes_all c (x ∷ xs) c1 are =
       rw (asks_in-append (deeds_by x) (deeds_of xs), texts_in-append (deeds_by x) (deeds_of xs))
       (goes_then view c (client_after x) c1 (asks_in (deeds_by x)) (asks_in (deeds_of xs)) (texts_in (deeds_by x)) (texts_in (deeds_of xs))

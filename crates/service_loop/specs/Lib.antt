@@ -3,4 +3,5 @@ pub mod Deeds
 pub mod Due
 pub mod Endings
 pub mod Lines
+pub mod Places
 pub mod Visits

@@ -172,8 +172,10 @@ impl<L: Connection> Client<L> {
     /// Serves some commands of it.
     pub fn serve<D: Disk, C: Children>(&mut self, office: &mut Office<'_, D, C>, now: u64) -> Turn
         // Unless there was no memory for it, what it asked for was done, and it was told that, in order, and nothing else.
-        ensures { is_starved result.parting ≡ false → (deeds : List (Deed D)) ×
+        ensures visit { is_starved result.parting ≡ false → (deeds : List (Deed D)) ×
             IsVisit D.device L.view office.old.engine self.old deeds office.new.engine self.new }
+        ensures mime { office.new.engine.mime ≡ office.old.engine.mime }
+        ensures place { office.new.engine.place ≡ office.old.engine.place }
     {
         let mut turn = Turn::new();
         match self.try_serve(office, now, &mut turn) {
@@ -191,22 +193,35 @@ impl<L: Connection> Client<L> {
         now: u64,
         turn: &mut Turn,
     ) -> Result<bool, ClientFault>
-        ensures { OnOk result ((deeds : List (Deed D)) ×
+        ensures visit { OnOk result ((deeds : List (Deed D)) ×
             IsVisit D.device L.view office.old.engine self.old deeds office.new.engine self.new) }
+        ensures mime { office.new.engine.mime ≡ office.old.engine.mime }
+        ensures place { office.new.engine.place ≡ office.old.engine.place }
     {
-        // Of one that waits nothing is read, so that its end isn't found.
-        if !self.give(now) || self.gone && self.waits.is_some() {
+        if !self.give(now) || self.waits_for_nobody() {
             return Ok(false);
         }
         if !self.serve_some(office, now, turn)? {
             return Ok(false);
         }
+        Ok(self.end_turn(now, turn))
+    }
+
+    // Whether it waits and has gone: of one that waits nothing is read, so that its end isn't found.
+    fn waits_for_nobody(&self) -> bool {
+        self.gone && self.waits.is_some()
+    }
+
+    // Gives it what it takes of its replies, behind what was served. Whether it is still there.
+    fn end_turn(&mut self, now: u64, turn: &mut Turn) -> bool
+        ensures { Goes L.view self.old [] [] self.new }
+    {
         // A line that its text ends in is no command: a client that was killed may have been in the middle of another one.
         let ended = self.over && !turn.more && !turn.brimful && self.waits.is_none();
         let there = self.give(now);
         // It took so much that there is something to be served again, and perhaps no sign of it comes.
         turn.more = turn.more || turn.brimful && self.unread() < MOST_UNREAD;
-        Ok(there && (!ended || 0 < self.unread()))
+        there && (!ended || 0 < self.unread())
     }
 
     // Serves the commands that are whole, up to the bounds. Whether it is still there.
@@ -216,8 +231,10 @@ impl<L: Connection> Client<L> {
         now: u64,
         turn: &mut Turn,
     ) -> Result<bool, ClientFault>
-        ensures { OnOk result ((deeds : List (Deed D)) ×
+        ensures visit { OnOk result ((deeds : List (Deed D)) ×
             IsVisit D.device L.view office.old.engine self.old deeds office.new.engine self.new) }
+        ensures mime { office.new.engine.mime ≡ office.old.engine.mime }
+        ensures place { office.new.engine.place ≡ office.old.engine.place }
     {
         turn.more = true;
         let mut served = 0;
@@ -247,8 +264,10 @@ impl<L: Connection> Client<L> {
         now: u64,
         turn: &mut Turn,
     ) -> Result<Step, ClientFault>
-        ensures { OnOk result ((deeds : List (Deed D)) ×
+        ensures visit { OnOk result ((deeds : List (Deed D)) ×
             IsVisit D.device L.view office.old.engine self.old deeds office.new.engine self.new) }
+        ensures mime { office.new.engine.mime ≡ office.old.engine.mime }
+        ensures place { office.new.engine.place ≡ office.old.engine.place }
     {
         if !self.is_told_end(office)? {
             return Ok(Step::Rests);
@@ -259,7 +278,7 @@ impl<L: Connection> Client<L> {
                 Ok(Step::Served)
             }
             Next::Again => Ok(Step::Goes),
-            Next::Text => self.read_more(now),
+            Next::Text => Ok(self.read_more(now)?),
         }
     }
 
@@ -267,7 +286,8 @@ impl<L: Connection> Client<L> {
     fn next_asked(&mut self) -> Result<Next, AllocError>
         ensures { IfOk result (λ next. GivesNext L.view self.old next self.new) }
     {
-        self.reader.next()
+        let next = self.reader.next()?;
+        Ok(next)
     }
 
     // Tells it the end of the job that it waits for, if that has come. Whether it waits for none then.
@@ -298,7 +318,9 @@ impl<L: Connection> Client<L> {
         ask: Ask,
         turn: &mut Turn,
     ) -> Result<(), ClientFault>
-        ensures { OnOk result (IsAnswered D.device office.old.engine self.old ask office.new.engine self.new) }
+        ensures done { OnOk result (IsAnswered D.device office.old.engine self.old ask office.new.engine self.new) }
+        ensures mime { office.new.engine.mime ≡ office.old.engine.mime }
+        ensures place { office.new.engine.place ≡ office.old.engine.place }
     {
         turn.served = true;
         match ask {
@@ -313,7 +335,9 @@ impl<L: Connection> Client<L> {
         office: &mut Office<'_, D, C>,
         command: Command,
     ) -> Result<(), ClientFault>
-        ensures { OnOk result (IsAnswered D.device office.old.engine self.old (Ask.Command command) office.new.engine self.new) }
+        ensures done { OnOk result (IsAnswered D.device office.old.engine self.old (Ask.Command command) office.new.engine self.new) }
+        ensures mime { office.new.engine.mime ≡ office.old.engine.mime }
+        ensures place { office.new.engine.place ≡ office.old.engine.place }
     {
         match command {
             Command::Round | Command::Drain(_) => {
@@ -336,7 +360,9 @@ impl<L: Connection> Client<L> {
         word: OwnWord,
         turn: &mut Turn,
     ) -> Result<(), ClientFault>
-        ensures { OnOk result (IsAnswered D.device office.old.engine self.old (Ask.Own word) office.new.engine self.new) }
+        ensures done { OnOk result (IsAnswered D.device office.old.engine self.old (Ask.Own word) office.new.engine self.new) }
+        ensures mime { office.new.engine.mime ≡ office.old.engine.mime }
+        ensures place { office.new.engine.place ≡ office.old.engine.place }
     {
         match word {
             OwnWord::Job(job) => {

@@ -1,8 +1,8 @@
 -- the end that was told, and then what was asked for next
-use Rattle.service_loop.proofs.VisitLaws.{visited_then, visit_answered}
+use Rattle.service_loop.proofs.VisitLaws.{visited_then, visit_answered, visit_none}
 use Rattle.service_loop.proofs.client.Client.step.Goals as goal
 
-pub returns-in_ok-answer-in-Asked : goal.returns-in_ok-answer-in-Asked
-returns-in_ok-answer-in-Asked g c =
+pub returns-in_ok-answer-in-Asked-clause-visit : goal.returns-in_ok-answer-in-Asked-clause-visit
+returns-in_ok-answer-in-Asked-clause-visit g c =
     let asked = (rw c.in-Asked.is at c.in_ok-ask.ensures) in
-    visited_then _ _ _ _ _ _ _ _ c.in_ok-is_told_end.ensures (visit_answered _ _ _ _ _ _ _ _ asked c.in_ok-answer-in-Asked.ensures)
+    visited_then _ _ _ _ _ _ _ _ c.in_ok-is_told_end.ensures (visit_answered _ _ _ _ _ _ _ _ asked c.in_ok-answer-in-Asked.ensures.done)
