@@ -1,8 +1,11 @@
 -- what was done so far, and then in one step
-use Rattle.std.proofs.Common.{◌∙◌, arith}
-use Rattle.service_loop.proofs.VisitLaws.{visited_then}
+use Rattle.std.proofs.Common.{◌∙◌, refl, arith}
+use Rattle.service_loop.proofs.VisitLaws.{goes_none, visit_none, visited_then}
 use Rattle.service_loop.proofs.client.Client.serve_some.Goals as goal
 use Rattle.service_loop.proofs.client.Client.serve_some.Goals.{in-Served, in-Goes}
+
+pub loop-init : goal.loop-init
+loop-init g c = record { counted = omega arith; mime = refl; place = refl; visited = visit_none _ _ _ _ _ (goes_none _ _) }
 
 pub returns-in-Lost-clause-visit : goal.returns-in-Lost-clause-visit
 returns-in-Lost-clause-visit g c = visited_then _ _ _ _ _ _ _ _ c.loop.invariant.visited c.in_ok-step.ensures.visit

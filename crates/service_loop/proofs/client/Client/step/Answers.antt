@@ -6,3 +6,14 @@ pub returns-in_ok-answer-in-Asked-clause-visit : goal.returns-in_ok-answer-in-As
 returns-in_ok-answer-in-Asked-clause-visit g c =
     let asked = (rw c.in-Asked.is at c.in_ok-ask.ensures) in
     visited_then _ _ _ _ _ _ _ _ c.in_ok-is_told_end.ensures (visit_answered _ _ _ _ _ _ _ _ asked c.in_ok-answer-in-Asked.ensures.done)
+
+pub returns-in-Again-clause-visit : goal.returns-in-Again-clause-visit
+returns-in-Again-clause-visit g c =
+    let asked = (rw c.in-Again.is at c.in_ok-ask.ensures) in
+    visited_then _ _ _ _ _ _ _ _ c.in_ok-is_told_end.ensures (visit_none _ _ _ _ _ asked)
+
+pub returns-in_ok-read_more-in-Text-clause-visit : goal.returns-in_ok-read_more-in-Text-clause-visit
+returns-in_ok-read_more-in-Text-clause-visit g c =
+    let asked = (rw c.in-Text.is at c.in_ok-ask.ensures) in
+    visited_then _ _ _ _ _ _ _ _ c.in_ok-is_told_end.ensures
+    (visited_then _ _ _ _ _ _ _ _ (visit_none _ _ _ _ _ asked) (visit_none _ _ _ _ _ c.in_ok-read_more-in-Text.ensures))
