@@ -1,14 +1,15 @@
 -- What becomes of each client in the turns of all.
-use Rattle.std.proofs.Common.{◌≡◌, ◌≢◌, ◌⊎◌, inl, inr, ℕ, zero, suc, ◌+◌, ◌<◌, ◌≤◌, List, Option, None, Some, false, refl, ap, sym, ◌∙◌, subst, add-one, arith}
+use Rattle.std.proofs.Common.{◌≡◌, ◌≢◌, ◌⊎◌, inl, inr, ℕ, zero, suc, ◌+◌, ◌<◌, ◌≤◌, List, Option, None, Some, true, false, is_some, refl, ap, sym, ◌∙◌, subst, add-one, arith}
 use Rattle.slab.specs.Slab.{Slab, Updates, get, with_value}
 use Rattle.slab.proofs.SlabLemmas.{Updates-with_value}
 use Rattle.spool_disk.specs.Disk.{DiskView}
 use Rattle.spool_engine.specs.Runs.{Engine}
 use Rattle.service_loop.specs.Lines.{LineView}
 use Rattle.service_loop.specs.Deeds.{Deed}
-use Rattle.service_loop.specs.Places.{HadOwnTurn, HasTurn, HaveTurns, IsPlaceTold, PlaceHadTurn, unless_parted}
+use Rattle.service_loop.specs.Places.{HadOwnTurn, HasTurn, HaveTurns, IsPlaceTold, KeepsOthers, PlaceHadTurn, unless_parted}
 use Rattle.service_loop.specs.Visits.{IsVisit, is_starved}
 use Rattle.service_loop.specs.declared.client.Client.{Client}
+use Rattle.service_loop.specs.declared.client.Parting.{Parting}
 use Rattle.service_loop.specs.declared.client.Turn.{Turn}
 
 either : (a b : ℕ) → a < b + 1 → (a < b) ⊎ (a ≡ b)
@@ -31,19 +32,22 @@ module _ {D L : Type 0} (device : DiskView D) (view : LineView L) where
   untouched e places (suc n) new left (between, mid, turn, so_far, next) key le =
       next.others key (omega arith) ∙ untouched e places n between mid so_far key (omega arith)
 
+  -- a place below the last one had its turn before, and the last one just now
+  own_of : (places mid left : Slab (Client L)) (n : ℕ) → KeepsOthers n mid left → get mid n ≡ get places n → HadOwnTurn device view (get mid n) (get left n) →
+      (key : ℕ) → (key < n → HadOwnTurn device view (get places key) (get mid key)) → (key < n) ⊎ (key ≡ n) → HadOwnTurn device view (get places key) (get left key)
+  own_of places mid left n others before own key earlier (inl below) =
+      subst (λ (c : Option (Client L)). HadOwnTurn device view (get places key) c) (sym (others key (omega arith))) (earlier below)
+  own_of places mid left n others before own key earlier (inr same) =
+      subst (λ (k : ℕ). HadOwnTurn device view (get places k) (get left k)) (sym same)
+      (subst (λ (c : Option (Client L)). HadOwnTurn device view c (get left n)) before own)
+
   pub each_own : (e : Engine D) (places : Slab (Client L)) (n : ℕ) (new : Engine D) (left : Slab (Client L)) → HaveTurns device view e places n new left →
       (key : ℕ) → key < n → HadOwnTurn device view (get places key) (get left key)
   unfolding HaveTurns
   each_own e places zero new left so_far key lt = absurd (omega arith)
-  each_own e places (suc n) new left (between, mid, turn, so_far, next) key lt = by_place (either key n (rw add-one lt))
-    where
-      by_place : (key < n) ⊎ (key ≡ n) → HadOwnTurn device view (get places key) (get left key)
-      by_place (inl below) =
-          subst (λ (c : Option (Client L)). HadOwnTurn device view (get places key) c) (sym (next.others key (omega arith))) (each_own e places n between mid so_far key below)
-      by_place (inr same) = subst (λ (k : ℕ). HadOwnTurn device view (get places k) (get left k)) (sym same) own
-        where
-          own : HadOwnTurn device view (get places n) (get left n)
-          own = subst (λ (c : Option (Client L)). HadOwnTurn device view c (get left n)) (untouched e places n between mid so_far n (omega arith)) (between, turn, new, next.own)
+  each_own e places (suc n) new left (between, mid, turn, so_far, next) key lt =
+      own_of places mid left n next.others (untouched e places n between mid so_far n (omega arith)) (between, turn, new, next.own) key
+      (each_own e places n between mid so_far key) (either key n (omega arith))
 
 -- ## One place
 
@@ -51,7 +55,7 @@ pub updates_then : {T : Type 0} (a b c : Slab T) (key : ℕ) (one two : Option T
 updates_then a b c key one two first then = record { changed = then.changed; others = λ other ne. then.others other ne ∙ first.others other ne }
 
 pub written : {T : Type 0} (places : Slab T) (key : ℕ) (was value : T) → get places key ≡ Some was → Updates places (with_value places key value) key (Some value)
-written places key was value there = Updates-with_value places key value (rw there tt)
+written places key was value there = Updates-with_value places key value (rw there refl)
 
 module _ {D L : Type 0} (device : DiskView D) (view : LineView L) where
   pub had_none : (e : Engine D) (places : Slab (Client L)) (key : ℕ) → get places key ≡ None → HasTurn device view e places key None e places
@@ -68,6 +72,26 @@ module _ {D L : Type 0} (device : DiskView D) (view : LineView L) where
         (record { mime = mime; place = place; is = is; visit = visit; stays = updates.changed });
     others = updates.others;
   }
+
+gone : {L : Type 0} (parting : Option Parting) (c : Client L) → is_some parting ≡ true → None ≡ unless_parted parting c
+gone None c parts = cc
+gone (Some parting) c parts = refl
+
+stayed : {L : Type 0} (parting : Option Parting) (c : Client L) → is_some parting ≡ false → Some c ≡ unless_parted parting c
+stayed None c stays = refl
+stayed (Some parting) c stays = cc
+
+-- who had a turn is found in its place, or has gone
+pub has_gone : {L : Type 0} (places left : Slab (Client L)) (key : ℕ) (was is : Client L) (parting : Option Parting) → get places key ≡ Some was → is_some parting ≡ true →
+    Updates (with_value places key is) left key None → Updates places left key (unless_parted parting is)
+has_gone {L} places left key was is parting there parts removed =
+    subst (λ (slot : Option (Client L)). Updates places left key slot) (gone parting is parts)
+    (updates_then places (with_value places key is) left key (Some is) None (written places key was is there) removed)
+
+pub has_stayed : {L : Type 0} (places : Slab (Client L)) (key : ℕ) (was is : Client L) (parting : Option Parting) → get places key ≡ Some was → is_some parting ≡ false →
+    Updates places (with_value places key is) key (unless_parted parting is)
+has_stayed {L} places key was is parting there stays =
+    subst (λ (slot : Option (Client L)). Updates places (with_value places key is) key slot) (stayed parting is stays) (written places key was is there)
 
 pub place_told : {L : Type 0} (text : List ℕ) (places left : Slab (Client L)) (key : ℕ) (was : Client L) (slot : Option (Client L)) → get places key ≡ Some was → Updates places left key slot →
     IsPlaceTold text (Some was) slot → IsPlaceTold text (get places key) (get left key)
