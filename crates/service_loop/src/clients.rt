@@ -1,5 +1,5 @@
 //! The clients, each at a place of its own.
-ghost use Rattle.std.specs.Prelude.{◌≡◌, ◌<◌, ◌≤◌, ℕ, IfOk, OnOk};
+ghost use Rattle.std.specs.Prelude.{◌≡◌, ◌+◌, ◌<◌, ◌≤◌, ℕ, IfOk, OnOk};
 ghost use Rattle.service_rules.specs.Places.{IsAdmission};
 ghost use Rattle.slab.specs.Slab.{get};
 ghost use Rattle.service_loop.specs.Clients.{heard_of};
@@ -27,6 +27,21 @@ pub struct Turns {
     pub shutdown: bool,
     /// How many clients went for want of memory.
     pub starved: usize,
+}
+
+impl Turns {
+    // Adds what one turn came to.
+    fn add(&mut self, turn: Turn)
+        requires { self.old.starved < MOST_CLIENTS }
+        ensures { self.new.starved ≤ self.old.starved + 1 }
+    {
+        self.served = self.served || turn.served;
+        self.more = self.more || turn.more;
+        self.shutdown = self.shutdown || turn.shutdown;
+        if turn.parting == Some(Parting::Memory) {
+            self.starved += 1;
+        }
+    }
 }
 
 #[derive(Drop)]
@@ -163,12 +178,7 @@ impl<L: Connection> Clients<L> {
         };
         for key in 0..MOST_CLIENTS {
             if let Some(turn) = self.serve_at(office, key, now) {
-                turns.served = turns.served || turn.served;
-                turns.more = turns.more || turn.more;
-                turns.shutdown = turns.shutdown || turn.shutdown;
-                if turn.parting == Some(Parting::Memory) {
-                    turns.starved += 1;
-                }
+                turns.add(turn);
             }
         }
         turns
