@@ -21,7 +21,7 @@ use Rattle.spool_engine.specs.EventTurns.{Setting, setting}
 use Rattle.spool_engine.specs.Rounds.{round_line}
 use Rattle.spool_engine.specs.Ticks.{Ticked, IsTicked}
 use Rattle.spool_engine.specs.Runs.{Engine, Serves, Turn, is_round, texts_of}
-use Rattle.service_loop.specs.Deeds.{Deed, answers, ticks, says, ends, IsSaid, IsEndTold, IsDeed, AreDeeds, after_deed, asks_by, asks_in, text_by, texts_in}
+use Rattle.service_loop.specs.Deeds.{Deed, answers, ticks, says, ends, IsSaid, IsEndTold, IsDeed, IsTimely, AreDeeds, after_deed, wait_after, asks_by, asks_in, text_by, texts_in}
 use Rattle.service_loop.specs.Lines.{LineView}
 use Rattle.service_loop.specs.Visits.{AreVisits, Asks, AsksFirst, GivesNext, Goes, HasAll, IsAdded, IsAnswered, IsEntry, IsVisit, IsVisitBy, Visit, turns, changes, signs, client_after, deeds_by, deeds_of, told_to}
 use Rattle.service_loop.specs.declared.client.Client.{Client}
@@ -187,9 +187,10 @@ module _ {D : Type 0} where
   text_of_one : (t : Turn D) → texts_of (t ∷ []) ≡ t.text
   text_of_one t = flat_map-cons (λ (x : Turn D). x.text) t [] ∙ append-nil t.text
 
-  deeds_then : (v : Setting D) (s : Course D) (xs : List (Deed D)) (m : Course D) (ys : List (Deed D)) (t : Course D) → AreDeeds v s xs m → AreDeeds v m ys t → AreDeeds v s (xs ++ ys) t
-  deeds_then v s [] m ys t one two = subst (λ x. AreDeeds v x ys t) one two
-  deeds_then v s (x ∷ xs) m ys t one two = (one.0, deeds_then v (after_deed s x) xs m ys t one.1 two)
+  deeds_then : (v : Setting D) (s : Course D) (w : Option ℕ) (xs : List (Deed D)) (m : Course D) (w1 : Option ℕ) (ys : List (Deed D)) (t : Course D) (w2 : Option ℕ) →
+      AreDeeds v s w xs m w1 → AreDeeds v m w1 ys t w2 → AreDeeds v s w (xs ++ ys) t w2
+  deeds_then v s w [] m w1 ys t w2 one two = subst (λ x. AreDeeds v x w ys t w2) one.0 (subst (λ x. AreDeeds v m x ys t w2) one.1 two)
+  deeds_then v s w (x ∷ xs) m w1 ys t w2 one two = (one.0, one.1, deeds_then v (after_deed s x) (wait_after w x) xs m w1 ys t w2 one.2 two)
 
   pub asks_in-append : (xs ys : List (Deed D)) → asks_in (xs ++ ys) ≡ asks_in xs ++ asks_in ys
   asks_in-append [] ys = refl
@@ -205,41 +206,47 @@ module _ {D L : Type 0} (device : DiskView D) where
   -- the engine answered a command
   pub answered_by_turn : (e e1 : Engine D) (c c1 : Client L) (command : Command) (t : Turn D) → e1.mime ≡ e.mime → e1.place ≡ e.place → is_round command ≡ false →
       Serves (setting device e.mime e.place) e.course command t e1.course (Ok tt) (Some c.replies.items) (Some c1.replies.items) →
-      c1.line ≡ c.line → c1.reader ≡ c.reader → c1.taken ≡ c.taken → IsAnswered device e c (asking.Command command) e1 c1
-  answered_by_turn e e1 c c1 command t mime place other served line reader taken = record {
+      c1.line ≡ c.line → c1.reader ≡ c.reader → c1.taken ≡ c.taken → c.waits ≡ None → c1.waits ≡ c.waits → IsAnswered device e c (asking.Command command) e1 c1
+  answered_by_turn e e1 c c1 command t mime place other served line reader taken none waits = record {
     mime = mime;
     place = place;
     deed = answers t;
     asked = ap (λ x. asking.Command x ∷ []) served.command;
     is = record { command = ap is_round served.command ∙ other; turn = served.legal };
     next = served.next;
+    timely = none;
+    waits = sym waits;
     added = record { line = line; reader = reader; taken = taken; replies = served.wrote ∙ ap (λ l. c.replies.items ++ l) (text_of_one t) };
   }
 
   -- a round was answered by a tick
   pub answered_by_tick : (e e1 : Engine D) (c c1 : Client L) (command : Command) (counts : Result Round RoundFault) (text : List ℕ) (t : Ticked D) →
       t.next ≡ e1.course → t.result ≡ counts → e1.mime ≡ e.mime → e1.place ≡ e.place → is_round command ≡ true →
-      IsTicked (setting device e.mime e.place) e.course t → text ≡ round_line counts → IsAdded c text c1 → IsAnswered device e c (asking.Command command) e1 c1
-  answered_by_tick e e1 c c1 command counts text t next result mime place round ticked told added = record {
+      IsTicked (setting device e.mime e.place) e.course t → text ≡ round_line counts → IsAdded c text c1 → c.waits ≡ None → c1.waits ≡ c.waits → IsAnswered device e c (asking.Command command) e1 c1
+  answered_by_tick e e1 c c1 command counts text t next result mime place round ticked told added none waits = record {
     mime = mime;
     place = place;
     deed = ticks command t text;
     asked = refl;
     is = record { round = round; tick = ticked; told = told ∙ sym (ap round_line result) };
     next = next;
+    timely = none;
+    waits = sym waits;
     added = added;
   }
 
   -- a word of the service was answered
   pub answered_by_word : (e : Engine D) (c c1 : Client L) (word : OwnWord) (text : List ℕ) → IsSaid e.course.spool.state word text → IsAdded c text c1 →
-      IsAnswered device e c (asking.Own word) e c1
-  answered_by_word e c c1 word text said added = record {
+      c.waits ≡ None → wait_after {D = D} c.waits (says word text) ≡ c1.waits → IsAnswered device e c (asking.Own word) e c1
+  answered_by_word e c c1 word text said added none waits = record {
     mime = refl;
     place = refl;
     deed = says word text;
     asked = refl;
     is = said;
     next = refl;
+    timely = none;
+    waits = waits;
     added = added;
   }
 
@@ -256,35 +263,40 @@ module _ {D L : Type 0} (device : DiskView D) (view : LineView L) where
     mime = two.mime ∙ one.mime;
     place = two.place ∙ one.place;
     deeds =
-        deeds_then (setting device e.mime e.place) e.course xs e1.course ys e2.course one.deeds
-        (subst (λ m. AreDeeds (setting device m e.place) e1.course ys e2.course) one.mime
-        (subst (λ p. AreDeeds (setting device e1.mime p) e1.course ys e2.course) one.place two.deeds));
+        deeds_then (setting device e.mime e.place) e.course c.waits xs e1.course c1.waits ys e2.course c2.waits one.deeds
+        (subst (λ m. AreDeeds (setting device m e.place) e1.course c1.waits ys e2.course c2.waits) one.mime
+        (subst (λ p. AreDeeds (setting device e1.mime p) e1.course c1.waits ys e2.course c2.waits) one.place two.deeds));
     client = rw (asks_in-append xs ys, texts_in-append xs ys) (goes_then view c c1 c2 (asks_in xs) (asks_in ys) (texts_in xs) (texts_in ys) one.client two.client);
   }
 
   -- a client that asked for nothing and was told nothing, of an engine that is as it was
-  pub visit_none : (e : Engine D) (c c1 : Client L) → Goes view c [] [] c1 → Visited e c e c1
-  visit_none e c c1 goes = ([], record { mime = refl; place = refl; deeds = refl; client = goes })
+  pub visit_none : (e : Engine D) (c c1 : Client L) → Goes view c [] [] c1 → c1.waits ≡ c.waits → Visited e c e c1
+  visit_none e c c1 goes waits = ([], record { mime = refl; place = refl; deeds = (refl, waits); client = goes })
 
   pub visited_then : (e : Engine D) (c : Client L) (e1 : Engine D) (c1 : Client L) (e2 : Engine D) (c2 : Client L) →
       Visited e c e1 c1 → Visited e1 c1 e2 c2 → Visited e c e2 c2
   visited_then e c e1 c1 e2 c2 one two = (one.0 ++ two.0, visit_then e c one.0 e1 c1 two.0 e2 c2 one.1 two.1)
 
   -- what was asked for was done
-  pub visit_answered : (e : Engine D) (c c1 : Client L) (ask : Ask) (e1 : Engine D) (c2 : Client L) → Goes view c (ask ∷ []) [] c1 → IsAnswered device e c1 ask e1 c2 → Visited e c e1 c2
-  visit_answered e c c1 ask e1 c2 asked done = (done.deed ∷ [], record {
+  pub visit_answered : (e : Engine D) (c c1 : Client L) (ask : Ask) (e1 : Engine D) (c2 : Client L) → Goes view c (ask ∷ []) [] c1 → c1.waits ≡ c.waits →
+      IsAnswered device e c1 ask e1 c2 → Visited e c e1 c2
+  visit_answered e c c1 ask e1 c2 asked waits done = (done.deed ∷ [], record {
     mime = done.mime;
     place = done.place;
-    deeds = (done.is, sym done.next);
+    deeds = (
+      done.is,
+      subst (λ (w : Option ℕ). IsTimely w done.deed) waits done.timely,
+      (sym done.next, sym done.waits ∙ ap (λ w. wait_after w done.deed) waits),
+    );
     client = rw (done.asked, append-nil (text_by done.deed)) (goes_then view c c1 c2 (ask ∷ []) [] [] (text_by done.deed) asked (goes_added view c1 (text_by done.deed) c2 done.added));
   })
 
   -- the end of a job was told
-  pub visit_ended : (e : Engine D) (c c1 : Client L) (job : ℕ) (text : List ℕ) → IsEndTold e.course.spool.state job text → IsAdded c text c1 → Visited e c e c1
-  visit_ended e c c1 job text told added = (ends job text ∷ [], record {
+  pub visit_ended : (e : Engine D) (c c1 : Client L) (job : ℕ) (text : List ℕ) → IsEndTold e.course.spool.state job text → IsAdded c text c1 → c.waits ≡ Some job → c1.waits ≡ None → Visited e c e c1
+  visit_ended e c c1 job text told added waits over = (ends job text ∷ [], record {
     mime = refl;
     place = refl;
-    deeds = (told, refl);
+    deeds = (told, waits, (refl, over));
     client = rw (append-nil text) (goes_added view c text c1 added);
   })
 

@@ -1,5 +1,5 @@
 -- What the service did for a client, one thing after the other, and what it said at each.
-use Rattle.std.specs.Prelude.{◌≡◌, ◌⊎◌, ℕ, true, false, List, [], ◌∷◌, ◌++◌, codes}
+use Rattle.std.specs.Prelude.{◌≡◌, ◌⊎◌, ℕ, true, false, List, [], ◌∷◌, ◌++◌, Option, None, Some, codes}
 use Rattle.spool_types.specs.State.{State}
 use Rattle.command_lines.specs.declared.command.Command.{Command}
 use Rattle.service_texts.specs.Shown.{has_settled, shown_job, told_job}
@@ -22,7 +22,7 @@ pub data Deed (D : Type 0) : Type 0 where
   says : OwnWord → List ℕ → Deed D
   -- the end of this job was told, with this text
   ends : ℕ → List ℕ → Deed D
-  -- what has changed was told, unasked
+  -- what has changed was told, unasked: never in a turn of it
   tells : List ℕ → Deed D
 
 -- what was asked for
@@ -77,12 +77,23 @@ IsDeed v s (answers t) = IsServed v s t
 IsDeed v s (ticks command t text) = IsTickedFor v s command t text
 IsDeed v s (says word text) = IsSaid s.spool.state word text
 IsDeed v s (ends job text) = IsEndTold s.spool.state job text
-IsDeed v s (tells text) = Unit {0}
+IsDeed v s (tells text) = ⊥
 
--- each deed is one on what the deeds before it left
-abbrev pub AreDeeds : {D : Type 0} → Setting D → Course D → List (Deed D) → Course D → Type 0
-AreDeeds v s [] s' = s' ≡ s
-AreDeeds v s (d ∷ ds) s' = IsDeed v s d × AreDeeds v (after_deed s d) ds s'
+-- the job that it waits for behind a deed
+abbrev pub wait_after : {D : Type 0} → Option ℕ → Deed D → Option ℕ
+wait_after waits (says (Wait j) text) = Some j
+wait_after waits (ends job text) = None
+wait_after waits d = waits
+
+-- it is told the end that it waits for, and nothing else is done for it until then
+abbrev pub IsTimely : {D : Type 0} → Option ℕ → Deed D → Type 0
+IsTimely waits (ends job text) = waits ≡ Some job
+IsTimely waits d = waits ≡ None
+
+-- each deed is one on what the deeds before it left, of a client that waits for a job or for none
+abbrev pub AreDeeds : {D : Type 0} → Setting D → Course D → Option ℕ → List (Deed D) → Course D → Option ℕ → Type 0
+AreDeeds v s waits [] s' waits' = (s' ≡ s) × (waits' ≡ waits)
+AreDeeds v s waits (d ∷ ds) s' waits' = IsDeed v s d × IsTimely waits d × AreDeeds v (after_deed s d) (wait_after waits d) ds s' waits'
 
 -- what was asked for, in order
 abbrev pub asks_in : {D : Type 0} → List (Deed D) → List Ask

@@ -9,7 +9,7 @@ use Rattle.client_reader.specs.declared.ask.Next.{Next}
 use Rattle.client_reader.specs.declared.ask.Next.TheVariants as nexts
 use Rattle.spool_engine.specs.EventTurns.{setting}
 use Rattle.spool_engine.specs.Runs.{Engine}
-use Rattle.service_loop.specs.Deeds.{Deed, tells, IsDeed, AreDeeds, after_deed, asks_by, asks_in, text_by, texts_in}
+use Rattle.service_loop.specs.Deeds.{Deed, tells, IsDeed, IsTimely, AreDeeds, after_deed, wait_after, asks_by, asks_in, text_by, texts_in}
 use Rattle.service_loop.specs.Lines.{LineView}
 use Rattle.service_loop.specs.declared.client.Client.{Client}
 use Rattle.service_loop.specs.declared.client.Parting.{Parting}
@@ -66,6 +66,8 @@ pub record IsAnswered {D L : Type 0} (device : DiskView D) (old : Engine D) (c :
   pub asked : asks_by deed ≡ ask ∷ []
   pub is : IsDeed (setting device old.mime old.place) old.course deed
   pub next : after_deed old.course deed ≡ new.course
+  pub timely : IsTimely c.waits deed
+  pub waits : wait_after c.waits deed ≡ c'.waits
   pub added : IsAdded c (text_by deed) c'
 
 -- These deeds were done for a client, and no others: what it asked for is what they answer, one for one, and what it was told
@@ -73,7 +75,7 @@ pub record IsAnswered {D L : Type 0} (device : DiskView D) (old : Engine D) (c :
 pub record IsVisit {D L : Type 0} (device : DiskView D) (view : LineView L) (old : Engine D) (c : Client L) (done : List (Deed D)) (new : Engine D) (c' : Client L) : Type 0 where
   pub mime : new.mime ≡ old.mime
   pub place : new.place ≡ old.place
-  pub deeds : AreDeeds (setting device old.mime old.place) old.course done new.course
+  pub deeds : AreDeeds (setting device old.mime old.place) old.course c.waits done new.course c'.waits
   pub client : Goes view c (asks_in done) (texts_in done) c'
 
 -- what came next of its reader

@@ -2,7 +2,7 @@
 //!
 //! Of its text no more is read than a piece beyond a line's beginning. What it asks for is what its reader gives
 //! (`client_reader`), in order.
-ghost use Rattle.std.specs.Prelude.{◌≡◌, ◌<◌, ℕ, vec_len, true, false, List, [], IfOk, OnOk};
+ghost use Rattle.std.specs.Prelude.{◌≡◌, ◌<◌, ℕ, vec_len, true, false, List, [], None, IfOk, OnOk};
 ghost use Rattle.service_loop.specs.Clients.{listens, unread, watches};
 ghost use Rattle.service_loop.specs.Deeds.{Deed};
 ghost use Rattle.service_loop.specs.Visits.{Goes, GivesNext, IsAdded, IsAnswered, IsEntry, IsToldOf, IsVisit, is_starved};
@@ -156,7 +156,8 @@ impl<L: Connection> Client<L> {
 
     /// There may be something to read, and perhaps it takes more, or has gone.
     pub fn signal(&mut self, writable: bool, gone: bool)
-        ensures { Goes L.view self.old [] [] self.new }
+        ensures goes { Goes L.view self.old [] [] self.new }
+        ensures waits { self.new.waits ≡ self.old.waits }
     {
         self.readable = true;
         self.writable = self.writable || writable;
@@ -214,7 +215,8 @@ impl<L: Connection> Client<L> {
 
     // Gives it what it takes of its replies, behind what was served. Whether it is still there.
     fn end_turn(&mut self, now: u64, turn: &mut Turn) -> bool
-        ensures { Goes L.view self.old [] [] self.new }
+        ensures goes { Goes L.view self.old [] [] self.new }
+        ensures waits { self.new.waits ≡ self.old.waits }
     {
         // A line that its text ends in is no command: a client that was killed may have been in the middle of another one.
         let ended = self.over && !turn.more && !turn.brimful && self.waits.is_none();
@@ -284,7 +286,8 @@ impl<L: Connection> Client<L> {
 
     // What it asks for next.
     fn next_asked(&mut self) -> Result<Next, AllocError>
-        ensures { IfOk result (λ next. GivesNext L.view self.old next self.new) }
+        ensures next { IfOk result (λ next. GivesNext L.view self.old next self.new) }
+        ensures waits { self.new.waits ≡ self.old.waits }
     {
         let next = self.reader.next()?;
         Ok(next)
@@ -295,8 +298,9 @@ impl<L: Connection> Client<L> {
         &mut self,
         office: &Office<'_, D, C>,
     ) -> Result<bool, AllocError>
-        ensures { OnOk result ((deeds : List (Deed D)) ×
+        ensures visit { OnOk result ((deeds : List (Deed D)) ×
             IsVisit D.device L.view office.now.engine self.old deeds office.now.engine self.new) }
+        ensures waits { IfOk result (λ over. over ≡ true → self.new.waits ≡ None) }
     {
         let Some(job) = self.waits else {
             return Ok(true);
@@ -318,6 +322,7 @@ impl<L: Connection> Client<L> {
         ask: Ask,
         turn: &mut Turn,
     ) -> Result<(), ClientFault>
+        requires { self.old.waits ≡ None }
         ensures done { OnOk result (IsAnswered D.device office.old.engine self.old ask office.new.engine self.new) }
         ensures mime { office.new.engine.mime ≡ office.old.engine.mime }
         ensures place { office.new.engine.place ≡ office.old.engine.place }
@@ -335,6 +340,7 @@ impl<L: Connection> Client<L> {
         office: &mut Office<'_, D, C>,
         command: Command,
     ) -> Result<(), ClientFault>
+        requires { self.old.waits ≡ None }
         ensures done { OnOk result (IsAnswered D.device office.old.engine self.old (Ask.Command command) office.new.engine self.new) }
         ensures mime { office.new.engine.mime ≡ office.old.engine.mime }
         ensures place { office.new.engine.place ≡ office.old.engine.place }
@@ -360,6 +366,7 @@ impl<L: Connection> Client<L> {
         word: OwnWord,
         turn: &mut Turn,
     ) -> Result<(), ClientFault>
+        requires { self.old.waits ≡ None }
         ensures done { OnOk result (IsAnswered D.device office.old.engine self.old (Ask.Own word) office.new.engine self.new) }
         ensures mime { office.new.engine.mime ≡ office.old.engine.mime }
         ensures place { office.new.engine.place ≡ office.old.engine.place }
@@ -416,7 +423,8 @@ impl<L: Connection> Client<L> {
 
     // Adds a text to its replies.
     fn add(&mut self, text: &[u8]) -> Result<(), AllocError>
-        ensures { OnOk result (IsAdded self.old text.now self.new) }
+        ensures added { OnOk result (IsAdded self.old text.now self.new) }
+        ensures waits { self.new.waits ≡ self.old.waits }
     {
         self.replies.extend_from_slice(text)?;
         Ok(())
@@ -424,7 +432,8 @@ impl<L: Connection> Client<L> {
 
     // Gives it what it takes of its replies. Whether it is still there.
     fn give(&mut self, now: u64) -> bool
-        ensures { Goes L.view self.old [] [] self.new }
+        ensures goes { Goes L.view self.old [] [] self.new }
+        ensures waits { self.new.waits ≡ self.old.waits }
     {
         for _ in 0..u32::MAX {
             if self.replies.len() <= self.taken {
@@ -445,7 +454,8 @@ impl<L: Connection> Client<L> {
     // Writes some of its replies. Whether it is still there.
     fn write_some(&mut self, now: u64) -> bool
         requires { self.old.taken < vec_len self.old.replies }
-        ensures { Goes L.view self.old [] [] self.new }
+        ensures goes { Goes L.view self.old [] [] self.new }
+        ensures waits { self.new.waits ≡ self.old.waits }
     {
         match self.line.write(&self.replies[self.taken..]) {
             Ok(0) => false,
@@ -466,7 +476,8 @@ impl<L: Connection> Client<L> {
     // Lets go of the replies that were taken, once they are as much as may be unread: of a client that reads on and on, and
     // always leaves something, no more is kept.
     fn forget_taken(&mut self)
-        ensures { Goes L.view self.old [] [] self.new }
+        ensures goes { Goes L.view self.old [] [] self.new }
+        ensures waits { self.new.waits ≡ self.old.waits }
     {
         if MOST_UNREAD <= self.taken {
             self.replies.drain(..self.taken.min(self.replies.len()));
@@ -476,7 +487,8 @@ impl<L: Connection> Client<L> {
 
     // Reads a piece of its text, if there may be one.
     fn read_more(&mut self, now: u64) -> Result<Step, ClientFault>
-        ensures { OnOk result (Goes L.view self.old [] [] self.new) }
+        ensures goes { OnOk result (Goes L.view self.old [] [] self.new) }
+        ensures waits { self.new.waits ≡ self.old.waits }
     {
         if !self.readable {
             return Ok(Step::Rests);
@@ -490,7 +502,8 @@ impl<L: Connection> Client<L> {
 
     // Reads a piece of its text. Whether it is still there.
     fn read(&mut self, now: u64) -> Result<bool, AllocError>
-        ensures { OnOk result (Goes L.view self.old [] [] self.new) }
+        ensures goes { OnOk result (Goes L.view self.old [] [] self.new) }
+        ensures waits { self.new.waits ≡ self.old.waits }
     {
         let mut piece = [0u8; PIECE];
         match self.line.read(&mut piece) {

@@ -5,7 +5,7 @@ use Rattle.service_loop.proofs.client.Client.serve_some.Goals as goal
 use Rattle.service_loop.proofs.client.Client.serve_some.Goals.{in-Served, in-Goes}
 
 pub loop-init : goal.loop-init
-loop-init g c = record { counted = omega arith; mime = refl; place = refl; visited = visit_none _ _ _ _ _ (goes_none _ _) }
+loop-init g c = record { counted = omega arith; mime = refl; place = refl; visited = visit_none _ _ _ _ _ (goes_none _ _) refl }
 
 pub returns-in-Lost-clause-visit : goal.returns-in-Lost-clause-visit
 returns-in-Lost-clause-visit g c = visited_then _ _ _ _ _ _ _ _ c.loop.invariant.visited c.in_ok-step.ensures.visit

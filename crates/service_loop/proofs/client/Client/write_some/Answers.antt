@@ -5,8 +5,8 @@ use Rattle.std.proofs.lemmas.List.{length-drop}
 use Rattle.service_loop.proofs.VisitLaws.{goes_then, goes_written, unwritten}
 use Rattle.service_loop.proofs.client.Client.write_some.Goals as goal
 
-pub returns-in-Ok : goal.returns-in-Ok
-returns-in-Ok g c =
+pub returns-in-Ok-clause-goes : goal.returns-in-Ok-clause-goes
+returns-in-Ok-clause-goes g c =
     let wrote = c.in-Ok.ensures in
     let client = c.args.self.now in
     let piece = unwritten c.deref.result.now client.replies.items client.taken c.deref.ensures.value in
@@ -18,4 +18,4 @@ returns-in-Ok g c =
       taken = refl;
       replies = refl;
       within = omega (arith, count_fits, length-drop client.taken client.replies.items);
-    })) c.forget_taken.ensures
+    })) c.forget_taken.ensures.goes
