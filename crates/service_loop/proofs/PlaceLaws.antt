@@ -6,7 +6,7 @@ use Rattle.spool_disk.specs.Disk.{DiskView}
 use Rattle.spool_engine.specs.Runs.{Engine}
 use Rattle.service_loop.specs.Lines.{LineView}
 use Rattle.service_loop.specs.Deeds.{Deed}
-use Rattle.service_loop.specs.Places.{HadOwnTurn, HasTurn, HaveTurns, IsPlaceTold, KeepsOthers, PlaceHadTurn, unless_parted}
+use Rattle.service_loop.specs.Places.{HadOwnTurn, HasTurn, HaveTurns, KeepsOthers, PlaceHadTurn, unless_parted}
 use Rattle.service_loop.specs.Visits.{IsVisit, is_starved}
 use Rattle.service_loop.specs.declared.client.Client.{Client}
 use Rattle.service_loop.specs.declared.client.Parting.{Parting}
@@ -92,11 +92,3 @@ pub has_stayed : {L : Type 0} (places : Slab (Client L)) (key : ℕ) (was is : C
     Updates places (with_value places key is) key (unless_parted parting is)
 has_stayed {L} places key was is parting there stays =
     subst (λ (slot : Option (Client L)). Updates places (with_value places key is) key slot) (stayed parting is stays) (written places key was is there)
-
-pub place_told : {L : Type 0} (text : List ℕ) (places left : Slab (Client L)) (key : ℕ) (was : Client L) (slot : Option (Client L)) → get places key ≡ Some was → Updates places left key slot →
-    IsPlaceTold text (Some was) slot → IsPlaceTold text (get places key) (get left key)
-place_told {L} text places left key was slot there updates told =
-    subst (λ (c : Option (Client L)). IsPlaceTold text c (get left key)) (sym there) (subst (λ (c : Option (Client L)). IsPlaceTold text (Some was) c) (sym updates.changed) told)
-
-pub nobody_told : {L : Type 0} (text : List ℕ) (c : Option (Client L)) → c ≡ None → IsPlaceTold text c c
-nobody_told {L} text c none = subst (λ (x : Option (Client L)). IsPlaceTold text x x) (sym none) refl

@@ -320,7 +320,7 @@ module _ {D L : Type 0} (device : DiskView D) (view : LineView L) where
   goes_by : (c : Client L) (x : Visit D L) → IsVisitBy device view c x → Goes view c (asks_in (deeds_by x)) (texts_in (deeds_by x)) (client_after x)
   goes_by c (turns old done new c1) is = is.client
   goes_by c (changes text told c1) is = rw (append-nil told) (goes_added view c told c1 is.1)
-  goes_by c (signs c1) is = is
+  goes_by c (signs c1) is = is.0
 
   goes_all : (c : Client L) (xs : List (Visit D L)) (c1 : Client L) → AreVisits device view c xs c1 → Goes view c (asks_in (deeds_of xs)) (texts_in (deeds_of xs)) c1
   goes_all c [] c1 same = rw same (goes_none view c)

@@ -55,13 +55,13 @@ HadOwnTurn {D} device view was left = (old : Engine D) × (turn : Option Turn) �
 abbrev pub IsPlaceTold : {L : Type 0} → List ℕ → Option (Client L) → Option (Client L) → Type 0
 IsPlaceTold text None left = left ≡ None
 IsPlaceTold text (Some c) None = Unit {0}
-IsPlaceTold text (Some c) (Some left) = (told : List ℕ) × IsToldOf text told × IsAdded c told left
+IsPlaceTold text (Some c) (Some left) = (told : List ℕ) × IsToldOf text told × IsAdded c told left × (left.waits ≡ c.waits)
 
 -- what a sign makes of a place
 abbrev pub IsPlaceSigned : {L : Type 0} → LineView L → Option (Client L) → Option (Client L) → Type 0
 IsPlaceSigned view None left = left ≡ None
 IsPlaceSigned view (Some c) None = ⊥
-IsPlaceSigned view (Some c) (Some left) = Goes view c [] [] left
+IsPlaceSigned view (Some c) (Some left) = Goes view c [] [] left × (left.waits ≡ c.waits)
 
 -- a newcomer of this line is in the place, and nothing was read of its line or written to it
 abbrev pub IsNewcomer : {L : Type 0} → LineView L → L → Option (Client L) → Type 0

@@ -116,8 +116,8 @@ deeds_by (signs c) = []
 -- as the functions of the loop say of each
 abbrev pub IsVisitBy : {D L : Type 0} → DiskView D → LineView L → Client L → Visit D L → Type 0
 IsVisitBy device view c (turns old done new c') = IsVisit device view old c done new c'
-IsVisitBy device view c (changes text told c') = IsToldOf text told × IsAdded c told c'
-IsVisitBy device view c (signs c') = Goes view c [] [] c'
+IsVisitBy device view c (changes text told c') = IsToldOf text told × IsAdded c told c' × (c'.waits ≡ c.waits)
+IsVisitBy device view c (signs c') = Goes view c [] [] c' × (c'.waits ≡ c.waits)
 
 -- each is a visit of what the one before it left; meanwhile the engine serves others
 abbrev pub AreVisits : {D L : Type 0} → DiskView D → LineView L → Client L → List (Visit D L) → Client L → Type 0

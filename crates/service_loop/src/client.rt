@@ -403,7 +403,8 @@ impl<L: Connection> Client<L> {
     /// Tells it what changed, if it watches. One that left too much unread is told later that it wasn't told all. Whether there
     /// was memory for it.
     pub fn tell(&mut self, text: &[u8]) -> bool
-        ensures { result ≡ true → (told : List ℕ) × IsToldOf text.now told × IsAdded self.old told self.new }
+        ensures told { result ≡ true → (told : List ℕ) × IsToldOf text.now told × IsAdded self.old told self.new }
+        ensures waits { self.new.waits ≡ self.old.waits }
     {
         if !self.watches() {
             return true;
