@@ -40,6 +40,7 @@ PROMISED = {
     "open-without-sync",
     "opens-empty",
     "purges-beside-its-child",
+    "reads-a-piece-twice",
     "reopens-as-pending",
     "retry-current-as-retry",
     "round-starts-nothing",

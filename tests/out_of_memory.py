@@ -124,7 +124,7 @@ CAPACITIES = {
     ("mime_costs", "cost_rows"): ["MOST_LINES"],
     ("mime_costs", "walk_lines"): ["MOST_LINES"],
     ("row_effects", "make_room"): ["MOST_KEPT"],
-    ("service_loop", "admit"): ["1"],
+    ("service_loop", "enter"): ["1"],
     ("service_loop", "new"): ["MOST_CLIENTS", "MOST_CLIENTS", "MOST_LISTED"],
     ("service_loop", "reserve"): ["1"],
     ("spool_core", "drive_all"): ["1"],

@@ -1,3 +1,7 @@
 pub mod Clients
+pub mod Deeds
 pub mod Due
 pub mod Endings
+pub mod Lines
+pub mod Places
+pub mod Visits

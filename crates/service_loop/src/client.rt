@@ -2,10 +2,13 @@
 //!
 //! Of its text no more is read than a piece beyond a line's beginning. What it asks for is what its reader gives
 //! (`client_reader`), in order.
-ghost use Rattle.std.specs.Prelude.{◌≡◌};
+ghost use Rattle.std.specs.Prelude.{◌≡◌, ◌<◌, ℕ, vec_len, true, false, List, [], None, IfOk, OnOk};
 ghost use Rattle.service_loop.specs.Clients.{listens, unread, watches};
+ghost use Rattle.service_loop.specs.Deeds.{Deed};
+ghost use Rattle.service_loop.specs.Visits.{Goes, GivesNext, IsAdded, IsAnswered, IsEntry, IsToldOf, IsVisit, is_starved};
 
 use crate::bounds::{MOST_STEPS, PIECE};
+use crate::connection::Connection;
 use crate::office::Office;
 use child_pipeline::Children;
 use client_reader::{Ask, Next, Reader};
@@ -17,7 +20,7 @@ use spool_disk::Disk;
 use spool_engine::rounded_text;
 use spool_types::JobId;
 use std::alloc::{AllocError, Global};
-use std::io::{ErrorKind, Read, Write};
+use std::io::ErrorKind;
 
 // What one is told who asks for what isn't there.
 const NO_JOB: &[u8] = b"error job\n";
@@ -81,16 +84,21 @@ impl Turn {
     }
 }
 
-// What a client asks for next.
-enum Asked {
-    // What its reader gives next.
-    Next(Next),
-    // That a job has ended.
-    End,
+// What a step of a client's turn came to.
+#[derive(Clone, Copy)]
+enum Step {
+    // Something that it asked for was done.
+    Served,
+    // There may be more.
+    Goes,
+    // There is nothing more now.
+    Rests,
+    // Its line is lost.
+    Lost,
 }
 
 #[derive(Drop)]
-pub struct Client<L: Read + Write + Drop> {
+pub struct Client<L: Connection> {
     line: L,
     // Of what was read of it.
     reader: Reader,
@@ -111,8 +119,11 @@ pub struct Client<L: Read + Write + Drop> {
     stirred: u64,
 }
 
-impl<L: Read + Write + Drop> Client<L> {
-    pub fn new(alloc: Global, line: L, now: u64) -> Client<L> {
+impl<L: Connection> Client<L> {
+    /// A client of this line.
+    pub fn new(alloc: Global, line: L, now: u64) -> Client<L>
+        ensures { IsEntry line result }
+    {
         Client {
             line,
             reader: Reader::new(alloc),
@@ -144,7 +155,10 @@ impl<L: Read + Write + Drop> Client<L> {
     }
 
     /// There may be something to read, and perhaps it takes more, or has gone.
-    pub fn signal(&mut self, writable: bool, gone: bool) {
+    pub fn signal(&mut self, writable: bool, gone: bool)
+        ensures goes { Goes L.view self.old [] [] self.new }
+        ensures waits { self.new.waits ≡ self.old.waits }
+    {
         self.readable = true;
         self.writable = self.writable || writable;
         self.gone = self.gone || gone;
@@ -157,7 +171,13 @@ impl<L: Read + Write + Drop> Client<L> {
     }
 
     /// Serves some commands of it.
-    pub fn serve<D: Disk, C: Children>(&mut self, office: &mut Office<'_, D, C>, now: u64) -> Turn {
+    pub fn serve<D: Disk, C: Children>(&mut self, office: &mut Office<'_, D, C>, now: u64) -> Turn
+        // Unless there was no memory for it, what it asked for was done, and it was told that, in order, and nothing else.
+        ensures visit { is_starved result.parting ≡ false → (deeds : List (Deed D)) ×
+            IsVisit D.device L.view office.old.engine self.old deeds office.new.engine self.new }
+        ensures mime { office.new.engine.mime ≡ office.old.engine.mime }
+        ensures place { office.new.engine.place ≡ office.old.engine.place }
+    {
         let mut turn = Turn::new();
         match self.try_serve(office, now, &mut turn) {
             Ok(true) => {}
@@ -173,20 +193,37 @@ impl<L: Read + Write + Drop> Client<L> {
         office: &mut Office<'_, D, C>,
         now: u64,
         turn: &mut Turn,
-    ) -> Result<bool, ClientFault> {
-        // Of one that waits nothing is read, so that its end isn't found.
-        if !self.give(now) || self.gone && self.waits.is_some() {
+    ) -> Result<bool, ClientFault>
+        ensures visit { OnOk result ((deeds : List (Deed D)) ×
+            IsVisit D.device L.view office.old.engine self.old deeds office.new.engine self.new) }
+        ensures mime { office.new.engine.mime ≡ office.old.engine.mime }
+        ensures place { office.new.engine.place ≡ office.old.engine.place }
+    {
+        if !self.give(now) || self.waits_for_nobody() {
             return Ok(false);
         }
         if !self.serve_some(office, now, turn)? {
             return Ok(false);
         }
+        Ok(self.end_turn(now, turn))
+    }
+
+    // Whether it waits and has gone: of one that waits nothing is read, so that its end isn't found.
+    fn waits_for_nobody(&self) -> bool {
+        self.gone && self.waits.is_some()
+    }
+
+    // Gives it what it takes of its replies, behind what was served. Whether it is still there.
+    fn end_turn(&mut self, now: u64, turn: &mut Turn) -> bool
+        ensures goes { Goes L.view self.old [] [] self.new }
+        ensures waits { self.new.waits ≡ self.old.waits }
+    {
         // A line that its text ends in is no command: a client that was killed may have been in the middle of another one.
         let ended = self.over && !turn.more && !turn.brimful && self.waits.is_none();
         let there = self.give(now);
         // It took so much that there is something to be served again, and perhaps no sign of it comes.
         turn.more = turn.more || turn.brimful && self.unread() < MOST_UNREAD;
-        Ok(there && (!ended || 0 < self.unread()))
+        there && (!ended || 0 < self.unread())
     }
 
     // Serves the commands that are whole, up to the bounds. Whether it is still there.
@@ -195,7 +232,12 @@ impl<L: Read + Write + Drop> Client<L> {
         office: &mut Office<'_, D, C>,
         now: u64,
         turn: &mut Turn,
-    ) -> Result<bool, ClientFault> {
+    ) -> Result<bool, ClientFault>
+        ensures visit { OnOk result ((deeds : List (Deed D)) ×
+            IsVisit D.device L.view office.old.engine self.old deeds office.new.engine self.new) }
+        ensures mime { office.new.engine.mime ≡ office.old.engine.mime }
+        ensures place { office.new.engine.place ≡ office.old.engine.place }
+    {
         turn.more = true;
         let mut served = 0;
         for _ in 0..MOST_STEPS {
@@ -204,42 +246,62 @@ impl<L: Read + Write + Drop> Client<L> {
                 turn.more = !turn.brimful;
                 break;
             }
-            match self.next_asked(office)? {
-                Asked::Next(Next::Again) => {}
-                Asked::Next(Next::Asked(ask)) => {
-                    self.answer(office, ask, turn)?;
-                    served += 1;
-                }
-                Asked::Next(Next::Text) if self.readable => {
-                    if !self.read(now)? {
-                        return Ok(false);
-                    }
-                }
-                Asked::Next(Next::Text) | Asked::End => {
+            match self.step(office, now, turn)? {
+                Step::Served => served += 1,
+                Step::Goes => {}
+                Step::Rests => {
                     turn.more = false;
                     break;
                 }
+                Step::Lost => return Ok(false),
             }
         }
         Ok(true)
     }
 
-    // What it asks for next.
-    fn next_asked<D: Disk, C: Children>(
+    // Tells it the end that it waits for, or does what it asks for next, or reads more of it.
+    fn step<D: Disk, C: Children>(
         &mut self,
-        office: &Office<'_, D, C>,
-    ) -> Result<Asked, ClientFault> {
+        office: &mut Office<'_, D, C>,
+        now: u64,
+        turn: &mut Turn,
+    ) -> Result<Step, ClientFault>
+        ensures visit { OnOk result ((deeds : List (Deed D)) ×
+            IsVisit D.device L.view office.old.engine self.old deeds office.new.engine self.new) }
+        ensures mime { office.new.engine.mime ≡ office.old.engine.mime }
+        ensures place { office.new.engine.place ≡ office.old.engine.place }
+    {
         if !self.is_told_end(office)? {
-            return Ok(Asked::End);
+            return Ok(Step::Rests);
         }
-        Ok(Asked::Next(self.reader.next()?))
+        match self.next_asked()? {
+            Next::Asked(ask) => {
+                self.answer(office, ask, turn)?;
+                Ok(Step::Served)
+            }
+            Next::Again => Ok(Step::Goes),
+            Next::Text => Ok(self.read_more(now)?),
+        }
+    }
+
+    // What it asks for next.
+    fn next_asked(&mut self) -> Result<Next, AllocError>
+        ensures next { IfOk result (λ next. GivesNext L.view self.old next self.new) }
+        ensures waits { self.new.waits ≡ self.old.waits }
+    {
+        let next = self.reader.next()?;
+        Ok(next)
     }
 
     // Tells it the end of the job that it waits for, if that has come. Whether it waits for none then.
     fn is_told_end<D: Disk, C: Children>(
         &mut self,
         office: &Office<'_, D, C>,
-    ) -> Result<bool, AllocError> {
+    ) -> Result<bool, AllocError>
+        ensures visit { OnOk result ((deeds : List (Deed D)) ×
+            IsVisit D.device L.view office.now.engine self.old deeds office.now.engine self.new) }
+        ensures waits { IfOk result (λ over. over ≡ true → self.new.waits ≡ None) }
+    {
         let Some(job) = self.waits else {
             return Ok(true);
         };
@@ -248,7 +310,7 @@ impl<L: Read + Write + Drop> Client<L> {
             return Ok(false);
         }
         let text = job_told(*self.replies.allocator(), table, job)?;
-        self.replies.extend_from_slice(&text)?;
+        self.add(&text)?;
         self.waits = None;
         Ok(true)
     }
@@ -259,7 +321,12 @@ impl<L: Read + Write + Drop> Client<L> {
         office: &mut Office<'_, D, C>,
         ask: Ask,
         turn: &mut Turn,
-    ) -> Result<(), ClientFault> {
+    ) -> Result<(), ClientFault>
+        requires { self.old.waits ≡ None }
+        ensures done { OnOk result (IsAnswered D.device office.old.engine self.old ask office.new.engine self.new) }
+        ensures mime { office.new.engine.mime ≡ office.old.engine.mime }
+        ensures place { office.new.engine.place ≡ office.old.engine.place }
+    {
         turn.served = true;
         match ask {
             Ask::Command(command) => self.answer_command(office, command),
@@ -272,12 +339,17 @@ impl<L: Read + Write + Drop> Client<L> {
         &mut self,
         office: &mut Office<'_, D, C>,
         command: Command,
-    ) -> Result<(), ClientFault> {
+    ) -> Result<(), ClientFault>
+        requires { self.old.waits ≡ None }
+        ensures done { OnOk result (IsAnswered D.device office.old.engine self.old (Ask.Command command) office.new.engine self.new) }
+        ensures mime { office.new.engine.mime ≡ office.old.engine.mime }
+        ensures place { office.new.engine.place ≡ office.old.engine.place }
+    {
         match command {
             Command::Round | Command::Drain(_) => {
                 let counts = office.tick();
                 let text = rounded_text(*self.replies.allocator(), counts)?;
-                self.replies.extend_from_slice(&text)?;
+                self.add(&text)?;
                 Ok(())
             }
             command => {
@@ -293,25 +365,29 @@ impl<L: Read + Write + Drop> Client<L> {
         office: &mut Office<'_, D, C>,
         word: OwnWord,
         turn: &mut Turn,
-    ) -> Result<(), ClientFault> {
+    ) -> Result<(), ClientFault>
+        requires { self.old.waits ≡ None }
+        ensures done { OnOk result (IsAnswered D.device office.old.engine self.old (Ask.Own word) office.new.engine self.new) }
+        ensures mime { office.new.engine.mime ≡ office.old.engine.mime }
+        ensures place { office.new.engine.place ≡ office.old.engine.place }
+    {
         match word {
             OwnWord::Job(job) => {
                 let text = shown_job(*self.replies.allocator(), office.engine.table(), job)?;
-                self.replies.extend_from_slice(&text)?;
+                self.add(&text)?;
             }
             OwnWord::Wait(job) => self.waits = Some(job),
             OwnWord::Watch => {
                 self.watches = true;
-                self.replies.extend_from_slice(DONE)?;
+                self.add(DONE)?;
             }
             OwnWord::End(job) => {
                 let ends = office.endings.ask(office.watch, job)?;
-                self.replies
-                    .extend_from_slice(if ends { DONE } else { NO_JOB })?;
+                self.add(if ends { DONE } else { NO_JOB })?;
             }
             OwnWord::Shutdown => {
                 turn.shutdown = true;
-                self.replies.extend_from_slice(DONE)?;
+                self.add(DONE)?;
             }
         }
         Ok(())
@@ -326,7 +402,10 @@ impl<L: Read + Write + Drop> Client<L> {
 
     /// Tells it what changed, if it watches. One that left too much unread is told later that it wasn't told all. Whether there
     /// was memory for it.
-    pub fn tell(&mut self, text: &[u8]) -> bool {
+    pub fn tell(&mut self, text: &[u8]) -> bool
+        ensures told { result ≡ true → (told : List ℕ) × IsToldOf text.now told × IsAdded self.old told self.new }
+        ensures waits { self.new.waits ≡ self.old.waits }
+    {
         if !self.watches() {
             return true;
         }
@@ -336,15 +415,27 @@ impl<L: Read + Write + Drop> Client<L> {
         }
         if self.missed {
             self.missed = false;
-            if self.replies.extend_from_slice(MISSED).is_err() {
+            if self.add(MISSED).is_err() {
                 return false;
             }
         }
-        self.replies.extend_from_slice(text).is_ok()
+        self.add(text).is_ok()
+    }
+
+    // Adds a text to its replies.
+    fn add(&mut self, text: &[u8]) -> Result<(), AllocError>
+        ensures added { OnOk result (IsAdded self.old text.now self.new) }
+        ensures waits { self.new.waits ≡ self.old.waits }
+    {
+        self.replies.extend_from_slice(text)?;
+        Ok(())
     }
 
     // Gives it what it takes of its replies. Whether it is still there.
-    fn give(&mut self, now: u64) -> bool {
+    fn give(&mut self, now: u64) -> bool
+        ensures goes { Goes L.view self.old [] [] self.new }
+        ensures waits { self.new.waits ≡ self.old.waits }
+    {
         for _ in 0..u32::MAX {
             if self.replies.len() <= self.taken {
                 self.replies.clear();
@@ -354,32 +445,67 @@ impl<L: Read + Write + Drop> Client<L> {
             if !self.writable {
                 return true;
             }
-            match self.line.write(&self.replies[self.taken..]) {
-                Ok(0) => return false,
-                Ok(count) => {
-                    self.taken += count;
-                    self.stirred = now;
-                    self.forget_taken();
-                }
-                Err(error) if error.kind() == ErrorKind::WouldBlock => self.writable = false,
-                Err(error) if error.kind() == ErrorKind::Interrupted => {}
-                Err(_) => return false,
+            if !self.write_some(now) {
+                return false;
             }
         }
         true
     }
 
+    // Writes some of its replies. Whether it is still there.
+    fn write_some(&mut self, now: u64) -> bool
+        requires { self.old.taken < vec_len self.old.replies }
+        ensures goes { Goes L.view self.old [] [] self.new }
+        ensures waits { self.new.waits ≡ self.old.waits }
+    {
+        match self.line.write(&self.replies[self.taken..]) {
+            Ok(0) => false,
+            Ok(count) => {
+                self.taken += count;
+                self.stirred = now;
+                self.forget_taken();
+                true
+            }
+            Err(error) if error.kind() == ErrorKind::WouldBlock => {
+                self.writable = false;
+                true
+            }
+            Err(error) => error.kind() == ErrorKind::Interrupted,
+        }
+    }
+
     // Lets go of the replies that were taken, once they are as much as may be unread: of a client that reads on and on, and
     // always leaves something, no more is kept.
-    fn forget_taken(&mut self) {
+    fn forget_taken(&mut self)
+        ensures goes { Goes L.view self.old [] [] self.new }
+        ensures waits { self.new.waits ≡ self.old.waits }
+    {
         if MOST_UNREAD <= self.taken {
             self.replies.drain(..self.taken.min(self.replies.len()));
             self.taken = 0;
         }
     }
 
+    // Reads a piece of its text, if there may be one.
+    fn read_more(&mut self, now: u64) -> Result<Step, ClientFault>
+        ensures goes { OnOk result (Goes L.view self.old [] [] self.new) }
+        ensures waits { self.new.waits ≡ self.old.waits }
+    {
+        if !self.readable {
+            return Ok(Step::Rests);
+        }
+        if self.read(now)? {
+            Ok(Step::Goes)
+        } else {
+            Ok(Step::Lost)
+        }
+    }
+
     // Reads a piece of its text. Whether it is still there.
-    fn read(&mut self, now: u64) -> Result<bool, ClientFault> {
+    fn read(&mut self, now: u64) -> Result<bool, AllocError>
+        ensures goes { OnOk result (Goes L.view self.old [] [] self.new) }
+        ensures waits { self.new.waits ≡ self.old.waits }
+    {
         let mut piece = [0u8; PIECE];
         match self.line.read(&mut piece) {
             Ok(0) => {

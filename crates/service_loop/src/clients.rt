@@ -1,9 +1,12 @@
 //! The clients, each at a place of its own.
-ghost use Rattle.std.specs.Prelude.{◌≡◌, IfOk, OnOk};
+ghost use Rattle.std.specs.Prelude.{◌≡◌, ◌+◌, ◌<◌, ◌≤◌, ℕ, IfOk, OnOk};
 ghost use Rattle.service_rules.specs.Places.{IsAdmission};
+ghost use Rattle.slab.specs.Slab.{get};
 ghost use Rattle.service_loop.specs.Clients.{heard_of};
+ghost use Rattle.service_loop.specs.Places.{HadOwnTurn, HasTurn, HaveTurns, IsEntered, IsLetIn, IsPlaceSigned, IsPlaceTold, KeepsOthers};
 
 use crate::client::{Client, Parting, Turn};
+use crate::connection::Connection;
 use crate::door::Door;
 use crate::office::Office;
 use child_pipeline::Children;
@@ -12,7 +15,6 @@ use service_rules::{Admission, Client as Heard, admit};
 use slab::Slab;
 use spool_disk::Disk;
 use std::alloc::{AllocError, Global};
-use std::io::{Read, Write};
 
 // What one is told for whom there is no place.
 const BUSY: &[u8] = b"error busy\n";
@@ -27,15 +29,30 @@ pub struct Turns {
     pub starved: usize,
 }
 
+impl Turns {
+    // Adds what one turn came to.
+    fn add(&mut self, turn: Turn)
+        requires { self.old.starved < MOST_CLIENTS }
+        ensures { self.new.starved ≤ self.old.starved + 1 }
+    {
+        self.served = self.served || turn.served;
+        self.more = self.more || turn.more;
+        self.shutdown = self.shutdown || turn.shutdown;
+        if turn.parting == Some(Parting::Memory) {
+            self.starved += 1;
+        }
+    }
+}
+
 #[derive(Drop)]
-pub struct Clients<L: Read + Write + Drop> {
+pub struct Clients<L: Connection> {
     alloc: Global,
     places: Slab<Client<L>>,
     // When each was heard last, listed where a newcomer wants a place.
     heard: Vec<Heard>,
 }
 
-impl<L: Read + Write + Drop> Clients<L> {
+impl<L: Connection> Clients<L> {
     pub fn new(alloc: Global) -> Result<Clients<L>, AllocError> {
         Ok(Clients {
             alloc,
@@ -49,7 +66,10 @@ impl<L: Read + Write + Drop> Clients<L> {
     }
 
     /// There is a sign of the client at this place.
-    pub fn signal(&mut self, key: usize, writable: bool, gone: bool) {
+    pub fn signal(&mut self, key: usize, writable: bool, gone: bool)
+        ensures own { IsPlaceSigned L.view (get self.old.places key) (get self.new.places key) }
+        ensures others { KeepsOthers key self.old.places self.new.places }
+    {
         if let Some(client) = self.places.get_mut(key) {
             client.signal(writable, gone);
         }
@@ -63,9 +83,9 @@ impl<L: Read + Write + Drop> Clients<L> {
         line: L,
         now: u64,
     ) -> Result<Admission, AllocError>
-        ensures { IfOk result (IsAdmission (heard_of self.old.places) now) }
+        ensures admission { IfOk result (IsAdmission (heard_of self.old.places) now) }
+        ensures lets_in { IfOk result (λ admission. IsLetIn L.view line admission self.old.places self.new.places) }
     {
-        let mut line = line;
         list_heard(&self.places, &mut self.heard)?;
         let admission = admit(&self.heard, now);
         match admission {
@@ -74,17 +94,31 @@ impl<L: Read + Write + Drop> Clients<L> {
                 self.places.try_remove(key);
             }
             Admission::Busy => {
-                let _ = line.write(BUSY);
+                tell_busy(line);
                 return Ok(admission);
             }
         }
+        self.enter(door, line, now)?;
+        Ok(admission)
+    }
+
+    // Gives a newcomer a place, unless there are no signs of its line.
+    fn enter<R: Door<Line = L>>(
+        &mut self,
+        door: &mut R,
+        line: L,
+        now: u64,
+    ) -> Result<(), AllocError>
+        ensures { OnOk result (IsEntered L.view line self.old.places self.new.places) }
+    {
+        let mut line = line;
         self.places.reserve(1)?;
         let key = self.places.vacant_key();
         if door.watch(&mut line, key) {
             self.places
                 .insert_reserved(Client::new(self.alloc, line, now));
         }
-        Ok(admission)
+        Ok(())
     }
 
     /// Whether a client watches.
@@ -96,19 +130,32 @@ impl<L: Read + Write + Drop> Clients<L> {
     }
 
     /// Tells those that watch what changed. How many went for want of memory.
-    pub fn tell(&mut self, text: &[u8]) -> usize {
+    pub fn tell(&mut self, text: &[u8]) -> usize
+        ensures told { (key : ℕ) → key < MOST_CLIENTS → IsPlaceTold text.now (get self.old.places key) (get self.new.places key) }
+        ensures others { (key : ℕ) → MOST_CLIENTS ≤ key → get self.new.places key ≡ get self.old.places key }
+    {
         let mut starved = 0;
         for key in 0..MOST_CLIENTS {
-            let there = match self.places.get_mut(key) {
-                Some(client) => client.tell(text),
-                None => true,
-            };
-            if !there {
-                self.places.try_remove(key);
+            if !self.tell_at(key, text) {
                 starved += 1;
             }
         }
         starved
+    }
+
+    // Tells the client at this place, and lets it go where there is no memory for it. Whether there was.
+    fn tell_at(&mut self, key: usize, text: &[u8]) -> bool
+        ensures own { IsPlaceTold text.now (get self.old.places key) (get self.new.places key) }
+        ensures others { KeepsOthers key self.old.places self.new.places }
+    {
+        let Some(client) = self.places.get_mut(key) else {
+            return true;
+        };
+        if client.tell(text) {
+            return true;
+        }
+        self.places.try_remove(key);
+        false
     }
 
     /// Gives each client a turn.
@@ -116,7 +163,13 @@ impl<L: Read + Write + Drop> Clients<L> {
         &mut self,
         office: &mut Office<'_, D, C>,
         now: u64,
-    ) -> Turns {
+    ) -> Turns
+        // One place after the other had its turn, on the engine that the one before it left.
+        ensures turns { HaveTurns D.device L.view office.old.engine self.old.places MOST_CLIENTS office.new.engine self.new.places }
+        // So each client had a turn of its own, and was touched by nothing else.
+        ensures own { (key : ℕ) → key < MOST_CLIENTS → HadOwnTurn D.device L.view (get self.old.places key) (get self.new.places key) }
+        ensures others { (key : ℕ) → MOST_CLIENTS ≤ key → get self.new.places key ≡ get self.old.places key }
+    {
         let mut turns = Turns {
             served: false,
             more: false,
@@ -125,12 +178,7 @@ impl<L: Read + Write + Drop> Clients<L> {
         };
         for key in 0..MOST_CLIENTS {
             if let Some(turn) = self.serve_at(office, key, now) {
-                turns.served = turns.served || turn.served;
-                turns.more = turns.more || turn.more;
-                turns.shutdown = turns.shutdown || turn.shutdown;
-                if turn.parting == Some(Parting::Memory) {
-                    turns.starved += 1;
-                }
+                turns.add(turn);
             }
         }
         turns
@@ -142,7 +190,9 @@ impl<L: Read + Write + Drop> Clients<L> {
         office: &mut Office<'_, D, C>,
         key: usize,
         now: u64,
-    ) -> Option<Turn> {
+    ) -> Option<Turn>
+        ensures { HasTurn D.device L.view office.old.engine self.old.places key result office.new.engine self.new.places }
+    {
         let client = self.places.get_mut(key)?;
         let turn = client.serve(office, now);
         if turn.parting.is_some() {
@@ -152,8 +202,14 @@ impl<L: Read + Write + Drop> Clients<L> {
     }
 }
 
+// Tells one for whom there is no place.
+fn tell_busy<L: Connection>(line: L) {
+    let mut line = line;
+    let _ = line.write(BUSY);
+}
+
 // Lists when each client was heard last.
-fn list_heard<L: Read + Write + Drop>(
+fn list_heard<L: Connection>(
     places: &Slab<Client<L>>,
     list: &mut Vec<Heard>,
 ) -> Result<(), AllocError>

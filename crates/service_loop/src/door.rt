@@ -1,6 +1,8 @@
 //! Where clients come in.
+ghost use Rattle.service_loop.specs.Lines.{IsUntouched};
 
-use std::io::{self, Read, Write};
+use crate::connection::Connection;
+use std::io;
 
 /// What a wait has found.
 #[derive(Clone, Copy, Debug)]
@@ -26,8 +28,8 @@ pub enum Coming<L> {
 
 /// Where clients come in. No call but `wait` waits, nor does a call of a line.
 pub trait Door {
-    /// The line to a client. What it can't do at once is the error `WouldBlock`.
-    type Line: Read + Write + Drop;
+    /// The line to a client.
+    type Line: Connection;
 
     /// Waits until there is a sign, or for so many milliseconds; with `None` until there is one.
     fn wait(&mut self, millis: Option<u64>) -> io::Result<()>;
@@ -39,5 +41,6 @@ pub trait Door {
     fn accept(&mut self) -> Coming<Self::Line>;
 
     /// Gives the signs of this line from now on, under a key. Whether it could.
-    fn watch(&mut self, line: &mut Self::Line, key: usize) -> bool;
+    fn watch(&mut self, line: &mut Self::Line, key: usize) -> bool
+        ensures { IsUntouched Self.Line.view line.old line.new };
 }

@@ -1,4 +1,4 @@
-//! What is so of the service's clock. The function does nothing: its clauses are the law.
+//! What is so of the service's clock, and of its clients. The functions do nothing: their clauses are the laws.
 ghost use Rattle.std.specs.Prelude.{◌≡◌, ℕ, List, false, Some, Ok};
 ghost use Rattle.std.specs.FinMap as finite;
 ghost use Rattle.spool_types.specs.Phases.{job_state, job_reason};
@@ -8,7 +8,15 @@ ghost use Rattle.spool_types.specs.declared.event.Reply.TheVariants.{Done};
 ghost use Rattle.spool_types.specs.declared.rows.QueueRow.{QueueRow};
 ghost use Rattle.queue_sched.specs.Next.{is_eligible};
 ghost use Rattle.job_table.specs.Step.{step};
+ghost use Rattle.client_reader.specs.Asks.{asks_of};
+ghost use Rattle.client_reader.specs.Calls.{AreFirstOf};
+ghost use Rattle.service_loop.specs.Deeds.{asks_in, texts_in};
 ghost use Rattle.service_loop.specs.Due.{IsQuietUntil};
+ghost use Rattle.service_loop.specs.Visits.{AreVisits, HasAll, IsEntry, Visit, deeds_of};
+ghost use Rattle.service_loop.specs.declared.client.Client.{Client};
+
+use crate::connection::Connection;
+use spool_disk::Disk;
 
 /// A clock that comes before anything is due is worth nothing, so the service tells none.
 pub fn nothing_is_due_before()
@@ -24,4 +32,17 @@ pub fn nothing_is_due_before()
         job_state m r.phase ≡ job_state s.moment r.phase }
     ensures reason { (s : State) (m : ℕ) → IsQuietUntil s m → (j : ℕ) (r : Job) → job_at s j ≡ Some r →
         job_reason m r.phase ≡ job_reason s.moment r.phase }
+{}
+
+/// *ClientsApart*, through the loop: over any row of visits of a client from its entry on, each as the functions of the loop say of it
+/// (a turn, a text that tells what has changed, a sign), and whatever the engine does for others between them.
+pub fn clients_of_the_loop_stay_apart<L: Connection, D: Disk>()
+    // What was done for it is, one for one, what came first of all that its line brings, in order and once.
+    ensures asks { (own : L) (c : Client L) (visits : List (Visit D L)) (last : Client L) →
+        IsEntry own c → AreVisits D.device L.view c visits last →
+        (text : List ℕ) → L.view.remaining own ≡ Some text → AreFirstOf (asks_in (deeds_of visits)) (asks_of text) }
+    // What was written to its line, and what it hasn't taken yet, are the texts of these deeds, in order and each byte once.
+    ensures texts { (own : L) (c : Client L) (visits : List (Visit D L)) (last : Client L) →
+        IsEntry own c → AreVisits D.device L.view c visits last →
+        (said : List ℕ) → L.view.contents own ≡ Some said → HasAll L.view said (texts_in (deeds_of visits)) last }
 {}

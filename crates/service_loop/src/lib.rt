@@ -1,7 +1,7 @@
 //! The loop of the service: it serves an engine to many clients while children run.
 //!
-//! What the system does comes by traits: [`Door`] for the socket and the clients' lines, [`Times`] for the clocks, [`Signals`]
-//! for the children that are to end, and `Children` for those that print. So nothing here knows a socket, a
+//! What the system does comes by traits: [`Door`] for the socket, [`Connection`] for a client's line, [`Times`] for the clocks,
+//! [`Signals`] for the children that are to end, and `Children` for those that print. So nothing here knows a socket, a
 //! clock or a process; `spool_service` has them. What is decided by numbers alone is decided by `service_rules`.
 //!
 //! # A turn of the loop
@@ -34,6 +34,11 @@
 //! # Promises
 //!
 //! - A command is served, and a tick is made, as the engine does it (`Serves`, `IsTicked`): the service adds nothing.
+//! - Clients are kept apart, on lines that tell what comes and what goes ([`Connection`]). `Deeds` says what is done for a client,
+//!   and `Visits` what a turn makes of it (`IsVisit`): what was done is what its own line asked for, one for one and in order, and
+//!   the texts go to the same line, each byte once. `Places` says it of all clients: each has a turn of its own, on the engine that
+//!   the one before it left, and nothing else touches it (`HaveTurns`, `HadOwnTurn`). So it is over any row of visits from its
+//!   entry on ([`clients_of_the_loop_stay_apart`]). Of a client that goes for want of memory nothing is said in that turn.
 //! - [`nothing_is_due_before`]: before something comes due (`due_of`) the clock changes no row, starts no job and shows none
 //!   otherwise. So an idle service tells none.
 //! - A newcomer is let in by when each client was heard last (`IsAdmission`, `heard_of`).
@@ -50,6 +55,7 @@ mod bounds;
 mod children;
 mod client;
 mod clients;
+mod connection;
 mod door;
 mod endings;
 mod fault;
@@ -61,9 +67,10 @@ mod signals;
 mod times;
 
 pub use children::{Run, Watch, WatchedChildren, WatchedTicket};
+pub use connection::Connection;
 pub use door::{Coming, Door, Sign};
 pub use fault::ServiceFault;
-pub use laws::nothing_is_due_before;
+pub use laws::{clients_of_the_loop_stay_apart, nothing_is_due_before};
 pub use service::{Keeping, Service};
 pub use signals::{Signal, Signals};
 pub use times::Times;

@@ -22,6 +22,6 @@ abbrev pub without_client : {L : Type 0} → ErrorKind → Coming L
 without_client WouldBlock = coming.Nobody
 without_client _ = coming.Failed
 
-abbrev pub coming_of : {L A : Type 0} → Result (L × A) Error → Coming L
-coming_of (Ok accepted) = coming.Client accepted.0
+abbrev pub coming_of : {L : Type 0} → Result L Error → Coming L
+coming_of (Ok line) = coming.Client line
 coming_of (Err error) = without_client (error_kind error)

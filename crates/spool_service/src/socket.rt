@@ -6,12 +6,12 @@ ghost use Rattle.spool_service.specs.Socket.{coming_of, sign_of, without_client}
 use mio::event::Event;
 use mio::net::{UnixListener, UnixStream};
 use mio::{Events, Interest, Poll, Token};
-use service_loop::{Coming, Door, Sign};
+use service_loop::{Coming, Connection, Door, Sign};
 use service_rules::bounds::MOST_CLIENTS;
 use spool_host::remove_if_there;
 use std::alloc::{AllocError, Global};
 use std::fs::{File, Files, Permissions};
-use std::io::ErrorKind;
+use std::io::{ErrorKind, Read, Write};
 use std::net::Net;
 use std::os::unix::fs::PermissionsExt;
 use std::path::Path;
@@ -20,6 +20,24 @@ use std::{fs, io};
 
 // The token of the listener. A client's is its key and one.
 const LISTENER: usize = 0;
+
+/// A client's line at the socket. What comes and goes by it no clause knows, so it tells nothing.
+#[derive(Drop)]
+pub struct SocketLine(UnixStream);
+
+impl Connection for SocketLine {
+    ghost use Rattle.service_loop.specs.Lines.{silent};
+
+    ghost view = { silent };
+
+    fn read(&mut self, piece: &mut [u8]) -> io::Result<usize> {
+        self.0.read(piece)
+    }
+
+    fn write(&mut self, text: &[u8]) -> io::Result<usize> {
+        self.0.write(text)
+    }
+}
 
 /// A socket in the file system.
 #[derive(Drop)]
@@ -57,7 +75,7 @@ impl SocketDoor {
 }
 
 impl Door for SocketDoor {
-    type Line = UnixStream;
+    type Line = SocketLine;
 
     fn wait(&mut self, millis: Option<u64>) -> io::Result<()>
         ensures { OnOk result (self.new.signs.items ≡ map sign_of (items self.new.events)) }
@@ -76,17 +94,17 @@ impl Door for SocketDoor {
         self.signs.pop()
     }
 
-    fn accept(&mut self) -> Coming<UnixStream> {
-        coming_of(self.listener.accept())
+    fn accept(&mut self) -> Coming<SocketLine> {
+        coming_of(self.listener.accept().map(|(line, _)| SocketLine(line)))
     }
 
-    fn watch(&mut self, line: &mut UnixStream, key: usize) -> bool {
+    fn watch(&mut self, line: &mut SocketLine, key: usize) -> bool {
         let both = Interest::READABLE | Interest::WRITABLE;
         match key.checked_add(1) {
             Some(token) => self
                 .poll
                 .registry()
-                .register(line, Token(token), both)
+                .register(&mut line.0, Token(token), both)
                 .is_ok(),
             None => false,
         }
@@ -119,11 +137,11 @@ fn sign_of(event: &Event) -> Sign
 }
 
 // Who comes in.
-fn coming_of<L: Drop, A: Drop>(accepted: io::Result<(L, A)>) -> Coming<L>
+fn coming_of<L: Drop>(accepted: io::Result<L>) -> Coming<L>
     ensures { result ≡ coming_of accepted }
 {
     match accepted {
-        Ok((line, _)) => Coming::Client(line),
+        Ok(line) => Coming::Client(line),
         Err(error) => without_client(error.kind()),
     }
 }

@@ -1,0 +1,22 @@
+-- what was done so far, and then in one step
+use Rattle.std.proofs.Common.{◌∙◌, refl, arith}
+use Rattle.service_loop.proofs.VisitLaws.{goes_none, visit_none, visited_then}
+use Rattle.service_loop.proofs.client.Client.serve_some.Goals as goal
+use Rattle.service_loop.proofs.client.Client.serve_some.Goals.{in-Served, in-Goes}
+
+pub loop-init : goal.loop-init
+loop-init g c = record { counted = omega arith; mime = refl; place = refl; visited = visit_none _ _ _ _ _ (goes_none _ _) refl }
+
+pub returns-in-Lost-clause-visit : goal.returns-in-Lost-clause-visit
+returns-in-Lost-clause-visit g c = visited_then _ _ _ _ _ _ _ _ c.loop.invariant.visited c.in_ok-step.ensures.visit
+
+pub loop-preserved : goal.loop-preserved
+loop-preserved g c = record {
+  counted = elim c.match-branch-2.branch [ in-Served w ↦ omega arith | in-Goes w ↦ omega arith ];
+  mime = c.in_ok-step.ensures.mime ∙ c.loop.invariant.mime;
+  place = c.in_ok-step.ensures.place ∙ c.loop.invariant.place;
+  visited = visited_then _ _ _ _ _ _ _ _ c.loop.invariant.visited c.in_ok-step.ensures.visit;
+}
+
+pub returns-in-Rests-clause-visit : goal.returns-in-Rests-clause-visit
+returns-in-Rests-clause-visit g c = visited_then _ _ _ _ _ _ _ _ c.loop.invariant.visited c.in_ok-step.ensures.visit

@@ -1,0 +1,21 @@
+-- some bytes are written, and then forgotten
+use Rattle.std.proofs.Common.{refl, subst, ℕ, ◌≤◌, List, length, take, arith}
+use Rattle.std.specs.Io.KnownBytes.{Appends}
+use Rattle.std.proofs.lemmas.List.{length-drop}
+use Rattle.service_loop.proofs.VisitLaws.{goes_then, goes_written, unwritten}
+use Rattle.service_loop.proofs.client.Client.write_some.Goals as goal
+
+pub returns-in-Ok-clause-goes : goal.returns-in-Ok-clause-goes
+returns-in-Ok-clause-goes g c =
+    let wrote = c.in-Ok.ensures in
+    let client = c.args.self.now in
+    let piece = unwritten c.deref.result.now client.replies.items client.taken c.deref.ensures.value in
+    let count_fits = subst (λ (l : List ℕ). c.in-Ok.count ≤ length l) piece wrote.bound in
+    goes_then _ _ _ _ _ _ _ _ (goes_written _ client c.in-Ok.count _ (record {
+      kept = wrote.kept;
+      wrote = subst (λ (l : List ℕ). Appends (g.L.Connection.view.contents client.line) (g.L.Connection.view.contents c.write.new.self) (take c.in-Ok.count l)) piece wrote.bytes;
+      reader = refl;
+      taken = refl;
+      replies = refl;
+      within = omega (arith, count_fits, length-drop client.taken client.replies.items);
+    })) c.forget_taken.ensures.goes

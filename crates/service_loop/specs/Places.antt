@@ -1,0 +1,91 @@
+-- What becomes of the clients, each in its own place. A place is its key.
+use Rattle.std.specs.Prelude.{◌≡◌, ◌≢◌, ◌⊎◌, ℕ, zero, suc, false, List, [], Option, None, Some}
+use Rattle.slab.specs.Slab.{Slab, SameValues, Updates, get}
+use Rattle.spool_disk.specs.Disk.{DiskView}
+use Rattle.spool_engine.specs.Runs.{Engine}
+use Rattle.service_rules.specs.declared.places.Admission.{Admission}
+use Rattle.service_rules.specs.declared.places.Admission.TheVariants.{InsteadOf}
+use Rattle.service_loop.specs.Deeds.{Deed}
+use Rattle.service_loop.specs.Lines.{LineView, IsUntouched}
+use Rattle.service_loop.specs.Visits.{Goes, IsAdded, IsEntry, IsToldOf, IsVisit, is_starved}
+use Rattle.service_loop.specs.declared.client.Client.{Client}
+use Rattle.service_loop.specs.declared.client.Parting.{Parting}
+use Rattle.service_loop.specs.declared.client.Turn.{Turn}
+
+-- who is in a place behind a turn: it goes if it parts
+abbrev pub unless_parted : {L : Type 0} → Option Parting → Client L → Option (Client L)
+unless_parted None c = Some c
+unless_parted (Some parting) c = None
+
+-- A client had a turn, and left its place to another or to nobody only if it parted. Unless it went for want of memory the turn was a visit.
+pub record HadTurn {D L : Type 0} (device : DiskView D) (view : LineView L) (old : Engine D) (was : Client L) (turn : Turn) (new : Engine D) (left : Option (Client L)) : Type 0 where
+  pub mime : new.mime ≡ old.mime
+  pub place : new.place ≡ old.place
+  pub is : Client L
+  pub visit : is_starved turn.parting ≡ false → (deeds : List (Deed D)) × IsVisit device view old was deeds new is
+  pub stays : left ≡ unless_parted turn.parting is
+
+-- a place had a turn, if there was somebody; else nothing was done
+abbrev pub PlaceHadTurn : {D L : Type 0} → DiskView D → LineView L → Engine D → Option (Client L) → Option Turn → Engine D → Option (Client L) → Type 0
+PlaceHadTurn device view old None None new left = (new ≡ old) × (left ≡ None)
+PlaceHadTurn device view old None (Some turn) new left = ⊥
+PlaceHadTurn device view old (Some was) None new left = ⊥
+PlaceHadTurn device view old (Some was) (Some turn) new left = HadTurn device view old was turn new left
+
+-- all others are as they were
+abbrev pub KeepsOthers : {L : Type 0} → ℕ → Slab (Client L) → Slab (Client L) → Type 0
+KeepsOthers key old new = (other : ℕ) → other ≢ key → get new other ≡ get old other
+
+-- the place had a turn, and no other one has changed
+pub record HasTurn {D L : Type 0} (device : DiskView D) (view : LineView L) (old : Engine D) (places : Slab (Client L)) (key : ℕ) (turn : Option Turn) (new : Engine D) (left : Slab (Client L)) : Type 0 where
+  pub own : PlaceHadTurn device view old (get places key) turn new (get left key)
+  pub others : KeepsOthers key places left
+
+-- each place below a key had a turn, in the order of the keys, each on what the one before it left
+unfoldable pub HaveTurns : {D L : Type 0} → DiskView D → LineView L → Engine D → Slab (Client L) → ℕ → Engine D → Slab (Client L) → Type 0
+HaveTurns device view old places zero new left = (new ≡ old) × (left ≡ places)
+HaveTurns {D} {L} device view old places (suc key) new left =
+    (between : Engine D) × (mid : Slab (Client L)) × (turn : Option Turn) × HaveTurns device view old places key between mid × HasTurn device view between mid key turn new left
+
+-- a place had a turn of its own, between some engines
+abbrev pub HadOwnTurn : {D L : Type 0} → DiskView D → LineView L → Option (Client L) → Option (Client L) → Type 0
+HadOwnTurn {D} device view was left = (old : Engine D) × (turn : Option Turn) × (new : Engine D) × PlaceHadTurn device view old was turn new left
+
+-- what a text that tells what has changed makes of a place: its client is told of it, or has gone for want of memory
+abbrev pub IsPlaceTold : {L : Type 0} → List ℕ → Option (Client L) → Option (Client L) → Type 0
+IsPlaceTold text None left = left ≡ None
+IsPlaceTold text (Some c) None = Unit {0}
+IsPlaceTold text (Some c) (Some left) = (told : List ℕ) × IsToldOf text told × IsAdded c told left × (left.waits ≡ c.waits)
+
+-- what a sign makes of a place
+abbrev pub IsPlaceSigned : {L : Type 0} → LineView L → Option (Client L) → Option (Client L) → Type 0
+IsPlaceSigned view None left = left ≡ None
+IsPlaceSigned view (Some c) None = ⊥
+IsPlaceSigned view (Some c) (Some left) = Goes view c [] [] left × (left.waits ≡ c.waits)
+
+-- a newcomer of this line is in the place, and nothing was read of its line or written to it
+abbrev pub IsNewcomer : {L : Type 0} → LineView L → L → Option (Client L) → Type 0
+IsNewcomer view line None = ⊥
+IsNewcomer {L} view line (Some c) = (own : L) × IsUntouched view line own × IsEntry own c
+
+-- who has to go for a newcomer, and no other client
+abbrev pub HasGone : {L : Type 0} → Admission → Slab (Client L) → Slab (Client L) → Type 0
+HasGone (InsteadOf key) old new = Updates old new key None
+HasGone admission old new = SameValues old new
+
+-- a newcomer has a place that was nobody's, and no client has changed
+pub record HasEntered {L : Type 0} (view : LineView L) (line : L) (old new : Slab (Client L)) : Type 0 where
+  pub key : ℕ
+  pub none : get old key ≡ None
+  pub own : IsNewcomer view line (get new key)
+  pub others : KeepsOthers key old new
+
+-- it has a place, or none
+abbrev pub IsEntered : {L : Type 0} → LineView L → L → Slab (Client L) → Slab (Client L) → Type 0
+IsEntered view line old new = SameValues old new ⊎ HasEntered view line old new
+
+-- the client goes that has to, and then the newcomer has its place, or none
+pub record IsLetIn {L : Type 0} (view : LineView L) (line : L) (admission : Admission) (old new : Slab (Client L)) : Type 0 where
+  pub left : Slab (Client L)
+  pub gone : HasGone admission old left
+  pub entered : IsEntered view line left new
