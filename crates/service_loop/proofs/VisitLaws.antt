@@ -21,7 +21,7 @@ use Rattle.spool_engine.specs.EventTurns.{Setting, setting}
 use Rattle.spool_engine.specs.Rounds.{round_line}
 use Rattle.spool_engine.specs.Ticks.{Ticked, IsTicked}
 use Rattle.spool_engine.specs.Runs.{Engine, Serves, Turn, is_round, texts_of}
-use Rattle.service_loop.specs.Deeds.{Deed, answers, ticks, says, ends, IsSaid, IsEndTold, IsDeed, IsTimely, AreDeeds, after_deed, wait_after, asks_by, asks_in, text_by, texts_in}
+use Rattle.service_loop.specs.Deeds.{Deed, answers, ticks, says, ends, IsSaid, IsEndTold, IsTimely, AreDeeds, after_deed, wait_after, asks_by, asks_in, text_by, texts_in}
 use Rattle.service_loop.specs.Lines.{LineView}
 use Rattle.service_loop.specs.Visits.{AreVisits, Asks, AsksFirst, GivesNext, Goes, HasAll, IsAdded, IsAnswered, IsEntry, IsVisit, IsVisitBy, Visit, turns, changes, signs, client_after, deeds_by, deeds_of, told_to}
 use Rattle.service_loop.specs.declared.client.Client.{Client}
@@ -280,25 +280,31 @@ module _ {D L : Type 0} (device : DiskView D) (view : LineView L) where
   -- what was asked for was done
   pub visit_answered : (e : Engine D) (c c1 : Client L) (ask : Ask) (e1 : Engine D) (c2 : Client L) → Goes view c (ask ∷ []) [] c1 → c1.waits ≡ c.waits →
       IsAnswered device e c1 ask e1 c2 → Visited e c e1 c2
-  visit_answered e c c1 ask e1 c2 asked waits done = (done.deed ∷ [], record {
-    mime = done.mime;
-    place = done.place;
-    deeds = (
-      done.is,
-      subst (λ (w : Option ℕ). IsTimely w done.deed) waits done.timely,
-      (sym done.next, sym done.waits ∙ ap (λ w. wait_after w done.deed) waits),
-    );
-    client = rw (done.asked, append-nil (text_by done.deed)) (goes_then view c c1 c2 (ask ∷ []) [] [] (text_by done.deed) asked (goes_added view c1 (text_by done.deed) c2 done.added));
-  })
+  visit_answered e c c1 ask e1 c2 asked waits done = (
+    done.deed ∷ [],
+    record {
+      mime = done.mime;
+      place = done.place;
+      deeds = (
+        done.is,
+        subst (λ (w : Option ℕ). IsTimely w done.deed) waits done.timely,
+        (sym done.next, sym done.waits ∙ ap (λ w. wait_after w done.deed) waits),
+      );
+      client = rw (done.asked, append-nil (text_by done.deed)) (goes_then view c c1 c2 (ask ∷ []) [] [] (text_by done.deed) asked (goes_added view c1 (text_by done.deed) c2 done.added));
+    },
+  )
 
   -- the end of a job was told
   pub visit_ended : (e : Engine D) (c c1 : Client L) (job : ℕ) (text : List ℕ) → IsEndTold e.course.spool.state job text → IsAdded c text c1 → c.waits ≡ Some job → c1.waits ≡ None → Visited e c e c1
-  visit_ended e c c1 job text told added waits over = (ends job text ∷ [], record {
-    mime = refl;
-    place = refl;
-    deeds = (told, waits, (refl, over));
-    client = rw (append-nil text) (goes_added view c text c1 added);
-  })
+  visit_ended e c c1 job text told added waits over = (
+    ends job text ∷ [],
+    record {
+      mime = refl;
+      place = refl;
+      deeds = (told, waits, (refl, over));
+      client = rw (append-nil text) (goes_added view c text c1 added);
+    },
+  )
 
 pub is_round_one : (command : Command) → (command ≡ commands.Round) ⊎ ((n : ℕ) × (command ≡ commands.Drain n)) → is_round command ≡ true
 is_round_one command (inl e) = ap is_round e

@@ -159,11 +159,7 @@ impl<L: Connection> Clients<L> {
     }
 
     /// Gives each client a turn.
-    pub fn serve<D: Disk, C: Children>(
-        &mut self,
-        office: &mut Office<'_, D, C>,
-        now: u64,
-    ) -> Turns
+    pub fn serve<D: Disk, C: Children>(&mut self, office: &mut Office<'_, D, C>, now: u64) -> Turns
         // One place after the other had its turn, on the engine that the one before it left.
         ensures turns { HaveTurns D.device L.view office.old.engine self.old.places MOST_CLIENTS office.new.engine self.new.places }
         // So each client had a turn of its own, and was touched by nothing else.

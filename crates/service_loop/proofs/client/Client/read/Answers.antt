@@ -1,5 +1,5 @@
 -- what came of the line is what the reader takes
-use Rattle.std.proofs.Common.{refl, ap, ◌≡◌, ℕ, ◌-◌, take, arith}
+use Rattle.std.proofs.Common.{refl, take}
 use Rattle.service_loop.proofs.VisitLaws.{goes_read}
 use Rattle.service_loop.proofs.client.Client.read.Goals as goal
 
