@@ -40,7 +40,6 @@ PROMISED = {
     "open-without-sync",
     "opens-empty",
     "purges-beside-its-child",
-    "reads-a-piece-twice",
     "reopens-as-pending",
     "retry-current-as-retry",
     "round-starts-nothing",
