@@ -86,6 +86,7 @@ PASSED_ON = {
     ("spool_front", "from"): 1,
     ("spool_front", "hold_line"): 2,
     ("spool_front", "job_line"): 1,
+    ("spool_front", "no_words"): 1,
     ("spool_front", "push_moment"): 1,
     ("spool_front", "push_ranks"): 1,
     ("spool_front", "queue_line"): 1,

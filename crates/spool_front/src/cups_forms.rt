@@ -1,4 +1,7 @@
 //! What is told in the forms of lpstat and lpq.
+ghost use Rattle.std.specs.Prelude.{◌≡◌};
+ghost use Rattle.std.specs.Option.{option_map};
+ghost use Rattle.spool_front.specs.CupsForms.{is_meant, list_of, lists_jobs};
 
 use crate::fault::Fault;
 use crate::host::Host;
@@ -37,7 +40,9 @@ pub fn show_lpstat<R: Host>(rt: &R, places: &Places<'_>, asked: &Lpstat<'_>) -> 
 }
 
 // The names that are asked for, where all are none.
-fn list_of<'a>(names: Option<&'a str>, all: bool) -> Option<&'a str> {
+fn list_of<'a>(names: Option<&'a str>, all: bool) -> Option<&'a str>
+    ensures { option_map (λ text. text.now) result ≡ list_of (option_map (λ text. text.now) names.entry) all }
+{
     match names {
         Some(names) => Some(names),
         None if all => Some(""),
@@ -46,7 +51,9 @@ fn list_of<'a>(names: Option<&'a str>, all: bool) -> Option<&'a str> {
 }
 
 // Whether jobs are asked for, or nothing is.
-fn lists_jobs(asked: &Lpstat<'_>) -> bool {
+fn lists_jobs(asked: &Lpstat<'_>) -> bool
+    ensures { result ≡ lists_jobs asked.now }
+{
     let others = asked.scheduler
         || asked.usual
         || asked.accepting.is_some()
@@ -120,7 +127,7 @@ pub fn show_lpq<R: Host>(rt: &R, places: &Places<'_>, asked: &Lpq<'_>) -> Result
     };
     let mut found = false;
     for queue in &queues {
-        if is_queue(&name, queue) {
+        if is_meant(&name, queue) {
             found = true;
             print_bytes(rt, lpq(rt.alloc(), queue, &jobs)?.as_slice())?;
         }
@@ -131,7 +138,10 @@ pub fn show_lpq<R: Host>(rt: &R, places: &Places<'_>, asked: &Lpq<'_>) -> Result
     Err(Fault::Words("there is no such queue"))
 }
 
-fn is_queue(name: &Option<String>, queue: &QueueLine) -> bool {
+// Whether a queue is the one that is meant; with no name all are.
+fn is_meant(name: &Option<String>, queue: &QueueLine) -> bool
+    ensures { result ≡ is_meant name.now queue.now }
+{
     match name {
         Some(name) => name.as_str() == queue.name.as_str(),
         None => true,

@@ -1,11 +1,13 @@
 //! What is said of the job of a document.
+ghost use Rattle.std.specs.Prelude.{◌≡◌, ◌++◌, IfOk, OnOk, string_bytes};
+ghost use Rattle.std.specs.Option.{option_map};
+ghost use Rattle.spool_front.specs.Drafts.{IsMoment, IsUntil, options_of, pages_option};
 
 use crate::commands::{Draft, Until};
 use crate::fault::Fault;
-use crate::host::Host;
+use crate::host::{Host, variable};
 use front_words::{Hold, Moment, Submission};
 use std::alloc::{AllocError, Global};
-use std::env;
 use std::time::SystemTime;
 
 /// The job of a document for a queue. `title` is its title where none is asked for, and `name` that of its file.
@@ -35,7 +37,9 @@ pub fn draft_of<R: Host>(
     })
 }
 
-fn until_of<R: Host>(rt: &R, hold: Hold) -> Result<Option<Until>, Fault> {
+fn until_of<R: Host>(rt: &R, hold: Hold) -> Result<Option<Until>, Fault>
+    ensures { IfOk result (IsUntil hold) }
+{
     match hold {
         Hold::No => Ok(None),
         Hold::Indefinite => Ok(Some(Until::Released)),
@@ -56,7 +60,7 @@ fn user_of<R: Host>(rt: &R, user: Option<&str>) -> Result<String, AllocError> {
         return String::from_str(rt.alloc(), user);
     }
     for name in ["USER", "LOGNAME"] {
-        if let Ok(user) = env::var(rt, name) {
+        if let Some(user) = variable(rt, name)? {
             return plain_text(rt.alloc(), user.as_str());
         }
     }
@@ -79,23 +83,34 @@ fn random_number<R: Host>(rt: &R) -> Result<u64, Fault> {
 }
 
 // The options with blanks between them, the ranges of pages, and the token.
-fn options_of(alloc: Global, asked: &Submission<'_>, token: &str) -> Result<String, AllocError> {
+fn options_of(alloc: Global, asked: &Submission<'_>, token: &str) -> Result<String, AllocError>
+    ensures { IfOk result (λ options. string_bytes options ≡ options_of asked.now token.now) }
+{
     let mut options = String::new(alloc);
     for option in &asked.options {
         options.push_str(option)?;
         options.push_str(" ")?;
     }
-    if let Some(pages) = asked.pages {
-        options.push_str("page-ranges=")?;
-        options.push_str(pages)?;
-        options.push_str(" ")?;
-    }
+    push_pages(&mut options, asked.pages)?;
     options.push_str(token)?;
     Ok(options)
 }
 
+fn push_pages(options: &mut String, pages: Option<&str>) -> Result<(), AllocError>
+    ensures { OnOk result (string_bytes options.new ≡ string_bytes options.old ++ pages_option (option_map (λ pages. pages.now) pages.entry)) }
+{
+    let Some(pages) = pages else {
+        return Ok(());
+    };
+    options.push_str("page-ranges=")?;
+    options.push_str(pages)?;
+    options.push_str(" ")
+}
+
 /// The seconds of a moment since the epoch.
-pub fn seconds_of<R: Host>(rt: &R, moment: Moment) -> Result<u64, Fault> {
+pub fn seconds_of<R: Host>(rt: &R, moment: Moment) -> Result<u64, Fault>
+    ensures { IfOk result (IsMoment moment) }
+{
     match moment {
         Moment::Epoch(seconds) => Ok(seconds),
         Moment::FromNow(seconds) => Ok(now(rt)?.saturating_add(seconds)),

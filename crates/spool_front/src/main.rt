@@ -21,6 +21,10 @@
 //! and 5 where a job that was waited for ended otherwise than completed. Once a job is accepted the status says so, whatever
 //! happens to the line that tells it.
 #![tactic(auto)]
+ghost use Rattle.std.specs.Prelude.{◌≡◌, ◌≢◌, MatchResult};
+ghost use Rattle.std.specs.IoError.{error_kind};
+ghost use Rattle.std.specs.Process.{exit_status};
+ghost use Rattle.spool_front.specs.Faults.{status_of};
 
 mod chains;
 mod check;
@@ -43,26 +47,21 @@ mod web_page;
 use commands::has_control;
 use fault::Fault;
 use front_words::{Asked, Task, WordsFault, read_words};
-use host::{Host, Screen};
+use host::{Host, Screen, variable};
 use places::{Places, patience, usual_socket};
-use std::env;
-use std::io::IsTerminal;
+use std::alloc::AllocError;
+use std::io::{ErrorKind, IsTerminal};
 use std::process::ExitCode;
+use std::{env, io};
 
 // The columns where the environment doesn't tell them.
 const USUAL_WIDTH: usize = 80;
 
 fn main(rt: HostRuntime) -> ExitCode {
-    let screen = Screen {
-        shows: rt.stderr().is_terminal(),
-        width: width(&rt),
-    };
+    let shows = rt.stderr().is_terminal();
     let words = match given_words(&rt) {
         Ok(words) => words,
-        Err(_) => {
-            let _ = eprintln!(rt; "error: the words of the command line are no text");
-            return ExitCode::from(2);
-        }
+        Err(error) => return no_words(&rt, &error),
     };
     if words.iter().any(|word| has_control(word.as_str())) {
         let _ = eprintln!(rt; "error: a word of the command line has a control character");
@@ -73,7 +72,7 @@ fn main(rt: HostRuntime) -> ExitCode {
         Err(error) => return ended(&rt, Err(Fault::from(error))),
     };
     match read_words(rt.alloc(), words.as_slice()) {
-        Ok(asked) => ended(&rt, run(&rt, asked, usual.as_str(), screen)),
+        Ok(asked) => ended(&rt, run(&rt, asked, usual.as_str(), shows)),
         Err(WordsFault::Refused(error)) => {
             let _ = error.print(&rt);
             ExitCode::from(error.exit_code() as u8)
@@ -82,21 +81,35 @@ fn main(rt: HostRuntime) -> ExitCode {
     }
 }
 
-fn given_words<R: Host>(rt: &R) -> std::io::Result<Vec<String>> {
+fn given_words<R: Host>(rt: &R) -> io::Result<Vec<String>> {
     let words = env::args(rt)?.collect(rt.alloc())?;
     Ok(words)
 }
 
+// Tells that the words couldn't be had: they are no text, or there was no memory.
+fn no_words<R: Eprint>(rt: &R, error: &io::Error) -> ExitCode
+    ensures no_text { error_kind error.now ≡ ErrorKind.InvalidData → exit_status result ≡ 2 }
+    ensures memory { error_kind error.now ≢ ErrorKind.InvalidData → exit_status result ≡ 1 }
+{
+    if error.kind() != ErrorKind::InvalidData {
+        return ended(rt, Err(Fault::Memory));
+    }
+    let _ = eprintln!(rt; "error: the words of the command line are no text");
+    ExitCode::from(2)
+}
+
 // The columns of the terminal.
-fn width<R: Host>(rt: &R) -> usize {
-    match env::var(rt, "COLUMNS") {
-        Ok(text) => text.as_str().parse::<usize>().unwrap_or(USUAL_WIDTH),
-        Err(_) => USUAL_WIDTH,
+fn width<R: Host>(rt: &R) -> Result<usize, AllocError> {
+    match variable(rt, "COLUMNS")? {
+        Some(text) => Ok(text.as_str().parse::<usize>().unwrap_or(USUAL_WIDTH)),
+        None => Ok(USUAL_WIDTH),
     }
 }
 
 // The status, and a fault's line on standard error.
-fn ended<R: Eprint>(rt: &R, ended: Result<u8, Fault>) -> ExitCode {
+fn ended<R: Eprint>(rt: &R, ended: Result<u8, Fault>) -> ExitCode
+    ensures { MatchResult ended (λ status. exit_status result ≡ status) (λ fault. exit_status result ≡ status_of fault) }
+{
     match ended {
         Ok(status) => ExitCode::from(status),
         Err(fault) => {
@@ -106,17 +119,16 @@ fn ended<R: Eprint>(rt: &R, ended: Result<u8, Fault>) -> ExitCode {
     }
 }
 
-// Does what is asked for, at the usual socket where the words name none.
-fn run<'a, R: Host>(rt: &R, asked: Asked<'a>, usual: &'a str, screen: Screen) -> Result<u8, Fault> {
+// Does what is asked for, at the usual socket where the words name none. `shows` tells whether standard error is a terminal.
+fn run<'a, R: Host>(rt: &R, asked: Asked<'a>, usual: &'a str, shows: bool) -> Result<u8, Fault> {
+    let width = width(rt)?;
+    let patience = patience(rt)?;
     let Asked { sockets, task } = asked;
-    let mut places = Places {
-        sockets,
-        patience: patience(rt),
-    };
+    let mut places = Places { sockets, patience };
     if places.sockets.is_empty() {
         places.sockets.push(usual)?;
     }
-    run_task(rt, &places, task, screen)
+    run_task(rt, &places, task, Screen { shows, width })
 }
 
 fn run_task<R: Host>(

@@ -3,10 +3,9 @@
 use crate::client::Client;
 use crate::commands::has_control;
 use crate::fault::Fault;
-use crate::host::Host;
+use crate::host::{Host, variable};
 use front_texts::{JobLine, QueueLine};
 use std::alloc::AllocError;
-use std::env;
 
 // The socket where none is named, and the seconds for which a service is waited for.
 const USUAL_SOCKET: &str = "/run/cegmandi/spool.sock";
@@ -22,17 +21,17 @@ pub struct Places<'a> {
 
 /// The socket of the environment, or else the usual one.
 pub fn usual_socket<R: Host>(rt: &R) -> Result<String, AllocError> {
-    match env::var(rt, "SPOOL_SOCKET") {
-        Ok(socket) => Ok(socket),
-        Err(_) => String::from_str(rt.alloc(), USUAL_SOCKET),
+    match variable(rt, "SPOOL_SOCKET")? {
+        Some(socket) => Ok(socket),
+        None => String::from_str(rt.alloc(), USUAL_SOCKET),
     }
 }
 
 /// For how many seconds a service is waited for.
-pub fn patience<R: Host>(rt: &R) -> u32 {
-    match env::var(rt, "SPOOL_PATIENCE") {
-        Ok(text) => text.as_str().parse::<u32>().unwrap_or(USUAL_PATIENCE),
-        Err(_) => USUAL_PATIENCE,
+pub fn patience<R: Host>(rt: &R) -> Result<u32, AllocError> {
+    match variable(rt, "SPOOL_PATIENCE")? {
+        Some(text) => Ok(text.as_str().parse::<u32>().unwrap_or(USUAL_PATIENCE)),
+        None => Ok(USUAL_PATIENCE),
     }
 }
 
@@ -82,7 +81,7 @@ pub fn queue_of<'a, R: Host>(
         return place_of(rt, places, String::from_str(alloc, queue)?);
     }
     for name in ["LPDEST", "PRINTER"] {
-        if let Ok(queue) = env::var(rt, name) {
+        if let Some(queue) = variable(rt, name)? {
             if has_control(queue.as_str()) {
                 return Err(Fault::Words("the environment's queue has a control character"));
             }

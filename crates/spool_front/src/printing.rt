@@ -1,4 +1,6 @@
 //! The task of printing files: each becomes a job.
+ghost use Rattle.std.specs.Prelude.{◌≡◌};
+ghost use Rattle.spool_front.specs.Replies.{status_at};
 
 use crate::client::{Client, pause};
 use crate::commands::Draft;
@@ -172,7 +174,9 @@ fn tell_way<R: Host>(rt: &R, shown: &JobShown, screen: Screen) {
 }
 
 // The status where the job has ended. Why it isn't completed is told.
-fn end_of<R: Host>(rt: &R, shown: &JobShown) -> Option<u8> {
+fn end_of<R: Host>(rt: &R, shown: &JobShown) -> Option<u8>
+    ensures { result ≡ status_at shown.now.course.state }
+{
     match shown.course.state {
         JobState::Completed => Some(0),
         JobState::Canceled | JobState::Aborted => {

@@ -1,4 +1,7 @@
 //! What is shown of jobs and queues, and what is done to them.
+ghost use Rattle.std.specs.Prelude.{◌≡◌, IfOk};
+ghost use Rattle.spool_front.specs.Acts.{IsActLine, queue_act_line};
+ghost use Rattle.spool_front.specs.Faults.{status_of};
 
 use crate::client::Client;
 use crate::commands::{Until, hold_line, info_line, job_line, name_line, queue_line};
@@ -144,7 +147,9 @@ fn act_by<R: Host>(
 }
 
 // Tells why something wasn't done to a job, and gives the status. Any other fault is one of all jobs.
-fn tell_fault<R: Host>(rt: &R, job: u32, fault: Fault) -> Result<u8, Fault> {
+fn tell_fault<R: Host>(rt: &R, job: u32, fault: Fault) -> Result<u8, Fault>
+    ensures { IfOk result (λ status. status ≡ status_of fault) }
+{
     if !matches!(fault, Fault::Refused(_) | Fault::Unknown) {
         return Err(fault);
     }
@@ -152,7 +157,9 @@ fn tell_fault<R: Host>(rt: &R, job: u32, fault: Fault) -> Result<u8, Fault> {
     Ok(fault.status())
 }
 
-fn act_line<R: Host>(rt: &R, act: JobAct, job: u32) -> Result<Vec<u8>, Fault> {
+fn act_line<R: Host>(rt: &R, act: JobAct, job: u32) -> Result<Vec<u8>, Fault>
+    ensures { IfOk result (λ line. IsActLine act job line.items) }
+{
     let alloc = rt.alloc();
     let line = match act {
         JobAct::Cancel => job_line(alloc, "cancel", job)?,
@@ -213,7 +220,9 @@ pub fn act_on_queue<R: Host>(
     Ok(0)
 }
 
-fn act_text(alloc: Global, name: &str, act: QueueAct<'_>) -> Result<Vec<u8>, AllocError> {
+fn act_text(alloc: Global, name: &str, act: QueueAct<'_>) -> Result<Vec<u8>, AllocError>
+    ensures { IfOk result (λ line. line.items ≡ queue_act_line name.now act.entry) }
+{
     match act {
         QueueAct::Add(queue) => queue_line(alloc, name, queue),
         QueueAct::Set { info, location } => info_line(alloc, name, info, location),

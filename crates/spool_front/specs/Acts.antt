@@ -1,0 +1,27 @@
+-- What is done to a job or a queue, as commands.
+use Rattle.std.specs.Prelude.{◌≡◌, ℕ, List, codes, None, Some}
+use Rattle.front_words.specs.declared.asked.JobAct.{JobAct}
+use Rattle.front_words.specs.declared.asked.JobAct.TheVariants.{Cancel, Hold, Release, Purge, End}
+use Rattle.front_words.specs.declared.asked.QueueAct.{QueueAct}
+use Rattle.front_words.specs.declared.asked.QueueAct.TheVariants.{Add, Set, Accept, Reject, Enable, Disable}
+use Rattle.spool_front.specs.Commands.{hold_line, info_line, job_line, name_line, queue_line}
+use Rattle.spool_front.specs.Drafts.{IsMoment}
+use Rattle.spool_front.specs.declared.commands.Until.TheVariants.{Released, Reached}
+
+-- the command for one job
+abbrev pub IsActLine : JobAct → ℕ → List ℕ → Type 0
+IsActLine Cancel job line = line ≡ job_line (codes "cancel") job
+IsActLine Release job line = line ≡ job_line (codes "release") job
+IsActLine Purge job line = line ≡ job_line (codes "purge") job
+IsActLine End job line = line ≡ job_line (codes "end") job
+IsActLine (Hold None) job line = line ≡ hold_line job Released
+IsActLine (Hold (Some moment)) job line = (told : ℕ) × IsMoment moment told × (line ≡ hold_line job (Reached told))
+
+-- the command for a queue
+abbrev pub queue_act_line : List ℕ → QueueAct → List ℕ
+queue_act_line name (Add queue) = queue_line name queue
+queue_act_line name (Set info location) = info_line name info.now location.now
+queue_act_line name Accept = name_line (codes "accept") name
+queue_act_line name Reject = name_line (codes "reject") name
+queue_act_line name Enable = name_line (codes "enable") name
+queue_act_line name Disable = name_line (codes "disable") name
