@@ -159,7 +159,7 @@ NUMBERS = {
     ("spool_front", "send_and_read"): ["u64::MAX"],
     ("spool_front", "submit"): ["u64::MAX"],
     ("spool_front", "wait_for"): ["u64::MAX"],
-    ("spool_front", "watch"): ["u64::MAX"],
+    ("spool_front", "watch_by"): ["u64::MAX"],
     ("spool_front", "write_page"): ["u64::MAX"],
     ("spool_host", "attend"): ["u64::MAX"],
     ("spool_host", "counted"): ["u64::MAX"],

@@ -1,5 +1,9 @@
 -- What is done to a job or a queue, as commands.
-use Rattle.std.specs.Prelude.{◌≡◌, ℕ, List, codes, None, Some}
+use Rattle.std.specs.Prelude.{◌≡◌, ℕ, Bool, ◌&&◌, ◌||◌, not, cond, ◌==◌, List, length, codes, Option, None, Some}
+use Rattle.std.specs.List.{list_any}
+use Rattle.command_lines.specs.Grammar.{is_word}
+use Rattle.front_texts.specs.States.{is_ended}
+use Rattle.front_texts.specs.declared.job_line.JobLine.{JobLine}
 use Rattle.front_words.specs.declared.asked.JobAct.{JobAct}
 use Rattle.front_words.specs.declared.asked.JobAct.TheVariants.{Cancel, Hold, Release, Purge, End}
 use Rattle.front_words.specs.declared.asked.QueueAct.{QueueAct}
@@ -25,3 +29,10 @@ queue_act_line name Accept = name_line (codes "accept") name
 queue_act_line name Reject = name_line (codes "reject") name
 queue_act_line name Enable = name_line (codes "enable") name
 queue_act_line name Disable = name_line (codes "disable") name
+
+-- whether a job is of one of these queues, or of any where none is named, and hasn't ended
+abbrev pub is_cleared : {T : Type 0} → List T → (T → List ℕ) → JobLine → Bool
+is_cleared names text job = ((length names == 0) || list_any (λ name. is_word (text name) job.queue) names) && not (is_ended job.state)
+
+abbrev pub number_of : {T : Type 0} → List T → (T → List ℕ) → JobLine → Option ℕ
+number_of names text job = cond (is_cleared names text job) (Some job.number) None

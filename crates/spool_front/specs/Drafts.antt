@@ -21,12 +21,21 @@ IsUntil No until = until ≡ None
 IsUntil Indefinite until = until ≡ Some Released
 IsUntil (Waits moment) until = (told : ℕ) × (until ≡ Some (Reached told)) × IsMoment moment told
 
+-- by when a job is to start
+abbrev pub IsBy : Option Moment → Option ℕ → Type 0
+IsBy None by = by ≡ None
+IsBy (Some moment) by = (told : ℕ) × (by ≡ Some told) × IsMoment moment told
+
+-- a text, and a blank behind it
+abbrev pub option_text : List ℕ → List ℕ
+option_text text = text ++ codes " "
+
 -- the option by which the pages are told
 abbrev pub pages_option : Option (List ℕ) → List ℕ
 pages_option None = []
-pages_option (Some pages) = codes "page-ranges=" ++ pages ++ codes " "
+pages_option (Some pages) = codes "page-ranges=" ++ option_text pages
 
 -- the options that are asked for, each with a blank behind it, the pages, and the token
 abbrev pub options_of : Submission → List ℕ → List ℕ
 options_of asked token =
-    flat_map (λ option. option.now ++ codes " ") asked.options.items ++ pages_option (option_map (λ pages. pages.now) asked.pages) ++ token
+    flat_map (λ option. option_text option.now) asked.options.items ++ pages_option (option_map (λ pages. pages.now) asked.pages) ++ token

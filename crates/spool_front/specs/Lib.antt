@@ -8,4 +8,5 @@ pub mod Drafts
 pub mod Faults
 pub mod Found
 pub mod Pieces
+pub mod Places
 pub mod Replies

@@ -33,11 +33,20 @@ pub struct Chains {
 
 /// Reads both files, by the names of the environment or else the usual ones.
 pub fn read_chains<R: Host>(rt: &R) -> Result<Chains, Fault> {
-    let types = file_text(rt, "SPOOL_TYPES", USUAL_TYPES)?;
-    let convs = file_text(rt, "SPOOL_CONVS", USUAL_CONVS)?;
-    let kinds = kinds_in(rt.alloc(), types.as_str())?;
-    let (convs, _) = Convs::read(rt.alloc(), convs.as_str())?;
+    let kinds = kinds_of_file(rt)?;
+    let convs = convs_of_file(rt)?;
     Ok(Chains { kinds, convs })
+}
+
+fn kinds_of_file<R: Host>(rt: &R) -> Result<Vec<MediaType>, Fault> {
+    let text = file_text(rt, "SPOOL_TYPES", USUAL_TYPES)?;
+    Ok(kinds_in(rt.alloc(), text.as_str())?)
+}
+
+fn convs_of_file<R: Host>(rt: &R) -> Result<Convs, Fault> {
+    let text = file_text(rt, "SPOOL_CONVS", USUAL_CONVS)?;
+    let (convs, _) = Convs::read(rt.alloc(), text.as_str())?;
+    Ok(convs)
 }
 
 fn file_text<R: Host>(rt: &R, of_name: &str, usual: &str) -> Result<String, Fault> {
@@ -55,10 +64,9 @@ fn file_text<R: Host>(rt: &R, of_name: &str, usual: &str) -> Result<String, Faul
 fn unread(error: &io::Error, name: String) -> Fault
     ensures { result ≡ unread_by (error_kind error.now) name }
 {
-    if error.kind() == ErrorKind::OutOfMemory {
-        Fault::Memory
-    } else {
-        Fault::File(name)
+    match error.kind() {
+        ErrorKind::OutOfMemory => Fault::Memory,
+        _ => Fault::File(name),
     }
 }
 

@@ -7,7 +7,7 @@ ghost use Rattle.spool_front.specs.Checks.{hindrance_of, prints};
 use crate::chains::{Chains, read_chains};
 use crate::fault::Fault;
 use crate::host::Host;
-use crate::places::{Places, client_at};
+use crate::places::{Places, queues_at};
 use front_texts::{PrinterState, QueueLine};
 use std::alloc::AllocError;
 use std::io;
@@ -24,32 +24,44 @@ pub enum Hindrance {
 }
 
 /// Tells of each service that it serves, and of each queue whether documents can be printed by it. The status is 0 where all can.
-pub fn check<R: Host>(rt: &R, places: &Places<'_>) -> Result<u8, Fault> {
+pub fn check<R: Host>(rt: &R, places: Places<'_, '_>) -> Result<u8, Fault> {
     let chains = read_chains(rt)?;
-    let mut status = 0;
-    for socket in &places.sockets {
-        if !tell_service(rt, places, socket, &chains)? {
-            status = 1;
-        }
-    }
-    Ok(status)
+    let all = tell_services(rt, places, &chains);
+    drop(chains);
+    if all? { Ok(0) } else { Ok(1) }
 }
 
-// Tells that a service serves, and of each of its queues whether it prints. Whether all do.
+// Whether all queues of all services print. It is told.
+fn tell_services<R: Host>(rt: &R, places: Places<'_, '_>, chains: &Chains) -> Result<bool, Fault> {
+    let mut all = true;
+    for socket in places.sockets {
+        let printing = tell_service(rt, places, socket, chains)?;
+        all = all && printing;
+    }
+    Ok(all)
+}
+
 fn tell_service<R: Host>(
     rt: &R,
-    places: &Places<'_>,
+    places: Places<'_, '_>,
     socket: &str,
     chains: &Chains,
 ) -> Result<bool, Fault> {
-    let queues = client_at(rt, places, socket).queues()?;
-    println!(rt; "{socket} serves")?;
-    tell_queues(rt, chains, &queues)
+    let queues = queues_at(rt, places, socket)?;
+    let all = tell_queues(rt, socket, chains, &queues);
+    drop(queues);
+    all
 }
 
-fn tell_queues<R: Print>(rt: &R, chains: &Chains, queues: &[QueueLine]) -> Result<bool, Fault>
+fn tell_queues<R: Print>(
+    rt: &R,
+    socket: &str,
+    chains: &Chains,
+    queues: &[QueueLine],
+) -> Result<bool, Fault>
     ensures { IfOk result (λ all. all ≡ list_all (prints chains.now) queues.now) }
 {
+    println!(rt; "{socket} serves")?;
     let mut all = true;
     for queue in queues {
         let hindrance = hindrance_of(chains, queue)?;
@@ -74,19 +86,14 @@ fn hindrance_of(chains: &Chains, queue: &QueueLine) -> Result<Option<Hindrance>,
     Ok(None)
 }
 
-fn tell_queue<R: Print>(
-    rt: &R,
-    queue: &QueueLine,
-    hindrance: Option<Hindrance>,
-) -> io::Result<()> {
+fn tell_queue<R: Print>(rt: &R, queue: &QueueLine, hindrance: Option<Hindrance>) -> io::Result<()> {
     let name = queue.name.as_str();
     let target = queue.target.as_str();
-    match hindrance {
-        None => println!(rt; "queue {name} prints {target}"),
-        Some(Hindrance::NoChain) => {
-            println!(rt; "queue {name} prints nothing: no chain of filters leads to {target}")
-        }
-        Some(Hindrance::Halted) => println!(rt; "queue {name} is stopped"),
-        Some(Hindrance::Rejecting) => println!(rt; "queue {name} takes no jobs"),
-    }
+    let (says, target) = match hindrance {
+        None => ("prints ", target),
+        Some(Hindrance::NoChain) => ("prints nothing: no chain of filters leads to ", target),
+        Some(Hindrance::Halted) => ("is stopped", ""),
+        Some(Hindrance::Rejecting) => ("takes no jobs", ""),
+    };
+    println!(rt; "queue {name} {says}{target}")
 }

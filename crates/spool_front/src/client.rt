@@ -1,5 +1,5 @@
 //! The client of a service: a command is sent, and all of its reply is read.
-ghost use Rattle.std.specs.Prelude.{◌≡◌, ◌*◌, IfNone, IfOk, IfSome, IsSome, IsUtf8, None, filter_map, string_bytes};
+ghost use Rattle.std.specs.Prelude.{◌≡◌, ◌*◌, IfNone, IfOk, IfSome, IsSome, IsTrue, IsUtf8, MatchResult, None, filter_map, string_bytes};
 ghost use Rattle.front_texts.specs.JobPage.{shown_job};
 ghost use Rattle.front_texts.specs.JobRows.{job_row};
 ghost use Rattle.front_texts.specs.QueueRows.{queue_row};
@@ -175,12 +175,12 @@ impl<'a, R: Host> Client<'a, R> {
     }
 
     /// Sends a command once. Where its reply is lost it isn't known whether it was done.
-    pub fn order(&mut self, text: &[u8]) -> Result<Answer, Fault> {
+    pub fn order(&mut self, text: &[u8]) -> Result<(), Fault> {
         if !self.connect()? {
             return Err(self.nobody()?);
         }
         match self.exchange(text) {
-            Ok(answer) => accepted(answer),
+            Ok(answer) => done(answer),
             Err(ConnectionFault::Lost) => Err(Fault::Unknown),
             Err(ConnectionFault::Memory) => Err(Fault::Memory),
         }
@@ -193,7 +193,9 @@ impl<'a, R: Host> Client<'a, R> {
     /// The jobs, in the order of their numbers.
     pub fn jobs(&mut self) -> Result<Vec<JobLine>, Fault> {
         let answer = self.ask(b"jobs\n")?;
-        Ok(jobs_in(self.rt.alloc(), &answer.rows)?)
+        let jobs = jobs_in(self.rt.alloc(), &answer.rows);
+        drop(answer);
+        Ok(jobs?)
     }
 
     /// A job as it is, and none where it isn't there.
@@ -201,15 +203,18 @@ impl<'a, R: Host> Client<'a, R> {
         let line = job_line(self.rt.alloc(), "job", job)?;
         let answer = self.ask_or_refused(line.as_slice())?;
         if is_gone(answer.last.as_str()) {
+            drop(answer);
             return Ok(None);
         }
-        shown_in(self.rt.alloc(), &accepted(answer)?)
+        shown_of_answer(self.rt.alloc(), accepted(answer)?)
     }
 
     /// The queues, in the order of their names.
     pub fn queues(&mut self) -> Result<Vec<QueueLine>, Fault> {
         let answer = self.ask(b"queues\n")?;
-        Ok(queues_in(self.rt.alloc(), &answer.rows)?)
+        let queues = queues_in(self.rt.alloc(), &answer.rows);
+        drop(answer);
+        Ok(queues?)
     }
 }
 
@@ -236,6 +241,22 @@ fn accepted(answer: Answer) -> Result<Answer, Fault>
     } else {
         Err(Fault::Refused(answer.last))
     }
+}
+
+// That something was done, if it wasn't refused.
+fn done(answer: Answer) -> Result<(), Fault>
+    ensures { MatchResult result (λ _. IsTrue (is_done (string_bytes answer.last))) (λ fault. fault ≡ Fault.Refused answer.last) }
+{
+    drop(accepted(answer)?);
+    Ok(())
+}
+
+fn shown_of_answer(alloc: Global, answer: Answer) -> Result<Option<JobShown>, Fault>
+    ensures { IfOk result (λ job. IsSome job × (job ≡ shown_job (rows_text answer.rows.items))) }
+{
+    let shown = shown_in(alloc, &answer);
+    drop(answer);
+    shown
 }
 
 // The job of these rows.

@@ -1,7 +1,7 @@
 //! What is said of the job of a document.
 ghost use Rattle.std.specs.Prelude.{◌≡◌, ◌++◌, IfOk, OnOk, string_bytes};
 ghost use Rattle.std.specs.Option.{option_map};
-ghost use Rattle.spool_front.specs.Drafts.{IsMoment, IsUntil, options_of, pages_option};
+ghost use Rattle.spool_front.specs.Drafts.{IsBy, IsMoment, IsUntil, option_text, options_of, pages_option};
 
 use crate::commands::{Draft, Until};
 use crate::fault::Fault;
@@ -19,6 +19,8 @@ pub fn draft_of<R: Host>(
     name: &str,
 ) -> Result<Draft, Fault> {
     let alloc = rt.alloc();
+    let by = by_of(rt, asked.by)?;
+    let hold = until_of(rt, asked.hold)?;
     let token = token_option(rt)?;
     Ok(Draft {
         queue: String::from_str(alloc, queue)?,
@@ -28,13 +30,19 @@ pub fn draft_of<R: Host>(
         priority: asked.priority,
         options: options_of(alloc, asked, token.as_str())?,
         token,
-        by: match asked.by {
-            Some(moment) => Some(seconds_of(rt, moment)?),
-            None => None,
-        },
-        hold: until_of(rt, asked.hold)?,
+        by,
+        hold,
         name: plain_text(alloc, name)?,
     })
+}
+
+fn by_of<R: Host>(rt: &R, by: Option<Moment>) -> Result<Option<u64>, Fault>
+    ensures { IfOk result (IsBy by) }
+{
+    match by {
+        Some(moment) => Ok(Some(seconds_of(rt, moment)?)),
+        None => Ok(None),
+    }
 }
 
 fn until_of<R: Host>(rt: &R, hold: Hold) -> Result<Option<Until>, Fault>
@@ -88,8 +96,7 @@ fn options_of(alloc: Global, asked: &Submission<'_>, token: &str) -> Result<Stri
 {
     let mut options = String::new(alloc);
     for option in &asked.options {
-        options.push_str(option)?;
-        options.push_str(" ")?;
+        push_option(&mut options, option)?;
     }
     push_pages(&mut options, asked.pages)?;
     options.push_str(token)?;
@@ -103,7 +110,15 @@ fn push_pages(options: &mut String, pages: Option<&str>) -> Result<(), AllocErro
         return Ok(());
     };
     options.push_str("page-ranges=")?;
-    options.push_str(pages)?;
+    push_option(options, pages)?;
+    Ok(())
+}
+
+// A text, and a blank behind it.
+fn push_option(options: &mut String, text: &str) -> Result<(), AllocError>
+    ensures { OnOk result (string_bytes options.new ≡ string_bytes options.old ++ option_text text.now) }
+{
+    options.push_str(text)?;
     options.push_str(" ")
 }
 

@@ -21,6 +21,7 @@
 //! and 5 where a job that was waited for ended otherwise than completed. Once a job is accepted the status says so, whatever
 //! happens to the line that tells it.
 #![tactic(auto)]
+
 ghost use Rattle.std.specs.Prelude.{◌≡◌, ◌≢◌, MatchResult};
 ghost use Rattle.std.specs.IoError.{error_kind};
 ghost use Rattle.std.specs.Process.{exit_status};
@@ -67,12 +68,15 @@ fn main(rt: HostRuntime) -> ExitCode {
         let _ = eprintln!(rt; "error: a word of the command line has a control character");
         return ExitCode::from(2);
     }
-    let usual = match usual_socket(&rt) {
-        Ok(socket) => socket,
+    let told = match told_of(&rt) {
+        Ok(told) => told,
         Err(error) => return ended(&rt, Err(Fault::from(error))),
     };
     match read_words(rt.alloc(), words.as_slice()) {
-        Ok(asked) => ended(&rt, run(&rt, asked, usual.as_str(), shows)),
+        Ok(asked) => {
+            let status = run(&rt, &asked, &told, shows);
+            ended(&rt, status)
+        }
         Err(WordsFault::Refused(error)) => {
             let _ = error.print(&rt);
             ExitCode::from(error.exit_code() as u8)
@@ -98,7 +102,25 @@ fn no_words<R: Eprint>(rt: &R, error: &io::Error) -> ExitCode
     ExitCode::from(2)
 }
 
-// The columns of the terminal.
+// What the environment tells: the usual socket, how long it is waited for, and the columns of the terminal.
+#[derive(Drop)]
+struct Told {
+    socket: String,
+    patience: u32,
+    width: usize,
+}
+
+fn told_of<R: Host>(rt: &R) -> Result<Told, AllocError> {
+    let patience = patience(rt)?;
+    let width = width(rt)?;
+    let socket = usual_socket(rt)?;
+    Ok(Told {
+        socket,
+        patience,
+        width,
+    })
+}
+
 fn width<R: Host>(rt: &R) -> Result<usize, AllocError> {
     match variable(rt, "COLUMNS")? {
         Some(text) => Ok(text.as_str().parse::<usize>().unwrap_or(USUAL_WIDTH)),
@@ -120,37 +142,47 @@ fn ended<R: Eprint>(rt: &R, ended: Result<u8, Fault>) -> ExitCode
 }
 
 // Does what is asked for, at the usual socket where the words name none. `shows` tells whether standard error is a terminal.
-fn run<'a, R: Host>(rt: &R, asked: Asked<'a>, usual: &'a str, shows: bool) -> Result<u8, Fault> {
-    let width = width(rt)?;
-    let patience = patience(rt)?;
-    let Asked { sockets, task } = asked;
-    let mut places = Places { sockets, patience };
-    if places.sockets.is_empty() {
-        places.sockets.push(usual)?;
+fn run<R: Host>(rt: &R, asked: &Asked<'_>, told: &Told, shows: bool) -> Result<u8, Fault> {
+    let patience = told.patience;
+    let screen = Screen {
+        shows,
+        width: told.width,
+    };
+    if asked.sockets.is_empty() {
+        let usual = [told.socket.as_str()];
+        let places = Places {
+            sockets: &usual,
+            patience,
+        };
+        return run_task(rt, places, &asked.task, screen);
     }
-    run_task(rt, &places, task, Screen { shows, width })
+    let places = Places {
+        sockets: asked.sockets.as_slice(),
+        patience,
+    };
+    run_task(rt, places, &asked.task, screen)
 }
 
 fn run_task<R: Host>(
     rt: &R,
-    places: &Places<'_>,
-    task: Task<'_>,
+    places: Places<'_, '_>,
+    task: &Task<'_>,
     screen: Screen,
 ) -> Result<u8, Fault> {
     match task {
-        Task::Submit(asked) => printing::print_files(rt, places, &asked, screen),
-        Task::Status(asked) => tasks::show_status(rt, places, asked, screen),
-        Task::Queues { json } => tasks::show_queues(rt, places, json, screen),
+        Task::Submit(asked) => printing::print_files(rt, places, asked, screen),
+        Task::Status(asked) => tasks::show_status(rt, places, *asked, screen),
+        Task::Queues { json } => tasks::show_queues(rt, places, *json, screen),
         Task::Watch => tasks::watch(rt, places),
-        Task::Jobs { act, jobs } => tasks::act_on_jobs(rt, places, act, jobs.as_slice()),
+        Task::Jobs { act, jobs } => tasks::act_on_jobs(rt, places, *act, jobs.as_slice()),
         Task::Clear { queues } => tasks::clear(rt, places, queues.as_slice()),
-        Task::Queue { name, act } => tasks::act_on_queue(rt, places, name, act),
+        Task::Queue { name, act } => tasks::act_on_queue(rt, places, name, *act),
         Task::Devices => Err(Fault::Words(
             "run `spool_shell --devices`: the service doesn't list devices",
         )),
         Task::Check => check::check(rt, places),
-        Task::Page { file, follow } => web_page::write_page(rt, places, file, follow),
-        Task::Lpstat(asked) => cups_forms::show_lpstat(rt, places, &asked),
-        Task::Lpq(asked) => cups_forms::show_lpq(rt, places, &asked),
+        Task::Page { file, follow } => web_page::write_page(rt, places, file, *follow),
+        Task::Lpstat(asked) => cups_forms::show_lpstat(rt, places, asked),
+        Task::Lpq(asked) => cups_forms::show_lpq(rt, places, asked),
     }
 }

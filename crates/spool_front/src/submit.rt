@@ -1,7 +1,7 @@
 //! Making a job of a document, exactly once.
-ghost use Rattle.std.specs.Prelude.{◌≡◌, ◌↔◌, IsTrue, string_bytes};
+ghost use Rattle.std.specs.Prelude.{◌≡◌, ◌↔◌, IfOk, IsTrue, string_bytes};
 ghost use Rattle.std.specs.Str.Iter.{HasSubslice};
-ghost use Rattle.spool_front.specs.Found.{may_be_own, with_job};
+ghost use Rattle.spool_front.specs.Found.{may_be_own, own_job, with_job};
 ghost use Rattle.spool_front.specs.Replies.{reply_in};
 
 use crate::client::{Answer, Client, pause};
@@ -12,6 +12,7 @@ use crate::host::{Host, Screen};
 use crate::replies::{has_reason, reply_in, shown_of};
 use front_submission::{Cause, End, Found, Own, Reply, Request, Step};
 use front_texts::{JobLine, JobShown, read_job_line, read_job_shown};
+use std::alloc::{AllocError, Global};
 use std::io::Read;
 
 /// A submission, and what its messages speak of.
@@ -196,9 +197,11 @@ impl<'a, R: Host> Submitting<'a, R> {
     // What has become of a job.
     fn show(&mut self, client: &mut Client<'_, R>, job: u32) -> Result<Reply, ConnectionFault> {
         match self.shown(client, job)? {
-            Ok(job) => Ok(Reply::Job {
-                shown: shown_of(&job),
-            }),
+            Ok(job) => {
+                let shown = shown_of(&job);
+                drop(job);
+                Ok(Reply::Job { shown })
+            }
             Err(reply) => Ok(reply),
         }
     }
@@ -227,16 +230,24 @@ impl<'a, R: Host> Submitting<'a, R> {
         if !answer.is_done() {
             return Ok(self.reply_of(answer));
         }
+        let found = self.find_in(client, &answer.rows);
+        drop(answer);
+        found
+    }
+
+    fn find_in(
+        &mut self,
+        client: &mut Client<'_, R>,
+        rows: &[Vec<u8>],
+    ) -> Result<Reply, ConnectionFault> {
         let mut found = Found {
             own: None,
             another: None,
         };
-        for row in &answer.rows {
-            if let Some(job) = read_job_line(self.rt.alloc(), row.as_slice())? {
-                if may_be_own(self.draft, &job) {
-                    if let Err(reply) = self.look(client, &job, &mut found)? {
-                        return Ok(reply);
-                    }
+        for row in rows {
+            if let Some(job) = own_job(self.rt.alloc(), self.draft, row.as_slice())? {
+                if let Err(reply) = self.look(client, job, &mut found)? {
+                    return Ok(reply);
                 }
             }
         }
@@ -247,20 +258,37 @@ impl<'a, R: Host> Submitting<'a, R> {
     fn look(
         &mut self,
         client: &mut Client<'_, R>,
-        job: &JobLine,
+        job: u32,
         found: &mut Found,
     ) -> Result<Result<(), Reply>, ConnectionFault> {
-        let number = job.number.get();
-        let shown = match self.shown(client, number)? {
-            Ok(shown) => shown,
-            Err(Reply::Gone) => return Ok(Ok(())),
-            Err(reply) => return Ok(Err(reply)),
-        };
-        if has_token(shown.asked.options.as_str(), self.draft.token.as_str()) {
-            *found = with_job(*found, number, shown.course.size);
+        match self.shown(client, job)? {
+            Ok(shown) => {
+                if has_token(shown.asked.options.as_str(), self.draft.token.as_str()) {
+                    *found = with_job(*found, job, shown.course.size);
+                }
+                drop(shown);
+                Ok(Ok(()))
+            }
+            Err(Reply::Gone) => Ok(Ok(())),
+            Err(reply) => Ok(Err(reply)),
         }
-        Ok(Ok(()))
     }
+}
+
+// The number of a row's job, if it arrives for this queue and this user.
+fn own_job(alloc: Global, draft: &Draft, row: &[u8]) -> Result<Option<u32>, AllocError>
+    ensures { IfOk result (λ job. job ≡ own_job draft.now row.now) }
+{
+    let Some(job) = read_job_line(alloc, row)? else {
+        return Ok(None);
+    };
+    let own = if may_be_own(draft, &job) {
+        Some(job.number.get())
+    } else {
+        None
+    };
+    drop(job);
+    Ok(own)
 }
 
 // Whether a job arrives for this queue and this user.
