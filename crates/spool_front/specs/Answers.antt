@@ -1,5 +1,5 @@
 -- What the client of a service makes of a reply.
-use Rattle.std.specs.Prelude.{ℕ, Bool, true, false, cond, List, ◌++◌, codes, string_bytes, Option, None, Some, Result, Ok, Err, Vec}
+use Rattle.std.specs.Prelude.{ℕ, Bool, true, false, cond, List, ◌++◌, codes, string_bytes, Option, Some, Result, Ok, Err, Vec}
 use Rattle.std.specs.Global.{Global}
 use Rattle.std.specs.List.{flat_map}
 use Rattle.front_texts.specs.ReplyLines.{Last, done, last_line}

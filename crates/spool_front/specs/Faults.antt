@@ -9,7 +9,7 @@ use Rattle.std.specs.declared.io.ErrorKind.TheVariants.{OutOfMemory}
 use Rattle.spool_front.specs.declared.connection.ConnectionFault.{ConnectionFault}
 use Rattle.spool_front.specs.declared.connection.ConnectionFault.TheVariants as connection
 use Rattle.spool_front.specs.declared.fault.Fault.{Fault}
-use Rattle.spool_front.specs.declared.fault.Fault.TheVariants.{Memory, Nobody, Gone, Unknown, Refused, Write, File, Words}
+use Rattle.spool_front.specs.declared.fault.Fault.TheVariants.{Memory, Gone, Unknown, Write, File}
 
 -- 3 where it isn't known whether something was done, and else 1: it wasn't
 abbrev pub status_of : Fault → ℕ

@@ -6,7 +6,7 @@ use Rattle.command_lines.specs.Grammar.{is_word, job_in}
 use Rattle.front_texts.specs.ReplyLines.{Last, done, refused, failed, last_line, is_space}
 use Rattle.front_texts.specs.declared.job_shown.JobShown.{JobShown}
 use Rattle.front_texts.specs.declared.states.JobState.{JobState}
-use Rattle.front_texts.specs.declared.states.JobState.TheVariants.{Pending, Held, Processing, Stopped, Canceled, Aborted, Completed}
+use Rattle.front_texts.specs.declared.states.JobState.TheVariants.{Canceled, Aborted, Completed}
 use Rattle.front_submission.specs.declared.reply.Reply.{Reply}
 use Rattle.front_submission.specs.declared.reply.Reply.TheVariants.{Created, Sent, Closed, Done, Gone, Later, NotIncoming, Denied, Unclear}
 use Rattle.front_submission.specs.declared.reply.Shown.{Shown}
