@@ -454,8 +454,8 @@ def acts_on_queues(folder):
 
 
 def refuses_memory(folder):
-    """Each allocation of a submission is refused in turn, and its status is true: accepted once, never, or not known. Words that
-    find no memory count as words that can't be read."""
+    """Each allocation of a submission is refused in turn, and its status is true: accepted once, never, or not known. What isn't done is
+    told as memory, the words too, and a variable that finds no memory isn't taken for one that isn't there."""
     if not shutil.which("gcc"):
         raise Skipped("gcc isn't installed (Debian's package gcc)")
     library = folder.at("count_allocations.so")
@@ -472,10 +472,12 @@ def refuses_memory(folder):
         ended = front.run("spool", "submit", "q", "-", "--title", title, text=text, environment=more)
         told = ended.stderr.decode()
         ends.setdefault(ended.returncode, []).append(refused)
-        holds(f"allocation {refused}, status {ended.returncode}: {told!r}", ended.returncode in (0, 1, 2, 3))
+        holds(f"allocation {refused}, status {ended.returncode}: {told!r}", ended.returncode in (0, 1, 3))
+        holds(f"allocation {refused}, status 1: {told!r}", ended.returncode != 1 or "memory" in told)
         closed = [row for row in client.listing("jobs\n") if title in row and row.split()[4] != "job-incoming" and row.split()[3] != "7"]
         if ended.returncode != 3:
             same(f"jobs that were closed, where allocation {refused} was refused: {told!r}", len(closed), 1 if ended.returncode == 0 else 0)
+        holds(f"in whose name, where allocation {refused} was refused: {closed}", all(row.split()[5] == '"ann"' for row in closed))
         if " refused " not in folder.read("counted"):
             break
         os.remove(counted)

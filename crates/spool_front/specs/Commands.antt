@@ -1,5 +1,5 @@
 -- The commands that are sent to a service.
-use Rattle.std.specs.Prelude.{ℕ, Bool, ◌||◌, nat_lt, ◌==◌, List, [], ◌∷◌, ◌++◌, length, codes, string_bytes, Option, None, Some}
+use Rattle.std.specs.Prelude.{ℕ, Bool, ◌||◌, nat_lt, ◌==◌, List, [], ◌++◌, length, codes, string_bytes, Option, None, Some}
 use Rattle.std.specs.Fmt.{decimal}
 use Rattle.command_lines.specs.Replies.{quoted}
 use Rattle.front_words.specs.declared.asked.NewQueue.{NewQueue}

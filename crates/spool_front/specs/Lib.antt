@@ -1,4 +1,12 @@
+pub mod Acts
+pub mod Answers
 pub mod Chains
+pub mod Checks
 pub mod Commands
+pub mod CupsForms
+pub mod Drafts
 pub mod Faults
+pub mod Found
+pub mod Pieces
+pub mod Places
 pub mod Replies

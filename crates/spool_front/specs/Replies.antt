@@ -1,11 +1,12 @@
 -- What a service says of a submission.
-use Rattle.std.specs.Prelude.{ℕ, Bool, true, false, ◌||◌, cond, ◌==◌, List, [], ◌∷◌, codes, Option, None, Some}
+use Rattle.std.specs.Prelude.{ℕ, Bool, true, false, ◌||◌, cond, ◌==◌, List, [], ◌∷◌, codes, Option, None, Some, is_some}
 use Rattle.std.specs.List.{before_first, after_first}
 use Rattle.line_words.specs.Numbers.{decimal}
 use Rattle.command_lines.specs.Grammar.{is_word, job_in}
 use Rattle.front_texts.specs.ReplyLines.{Last, done, refused, failed, last_line, is_space}
+use Rattle.front_texts.specs.declared.job_shown.JobShown.{JobShown}
 use Rattle.front_texts.specs.declared.states.JobState.{JobState}
-use Rattle.front_texts.specs.declared.states.JobState.TheVariants.{Pending, Held, Processing, Stopped, Canceled, Aborted, Completed}
+use Rattle.front_texts.specs.declared.states.JobState.TheVariants.{Canceled, Aborted, Completed}
 use Rattle.front_submission.specs.declared.reply.Reply.{Reply}
 use Rattle.front_submission.specs.declared.reply.Reply.TheVariants.{Created, Sent, Closed, Done, Gone, Later, NotIncoming, Denied, Unclear}
 use Rattle.front_submission.specs.declared.reply.Shown.{Shown}
@@ -81,3 +82,20 @@ abbrev pub shown_as : Bool → JobState → Bool → Bool → ℕ → Shown
 shown_as true state no_filter incoming size = closed_as state no_filter
 shown_as false state no_filter true size = Arriving size
 shown_as false state no_filter false size = NeverClosed
+
+-- whether the reason of a state is this word
+abbrev pub has_reason : List ℕ → Option (List ℕ) → Bool
+has_reason word None = false
+has_reason word (Some reason) = is_word reason word
+
+abbrev pub shown_of : JobShown → Shown
+shown_of job =
+    shown_as (is_some job.course.media) job.course.state
+    (has_reason (codes "no-filter") job.course.reason) (has_reason (codes "job-incoming") job.course.reason) job.course.size
+
+-- the status of a job that is waited for, once it has ended
+abbrev pub status_at : JobState → Option ℕ
+status_at Completed = Some 0
+status_at Canceled = Some 5
+status_at Aborted = Some 5
+status_at state = None

@@ -1,17 +1,20 @@
 //! Which types of printers documents can reach, by the service's files of types and of conversions.
 ghost use Rattle.std.specs.Prelude.{◌≡◌, ◌++◌, IfOk, OnOk};
 ghost use Rattle.std.specs.List.{list_any};
+ghost use Rattle.std.specs.IoError.{error_kind};
 ghost use Rattle.spool_front.specs.Chains.{kinds_in, leads, listed};
+ghost use Rattle.spool_front.specs.Faults.{unread_by};
 ghost use Rattle.spool_types.specs.Values.{media_in};
 
 use crate::fault::Fault;
-use crate::host::Host;
+use crate::host::{Host, variable};
 use line_words::first_word;
 use mime_costs::Convs;
 use mime_lines::joined_lines;
 use spool_types::MediaType;
 use std::alloc::{AllocError, Global};
-use std::{env, fs};
+use std::io::ErrorKind;
+use std::{fs, io};
 
 // The files where the environment names none.
 const USUAL_TYPES: &str = "/etc/cegmandi/types";
@@ -30,21 +33,40 @@ pub struct Chains {
 
 /// Reads both files, by the names of the environment or else the usual ones.
 pub fn read_chains<R: Host>(rt: &R) -> Result<Chains, Fault> {
-    let types = file_text(rt, "SPOOL_TYPES", USUAL_TYPES)?;
-    let convs = file_text(rt, "SPOOL_CONVS", USUAL_CONVS)?;
-    let kinds = kinds_in(rt.alloc(), types.as_str())?;
-    let (convs, _) = Convs::read(rt.alloc(), convs.as_str())?;
+    let kinds = kinds_of_file(rt)?;
+    let convs = convs_of_file(rt)?;
     Ok(Chains { kinds, convs })
 }
 
-fn file_text<R: Host>(rt: &R, variable: &str, usual: &str) -> Result<String, Fault> {
-    let name = match env::var(rt, variable) {
-        Ok(name) => name,
-        Err(_) => String::from_str(rt.alloc(), usual)?,
+fn kinds_of_file<R: Host>(rt: &R) -> Result<Vec<MediaType>, Fault> {
+    let text = file_text(rt, "SPOOL_TYPES", USUAL_TYPES)?;
+    Ok(kinds_in(rt.alloc(), text.as_str())?)
+}
+
+fn convs_of_file<R: Host>(rt: &R) -> Result<Convs, Fault> {
+    let text = file_text(rt, "SPOOL_CONVS", USUAL_CONVS)?;
+    let (convs, _) = Convs::read(rt.alloc(), text.as_str())?;
+    Ok(convs)
+}
+
+fn file_text<R: Host>(rt: &R, of_name: &str, usual: &str) -> Result<String, Fault> {
+    let name = match variable(rt, of_name)? {
+        Some(name) => name,
+        None => String::from_str(rt.alloc(), usual)?,
     };
     match fs::read_to_string(rt, name.as_str()) {
         Ok(text) => Ok(text),
-        Err(_) => Err(Fault::File(name)),
+        Err(error) => Err(unread(&error, name)),
+    }
+}
+
+// Why the file of this name isn't read.
+fn unread(error: &io::Error, name: String) -> Fault
+    ensures { result ≡ unread_by (error_kind error.now) name }
+{
+    match error.kind() {
+        ErrorKind::OutOfMemory => Fault::Memory,
+        _ => Fault::File(name),
     }
 }
 

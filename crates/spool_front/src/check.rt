@@ -1,43 +1,99 @@
 //! Whether each service and each queue can print.
+ghost use Rattle.std.specs.Prelude.{◌≡◌, IfOk};
+ghost use Rattle.std.specs.List.{list_all, list_any};
+ghost use Rattle.spool_front.specs.Chains.{leads};
+ghost use Rattle.spool_front.specs.Checks.{hindrance_of, prints};
 
 use crate::chains::{Chains, read_chains};
 use crate::fault::Fault;
 use crate::host::Host;
-use crate::places::{Places, client_at};
+use crate::places::{Places, queues_at};
 use front_texts::{PrinterState, QueueLine};
+use std::alloc::AllocError;
+use std::io;
 
-/// Tells of each service that it serves, and of each queue whether documents can be printed by it. The status is 0 where all can.
-pub fn check<R: Host>(rt: &R, places: &Places<'_>) -> Result<u8, Fault> {
-    let chains = read_chains(rt)?;
-    let mut status = 0;
-    for socket in &places.sockets {
-        let queues = client_at(rt, places, socket).queues()?;
-        println!(rt; "{socket} serves")?;
-        for queue in &queues {
-            if !tell_queue(rt, &chains, queue)? {
-                status = 1;
-            }
-        }
-    }
-    Ok(status)
+/// What keeps documents from being printed by a queue.
+#[derive(Clone, Copy)]
+pub enum Hindrance {
+    /// No chain of filters leads to the type of its printer.
+    NoChain,
+    /// It is stopped.
+    Halted,
+    /// It takes no jobs.
+    Rejecting,
 }
 
-// Whether a queue can print and takes jobs. It is told.
-fn tell_queue<R: Host>(rt: &R, chains: &Chains, queue: &QueueLine) -> Result<bool, Fault> {
-    let name = queue.name.as_str();
-    let target = queue.target.as_str();
+/// Tells of each service that it serves, and of each queue whether documents can be printed by it. The status is 0 where all can.
+pub fn check<R: Host>(rt: &R, places: Places<'_, '_>) -> Result<u8, Fault> {
+    let chains = read_chains(rt)?;
+    let all = tell_services(rt, places, &chains);
+    drop(chains);
+    if all? { Ok(0) } else { Ok(1) }
+}
+
+// Whether all queues of all services print. It is told.
+fn tell_services<R: Host>(rt: &R, places: Places<'_, '_>, chains: &Chains) -> Result<bool, Fault> {
+    let mut all = true;
+    for socket in places.sockets {
+        let printing = tell_service(rt, places, socket, chains)?;
+        all = all && printing;
+    }
+    Ok(all)
+}
+
+fn tell_service<R: Host>(
+    rt: &R,
+    places: Places<'_, '_>,
+    socket: &str,
+    chains: &Chains,
+) -> Result<bool, Fault> {
+    let queues = queues_at(rt, places, socket)?;
+    let all = tell_queues(rt, socket, chains, &queues);
+    drop(queues);
+    all
+}
+
+fn tell_queues<R: Print>(
+    rt: &R,
+    socket: &str,
+    chains: &Chains,
+    queues: &[QueueLine],
+) -> Result<bool, Fault>
+    ensures { IfOk result (λ all. all ≡ list_all (prints chains.now) queues.now) }
+{
+    println!(rt; "{socket} serves")?;
+    let mut all = true;
+    for queue in queues {
+        let hindrance = hindrance_of(chains, queue)?;
+        tell_queue(rt, queue, hindrance)?;
+        all = all && hindrance.is_none();
+    }
+    Ok(all)
+}
+
+fn hindrance_of(chains: &Chains, queue: &QueueLine) -> Result<Option<Hindrance>, AllocError>
+    ensures { IfOk result (λ found. found ≡ hindrance_of (list_any (leads chains.now.convs queue.now.target) chains.now.kinds.items) queue.now.state queue.now.accepting) }
+{
     if !chains.lead_to(&queue.target)? {
-        println!(rt; "queue {name} prints nothing: no chain of filters leads to {target}")?;
-        return Ok(false);
+        return Ok(Some(Hindrance::NoChain));
     }
     if matches!(queue.state, PrinterState::Stopped) {
-        println!(rt; "queue {name} is stopped")?;
-        return Ok(false);
+        return Ok(Some(Hindrance::Halted));
     }
     if !queue.accepting {
-        println!(rt; "queue {name} takes no jobs")?;
-        return Ok(false);
+        return Ok(Some(Hindrance::Rejecting));
     }
-    println!(rt; "queue {name} prints {target}")?;
-    Ok(true)
+    Ok(None)
+}
+
+fn tell_queue<R: Print>(rt: &R, queue: &QueueLine, hindrance: Option<Hindrance>) -> io::Result<()> {
+    let name = queue.name.as_str();
+    let target = queue.target.as_str();
+    let (says, target) = match hindrance {
+        None => ("prints ", target),
+        Some(Hindrance::NoChain) => ("prints nothing: no chain of filters leads to ", target),
+        Some(Hindrance::Halted) => ("is stopped", ""),
+        Some(Hindrance::Rejecting) => ("takes no jobs", ""),
+    };
+    println!(rt; "queue {name} {says}{target}")
 }

@@ -1,4 +1,10 @@
 //! The client of a service: a command is sent, and all of its reply is read.
+ghost use Rattle.std.specs.Prelude.{◌≡◌, ◌*◌, IfNone, IfOk, IfSome, IsSome, IsTrue, IsUtf8, MatchResult, None, filter_map, string_bytes};
+ghost use Rattle.front_texts.specs.JobPage.{shown_job};
+ghost use Rattle.front_texts.specs.JobRows.{job_row};
+ghost use Rattle.front_texts.specs.QueueRows.{queue_row};
+ghost use Rattle.front_texts.specs.ReplyLines.{last_line};
+ghost use Rattle.spool_front.specs.Answers.{accepted, is_done, rows_text};
 
 use crate::commands::job_line;
 use crate::connection::{Connection, ConnectionFault};
@@ -26,7 +32,9 @@ pub struct Answer {
 
 impl Answer {
     /// Whether it is no refusal.
-    pub fn is_done(&self) -> bool {
+    pub fn is_done(&self) -> bool
+        ensures { result ≡ is_done (string_bytes self.now.last) }
+    {
         matches!(
             read_last_line(self.last.as_str()),
             Some(LastLine::Done { .. })
@@ -34,7 +42,9 @@ impl Answer {
     }
 
     /// The rows, each with its line feed.
-    pub fn text(&self, alloc: Global) -> Result<Vec<u8>, AllocError> {
+    pub fn text(&self, alloc: Global) -> Result<Vec<u8>, AllocError>
+        ensures { IfOk result (λ text. text.items ≡ rows_text self.now.rows.items) }
+    {
         let mut text = Vec::new(alloc);
         for row in &self.rows {
             text.extend_from_slice(row.as_slice())?;
@@ -60,7 +70,10 @@ pub struct Client<'a, R> {
 }
 
 impl<'a, R: Host> Client<'a, R> {
-    pub fn new(rt: &'a R, socket: &'a str, patience: u32) -> Client<'a, R> {
+    pub fn new(rt: &'a R, socket: &'a str, patience: u32) -> Client<'a, R>
+        ensures patience { result.pauses ≡ patience * 10 }
+        ensures socket { result.socket.now ≡ socket.now }
+    {
         Client {
             rt,
             socket,
@@ -70,7 +83,9 @@ impl<'a, R: Host> Client<'a, R> {
     }
 
     /// How many pauses are made before the service is given up.
-    pub fn patience(&self) -> u64 {
+    pub fn patience(&self) -> u64
+        ensures { result ≡ self.now.pauses }
+    {
         self.pauses
     }
 
@@ -160,12 +175,12 @@ impl<'a, R: Host> Client<'a, R> {
     }
 
     /// Sends a command once. Where its reply is lost it isn't known whether it was done.
-    pub fn order(&mut self, text: &[u8]) -> Result<Answer, Fault> {
+    pub fn order(&mut self, text: &[u8]) -> Result<(), Fault> {
         if !self.connect()? {
             return Err(self.nobody()?);
         }
         match self.exchange(text) {
-            Ok(answer) => accepted(answer),
+            Ok(answer) => done(answer),
             Err(ConnectionFault::Lost) => Err(Fault::Unknown),
             Err(ConnectionFault::Memory) => Err(Fault::Memory),
         }
@@ -178,7 +193,9 @@ impl<'a, R: Host> Client<'a, R> {
     /// The jobs, in the order of their numbers.
     pub fn jobs(&mut self) -> Result<Vec<JobLine>, Fault> {
         let answer = self.ask(b"jobs\n")?;
-        Ok(jobs_in(self.rt.alloc(), &answer.rows)?)
+        let jobs = jobs_in(self.rt.alloc(), &answer.rows);
+        drop(answer);
+        Ok(jobs?)
     }
 
     /// A job as it is, and none where it isn't there.
@@ -186,20 +203,26 @@ impl<'a, R: Host> Client<'a, R> {
         let line = job_line(self.rt.alloc(), "job", job)?;
         let answer = self.ask_or_refused(line.as_slice())?;
         if is_gone(answer.last.as_str()) {
+            drop(answer);
             return Ok(None);
         }
-        shown_in(self.rt.alloc(), &accepted(answer)?)
+        shown_of_answer(self.rt.alloc(), accepted(answer)?)
     }
 
     /// The queues, in the order of their names.
     pub fn queues(&mut self) -> Result<Vec<QueueLine>, Fault> {
         let answer = self.ask(b"queues\n")?;
-        Ok(queues_in(self.rt.alloc(), &answer.rows)?)
+        let queues = queues_in(self.rt.alloc(), &answer.rows);
+        drop(answer);
+        Ok(queues?)
     }
 }
 
 // The line as a text, where it is the last one of a reply.
-fn last_line(alloc: Global, line: &[u8]) -> Result<Option<String>, AllocError> {
+fn last_line(alloc: Global, line: &[u8]) -> Result<Option<String>, AllocError>
+    ensures last { IfOk result (λ last. IfSome last (λ text. (string_bytes text ≡ line.now) × IsSome (last_line line.now))) }
+    ensures row { IfOk result (λ last. IfNone last (IsUtf8 line.now → last_line line.now ≡ None)) }
+{
     let Ok(text) = std::str::from_utf8(line) else {
         return Ok(None);
     };
@@ -210,7 +233,9 @@ fn last_line(alloc: Global, line: &[u8]) -> Result<Option<String>, AllocError> {
 }
 
 // A reply, if it is no refusal.
-fn accepted(answer: Answer) -> Result<Answer, Fault> {
+fn accepted(answer: Answer) -> Result<Answer, Fault>
+    ensures { result ≡ accepted answer }
+{
     if answer.is_done() {
         Ok(answer)
     } else {
@@ -218,8 +243,26 @@ fn accepted(answer: Answer) -> Result<Answer, Fault> {
     }
 }
 
+// That something was done, if it wasn't refused.
+fn done(answer: Answer) -> Result<(), Fault>
+    ensures { MatchResult result (λ _. IsTrue (is_done (string_bytes answer.last))) (λ fault. fault ≡ Fault.Refused answer.last) }
+{
+    drop(accepted(answer)?);
+    Ok(())
+}
+
+fn shown_of_answer(alloc: Global, answer: Answer) -> Result<Option<JobShown>, Fault>
+    ensures { IfOk result (λ job. IsSome job × (job ≡ shown_job (rows_text answer.rows.items))) }
+{
+    let shown = shown_in(alloc, &answer);
+    drop(answer);
+    shown
+}
+
 // The job of these rows.
-fn shown_in(alloc: Global, answer: &Answer) -> Result<Option<JobShown>, Fault> {
+fn shown_in(alloc: Global, answer: &Answer) -> Result<Option<JobShown>, Fault>
+    ensures { IfOk result (λ job. IsSome job × (job ≡ shown_job (rows_text answer.now.rows.items))) }
+{
     let text = answer.text(alloc)?;
     match read_job_shown(alloc, text.as_slice())? {
         Some(shown) => Ok(Some(shown)),
@@ -228,7 +271,9 @@ fn shown_in(alloc: Global, answer: &Answer) -> Result<Option<JobShown>, Fault> {
 }
 
 // The jobs of these rows. What is none is left out.
-fn jobs_in(alloc: Global, rows: &[Vec<u8>]) -> Result<Vec<JobLine>, AllocError> {
+fn jobs_in(alloc: Global, rows: &[Vec<u8>]) -> Result<Vec<JobLine>, AllocError>
+    ensures { IfOk result (λ jobs. jobs.items ≡ filter_map (λ row. job_row row.items) rows.now) }
+{
     let mut jobs = Vec::new(alloc);
     for row in rows {
         if let Some(job) = read_job_line(alloc, row.as_slice())? {
@@ -238,7 +283,9 @@ fn jobs_in(alloc: Global, rows: &[Vec<u8>]) -> Result<Vec<JobLine>, AllocError> 
     Ok(jobs)
 }
 
-fn queues_in(alloc: Global, rows: &[Vec<u8>]) -> Result<Vec<QueueLine>, AllocError> {
+fn queues_in(alloc: Global, rows: &[Vec<u8>]) -> Result<Vec<QueueLine>, AllocError>
+    ensures { IfOk result (λ queues. queues.items ≡ filter_map (λ row. queue_row row.items) rows.now) }
+{
     let mut queues = Vec::new(alloc);
     for row in rows {
         if let Some(queue) = read_queue_line(alloc, row.as_slice())? {

@@ -1,5 +1,7 @@
 //! One connection to a service: bytes are sent, and lines are read.
 ghost use Rattle.std.specs.Prelude.{◌≡◌};
+ghost use Rattle.std.specs.IoError.{error_kind};
+ghost use Rattle.spool_front.specs.Faults.{lost_by};
 
 use std::alloc::{AllocError, AllocFailed, Global};
 use std::io;
@@ -40,6 +42,8 @@ impl<T: Drop> From<AllocFailed<T>> for ConnectionFault {
 }
 
 impl From<io::Error> for ConnectionFault {
+    ghost from_gives = { λ error fault. fault ≡ lost_by (error_kind error) };
+
     fn from(error: io::Error) -> ConnectionFault {
         match error.kind() {
             ErrorKind::OutOfMemory => ConnectionFault::Memory,

@@ -1,4 +1,7 @@
 //! What is told in the forms of lpstat and lpq.
+ghost use Rattle.std.specs.Prelude.{◌≡◌};
+ghost use Rattle.std.specs.Option.{option_map};
+ghost use Rattle.spool_front.specs.CupsForms.{is_meant, list_of, lists_jobs};
 
 use crate::fault::Fault;
 use crate::host::Host;
@@ -9,7 +12,11 @@ use front_words::{Lpq, Lpstat};
 use std::alloc::{AllocError, Global};
 
 /// Prints what lpstat was asked for. With nothing asked these are the jobs.
-pub fn show_lpstat<R: Host>(rt: &R, places: &Places<'_>, asked: &Lpstat<'_>) -> Result<u8, Fault> {
+pub fn show_lpstat<R: Host>(
+    rt: &R,
+    places: Places<'_, '_>,
+    asked: &Lpstat<'_>,
+) -> Result<u8, Fault> {
     if asked.devices.is_some() {
         return Err(Fault::Words("the service doesn't tell its devices"));
     }
@@ -21,23 +28,56 @@ pub fn show_lpstat<R: Host>(rt: &R, places: &Places<'_>, asked: &Lpstat<'_>) -> 
         tell_usual(rt, places)?;
     }
     if let Some(names) = list_of(asked.accepting, asked.all) {
-        let queues = queues_named(rt, places, names)?;
-        print_bytes(rt, lpstat_accepting(rt.alloc(), &queues)?.as_slice())?;
+        tell_accepting(rt, places, names)?;
     }
     if let Some(names) = list_of(asked.printers, asked.all) {
-        let queues = queues_named(rt, places, names)?;
-        let jobs = all_jobs(rt, places)?;
-        print_bytes(rt, lpstat_printers(rt.alloc(), &queues, &jobs)?.as_slice())?;
+        tell_printers(rt, places, names)?;
     }
     if lists_jobs(asked) {
-        let jobs = jobs_named(rt, places, asked)?;
-        print_bytes(rt, lpstat_jobs(rt.alloc(), &jobs)?.as_slice())?;
+        tell_jobs(rt, places, asked)?;
     }
     Ok(0)
 }
 
+fn tell_accepting<R: Host>(rt: &R, places: Places<'_, '_>, names: &str) -> Result<(), Fault> {
+    let queues = queues_named(rt, places, names)?;
+    let text = lpstat_accepting(rt.alloc(), &queues);
+    drop(queues);
+    print_bytes(rt, text?.as_slice())?;
+    Ok(())
+}
+
+fn tell_printers<R: Host>(rt: &R, places: Places<'_, '_>, names: &str) -> Result<(), Fault> {
+    let queues = queues_named(rt, places, names)?;
+    let text = printers_text(rt, places, &queues);
+    drop(queues);
+    print_bytes(rt, text?.as_slice())?;
+    Ok(())
+}
+
+fn printers_text<R: Host>(
+    rt: &R,
+    places: Places<'_, '_>,
+    queues: &[QueueLine],
+) -> Result<Vec<u8>, Fault> {
+    let jobs = all_jobs(rt, places)?;
+    let text = lpstat_printers(rt.alloc(), queues, &jobs);
+    drop(jobs);
+    Ok(text?)
+}
+
+fn tell_jobs<R: Host>(rt: &R, places: Places<'_, '_>, asked: &Lpstat<'_>) -> Result<(), Fault> {
+    let jobs = jobs_named(rt, places, asked)?;
+    let text = lpstat_jobs(rt.alloc(), &jobs);
+    drop(jobs);
+    print_bytes(rt, text?.as_slice())?;
+    Ok(())
+}
+
 // The names that are asked for, where all are none.
-fn list_of<'a>(names: Option<&'a str>, all: bool) -> Option<&'a str> {
+fn list_of<'a>(names: Option<&'a str>, all: bool) -> Option<&'a str>
+    ensures { option_map (λ text. text.now) result ≡ list_of (option_map (λ text. text.now) names.entry) all }
+{
     match names {
         Some(names) => Some(names),
         None if all => Some(""),
@@ -46,7 +86,9 @@ fn list_of<'a>(names: Option<&'a str>, all: bool) -> Option<&'a str> {
 }
 
 // Whether jobs are asked for, or nothing is.
-fn lists_jobs(asked: &Lpstat<'_>) -> bool {
+fn lists_jobs(asked: &Lpstat<'_>) -> bool
+    ensures { result ≡ lists_jobs asked.now }
+{
     let others = asked.scheduler
         || asked.usual
         || asked.accepting.is_some()
@@ -61,7 +103,7 @@ fn has_name(names: &str, name: &str) -> bool {
 
 fn queues_named<R: Host>(
     rt: &R,
-    places: &Places<'_>,
+    places: Places<'_, '_>,
     names: &str,
 ) -> Result<Vec<QueueLine>, Fault> {
     let mut named = Vec::new(rt.alloc());
@@ -75,7 +117,7 @@ fn queues_named<R: Host>(
 
 fn jobs_named<R: Host>(
     rt: &R,
-    places: &Places<'_>,
+    places: Places<'_, '_>,
     asked: &Lpstat<'_>,
 ) -> Result<Vec<JobLine>, Fault> {
     let mut named = Vec::new(rt.alloc());
@@ -99,19 +141,47 @@ fn is_named(alloc: Global, asked: &Lpstat<'_>, job: &JobLine) -> Result<bool, Al
     Ok(asked.names.iter().any(|names| has_name(names, queue) || has_name(names, id.as_str())))
 }
 
-fn tell_usual<R: Host>(rt: &R, places: &Places<'_>) -> Result<(), Fault> {
-    match queue_of(rt, places, None) {
-        Ok((_, queue)) => println!(rt; "system default destination: {queue}")?,
-        Err(Fault::Words(_)) => println!(rt; "no system default destination")?,
+fn tell_usual<R: Host>(rt: &R, places: Places<'_, '_>) -> Result<(), Fault> {
+    let told = match queue_of(rt, places, None) {
+        Ok((_, queue)) => println!(rt; "system default destination: {queue}"),
+        Err(Fault::Words(_)) => println!(rt; "no system default destination"),
         Err(fault) => return Err(fault),
-    }
+    };
+    told?;
     Ok(())
 }
 
 /// Prints what lpq was asked for.
-pub fn show_lpq<R: Host>(rt: &R, places: &Places<'_>, asked: &Lpq<'_>) -> Result<u8, Fault> {
+pub fn show_lpq<R: Host>(rt: &R, places: Places<'_, '_>, asked: &Lpq<'_>) -> Result<u8, Fault> {
     let queues = all_queues(rt, places)?;
+    let found = tell_queues(rt, places, asked, &queues);
+    drop(queues);
+    if found? || asked.all {
+        return Ok(0);
+    }
+    Err(Fault::Words("there is no such queue"))
+}
+
+// Whether one of the queues is asked for. Each that is is told, with its jobs.
+fn tell_queues<R: Host>(
+    rt: &R,
+    places: Places<'_, '_>,
+    asked: &Lpq<'_>,
+    queues: &[QueueLine],
+) -> Result<bool, Fault> {
     let jobs = numbered(rt.alloc(), all_jobs(rt, places)?, asked.jobs.as_slice())?;
+    let found = tell_meant(rt, places, asked, queues, &jobs);
+    drop(jobs);
+    found
+}
+
+fn tell_meant<R: Host>(
+    rt: &R,
+    places: Places<'_, '_>,
+    asked: &Lpq<'_>,
+    queues: &[QueueLine],
+    jobs: &[JobLine],
+) -> Result<bool, Fault> {
     let name = if asked.all {
         None
     } else {
@@ -119,19 +189,19 @@ pub fn show_lpq<R: Host>(rt: &R, places: &Places<'_>, asked: &Lpq<'_>) -> Result
         Some(name)
     };
     let mut found = false;
-    for queue in &queues {
-        if is_queue(&name, queue) {
+    for queue in queues {
+        if is_meant(&name, queue) {
             found = true;
-            print_bytes(rt, lpq(rt.alloc(), queue, &jobs)?.as_slice())?;
+            print_bytes(rt, lpq(rt.alloc(), queue, jobs)?.as_slice())?;
         }
     }
-    if found || asked.all {
-        return Ok(0);
-    }
-    Err(Fault::Words("there is no such queue"))
+    Ok(found)
 }
 
-fn is_queue(name: &Option<String>, queue: &QueueLine) -> bool {
+// Whether a queue is the one that is meant; with no name all are.
+fn is_meant(name: &Option<String>, queue: &QueueLine) -> bool
+    ensures { result ≡ is_meant name.now queue.now }
+{
     match name {
         Some(name) => name.as_str() == queue.name.as_str(),
         None => true,

@@ -1,5 +1,6 @@
 //! A document that is sent by pieces.
-ghost use Rattle.std.specs.Prelude.{◌≤◌, IfOk, length};
+ghost use Rattle.std.specs.Prelude.{◌≡◌, ◌<◌, ◌≤◌, IfOk, [], length, take};
+ghost use Rattle.std.specs.Io.KnownBytes.{Consumes, IsAtEnd};
 
 use std::alloc::{AllocError, Global};
 use std::io;
@@ -14,10 +15,17 @@ pub struct Document<S> {
     source: S,
     buffer: Vec<u8>,
     filled: usize,
+    ghost room: { length buffer.items ≡ 65536 },
+    ghost in_buffer: { filled ≤ 65536 },
 }
 
 impl<S: Read + Drop> Document<S> {
-    pub fn new(alloc: Global, source: S) -> Result<Document<S>, AllocError> {
+    ghost use Rattle.spool_front.specs.Pieces.{piece_of};
+
+    pub fn new(alloc: Global, source: S) -> Result<Document<S>, AllocError>
+        ensures piece { IfOk result (λ document. piece_of document ≡ []) }
+        ensures source { IfOk result (λ document. document.source ≡ source) }
+    {
         let buffer = vec![in alloc; 0; PIECE]?;
         Ok(Document {
             source,
@@ -27,23 +35,28 @@ impl<S: Read + Drop> Document<S> {
     }
 
     /// The piece that was read last.
-    pub fn piece(&self) -> &[u8] {
-        match self.buffer.get(..self.filled) {
-            Some(piece) => piece,
-            None => &[],
-        }
+    pub fn piece(&self) -> &[u8]
+        ensures { result.now ≡ piece_of self.now }
+    {
+        &self.buffer[..self.filled]
     }
 
     /// Reads the next piece, and tells how many bytes it has: none behind the document's end.
-    pub fn next_piece(&mut self) -> io::Result<u32> {
+    pub fn next_piece(&mut self) -> io::Result<u32>
+        ensures bytes { IfOk result (λ count. Consumes (S.remaining self.old.source) (S.remaining self.new.source) (piece_of self.new)) }
+        ensures count { IfOk result (λ count. count ≡ length (piece_of self.new)) }
+        ensures end { IfOk result (λ count. count < 65536 → IsAtEnd (S.remaining self.new.source)) }
+    {
         self.filled = fill(&mut self.source, &mut self.buffer)?;
-        Ok(u32::try_from(self.filled).unwrap_or(0))
+        Ok(self.filled as u32)
     }
 }
 
 // Reads until the buffer is full, or up to the end. How many bytes were read.
 fn fill<S: Read>(source: &mut S, buffer: &mut [u8]) -> io::Result<usize>
-    ensures { IfOk result (λ filled. filled ≤ length buffer.new) }
+    ensures bound { IfOk result (λ filled. filled ≤ length buffer.new) }
+    ensures bytes { IfOk result (λ filled. Consumes (S.remaining source.old) (S.remaining source.new) (take filled buffer.new)) }
+    ensures end { IfOk result (λ filled. filled < length buffer.old → IsAtEnd (S.remaining source.new)) }
 {
     let mut filled = 0;
     while filled < buffer.len() {

@@ -1,11 +1,13 @@
 //! What is said of the job of a document.
+ghost use Rattle.std.specs.Prelude.{◌≡◌, ◌++◌, IfOk, OnOk, string_bytes};
+ghost use Rattle.std.specs.Option.{option_map};
+ghost use Rattle.spool_front.specs.Drafts.{IsBy, IsMoment, IsUntil, option_text, options_of, pages_option};
 
 use crate::commands::{Draft, Until};
 use crate::fault::Fault;
-use crate::host::Host;
+use crate::host::{Host, variable};
 use front_words::{Hold, Moment, Submission};
 use std::alloc::{AllocError, Global};
-use std::env;
 use std::time::SystemTime;
 
 /// The job of a document for a queue. `title` is its title where none is asked for, and `name` that of its file.
@@ -17,6 +19,8 @@ pub fn draft_of<R: Host>(
     name: &str,
 ) -> Result<Draft, Fault> {
     let alloc = rt.alloc();
+    let by = by_of(rt, asked.by)?;
+    let hold = until_of(rt, asked.hold)?;
     let token = token_option(rt)?;
     Ok(Draft {
         queue: String::from_str(alloc, queue)?,
@@ -26,16 +30,24 @@ pub fn draft_of<R: Host>(
         priority: asked.priority,
         options: options_of(alloc, asked, token.as_str())?,
         token,
-        by: match asked.by {
-            Some(moment) => Some(seconds_of(rt, moment)?),
-            None => None,
-        },
-        hold: until_of(rt, asked.hold)?,
+        by,
+        hold,
         name: plain_text(alloc, name)?,
     })
 }
 
-fn until_of<R: Host>(rt: &R, hold: Hold) -> Result<Option<Until>, Fault> {
+fn by_of<R: Host>(rt: &R, by: Option<Moment>) -> Result<Option<u64>, Fault>
+    ensures { IfOk result (IsBy by) }
+{
+    match by {
+        Some(moment) => Ok(Some(seconds_of(rt, moment)?)),
+        None => Ok(None),
+    }
+}
+
+fn until_of<R: Host>(rt: &R, hold: Hold) -> Result<Option<Until>, Fault>
+    ensures { IfOk result (IsUntil hold) }
+{
     match hold {
         Hold::No => Ok(None),
         Hold::Indefinite => Ok(Some(Until::Released)),
@@ -56,7 +68,7 @@ fn user_of<R: Host>(rt: &R, user: Option<&str>) -> Result<String, AllocError> {
         return String::from_str(rt.alloc(), user);
     }
     for name in ["USER", "LOGNAME"] {
-        if let Ok(user) = env::var(rt, name) {
+        if let Some(user) = variable(rt, name)? {
             return plain_text(rt.alloc(), user.as_str());
         }
     }
@@ -79,23 +91,41 @@ fn random_number<R: Host>(rt: &R) -> Result<u64, Fault> {
 }
 
 // The options with blanks between them, the ranges of pages, and the token.
-fn options_of(alloc: Global, asked: &Submission<'_>, token: &str) -> Result<String, AllocError> {
+fn options_of(alloc: Global, asked: &Submission<'_>, token: &str) -> Result<String, AllocError>
+    ensures { IfOk result (λ options. string_bytes options ≡ options_of asked.now token.now) }
+{
     let mut options = String::new(alloc);
     for option in &asked.options {
-        options.push_str(option)?;
-        options.push_str(" ")?;
+        push_option(&mut options, option)?;
     }
-    if let Some(pages) = asked.pages {
-        options.push_str("page-ranges=")?;
-        options.push_str(pages)?;
-        options.push_str(" ")?;
-    }
+    push_pages(&mut options, asked.pages)?;
     options.push_str(token)?;
     Ok(options)
 }
 
+fn push_pages(options: &mut String, pages: Option<&str>) -> Result<(), AllocError>
+    ensures { OnOk result (string_bytes options.new ≡ string_bytes options.old ++ pages_option (option_map (λ pages. pages.now) pages.entry)) }
+{
+    let Some(pages) = pages else {
+        return Ok(());
+    };
+    options.push_str("page-ranges=")?;
+    push_option(options, pages)?;
+    Ok(())
+}
+
+// A text, and a blank behind it.
+fn push_option(options: &mut String, text: &str) -> Result<(), AllocError>
+    ensures { OnOk result (string_bytes options.new ≡ string_bytes options.old ++ option_text text.now) }
+{
+    options.push_str(text)?;
+    options.push_str(" ")
+}
+
 /// The seconds of a moment since the epoch.
-pub fn seconds_of<R: Host>(rt: &R, moment: Moment) -> Result<u64, Fault> {
+pub fn seconds_of<R: Host>(rt: &R, moment: Moment) -> Result<u64, Fault>
+    ensures { IfOk result (IsMoment moment) }
+{
     match moment {
         Moment::Epoch(seconds) => Ok(seconds),
         Moment::FromNow(seconds) => Ok(now(rt)?.saturating_add(seconds)),

@@ -1,6 +1,7 @@
 //! Why a task fails.
 ghost use Rattle.std.specs.Prelude.{◌≡◌};
-ghost use Rattle.spool_front.specs.Faults.{status_of};
+ghost use Rattle.std.specs.IoError.{error_kind};
+ghost use Rattle.spool_front.specs.Faults.{gone_by, status_of, unwritten_by};
 
 use crate::connection::ConnectionFault;
 use std::alloc::{AllocError, AllocFailed};
@@ -68,6 +69,8 @@ impl<T: Drop> From<AllocFailed<T>> for Fault {
 }
 
 impl From<ConnectionFault> for Fault {
+    ghost from_gives = { λ fault told. told ≡ gone_by fault };
+
     fn from(fault: ConnectionFault) -> Fault {
         match fault {
             ConnectionFault::Lost => Fault::Gone,
@@ -76,7 +79,10 @@ impl From<ConnectionFault> for Fault {
     }
 }
 
+/// A fault of standard output, or of standard error.
 impl From<io::Error> for Fault {
+    ghost from_gives = { λ error fault. fault ≡ unwritten_by (error_kind error) };
+
     fn from(error: io::Error) -> Fault {
         if error.kind() == ErrorKind::OutOfMemory {
             Fault::Memory

@@ -1,5 +1,9 @@
 //! What the program asks of its system.
+ghost use Rattle.std.specs.Prelude.{◌≡◌};
+ghost use Rattle.spool_front.specs.Faults.{variable_as};
 
+use std::alloc::AllocError;
+use std::env::{self, VarError};
 use std::fs::{File, Files};
 use std::net::Net;
 use std::random::RandomSource;
@@ -31,6 +35,22 @@ where
         + AllocGlobal
         + Drop,
 {}
+
+/// A variable of the environment, if it is there and a text.
+pub fn variable<R: Host>(rt: &R, name: &str) -> Result<Option<String>, AllocError> {
+    variable_as(env::var(rt, name))
+}
+
+// One that finds no memory isn't taken for one that isn't there.
+fn variable_as(told: Result<String, VarError>) -> Result<Option<String>, AllocError>
+    ensures { result ≡ variable_as told }
+{
+    match told {
+        Ok(text) => Ok(Some(text)),
+        Err(VarError::OutOfMemory) => Err(AllocError),
+        Err(_) => Ok(None),
+    }
+}
 
 /// What standard error is.
 #[derive(Clone, Copy)]

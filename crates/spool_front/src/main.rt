@@ -22,6 +22,11 @@
 //! happens to the line that tells it.
 #![tactic(auto)]
 
+ghost use Rattle.std.specs.Prelude.{◌≡◌, ◌≢◌, MatchResult};
+ghost use Rattle.std.specs.IoError.{error_kind};
+ghost use Rattle.std.specs.Process.{exit_status};
+ghost use Rattle.spool_front.specs.Faults.{status_of};
+
 mod chains;
 mod check;
 mod client;
@@ -43,37 +48,35 @@ mod web_page;
 use commands::has_control;
 use fault::Fault;
 use front_words::{Asked, Task, WordsFault, read_words};
-use host::{Host, Screen};
+use host::{Host, Screen, variable};
 use places::{Places, patience, usual_socket};
-use std::env;
-use std::io::IsTerminal;
+use std::alloc::AllocError;
+use std::io::{ErrorKind, IsTerminal};
 use std::process::ExitCode;
+use std::{env, io};
 
 // The columns where the environment doesn't tell them.
 const USUAL_WIDTH: usize = 80;
 
 fn main(rt: HostRuntime) -> ExitCode {
-    let screen = Screen {
-        shows: rt.stderr().is_terminal(),
-        width: width(&rt),
-    };
+    let shows = rt.stderr().is_terminal();
     let words = match given_words(&rt) {
         Ok(words) => words,
-        Err(_) => {
-            let _ = eprintln!(rt; "error: the words of the command line are no text");
-            return ExitCode::from(2);
-        }
+        Err(error) => return no_words(&rt, &error),
     };
     if words.iter().any(|word| has_control(word.as_str())) {
         let _ = eprintln!(rt; "error: a word of the command line has a control character");
         return ExitCode::from(2);
     }
-    let usual = match usual_socket(&rt) {
-        Ok(socket) => socket,
+    let told = match told_of(&rt) {
+        Ok(told) => told,
         Err(error) => return ended(&rt, Err(Fault::from(error))),
     };
     match read_words(rt.alloc(), words.as_slice()) {
-        Ok(asked) => ended(&rt, run(&rt, asked, usual.as_str(), screen)),
+        Ok(asked) => {
+            let status = run(&rt, &asked, &told, shows);
+            ended(&rt, status)
+        }
         Err(WordsFault::Refused(error)) => {
             let _ = error.print(&rt);
             ExitCode::from(error.exit_code() as u8)
@@ -82,21 +85,53 @@ fn main(rt: HostRuntime) -> ExitCode {
     }
 }
 
-fn given_words<R: Host>(rt: &R) -> std::io::Result<Vec<String>> {
+fn given_words<R: Host>(rt: &R) -> io::Result<Vec<String>> {
     let words = env::args(rt)?.collect(rt.alloc())?;
     Ok(words)
 }
 
-// The columns of the terminal.
-fn width<R: Host>(rt: &R) -> usize {
-    match env::var(rt, "COLUMNS") {
-        Ok(text) => text.as_str().parse::<usize>().unwrap_or(USUAL_WIDTH),
-        Err(_) => USUAL_WIDTH,
+// Tells that the words couldn't be had: they are no text, or there was no memory.
+fn no_words<R: Eprint>(rt: &R, error: &io::Error) -> ExitCode
+    ensures no_text { error_kind error.now ≡ ErrorKind.InvalidData → exit_status result ≡ 2 }
+    ensures memory { error_kind error.now ≢ ErrorKind.InvalidData → exit_status result ≡ 1 }
+{
+    if error.kind() != ErrorKind::InvalidData {
+        return ended(rt, Err(Fault::Memory));
+    }
+    let _ = eprintln!(rt; "error: the words of the command line are no text");
+    ExitCode::from(2)
+}
+
+// What the environment tells: the usual socket, how long it is waited for, and the columns of the terminal.
+#[derive(Drop)]
+struct Told {
+    socket: String,
+    patience: u32,
+    width: usize,
+}
+
+fn told_of<R: Host>(rt: &R) -> Result<Told, AllocError> {
+    let patience = patience(rt)?;
+    let width = width(rt)?;
+    let socket = usual_socket(rt)?;
+    Ok(Told {
+        socket,
+        patience,
+        width,
+    })
+}
+
+fn width<R: Host>(rt: &R) -> Result<usize, AllocError> {
+    match variable(rt, "COLUMNS")? {
+        Some(text) => Ok(text.as_str().parse::<usize>().unwrap_or(USUAL_WIDTH)),
+        None => Ok(USUAL_WIDTH),
     }
 }
 
 // The status, and a fault's line on standard error.
-fn ended<R: Eprint>(rt: &R, ended: Result<u8, Fault>) -> ExitCode {
+fn ended<R: Eprint>(rt: &R, ended: Result<u8, Fault>) -> ExitCode
+    ensures { MatchResult ended (λ status. exit_status result ≡ status) (λ fault. exit_status result ≡ status_of fault) }
+{
     match ended {
         Ok(status) => ExitCode::from(status),
         Err(fault) => {
@@ -106,39 +141,48 @@ fn ended<R: Eprint>(rt: &R, ended: Result<u8, Fault>) -> ExitCode {
     }
 }
 
-// Does what is asked for, at the usual socket where the words name none.
-fn run<'a, R: Host>(rt: &R, asked: Asked<'a>, usual: &'a str, screen: Screen) -> Result<u8, Fault> {
-    let Asked { sockets, task } = asked;
-    let mut places = Places {
-        sockets,
-        patience: patience(rt),
+// Does what is asked for, at the usual socket where the words name none. `shows` tells whether standard error is a terminal.
+fn run<R: Host>(rt: &R, asked: &Asked<'_>, told: &Told, shows: bool) -> Result<u8, Fault> {
+    let patience = told.patience;
+    let screen = Screen {
+        shows,
+        width: told.width,
     };
-    if places.sockets.is_empty() {
-        places.sockets.push(usual)?;
+    if asked.sockets.is_empty() {
+        let usual = [told.socket.as_str()];
+        let places = Places {
+            sockets: &usual,
+            patience,
+        };
+        return run_task(rt, places, &asked.task, screen);
     }
-    run_task(rt, &places, task, screen)
+    let places = Places {
+        sockets: asked.sockets.as_slice(),
+        patience,
+    };
+    run_task(rt, places, &asked.task, screen)
 }
 
 fn run_task<R: Host>(
     rt: &R,
-    places: &Places<'_>,
-    task: Task<'_>,
+    places: Places<'_, '_>,
+    task: &Task<'_>,
     screen: Screen,
 ) -> Result<u8, Fault> {
     match task {
-        Task::Submit(asked) => printing::print_files(rt, places, &asked, screen),
-        Task::Status(asked) => tasks::show_status(rt, places, asked, screen),
-        Task::Queues { json } => tasks::show_queues(rt, places, json, screen),
+        Task::Submit(asked) => printing::print_files(rt, places, asked, screen),
+        Task::Status(asked) => tasks::show_status(rt, places, *asked, screen),
+        Task::Queues { json } => tasks::show_queues(rt, places, *json, screen),
         Task::Watch => tasks::watch(rt, places),
-        Task::Jobs { act, jobs } => tasks::act_on_jobs(rt, places, act, jobs.as_slice()),
+        Task::Jobs { act, jobs } => tasks::act_on_jobs(rt, places, *act, jobs.as_slice()),
         Task::Clear { queues } => tasks::clear(rt, places, queues.as_slice()),
-        Task::Queue { name, act } => tasks::act_on_queue(rt, places, name, act),
+        Task::Queue { name, act } => tasks::act_on_queue(rt, places, name, *act),
         Task::Devices => Err(Fault::Words(
             "run `spool_shell --devices`: the service doesn't list devices",
         )),
         Task::Check => check::check(rt, places),
-        Task::Page { file, follow } => web_page::write_page(rt, places, file, follow),
-        Task::Lpstat(asked) => cups_forms::show_lpstat(rt, places, &asked),
-        Task::Lpq(asked) => cups_forms::show_lpq(rt, places, &asked),
+        Task::Page { file, follow } => web_page::write_page(rt, places, file, *follow),
+        Task::Lpstat(asked) => cups_forms::show_lpstat(rt, places, asked),
+        Task::Lpq(asked) => cups_forms::show_lpq(rt, places, asked),
     }
 }

@@ -1,12 +1,13 @@
 //! Which services are asked, and which queue is meant.
+ghost use Rattle.std.specs.Prelude.{◌≡◌};
+ghost use Rattle.spool_front.specs.Places.{has_queue};
 
 use crate::client::Client;
 use crate::commands::has_control;
 use crate::fault::Fault;
-use crate::host::Host;
+use crate::host::{Host, variable};
 use front_texts::{JobLine, QueueLine};
-use std::alloc::AllocError;
-use std::env;
+use std::alloc::{AllocError, Global};
 
 // The socket where none is named, and the seconds for which a service is waited for.
 const USUAL_SOCKET: &str = "/run/cegmandi/spool.sock";
@@ -14,46 +15,58 @@ const USUAL_SOCKET: &str = "/run/cegmandi/spool.sock";
 const USUAL_PATIENCE: u32 = 30;
 
 /// The sockets of the services, of which there is one at least, and how long each is waited for.
-#[derive(Drop)]
-pub struct Places<'a> {
-    pub sockets: Vec<&'a str>,
+#[derive(Clone, Copy)]
+pub struct Places<'p, 'a> {
+    pub sockets: &'p [&'a str],
     pub patience: u32,
 }
 
 /// The socket of the environment, or else the usual one.
 pub fn usual_socket<R: Host>(rt: &R) -> Result<String, AllocError> {
-    match env::var(rt, "SPOOL_SOCKET") {
-        Ok(socket) => Ok(socket),
-        Err(_) => String::from_str(rt.alloc(), USUAL_SOCKET),
+    match variable(rt, "SPOOL_SOCKET")? {
+        Some(socket) => Ok(socket),
+        None => String::from_str(rt.alloc(), USUAL_SOCKET),
     }
 }
 
 /// For how many seconds a service is waited for.
-pub fn patience<R: Host>(rt: &R) -> u32 {
-    match env::var(rt, "SPOOL_PATIENCE") {
-        Ok(text) => text.as_str().parse::<u32>().unwrap_or(USUAL_PATIENCE),
-        Err(_) => USUAL_PATIENCE,
+pub fn patience<R: Host>(rt: &R) -> Result<u32, AllocError> {
+    match variable(rt, "SPOOL_PATIENCE")? {
+        Some(text) => Ok(text.as_str().parse::<u32>().unwrap_or(USUAL_PATIENCE)),
+        None => Ok(USUAL_PATIENCE),
     }
 }
 
 /// The client of the service at a socket.
-pub fn client_at<'a, R: Host>(rt: &'a R, places: &Places<'_>, socket: &'a str) -> Client<'a, R> {
+pub fn client_at<'a, R: Host>(rt: &'a R, places: Places<'_, '_>, socket: &'a str) -> Client<'a, R> {
     Client::new(rt, socket, places.patience)
 }
 
-/// The client of the one service that is named. A job's number says nothing where there are several.
-pub fn only_client<'a, R: Host>(rt: &'a R, places: &Places<'a>) -> Result<Client<'a, R>, Fault> {
-    match places.sockets.as_slice() {
-        [socket] => Ok(client_at(rt, places, socket)),
+/// The socket of the one service that is named. A job's number says nothing where there are several.
+pub fn only_socket<'a>(places: Places<'_, 'a>) -> Result<&'a str, Fault> {
+    match places.sockets {
+        [socket] => Ok(*socket),
         _ => Err(Fault::Words("several services are named, and this is asked of one")),
     }
 }
 
+/// The queues of the service at a socket.
+pub fn queues_at<R: Host>(
+    rt: &R,
+    places: Places<'_, '_>,
+    socket: &str,
+) -> Result<Vec<QueueLine>, Fault> {
+    let mut client = client_at(rt, places, socket);
+    let queues = client.queues();
+    drop(client);
+    queues
+}
+
 /// The queues of all services.
-pub fn all_queues<R: Host>(rt: &R, places: &Places<'_>) -> Result<Vec<QueueLine>, Fault> {
+pub fn all_queues<R: Host>(rt: &R, places: Places<'_, '_>) -> Result<Vec<QueueLine>, Fault> {
     let mut queues = Vec::new(rt.alloc());
-    for socket in &places.sockets {
-        for queue in client_at(rt, places, socket).queues()? {
+    for socket in places.sockets {
+        for queue in queues_at(rt, places, socket)? {
             queues.push(queue)?;
         }
     }
@@ -61,20 +74,27 @@ pub fn all_queues<R: Host>(rt: &R, places: &Places<'_>) -> Result<Vec<QueueLine>
 }
 
 /// The jobs of all services.
-pub fn all_jobs<R: Host>(rt: &R, places: &Places<'_>) -> Result<Vec<JobLine>, Fault> {
+pub fn all_jobs<R: Host>(rt: &R, places: Places<'_, '_>) -> Result<Vec<JobLine>, Fault> {
     let mut jobs = Vec::new(rt.alloc());
-    for socket in &places.sockets {
-        for job in client_at(rt, places, socket).jobs()? {
+    for socket in places.sockets {
+        for job in jobs_at(rt, places, socket)? {
             jobs.push(job)?;
         }
     }
     Ok(jobs)
 }
 
+fn jobs_at<R: Host>(rt: &R, places: Places<'_, '_>, socket: &str) -> Result<Vec<JobLine>, Fault> {
+    let mut client = client_at(rt, places, socket);
+    let jobs = client.jobs();
+    drop(client);
+    jobs
+}
+
 /// The socket and the name of the queue that is meant: the one that is named, that of the environment, or the only one.
 pub fn queue_of<'a, R: Host>(
     rt: &R,
-    places: &Places<'a>,
+    places: Places<'_, 'a>,
     queue: Option<&str>,
 ) -> Result<(&'a str, String), Fault> {
     let alloc = rt.alloc();
@@ -82,7 +102,7 @@ pub fn queue_of<'a, R: Host>(
         return place_of(rt, places, String::from_str(alloc, queue)?);
     }
     for name in ["LPDEST", "PRINTER"] {
-        if let Ok(queue) = env::var(rt, name) {
+        if let Some(queue) = variable(rt, name)? {
             if has_control(queue.as_str()) {
                 return Err(Fault::Words("the environment's queue has a control character"));
             }
@@ -92,36 +112,67 @@ pub fn queue_of<'a, R: Host>(
     only_queue(rt, places)
 }
 
-// The socket of the service that has this queue. With one service nobody is asked.
 fn place_of<'a, R: Host>(
     rt: &R,
-    places: &Places<'a>,
+    places: Places<'_, 'a>,
     queue: String,
 ) -> Result<(&'a str, String), Fault> {
-    if let [socket] = places.sockets.as_slice() {
-        return Ok((*socket, queue));
+    let socket = socket_of(rt, places, queue.as_str())?;
+    Ok((socket, queue))
+}
+
+/// The socket of the service that has this queue. With one service nobody is asked.
+pub fn socket_of<'a, R: Host>(
+    rt: &R,
+    places: Places<'_, 'a>,
+    queue: &str,
+) -> Result<&'a str, Fault> {
+    if let [socket] = places.sockets {
+        return Ok(*socket);
     }
-    for socket in &places.sockets {
-        let queues = client_at(rt, places, socket).queues()?;
-        if queues.iter().any(|row| row.name.as_str() == queue.as_str()) {
-            return Ok((*socket, queue));
+    for socket in places.sockets {
+        if has_queue(&queues_at(rt, places, socket)?, queue) {
+            return Ok(*socket);
         }
     }
     Err(Fault::Words("no service has this queue"))
 }
 
-fn only_queue<'a, R: Host>(rt: &R, places: &Places<'a>) -> Result<(&'a str, String), Fault> {
+/// Whether there is a queue of this name.
+pub fn has_queue(queues: &[QueueLine], name: &str) -> bool
+    ensures { result ≡ has_queue queues.now name.now }
+{
+    queues.iter().any(|row| row.name.as_str() == name)
+}
+
+fn only_queue<'a, R: Host>(rt: &R, places: Places<'_, 'a>) -> Result<(&'a str, String), Fault> {
     let mut only = None;
-    for socket in &places.sockets {
-        for row in &client_at(rt, places, socket).queues()? {
-            if only.is_some() {
-                return Err(Fault::Words("no queue is named, and there are several"));
-            }
-            only = Some((*socket, String::from_str(rt.alloc(), row.name.as_str())?));
-        }
+    for socket in places.sockets {
+        note_only(
+            rt.alloc(),
+            socket,
+            &queues_at(rt, places, socket)?,
+            &mut only,
+        )?;
     }
     match only {
         Some(place) => Ok(place),
         None => Err(Fault::Words("there is no queue")),
     }
+}
+
+// Notes the queue of a service, where it is the only one.
+fn note_only<'a>(
+    alloc: Global,
+    socket: &'a str,
+    queues: &[QueueLine],
+    only: &mut Option<(&'a str, String)>,
+) -> Result<(), Fault> {
+    for row in queues {
+        if only.is_some() {
+            return Err(Fault::Words("no queue is named, and there are several"));
+        }
+        *only = Some((socket, String::from_str(alloc, row.name.as_str())?));
+    }
+    Ok(())
 }

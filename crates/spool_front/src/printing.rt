@@ -1,4 +1,6 @@
 //! The task of printing files: each becomes a job.
+ghost use Rattle.std.specs.Prelude.{◌≡◌};
+ghost use Rattle.spool_front.specs.Replies.{status_at};
 
 use crate::client::{Client, pause};
 use crate::commands::Draft;
@@ -24,18 +26,30 @@ const NOT_COMPLETED: u8 = 5;
 /// Prints the files, one after the other, and gives the status of the first that fails.
 pub fn print_files<R: Host>(
     rt: &R,
-    places: &Places<'_>,
+    places: Places<'_, '_>,
     asked: &Submission<'_>,
     screen: Screen,
 ) -> Result<u8, Fault> {
     let (socket, queue) = queue_of(rt, places, asked.queue)?;
     let mut client = client_at(rt, places, socket);
-    let mut status = 0;
+    let status = print_all(rt, &mut client, asked, queue.as_str(), screen);
+    drop(client);
+    status
+}
+
+fn print_all<R: Host>(
+    rt: &R,
+    client: &mut Client<'_, R>,
+    asked: &Submission<'_>,
+    queue: &str,
+    screen: Screen,
+) -> Result<u8, Fault> {
     if asked.files.is_empty() {
-        return print_input(rt, &mut client, asked, queue.as_str(), screen);
+        return print_input(rt, client, asked, queue, screen);
     }
+    let mut status = 0;
     for file in &asked.files {
-        let ended = print_named(rt, &mut client, asked, queue.as_str(), file, screen)?;
+        let ended = print_named(rt, client, asked, queue, file, screen)?;
         if status == 0 {
             status = ended;
         }
@@ -138,24 +152,40 @@ fn tell_refused<R: Host>(rt: &R, job: Option<u32>, cause: &str, canceled: bool) 
 // Waits until the job has ended, and gives the status. On a terminal its way is told.
 fn wait_for<R: Host>(rt: &R, client: &mut Client<'_, R>, job: u32, screen: Screen) -> u8 {
     for _ in 0..u64::MAX {
-        match client.job(job) {
-            Ok(Some(shown)) => {
-                tell_way(rt, &shown, screen);
-                if let Some(status) = end_of(rt, &shown) {
-                    return status;
-                }
-            }
-            Ok(None) => {
-                let _ = eprintln!(rt; "spool: job {job} has ended, and is gone");
-                return NOT_COMPLETED;
-            }
-            Err(fault) => {
-                let _ = eprintln!(rt; "spool: it isn't known how job {job} ends: {fault}");
-                return NOT_KNOWN;
-            }
+        if let Some(status) = status_of(rt, client, job, screen) {
+            return status;
         }
         pause(rt);
     }
+    NOT_KNOWN
+}
+
+// The status, where the job has ended, or can't be seen.
+fn status_of<R: Host>(rt: &R, client: &mut Client<'_, R>, job: u32, screen: Screen) -> Option<u8> {
+    match client.job(job) {
+        Ok(Some(shown)) => tell_shown(rt, shown, screen),
+        Ok(None) => {
+            let _ = eprintln!(rt; "spool: job {job} has ended, and is gone");
+            Some(NOT_COMPLETED)
+        }
+        Err(fault) => Some(tell_unknown(rt, job, fault)),
+    }
+}
+
+fn tell_shown<R: Host>(rt: &R, shown: JobShown, screen: Screen) -> Option<u8>
+    ensures { result ≡ status_at shown.course.state }
+{
+    tell_way(rt, &shown, screen);
+    let status = end_of(rt, &shown);
+    drop(shown);
+    status
+}
+
+fn tell_unknown<R: Host>(rt: &R, job: u32, fault: Fault) -> u8
+    ensures { result ≡ 3 }
+{
+    let _ = eprintln!(rt; "spool: it isn't known how job {job} ends: {fault}");
+    drop(fault);
     NOT_KNOWN
 }
 
@@ -172,7 +202,9 @@ fn tell_way<R: Host>(rt: &R, shown: &JobShown, screen: Screen) {
 }
 
 // The status where the job has ended. Why it isn't completed is told.
-fn end_of<R: Host>(rt: &R, shown: &JobShown) -> Option<u8> {
+fn end_of<R: Host>(rt: &R, shown: &JobShown) -> Option<u8>
+    ensures { result ≡ status_at shown.now.course.state }
+{
     match shown.course.state {
         JobState::Completed => Some(0),
         JobState::Canceled | JobState::Aborted => {

@@ -2,12 +2,13 @@
 ghost use Rattle.std.specs.Prelude.{◌≡◌};
 ghost use Rattle.std.specs.List.{after_first, before_first};
 ghost use Rattle.front_texts.specs.ReplyLines.{is_space};
-ghost use Rattle.spool_front.specs.Replies.{bytes_as, closed_as, done_as, failed_as, is_gone, job_as, reply_as, reply_in, shown_as, type_as};
+ghost use Rattle.spool_front.specs.Replies.{bytes_as, closed_as, done_as, failed_as, has_reason, is_gone, job_as, reply_as, reply_in, shown_as, shown_of, type_as};
 
 use command_lines::job_number;
 use front_submission::{Reply, Shown};
 use front_texts::{JobShown, JobState, LastLine, read_last_line};
 use line_words::decimal;
+use spool_types::Reason;
 
 // The greatest size of a job that is read.
 const GREATEST_SIZE: u64 = 1 << 40;
@@ -118,13 +119,15 @@ pub fn is_gone(line: &str) -> bool
 }
 
 /// What has become of a job. One that was closed has a type.
-pub fn shown_of(job: &JobShown) -> Shown {
+pub fn shown_of(job: &JobShown) -> Shown
+    ensures { result ≡ shown_of job.now }
+{
     let course = &job.course;
     shown_as(
         course.media.is_some(),
         course.state,
-        has_reason(job, "no-filter"),
-        has_reason(job, "job-incoming"),
+        has_reason(&course.reason, "no-filter"),
+        has_reason(&course.reason, "job-incoming"),
         course.size,
     )
 }
@@ -146,9 +149,11 @@ fn shown_as(closed: bool, state: JobState, no_filter: bool, incoming: bool, size
     Shown::NeverClosed
 }
 
-// Whether this is the reason of its state.
-fn has_reason(job: &JobShown, word: &str) -> bool {
-    match &job.course.reason {
+/// Whether the reason of a state is this one.
+pub fn has_reason(reason: &Option<Reason>, word: &str) -> bool
+    ensures { result ≡ has_reason word.now reason.now }
+{
+    match reason {
         Some(reason) => reason.as_str() == word,
         None => false,
     }

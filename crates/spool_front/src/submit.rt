@@ -1,13 +1,18 @@
 //! Making a job of a document, exactly once.
+ghost use Rattle.std.specs.Prelude.{◌≡◌, ◌↔◌, IfOk, IsTrue, string_bytes};
+ghost use Rattle.std.specs.Str.Iter.{HasSubslice};
+ghost use Rattle.spool_front.specs.Found.{may_be_own, own_job, with_job};
+ghost use Rattle.spool_front.specs.Replies.{reply_in};
 
 use crate::client::{Answer, Client, pause};
 use crate::commands::{Draft, close_line, create_line, hold_line, job_line, send_line};
 use crate::connection::ConnectionFault;
 use crate::document::Document;
 use crate::host::{Host, Screen};
-use crate::replies::{reply_in, shown_of};
+use crate::replies::{has_reason, reply_in, shown_of};
 use front_submission::{Cause, End, Found, Own, Reply, Request, Step};
 use front_texts::{JobLine, JobShown, read_job_line, read_job_shown};
+use std::alloc::{AllocError, Global};
 use std::io::Read;
 
 /// A submission, and what its messages speak of.
@@ -176,7 +181,9 @@ impl<'a, R: Host> Submitting<'a, R> {
         Ok(self.reply_of(answer))
     }
 
-    fn reply_of(&mut self, answer: Answer) -> Reply {
+    fn reply_of(&mut self, answer: Answer) -> Reply
+        ensures { result ≡ reply_in (string_bytes answer.last) }
+    {
         let reply = reply_in(answer.last.as_str());
         if matches!(
             reply,
@@ -190,9 +197,11 @@ impl<'a, R: Host> Submitting<'a, R> {
     // What has become of a job.
     fn show(&mut self, client: &mut Client<'_, R>, job: u32) -> Result<Reply, ConnectionFault> {
         match self.shown(client, job)? {
-            Ok(job) => Ok(Reply::Job {
-                shown: shown_of(&job),
-            }),
+            Ok(job) => {
+                let shown = shown_of(&job);
+                drop(job);
+                Ok(Reply::Job { shown })
+            }
             Err(reply) => Ok(reply),
         }
     }
@@ -221,57 +230,98 @@ impl<'a, R: Host> Submitting<'a, R> {
         if !answer.is_done() {
             return Ok(self.reply_of(answer));
         }
+        let found = self.find_in(client, &answer.rows);
+        drop(answer);
+        found
+    }
+
+    fn find_in(
+        &mut self,
+        client: &mut Client<'_, R>,
+        rows: &[Vec<u8>],
+    ) -> Result<Reply, ConnectionFault> {
         let mut found = Found {
             own: None,
             another: None,
         };
-        for row in &answer.rows {
-            if let Some(job) = read_job_line(self.rt.alloc(), row.as_slice())? {
-                if self.may_be_own(&job) {
-                    if let Err(reply) = self.look(client, &job, &mut found)? {
-                        return Ok(reply);
-                    }
+        for row in rows {
+            if let Some(job) = own_job(self.rt.alloc(), self.draft, row.as_slice())? {
+                if let Err(reply) = self.look(client, job, &mut found)? {
+                    return Ok(reply);
                 }
             }
         }
         Ok(Reply::Jobs { found })
     }
 
-    // Whether a job arrives for this queue and this user.
-    fn may_be_own(&self, job: &JobLine) -> bool {
-        let arrives = match &job.reason {
-            Some(reason) => reason.as_str() == "job-incoming",
-            None => false,
-        };
-        arrives
-            && job.queue.as_str() == self.draft.queue.as_str()
-            && job.user.as_str() == self.draft.user.as_str()
-    }
-
     // Adds a job to those that were found, if it has the token.
     fn look(
         &mut self,
         client: &mut Client<'_, R>,
-        job: &JobLine,
+        job: u32,
         found: &mut Found,
     ) -> Result<Result<(), Reply>, ConnectionFault> {
-        let number = job.number.get();
-        let shown = match self.shown(client, number)? {
-            Ok(shown) => shown,
-            Err(Reply::Gone) => return Ok(Ok(())),
-            Err(reply) => return Ok(Err(reply)),
-        };
-        let options = shown.asked.options.as_str();
-        if !options.contains(self.draft.token.as_str()) {
-            return Ok(Ok(()));
+        match self.shown(client, job)? {
+            Ok(shown) => {
+                if has_token(shown.asked.options.as_str(), self.draft.token.as_str()) {
+                    *found = with_job(*found, job, shown.course.size);
+                }
+                drop(shown);
+                Ok(Ok(()))
+            }
+            Err(Reply::Gone) => Ok(Ok(())),
+            Err(reply) => Ok(Err(reply)),
         }
-        if found.own.is_some() {
-            found.another = Some(number);
-        } else {
-            let size = u64::from(shown.course.size);
-            found.own = Some(Own { job: number, size });
-        }
-        Ok(Ok(()))
+    }
+}
+
+// The number of a row's job, if it arrives for this queue and this user.
+fn own_job(alloc: Global, draft: &Draft, row: &[u8]) -> Result<Option<u32>, AllocError>
+    ensures { IfOk result (λ job. job ≡ own_job draft.now row.now) }
+{
+    let Some(job) = read_job_line(alloc, row)? else {
+        return Ok(None);
+    };
+    let own = if may_be_own(draft, &job) {
+        Some(job.number.get())
+    } else {
+        None
+    };
+    drop(job);
+    Ok(own)
+}
+
+// Whether a job arrives for this queue and this user.
+fn may_be_own(draft: &Draft, job: &JobLine) -> bool
+    ensures { result ≡ may_be_own draft.now job.now }
+{
+    has_reason(&job.reason, "job-incoming")
+        && job.queue.as_str() == draft.queue.as_str()
+        && job.user.as_str() == draft.user.as_str()
+}
+
+fn has_token(options: &str, token: &str) -> bool
+    ensures { IsTrue result ↔ HasSubslice options.now token.now }
+{
+    options.contains(token)
+}
+
+// What was found, and one more job with the token.
+fn with_job(found: Found, job: u32, size: u32) -> Found
+    ensures { result ≡ with_job found job size }
+{
+    match found.own {
+        Some(_) => Found {
+            own: found.own,
+            another: Some(job),
+        },
+        None => Found {
+            own: Some(Own {
+                job,
+                size: u64::from(size),
+            }),
+            another: found.another,
+        },
     }
 }
 

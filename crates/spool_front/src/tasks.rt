@@ -1,4 +1,9 @@
 //! What is shown of jobs and queues, and what is done to them.
+ghost use Rattle.std.specs.Prelude.{◌≡◌, IfOk, filter_map};
+ghost use Rattle.std.specs.List.{list_any};
+ghost use Rattle.command_lines.specs.Grammar.{is_word};
+ghost use Rattle.spool_front.specs.Acts.{IsActLine, is_cleared, number_of, queue_act_line};
+ghost use Rattle.spool_front.specs.Faults.{status_of};
 
 use crate::client::Client;
 use crate::commands::{Until, hold_line, info_line, job_line, name_line, queue_line};
@@ -6,17 +11,19 @@ use crate::draft::seconds_of;
 use crate::fault::Fault;
 use crate::host::{Host, Screen};
 use crate::output::{print_bytes, print_lines};
-use crate::places::{Places, all_jobs, all_queues, client_at, only_client, queue_of};
+use crate::places::{Places, all_jobs, all_queues, client_at, has_queue, only_socket, socket_of};
 use front_texts::{
-    JobLine, JobShown, job_page, job_shown_json, jobs_json, jobs_table, queues_json, queues_table,
+    JobLine, JobShown, QueueLine, job_page, job_shown_json, jobs_json, jobs_table, queues_json,
+    queues_table,
 };
 use front_words::{JobAct, QueueAct, Status};
+use serde_json::Value;
 use std::alloc::{AllocError, Global};
 
 /// Shows one job, those of a queue, or all.
 pub fn show_status<R: Host>(
     rt: &R,
-    places: &Places<'_>,
+    places: Places<'_, '_>,
     asked: Status<'_>,
     screen: Screen,
 ) -> Result<u8, Fault> {
@@ -24,13 +31,27 @@ pub fn show_status<R: Host>(
         return show_job(rt, places, job, asked.json, screen);
     }
     let jobs = jobs_of(rt.alloc(), all_jobs(rt, places)?, asked.queue)?;
-    if asked.json {
-        let text = jobs_json(rt.alloc(), &jobs)?.to_string(rt.alloc())?;
-        println!(rt; "{text}")?;
-    } else {
-        print_lines(rt, &jobs_table(rt.alloc(), &jobs, screen.width.max(1))?)?;
-    }
+    let shown = print_jobs(rt, &jobs, asked.json, screen);
+    drop(jobs);
+    shown?;
     Ok(0)
+}
+
+fn print_jobs<R: Host>(rt: &R, jobs: &[JobLine], json: bool, screen: Screen) -> Result<(), Fault> {
+    let alloc = rt.alloc();
+    if json {
+        return print_json(rt, jobs_json(alloc, jobs)?);
+    }
+    print_lines(rt, &jobs_table(alloc, jobs, screen.width.max(1))?)?;
+    Ok(())
+}
+
+fn print_json<R: Host>(rt: &R, value: Value) -> Result<(), Fault> {
+    let text = value.to_string(rt.alloc());
+    drop(value);
+    let text = text?;
+    println!(rt; "{text}")?;
+    Ok(())
 }
 
 // The jobs of a queue, if one is named, and else all.
@@ -54,16 +75,19 @@ fn jobs_of(
 // Shows the job of this number of each service that has one.
 fn show_job<R: Host>(
     rt: &R,
-    places: &Places<'_>,
+    places: Places<'_, '_>,
     job: u32,
     json: bool,
     screen: Screen,
 ) -> Result<u8, Fault> {
     let mut found = false;
-    for socket in &places.sockets {
-        if let Some(shown) = client_at(rt, places, socket).job(job)? {
+    for socket in places.sockets {
+        let mut client = client_at(rt, places, socket);
+        let shown = client.job(job);
+        drop(client);
+        if let Some(shown) = shown? {
             found = true;
-            print_job(rt, &shown, json, screen)?;
+            print_shown(rt, shown, json, screen)?;
         }
     }
     if found {
@@ -73,54 +97,79 @@ fn show_job<R: Host>(
     }
 }
 
+fn print_shown<R: Host>(rt: &R, shown: JobShown, json: bool, screen: Screen) -> Result<(), Fault> {
+    let printed = print_job(rt, &shown, json, screen);
+    drop(shown);
+    printed
+}
+
 fn print_job<R: Host>(rt: &R, shown: &JobShown, json: bool, screen: Screen) -> Result<(), Fault> {
     let alloc = rt.alloc();
     if json {
-        let text = job_shown_json(alloc, shown)?.to_string(alloc)?;
-        println!(rt; "{text}")?;
-    } else {
-        print_lines(rt, &job_page(alloc, shown, screen.width.max(1))?)?;
+        return print_json(rt, job_shown_json(alloc, shown)?);
     }
+    print_lines(rt, &job_page(alloc, shown, screen.width.max(1))?)?;
     Ok(())
 }
 
 /// Shows the queues.
 pub fn show_queues<R: Host>(
     rt: &R,
-    places: &Places<'_>,
+    places: Places<'_, '_>,
     json: bool,
     screen: Screen,
 ) -> Result<u8, Fault> {
     let queues = all_queues(rt, places)?;
-    if json {
-        let text = queues_json(rt.alloc(), &queues)?.to_string(rt.alloc())?;
-        println!(rt; "{text}")?;
-    } else {
-        print_lines(rt, &queues_table(rt.alloc(), &queues, screen.width.max(1))?)?;
-    }
+    let shown = print_queues(rt, &queues, json, screen);
+    drop(queues);
+    shown?;
     Ok(0)
 }
 
+fn print_queues<R: Host>(
+    rt: &R,
+    queues: &[QueueLine],
+    json: bool,
+    screen: Screen,
+) -> Result<(), Fault> {
+    let alloc = rt.alloc();
+    if json {
+        return print_json(rt, queues_json(alloc, queues)?);
+    }
+    print_lines(rt, &queues_table(alloc, queues, screen.width.max(1))?)?;
+    Ok(())
+}
+
 /// Prints each line that the service tells of what changes, until it goes.
-pub fn watch<R: Host>(rt: &R, places: &Places<'_>) -> Result<u8, Fault> {
-    let mut client = only_client(rt, places)?;
+pub fn watch<R: Host>(rt: &R, places: Places<'_, '_>) -> Result<u8, Fault> {
+    let mut client = client_at(rt, places, only_socket(places)?);
+    let ended = watch_by(rt, &mut client);
+    drop(client);
+    ended?;
+    Ok(0)
+}
+
+fn watch_by<R: Host>(rt: &R, client: &mut Client<'_, R>) -> Result<(), Fault> {
     client.order(b"watch\n")?;
     for _ in 0..u64::MAX {
         let mut line = client.read_line()?;
         line.push(b'\n')?;
         print_bytes(rt, line.as_slice())?;
     }
-    Ok(0)
+    Ok(())
 }
 
 /// Does the same to each of these jobs.
 pub fn act_on_jobs<R: Host>(
     rt: &R,
-    places: &Places<'_>,
+    places: Places<'_, '_>,
     act: JobAct,
     jobs: &[u32],
 ) -> Result<u8, Fault> {
-    act_by(rt, &mut only_client(rt, places)?, act, jobs)
+    let mut client = client_at(rt, places, only_socket(places)?);
+    let ended = act_by(rt, &mut client, act, jobs);
+    drop(client);
+    ended
 }
 
 // Where it is refused for a job, or the reply is lost, that is told, and the other jobs have their turn.
@@ -144,38 +193,50 @@ fn act_by<R: Host>(
 }
 
 // Tells why something wasn't done to a job, and gives the status. Any other fault is one of all jobs.
-fn tell_fault<R: Host>(rt: &R, job: u32, fault: Fault) -> Result<u8, Fault> {
+fn tell_fault<R: Host>(rt: &R, job: u32, fault: Fault) -> Result<u8, Fault>
+    ensures { IfOk result (λ status. status ≡ status_of fault) }
+{
     if !matches!(fault, Fault::Refused(_) | Fault::Unknown) {
         return Err(fault);
     }
-    eprintln!(rt; "spool: job {job}: {fault}")?;
-    Ok(fault.status())
+    let status = fault.status();
+    let told = eprintln!(rt; "spool: job {job}: {fault}");
+    drop(fault);
+    told?;
+    Ok(status)
 }
 
-fn act_line<R: Host>(rt: &R, act: JobAct, job: u32) -> Result<Vec<u8>, Fault> {
+fn act_line<R: Host>(rt: &R, act: JobAct, job: u32) -> Result<Vec<u8>, Fault>
+    ensures { IfOk result (λ line. IsActLine act job line.items) }
+{
     let alloc = rt.alloc();
     let line = match act {
-        JobAct::Cancel => job_line(alloc, "cancel", job)?,
-        JobAct::Release => job_line(alloc, "release", job)?,
-        JobAct::Purge => job_line(alloc, "purge", job)?,
-        JobAct::End => job_line(alloc, "end", job)?,
-        JobAct::Hold(None) => hold_line(alloc, job, Until::Released)?,
+        JobAct::Cancel => job_line(alloc, "cancel", job),
+        JobAct::Release => job_line(alloc, "release", job),
+        JobAct::Purge => job_line(alloc, "purge", job),
+        JobAct::End => job_line(alloc, "end", job),
+        JobAct::Hold(None) => hold_line(alloc, job, Until::Released),
         JobAct::Hold(Some(moment)) => {
-            hold_line(alloc, job, Until::Reached(seconds_of(rt, moment)?))?
+            hold_line(alloc, job, Until::Reached(seconds_of(rt, moment)?))
         }
     };
-    Ok(line)
+    Ok(line?)
 }
 
 /// Cancels each job of these queues, or of all, that hasn't ended.
-pub fn clear<R: Host>(rt: &R, places: &Places<'_>, names: &[&str]) -> Result<u8, Fault> {
+pub fn clear<R: Host>(rt: &R, places: Places<'_, '_>, names: &[&str]) -> Result<u8, Fault> {
     let queues = all_queues(rt, places)?;
-    if !names.iter().all(|name| queues.iter().any(|queue| queue.name.as_str() == *name)) {
+    let known = names.iter().all(|name| has_queue(&queues, name));
+    drop(queues);
+    if !known {
         return Err(Fault::Words("there is no such queue"));
     }
     let mut status = 0;
-    for socket in &places.sockets {
-        let ended = clear_at(rt, &mut client_at(rt, places, socket), names)?;
+    for socket in places.sockets {
+        let mut client = client_at(rt, places, socket);
+        let ended = clear_by(rt, &mut client, names);
+        drop(client);
+        let ended = ended?;
         if status == 0 {
             status = ended;
         }
@@ -183,37 +244,60 @@ pub fn clear<R: Host>(rt: &R, places: &Places<'_>, names: &[&str]) -> Result<u8,
     Ok(status)
 }
 
-fn clear_at<R: Host>(rt: &R, client: &mut Client<'_, R>, names: &[&str]) -> Result<u8, Fault> {
-    let mut numbers = Vec::new(rt.alloc());
-    for job in &client.jobs()? {
-        let wanted = names.is_empty() || names.iter().any(|name| *name == job.queue.as_str());
-        if wanted && !job.has_ended() {
+fn clear_by<R: Host>(rt: &R, client: &mut Client<'_, R>, names: &[&str]) -> Result<u8, Fault> {
+    let jobs = client.jobs()?;
+    let numbers = numbers_of(rt.alloc(), &jobs, names);
+    drop(jobs);
+    act_by(rt, client, JobAct::Cancel, numbers?.as_slice())
+}
+
+// The numbers of the jobs of these queues, or of all, that haven't ended.
+fn numbers_of(alloc: Global, jobs: &[JobLine], names: &[&str]) -> Result<Vec<u32>, AllocError>
+    ensures { IfOk result (λ numbers. numbers.items ≡ filter_map (number_of names.now (λ name. name.now)) jobs.now) }
+{
+    let mut numbers = Vec::new(alloc);
+    for job in jobs {
+        if is_cleared(names, job) {
             numbers.push(job.number.get())?;
         }
     }
-    act_by(rt, client, JobAct::Cancel, numbers.as_slice())
+    Ok(numbers)
+}
+
+fn is_cleared(names: &[&str], job: &JobLine) -> bool
+    ensures { result ≡ is_cleared names.now (λ name. name.now) job.now }
+{
+    (names.is_empty() || is_among(names, job.queue.as_str())) && !job.has_ended()
+}
+
+fn is_among(names: &[&str], queue: &str) -> bool
+    ensures { result ≡ list_any (λ name. is_word name.now queue.now) names.now }
+{
+    names.iter().any(|name| *name == queue)
 }
 
 /// Does something to a queue.
 pub fn act_on_queue<R: Host>(
     rt: &R,
-    places: &Places<'_>,
+    places: Places<'_, '_>,
     name: &str,
     act: QueueAct<'_>,
 ) -> Result<u8, Fault> {
     let line = act_text(rt.alloc(), name, act)?;
-    let mut client = match act {
-        QueueAct::Add(_) => only_client(rt, places)?,
-        _ => {
-            let (socket, _) = queue_of(rt, places, Some(name))?;
-            client_at(rt, places, socket)
-        }
+    let socket = match act {
+        QueueAct::Add(_) => only_socket(places)?,
+        _ => socket_of(rt, places, name)?,
     };
-    client.order(line.as_slice())?;
+    let mut client = client_at(rt, places, socket);
+    let ended = client.order(line.as_slice());
+    drop(client);
+    ended?;
     Ok(0)
 }
 
-fn act_text(alloc: Global, name: &str, act: QueueAct<'_>) -> Result<Vec<u8>, AllocError> {
+fn act_text(alloc: Global, name: &str, act: QueueAct<'_>) -> Result<Vec<u8>, AllocError>
+    ensures { IfOk result (λ line. line.items ≡ queue_act_line name.now act.entry) }
+{
     match act {
         QueueAct::Add(queue) => queue_line(alloc, name, queue),
         QueueAct::Set { info, location } => info_line(alloc, name, info, location),

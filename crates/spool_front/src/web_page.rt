@@ -4,7 +4,7 @@ use crate::draft::now;
 use crate::fault::Fault;
 use crate::host::Host;
 use crate::places::{Places, all_jobs, all_queues};
-use front_texts::{moment_text, page};
+use front_texts::{JobLine, QueueLine, moment_text, page};
 use spool_types::Moment;
 use std::fs;
 use std::time::Duration;
@@ -15,7 +15,7 @@ const PAGE_SECONDS: u64 = 5;
 /// Writes the page: to another file first, which then takes its name. With `follow` it does so every five seconds.
 pub fn write_page<R: Host>(
     rt: &R,
-    places: &Places<'_>,
+    places: Places<'_, '_>,
     file: &str,
     follow: bool,
 ) -> Result<u8, Fault> {
@@ -31,17 +31,45 @@ pub fn write_page<R: Host>(
 
 fn write_one_page<R: Host>(
     rt: &R,
-    places: &Places<'_>,
+    places: Places<'_, '_>,
     file: &str,
     follow: bool,
 ) -> Result<(), Fault> {
-    let alloc = rt.alloc();
     let queues = all_queues(rt, places)?;
+    let text = page_of(rt, places, &queues, follow);
+    drop(queues);
+    write_as(rt, file, &text?)
+}
+
+// The page of these queues, and of the jobs.
+fn page_of<R: Host>(
+    rt: &R,
+    places: Places<'_, '_>,
+    queues: &[QueueLine],
+    follow: bool,
+) -> Result<Vec<u8>, Fault> {
     let jobs = all_jobs(rt, places)?;
+    let text = page_at(rt, queues, &jobs, follow);
+    drop(jobs);
+    text
+}
+
+// The page as it is now.
+fn page_at<R: Host>(
+    rt: &R,
+    queues: &[QueueLine],
+    jobs: &[JobLine],
+    follow: bool,
+) -> Result<Vec<u8>, Fault> {
+    let alloc = rt.alloc();
     let stamp = moment_text(alloc, Moment::ZERO.plus(now(rt)?))?;
-    let text = page(alloc, &queues, &jobs, stamp.as_str(), follow)?;
+    Ok(page(alloc, queues, jobs, stamp.as_str(), follow)?)
+}
+
+fn write_as<R: Host>(rt: &R, file: &str, text: &[u8]) -> Result<(), Fault> {
+    let alloc = rt.alloc();
     let unfinished = format!(in alloc; "{file}.new")?;
-    if fs::write(rt, unfinished.as_str(), text.as_slice()).is_err()
+    if fs::write(rt, unfinished.as_str(), text).is_err()
         || fs::rename(rt, unfinished.as_str(), file).is_err()
     {
         return Err(Fault::File(String::from_str(alloc, file)?));

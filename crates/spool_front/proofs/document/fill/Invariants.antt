@@ -1,9 +1,14 @@
--- what is read stays in the buffer, and each turn reads something
-use Rattle.std.proofs.Common.{◌≤◌, ◌-◌, length}
+-- what was read so far is the front of the buffer, and each turn reads something
+use Rattle.std.proofs.Common.{◌≡◌, ◌≤◌, ◌-◌, length, take}
+use Rattle.std.specs.Io.KnownBytes.{Consumes}
 use Rattle.spool_front.proofs.document.fill.Given as goal
 
 abbrev pub invariant-loop-filled : goal.invariant-loop-filled
-invariant-loop-filled g l = l.filled ≤ length l.buffer
+invariant-loop-filled g l = record {
+  same : length l.buffer ≡ length l.initial.buffer;
+  within : l.filled ≤ length l.buffer;
+  read : Consumes (g.S.Read.remaining l.initial.source) (g.S.Read.remaining l.source) (take l.filled l.buffer);
+}
 
 abbrev pub decreases-loop-filled : goal.decreases-loop-filled
 decreases-loop-filled g l = length l.initial.buffer - l.filled

@@ -1,0 +1,8 @@
+-- what the rows so far tell
+use Rattle.std.proofs.Common.{◌≡◌, take}
+use Rattle.std.specs.Prelude.{filter_map}
+use Rattle.front_texts.specs.JobRows.{job_row}
+use Rattle.spool_front.proofs.client.jobs_in.Given as goal
+
+abbrev pub invariant-loop-row : goal.invariant-loop-row
+invariant-loop-row l = l.jobs.items ≡ filter_map (λ row. job_row row.items) (take l.row-index l.rows)

@@ -1,0 +1,9 @@
+-- the options so far, each with a blank behind it
+use Rattle.std.proofs.Common.{◌≡◌, take}
+use Rattle.std.specs.Prelude.{string_bytes}
+use Rattle.std.specs.List.{flat_map}
+use Rattle.spool_front.specs.Drafts.{option_text}
+use Rattle.spool_front.proofs.draft.options_of.Given as goal
+
+abbrev pub invariant-loop-option : goal.invariant-loop-option
+invariant-loop-option l = string_bytes l.options ≡ flat_map (λ option. option_text option.now) (take l.option-index l.option-items)

@@ -1,0 +1,12 @@
+use Rattle.std.proofs.Common.{◌++◌, ap, append_assoc, string_bytes, sym, ◌∙◌}
+use Rattle.std.specs.Prelude.{codes}
+use Rattle.std.specs.Option.{option_map}
+use Rattle.spool_front.specs.Drafts.{option_text, pages_option}
+use Rattle.spool_front.proofs.draft.push_pages.Goals as goal
+
+pub returns : goal.returns
+returns c =
+    c.in_ok-push_option.ensures
+    ∙ ap (λ front. front ++ option_text c.in-Some.pages.now) c.in_ok-push_str.ensures.bytes
+    ∙ append_assoc (string_bytes c.args.options.now) (codes "page-ranges=") (option_text c.in-Some.pages.now)
+    ∙ ap (λ pages. string_bytes c.args.options.now ++ pages_option (option_map (λ text. text.now) pages)) (sym c.in-Some.is)

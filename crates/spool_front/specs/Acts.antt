@@ -1,0 +1,38 @@
+-- What is done to a job or a queue, as commands.
+use Rattle.std.specs.Prelude.{◌≡◌, ℕ, Bool, ◌&&◌, ◌||◌, not, cond, ◌==◌, List, length, codes, Option, None, Some}
+use Rattle.std.specs.List.{list_any}
+use Rattle.command_lines.specs.Grammar.{is_word}
+use Rattle.front_texts.specs.States.{is_ended}
+use Rattle.front_texts.specs.declared.job_line.JobLine.{JobLine}
+use Rattle.front_words.specs.declared.asked.JobAct.{JobAct}
+use Rattle.front_words.specs.declared.asked.JobAct.TheVariants.{Cancel, Hold, Release, Purge, End}
+use Rattle.front_words.specs.declared.asked.QueueAct.{QueueAct}
+use Rattle.front_words.specs.declared.asked.QueueAct.TheVariants.{Add, Set, Accept, Reject, Enable, Disable}
+use Rattle.spool_front.specs.Commands.{hold_line, info_line, job_line, name_line, queue_line}
+use Rattle.spool_front.specs.Drafts.{IsMoment}
+use Rattle.spool_front.specs.declared.commands.Until.TheVariants.{Released, Reached}
+
+-- the command for one job
+abbrev pub IsActLine : JobAct → ℕ → List ℕ → Type 0
+IsActLine Cancel job line = line ≡ job_line (codes "cancel") job
+IsActLine Release job line = line ≡ job_line (codes "release") job
+IsActLine Purge job line = line ≡ job_line (codes "purge") job
+IsActLine End job line = line ≡ job_line (codes "end") job
+IsActLine (Hold None) job line = line ≡ hold_line job Released
+IsActLine (Hold (Some moment)) job line = (told : ℕ) × IsMoment moment told × (line ≡ hold_line job (Reached told))
+
+-- the command for a queue
+abbrev pub queue_act_line : List ℕ → QueueAct → List ℕ
+queue_act_line name (Add queue) = queue_line name queue
+queue_act_line name (Set info location) = info_line name info.now location.now
+queue_act_line name Accept = name_line (codes "accept") name
+queue_act_line name Reject = name_line (codes "reject") name
+queue_act_line name Enable = name_line (codes "enable") name
+queue_act_line name Disable = name_line (codes "disable") name
+
+-- whether a job is of one of these queues, or of any where none is named, and hasn't ended
+abbrev pub is_cleared : {T : Type 0} → List T → (T → List ℕ) → JobLine → Bool
+is_cleared names text job = ((length names == 0) || list_any (λ name. is_word (text name) job.queue) names) && not (is_ended job.state)
+
+abbrev pub number_of : {T : Type 0} → List T → (T → List ℕ) → JobLine → Option ℕ
+number_of names text job = cond (is_cleared names text job) (Some job.number) None

@@ -1,0 +1,21 @@
+-- Whether a queue can print.
+use Rattle.std.specs.Prelude.{Bool, true, false, Option, None, Some, is_none}
+use Rattle.std.specs.List.{list_any}
+use Rattle.front_texts.specs.declared.queue_line.QueueLine.{QueueLine}
+use Rattle.front_texts.specs.declared.states.PrinterState.{PrinterState}
+use Rattle.front_texts.specs.declared.states.PrinterState.TheVariants.{Stopped}
+use Rattle.spool_front.specs.Chains.{leads}
+use Rattle.spool_front.specs.declared.chains.Chains.{Chains}
+use Rattle.spool_front.specs.declared.check.Hindrance.{Hindrance}
+use Rattle.spool_front.specs.declared.check.Hindrance.TheVariants.{NoChain, Halted, Rejecting}
+
+-- what keeps documents from being printed, by whether filters lead to the printer's type, its state, and whether it takes jobs
+abbrev pub hindrance_of : Bool → PrinterState → Bool → Option Hindrance
+hindrance_of false state accepting = Some NoChain
+hindrance_of true Stopped accepting = Some Halted
+hindrance_of true state false = Some Rejecting
+hindrance_of true state true = None
+
+-- whether a queue can print and takes jobs
+abbrev pub prints : Chains → QueueLine → Bool
+prints chains queue = is_none (hindrance_of (list_any (leads chains.convs queue.target) chains.kinds.items) queue.state queue.accepting)
