@@ -341,7 +341,7 @@ def status_and_json(folder):
 def status_check(folder):
     folder.two_stages(0)
     client, front = office(folder)
-    front.environment |= {"SPOOL_TYPES": folder.at("types"), "SPOOL_CONVS": folder.at("convs")}
+    front.environment |= {"SPOOL_TYPES": folder.at("types"), "SPOOL_CONVS": folder.at("convs"), "SPOOL_PROGRAMS": folder.at("programs")}
     folder.queue(client, "b", target="a/b")
     same("check", front.says("spool", "check"), f"{folder.socket} serves\nqueue b prints a/b\nqueue q prints {TYPE}\n")
     folder.queue(client, "d", target="c/d")
@@ -351,6 +351,31 @@ def status_check(folder):
     same("check", told, ["queue b is stopped", "queue d prints nothing: no chain of filters leads to c/d", "queue q takes no jobs"])
     missing = front.fails("spool", "check", environment={"SPOOL_CONVS": folder.at("missing")})
     same("told", missing, f"spool: file {folder.at('missing')}\n")
+
+
+def status_check_of_programs(folder):
+    folder.two_stages(0)
+    front = office(folder)[1]
+    front.environment |= {"SPOOL_TYPES": folder.at("types"), "SPOOL_CONVS": folder.at("convs")}
+    folder.write("plain", "#!/bin/sh\n", 0o644)
+    folder.write("empty", "", 0o755)
+    folder.write("good", "#!/bin/sh\n", 0o755)
+    lines = [("backend", "a", "missing"), ("backend", "b", "empty"), ("filter", "c", "plain"), ("filter", "d", "good"), ("filter", "e", "spool")]
+    folder.write("listed", "".join(f"{kind} {name} {folder.at(file)}\n" for kind, name, file in lines) + f"side {folder.at('good')}\r\n")
+    told = front.says("spool", "check", status=1, environment={"SPOOL_PROGRAMS": folder.at("listed")}).splitlines()
+    wanted = [
+        "filter c can't be run: not executable",
+        "filter e can't be run: no file",
+        "backend a can't be run: not there",
+        "backend b can't be run: neither a script nor a program",
+        "side program can't be run: a carriage return at its end",
+        f"{folder.socket} serves",
+        f"queue q prints {TYPE}",
+    ]
+    same("check", told, wanted)
+    folder.write("unread", "filter\n")
+    missing = front.fails("spool", "check", environment={"SPOOL_PROGRAMS": folder.at("unread")})
+    same("told", missing, f"spool: file {folder.at('unread')}\n")
 
 
 def status_of_two_services(folder):

@@ -1,20 +1,17 @@
 //! Which types of printers documents can reach, by the service's files of types and of conversions.
 ghost use Rattle.std.specs.Prelude.{◌≡◌, ◌++◌, IfOk, OnOk};
 ghost use Rattle.std.specs.List.{list_any};
-ghost use Rattle.std.specs.IoError.{error_kind};
 ghost use Rattle.spool_front.specs.Chains.{kinds_in, leads, listed};
-ghost use Rattle.spool_front.specs.Faults.{unread_by};
 ghost use Rattle.spool_types.specs.Values.{media_in};
 
 use crate::fault::Fault;
-use crate::host::{Host, variable};
+use crate::files::file_text;
+use crate::host::Host;
 use line_words::first_word;
 use mime_costs::Convs;
 use mime_lines::joined_lines;
 use spool_types::MediaType;
 use std::alloc::{AllocError, Global};
-use std::io::ErrorKind;
-use std::{fs, io};
 
 // The files where the environment names none.
 const USUAL_TYPES: &str = "/etc/cegmandi/types";
@@ -47,27 +44,6 @@ fn convs_of_file<R: Host>(rt: &R) -> Result<Convs, Fault> {
     let text = file_text(rt, "SPOOL_CONVS", USUAL_CONVS)?;
     let (convs, _) = Convs::read(rt.alloc(), text.as_str())?;
     Ok(convs)
-}
-
-fn file_text<R: Host>(rt: &R, of_name: &str, usual: &str) -> Result<String, Fault> {
-    let name = match variable(rt, of_name)? {
-        Some(name) => name,
-        None => String::from_str(rt.alloc(), usual)?,
-    };
-    match fs::read_to_string(rt, name.as_str()) {
-        Ok(text) => Ok(text),
-        Err(error) => Err(unread(&error, name)),
-    }
-}
-
-// Why the file of this name isn't read.
-fn unread(error: &io::Error, name: String) -> Fault
-    ensures { result ≡ unread_by (error_kind error.now) name }
-{
-    match error.kind() {
-        ErrorKind::OutOfMemory => Fault::Memory,
-        _ => Fault::File(name),
-    }
 }
 
 // The types that the lines of the file of types are about, and that of a document of which nothing is known.

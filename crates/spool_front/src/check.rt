@@ -1,4 +1,4 @@
-//! Whether each service and each queue can print.
+//! Whether the service's programs can be run, and each service and each queue can print.
 ghost use Rattle.std.specs.Prelude.{◌≡◌, IfOk};
 ghost use Rattle.std.specs.List.{list_all, list_any};
 ghost use Rattle.spool_front.specs.Chains.{leads};
@@ -8,6 +8,7 @@ use crate::chains::{Chains, read_chains};
 use crate::fault::Fault;
 use crate::host::Host;
 use crate::places::{Places, queues_at};
+use crate::programs::tell_programs;
 use front_texts::{PrinterState, QueueLine};
 use std::alloc::AllocError;
 use std::io;
@@ -23,12 +24,14 @@ pub enum Hindrance {
     Rejecting,
 }
 
-/// Tells of each service that it serves, and of each queue whether documents can be printed by it. The status is 0 where all can.
+/// Tells each program that can't be run, of each service that it serves, and of each queue whether documents can be printed by
+/// it. The status is 0 where nothing is in the way.
 pub fn check<R: Host>(rt: &R, places: Places<'_, '_>) -> Result<u8, Fault> {
+    let run = tell_programs(rt)?;
     let chains = read_chains(rt)?;
-    let all = tell_services(rt, places, &chains);
+    let print = tell_services(rt, places, &chains);
     drop(chains);
-    if all? { Ok(0) } else { Ok(1) }
+    if print? && run { Ok(0) } else { Ok(1) }
 }
 
 // Whether all queues of all services print. It is told.

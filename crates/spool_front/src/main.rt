@@ -3,7 +3,8 @@
 //! Words: those of `front_words`, by the program's name: `spool`, `lp`, `lpr`, `lpstat`, `cancel`, `lpq` or `lprm`. The environment
 //! gives `SPOOL_SOCKET` (the service's socket), `SPOOL_PATIENCE` (how many seconds it is waited for, 30 if not said), `USER` or
 //! `LOGNAME` (in whose name), `LPDEST` or `PRINTER` (the queue where none is named), `COLUMNS` (the width of a terminal), and
-//! `SPOOL_TYPES` and `SPOOL_CONVS` (the service's files, by which `check` looks whether documents reach a printer).
+//! `SPOOL_TYPES`, `SPOOL_CONVS` and `SPOOL_PROGRAMS` (the service's files, by which `check` looks whether documents reach a printer,
+//! and whether the programs can be run).
 //!
 //! # Parts
 //!
@@ -11,7 +12,7 @@
 //! - [`commands`], [`replies`]: the bytes of each command, and what each reply says (`Commands`, `Replies`).
 //! - [`submit`]: one document becomes one job, by the decisions of `front_submission`. [`document`]: its pieces. [`draft`]: what
 //!   is said of its job. [`printing`]: the task of printing files.
-//! - [`tasks`]: the other tasks of `spool`. [`check`] and [`chains`]: whether a queue can print. [`web_page`]: the page.
+//! - [`tasks`]: the other tasks of `spool`. [`check`], [`programs`] and [`chains`]: whether a queue can print. [`web_page`]: the page.
 //!   [`cups_forms`]: lpstat and lpq. [`output`]: standard output. [`places`]: which services are asked, and which queue is meant.
 //!
 //! # Faults
@@ -36,10 +37,12 @@ mod cups_forms;
 mod document;
 mod draft;
 mod fault;
+mod files;
 mod host;
 mod output;
 mod places;
 mod printing;
+mod programs;
 mod replies;
 mod submit;
 mod tasks;

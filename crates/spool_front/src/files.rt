@@ -1,0 +1,37 @@
+//! The service's files, by the names of the environment or else the usual ones.
+ghost use Rattle.std.specs.Prelude.{◌≡◌};
+ghost use Rattle.std.specs.IoError.{error_kind};
+ghost use Rattle.spool_front.specs.Faults.{unread_by};
+
+use crate::fault::Fault;
+use crate::host::{Host, variable};
+use std::alloc::AllocError;
+use std::io::ErrorKind;
+use std::{fs, io};
+
+/// The name of a file.
+pub fn file_name<R: Host>(rt: &R, of_name: &str, usual: &str) -> Result<String, AllocError> {
+    match variable(rt, of_name)? {
+        Some(name) => Ok(name),
+        None => String::from_str(rt.alloc(), usual),
+    }
+}
+
+/// The text of a file.
+pub fn file_text<R: Host>(rt: &R, of_name: &str, usual: &str) -> Result<String, Fault> {
+    let name = file_name(rt, of_name, usual)?;
+    match fs::read_to_string(rt, name.as_str()) {
+        Ok(text) => Ok(text),
+        Err(error) => Err(unread(&error, name)),
+    }
+}
+
+// Why the file of this name isn't read.
+fn unread(error: &io::Error, name: String) -> Fault
+    ensures { result ≡ unread_by (error_kind error.now) name }
+{
+    match error.kind() {
+        ErrorKind::OutOfMemory => Fault::Memory,
+        _ => Fault::File(name),
+    }
+}
