@@ -156,7 +156,7 @@ def front():
         check(re.search(rf"\b{task}\b", completed), f"completions/spool.bash lacks {task}")
     program = "\n".join(source(it.relative_to(CRATES)) for it in sorted((CRATES / "spool_front" / "src").glob("*.rt")))
     for variable in sorted(set(re.findall(r'"([A-Z]{4,}(?:_[A-Z]+)?)"', program))):
-        check(re.search(rf"\.It Ev (?:\w+ , )?{variable}\b", said), f"{FRONT[0]} lacks the variable {variable}")
+        check(re.search(rf"\.It Ev (?:\w+ , )*{variable}\b", said), f"{FRONT[0]} lacks the variable {variable}")
 
 
 def commands():

@@ -120,7 +120,7 @@ impl Descriptors {
     }
 
     /// For how many starts they can be had, up to four. What was seen a moment ago, and isn't used up, isn't looked at again.
-    pub fn count_places<R: Files<File = File> + Clock + AllocGlobal>(&mut self, rt: &R) -> usize
+    pub fn count_places<R: Files<File = File> + Clock>(&mut self, rt: &R) -> usize
         ensures { result ≤ 4 }
     {
         if self.left == 0 || !self.sight.is_fresh(rt) {
@@ -137,36 +137,27 @@ impl Descriptors {
 }
 
 // For how many starts descriptors can be opened at once, beside the spare ones. They are closed again.
-fn count_openable<R: Files<File = File> + AllocGlobal>(rt: &R) -> usize {
-    let mut opened = Vec::new(rt.alloc());
-    if !opens_more(rt, &mut opened, SPARE) {
-        return 0;
-    }
-    for count in 0..MOST_PLACES {
-        if !opens_more(rt, &mut opened, DESCRIPTORS) {
-            return count;
-        }
-    }
-    MOST_PLACES
+fn count_openable<R: Files<File = File>>(rt: &R) -> usize {
+    open_others(rt, SPARE + MOST_PLACES * DESCRIPTORS).saturating_sub(SPARE) / DESCRIPTORS
 }
 
-// Opens so many descriptors beside those that are open. Whether they can be had.
-fn opens_more<R: Files<File = File> + AllocGlobal>(
-    rt: &R,
-    opened: &mut Vec<File>,
-    count: usize,
-) -> bool {
-    for _ in 0..count {
-        match fs::open(rt, NOTHING) {
-            Ok(file) => {
-                if opened.push(file).is_err() {
-                    return false;
-                }
-            }
-            Err(error) => return shortage_of(&error).is_none(),
-        }
+// How many descriptors can be opened at once, up to so many. Each stays open while the others are opened, and no list of them is
+// kept: a look that wanted memory would find no place where there are descriptors.
+fn open_others<R: Files<File = File>>(rt: &R, most: usize) -> usize
+    ensures { result ≤ most }
+{
+    if most == 0 {
+        return 0;
     }
-    true
+    match fs::open(rt, NOTHING) {
+        Ok(file) => {
+            let others = open_others(rt, most - 1);
+            drop(file);
+            others + 1
+        }
+        Err(error) if shortage_of(&error).is_none() => most,
+        Err(_) => 0,
+    }
 }
 
 /// Whether the folder has room for the files of a child, as far as that can be known before they are made.
