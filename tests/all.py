@@ -75,6 +75,7 @@ ALONE = ["large.py"]
 IN_GATE = ["out_of_memory.py", "unused_lemmas.py", "edits_apply.py", "places.py"]
 ON_DEMAND = ["cuts.py", "failing_calls.py", "gate_minutes.py", "more_edits.py"]
 PARTS = [
+    "admin_parts.py",
     "all.py",
     "allocations.txt",
     "child_folder.py",
