@@ -259,8 +259,8 @@ class Commands:
 MEMORY = b"error memory\n"
 NOWHERE = "it is told nowhere"
 
-# The allocations of a start that looks for what killed ones left, one behind the other.
-LEFTOVERS = 4
+# The allocations of a start that looks for what killed ones left, one behind the other: its folder has the spool's file and its lock.
+LEFTOVERS = 6
 
 
 def refused_reply(counting, script, number, others, usual):

@@ -9,8 +9,8 @@ on until none is, or with `--every N` each Nth. The children get their memory as
 - A command of one event, or a checkpoint, that is answered `error memory` leaves each byte of the file, and given again it has its
   reply. The table in the file, which the model of tests/spool_model.py reads, is the one behind the commands that were answered.
 - A round or a drain that is answered `error memory` is given again until one is idle: a stage whose end had no memory isn't started
-  a second time. In the round itself all went its way for one of the two queues at least. Only where there was no memory for the
-  list of the jobs did it do nothing at all; that may be so for LIST allocations of a round at most.
+  a second time. In the round itself all went its way for one of the two queues at least. Only where there was no memory for one
+  of the lists that a pass reserves before all else did it do nothing at all; that may be so for LISTS allocations of a round at most.
 - A stage that finds no memory in the launcher ends as one that couldn't be started or whose end isn't known, so one job at most
   ends in another way than without a refusal.
 - A program that ends does so with `spool: memory` and status 1, and had answered nothing wrong. The file has what was answered, and
@@ -37,8 +37,8 @@ SECONDS = 60
 AT_ONCE = 4
 SIZE = 16_384
 
-# How many allocations of a round may be those of its list of jobs.
-LIST = 1
+# How many allocations of a round are those of its lists.
+LISTS = 5
 
 # The commands, each with its reply. The spool is made while the first waits.
 SCRIPT = [
@@ -303,7 +303,7 @@ def main():
                 passed += is_refused
                 idle += did_nothing
         rounds = sum(text in ROUNDS for text, _ in SCRIPT)
-        demand(idle <= LIST * rounds, f"{idle} refusals kept a round from doing anything, in {rounds} rounds")
+        demand(idle <= LISTS * rounds, f"{idle} refusals kept a round from doing anything, in {rounds} rounds")
     except Difference as difference:
         print(difference)
         sys.exit(1)
