@@ -85,7 +85,7 @@ class Run:
     def __init__(self, shell, library, room, refused):
         self.room = room
         self.root = os.path.join(room, "r")
-        os.mkdir(self.root)
+        os.makedirs(self.root)
         self.file = os.path.join(self.root, "spool.disk")
         self.log = os.path.join(room, "counted")
         self.children = real_children.Children(room)
@@ -243,10 +243,8 @@ def check_again(shell, run):
     demand(not again, f"stages ran again, or of a job that had ended: {again}")
 
 
-def check(shell, library, tables, room, refused):
+def check(shell, tables, run):
     """One run. Gives whether something was refused, and whether a round did nothing."""
-    os.mkdir(room)
-    run = Run(shell, library, room, refused)
     answered, idle, is_whole = check_end(run)
     run.take_stages()
     check_tables(run, tables, answered, is_whole)
@@ -254,13 +252,12 @@ def check(shell, library, tables, room, refused):
         check_jobs(run.table())
     check_again(shell, run)
     is_refused = run.count()[1] if os.path.exists(run.log) else True
-    shutil.rmtree(room)
+    shutil.rmtree(run.room)
     return is_refused, idle
 
 
 def usual(shell, library, room):
     """How many allocations a run makes, and the tables before and behind each command."""
-    os.mkdir(room)
     run = Run(shell, library, room, 0)
     run.begin()
     tables = [model.Table()]
@@ -292,9 +289,10 @@ def main():
     passed, idle = 0, 0
     try:
         count, tables = usual(shell, library, os.path.join(folder, "0"))
+        # All files are written before a run begins: one that another run is forked beside is busy, and can't be run.
+        made = {number: Run(shell, library, os.path.join(folder, str(number)), number) for number in range(1, count + 1, every)}
         with concurrent.futures.ThreadPoolExecutor(AT_ONCE) as pool:
-            numbers = range(1, count + 1, every)
-            runs = {number: pool.submit(check, shell, library, tables, os.path.join(folder, str(number)), number) for number in numbers}
+            runs = {number: pool.submit(check, shell, tables, run) for number, run in made.items()}
             for number, task in runs.items():
                 try:
                     is_refused, did_nothing = task.result()
