@@ -87,117 +87,114 @@ fn submit_command<'a>(alloc: Global) -> Result<Command<'a>, AllocError>
 fn submit_words<'a>(alloc: Global) -> Result<Command<'a>, AllocError>
     ensures { IfOk result (λ command. app_of command ≡ submit_words) }
 {
-    let queue = needed_word(alloc, "queue", "QUEUE", "The queue that prints");
-    let file = needed_words(
-        alloc,
-        "file",
-        "FILE",
-        "The files; `-` is the standard input",
-    );
     let command = task_command(
         alloc,
         "spool submit",
         "Prints files, each as a job of its own",
     )?;
-    command.arg(queue)?.arg(file)
+    command
+        .arg(needed_word(alloc, "queue", "QUEUE", "The queue that prints"))?
+        .arg(needed_words(
+            alloc,
+            "file",
+            "FILE",
+            "The files; `-` is the standard input",
+        ))
 }
 
 // What a job is called, and whose it is.
 fn title_options<'a>(alloc: Global, command: Command<'a>) -> Result<Command<'a>, AllocError>
     ensures { IfOk result (λ more. app_of more ≡ with_titles (app_of command.entry)) }
 {
-    let title = text_option(
-        alloc,
-        "title",
-        "TITLE",
-        "The title [default: the file's name]",
-    );
-    let user = text_option(alloc, "user", "USER", "In whose name [default: yours]");
-    command.arg(title)?.arg(user)
+    command
+        .arg(text_option(
+            alloc,
+            "title",
+            "TITLE",
+            "The title [default: the file's name]",
+        ))?
+        .arg(text_option(alloc, "user", "USER", "In whose name [default: yours]"))
 }
 
 // What a job is: its title, its owner and how it is printed.
 fn document_options<'a>(alloc: Global, command: Command<'a>) -> Result<Command<'a>, AllocError>
     ensures { IfOk result (λ more. app_of more ≡ with_document (app_of command.entry)) }
 {
-    let copies = text_option(
-        alloc,
-        "copies",
-        "N",
-        "How many, from 1 to 9999 [default: 1]",
-    );
-    let priority = text_option(alloc, "priority", "P", "From 1 to 100 [default: 50]");
-    let pages = text_option(alloc, "pages", "PAGES", "These pages alone, as 1-4,7");
-    let option = letter_options(
-        alloc,
-        'o',
-        "option",
-        "NAME=VALUE",
-        "An option of the printer or a filter",
-    );
     let command = title_options(alloc, command)?;
-    command.arg(copies)?.arg(priority)?.arg(pages)?.arg(option)
+    command
+        .arg(text_option(
+            alloc,
+            "copies",
+            "N",
+            "How many, from 1 to 9999 [default: 1]",
+        ))?
+        .arg(text_option(alloc, "priority", "P", "From 1 to 100 [default: 50]"))?
+        .arg(text_option(alloc, "pages", "PAGES", "These pages alone, as 1-4,7"))?
+        .arg(letter_options(
+            alloc,
+            'o',
+            "option",
+            "NAME=VALUE",
+            "An option of the printer or a filter",
+        ))
 }
 
 // When it is printed, and what is told of it.
 fn handling_options<'a>(alloc: Global, command: Command<'a>) -> Result<Command<'a>, AllocError>
     ensures { IfOk result (λ more. app_of more ≡ with_handling (app_of command.entry)) }
 {
-    let hold = flag_option(alloc, "hold", "Let it wait until it is released");
-    let at = text_option(
-        alloc,
-        "at",
-        "MOMENT",
-        "Let it wait until then: seconds of the epoch, or +SECONDS from now",
-    );
-    let by = text_option(
-        alloc,
-        "by",
-        "MOMENT",
-        "Abort it where it hasn't started by then",
-    );
-    let wait = flag_option(alloc, "wait", "Wait for its end");
-    let quiet = flag_option(alloc, "quiet", "Say nothing of a job that is accepted");
-    command.arg(hold)?.arg(at)?.arg(by)?.arg(wait)?.arg(quiet)
+    command
+        .arg(flag_option(alloc, "hold", "Let it wait until it is released"))?
+        .arg(text_option(
+            alloc,
+            "at",
+            "MOMENT",
+            "Let it wait until then: seconds of the epoch, or +SECONDS from now",
+        ))?
+        .arg(text_option(
+            alloc,
+            "by",
+            "MOMENT",
+            "Abort it where it hasn't started by then",
+        ))?
+        .arg(flag_option(alloc, "wait", "Wait for its end"))?
+        .arg(flag_option(alloc, "quiet", "Say nothing of a job that is accepted"))
 }
 
 fn status_command<'a>(alloc: Global) -> Result<Command<'a>, AllocError>
     ensures { IfOk result (λ command. app_of command ≡ status_app) }
 {
-    let job = word(alloc, "job", "JOB", "This job alone");
-    let queue = letter_option(alloc, 'q', "queue", "QUEUE", "The jobs of this queue alone");
-    let json = flag_option(alloc, "json", "As JSON");
     let command = task_command(alloc, "spool status", "Shows jobs")?;
-    command.arg(job)?.arg(queue)?.arg(json)
+    command
+        .arg(word(alloc, "job", "JOB", "This job alone"))?
+        .arg(letter_option(alloc, 'q', "queue", "QUEUE", "The jobs of this queue alone"))?
+        .arg(flag_option(alloc, "json", "As JSON"))
 }
 
 fn queues_command<'a>(alloc: Global) -> Result<Command<'a>, AllocError>
     ensures { IfOk result (λ command. app_of command ≡ queues_app) }
 {
-    let json = flag_option(alloc, "json", "As JSON");
     let command = task_command(alloc, "spool queues", "Shows the queues")?;
-    command.arg(json)
+    command.arg(flag_option(alloc, "json", "As JSON"))
 }
 
 fn jobs_command<'a>(alloc: Global, name: &'a str, about: &'a str) -> Result<Command<'a>, AllocError>
     ensures { IfOk result (λ command. app_of command ≡ jobs_app name.entry.now) }
 {
-    let job = needed_words(alloc, "job", "JOB", "The jobs, as 12 or office-12");
     let command = task_command(alloc, name, about)?;
-    command.arg(job)
+    command.arg(needed_words(alloc, "job", "JOB", "The jobs, as 12 or office-12"))
 }
 
 fn hold_command<'a>(alloc: Global) -> Result<Command<'a>, AllocError>
     ensures { IfOk result (λ command. app_of command ≡ hold_app) }
 {
-    let until = text_option(
+    let command = jobs_command(alloc, "spool hold", "Lets jobs wait")?;
+    command.arg(text_option(
         alloc,
         "until",
         "MOMENT",
         "Until then: seconds of the epoch, or +SECONDS from now",
-    );
-    let command = jobs_command(alloc, "spool hold", "Lets jobs wait")?;
-    command.arg(until)
+    ))
 }
 
 fn queue_command<'a>(
@@ -207,77 +204,70 @@ fn queue_command<'a>(
 ) -> Result<Command<'a>, AllocError>
     ensures { IfOk result (λ command. app_of command ≡ queue_app name.entry.now) }
 {
-    let queue = needed_word(alloc, "name", "NAME", "The queue");
     let command = task_command(alloc, name, about)?;
-    command.arg(queue)
+    command.arg(needed_word(alloc, "name", "NAME", "The queue"))
 }
 
 fn add_command<'a>(alloc: Global) -> Result<Command<'a>, AllocError>
     ensures { IfOk result (λ command. app_of command ≡ add_app) }
 {
-    let uri = needed_word(alloc, "uri", "URI", "Its device");
-    let media = text_option(
-        alloc,
-        "media",
-        "TYPE",
-        "What the device takes [default: application/pdf]",
-    );
-    let policy = text_option(
-        alloc,
-        "policy",
-        "POLICY",
-        "What becomes of a job that fails: abort-job, retry-job, retry-current-job or stop-printer [default: retry-job]",
-    );
-    let interval = text_option(
-        alloc,
-        "interval",
-        "SECONDS",
-        "Before another try, up to 86400 [default: 30]",
-    );
-    let limit = text_option(
-        alloc,
-        "limit",
-        "N",
-        "How many tries, up to 65535 [default: 5]",
-    );
     let command = queue_command(alloc, "spool queue add", "Makes a queue")?;
     command
-        .arg(uri)?
-        .arg(media)?
-        .arg(policy)?
-        .arg(interval)?
-        .arg(limit)
+        .arg(needed_word(alloc, "uri", "URI", "Its device"))?
+        .arg(text_option(
+            alloc,
+            "media",
+            "TYPE",
+            "What the device takes [default: application/pdf]",
+        ))?
+        .arg(text_option(
+            alloc,
+            "policy",
+            "POLICY",
+            "What becomes of a job that fails: abort-job, retry-job, retry-current-job or stop-printer [default: retry-job]",
+        ))?
+        .arg(text_option(
+            alloc,
+            "interval",
+            "SECONDS",
+            "Before another try, up to 86400 [default: 30]",
+        ))?
+        .arg(text_option(
+            alloc,
+            "limit",
+            "N",
+            "How many tries, up to 65535 [default: 5]",
+        ))
 }
 
 fn set_command<'a>(alloc: Global) -> Result<Command<'a>, AllocError>
     ensures { IfOk result (λ command. app_of command ≡ set_app) }
 {
-    let info = text_option(alloc, "info", "TEXT", "What it is [default: nothing]");
-    let location = text_option(alloc, "location", "TEXT", "Where it is [default: nothing]");
     let command = queue_command(
         alloc,
         "spool queue set",
         "Sets what people read about a queue",
     )?;
-    command.arg(info)?.arg(location)
+    command
+        .arg(text_option(alloc, "info", "TEXT", "What it is [default: nothing]"))?
+        .arg(text_option(alloc, "location", "TEXT", "Where it is [default: nothing]"))
 }
 
 fn page_command<'a>(alloc: Global) -> Result<Command<'a>, AllocError>
     ensures { IfOk result (λ command. app_of command ≡ page_app) }
 {
-    let file = needed_word(alloc, "file", "FILE", "The page's file");
-    let follow = flag_option(alloc, "follow", "Write it anew as things change");
     let command = task_command(alloc, "spool page", "Writes the queues and jobs as a page")?;
-    command.arg(file)?.arg(follow)
+    command
+        .arg(needed_word(alloc, "file", "FILE", "The page's file"))?
+        .arg(flag_option(alloc, "follow", "Write it anew as things change"))
 }
 
 // With no task that there is.
 fn other_command<'a>(alloc: Global) -> Result<Command<'a>, AllocError>
     ensures { IfOk result (λ command. app_of command ≡ other_app) }
 {
-    let task = needed_words(alloc, "task", "TASK", "One of these tasks");
     Command::new(alloc, "spool")
         .about("Prints, and shows what prints")
         .after_help(TASKS)
-        .arg(task)
+        .arg(needed_words(alloc, "task", "TASK", "One of these tasks"))
 }

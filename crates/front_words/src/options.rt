@@ -18,11 +18,10 @@ pub fn task_command<'a>(
 ) -> Result<Command<'a>, AllocError>
     ensures { IfOk result (λ command. app_of command ≡ task_app name.entry.now) }
 {
-    let socket = socket_option(alloc);
     Command::new(alloc, name)
         .about(about)
         .bin_name(name)?
-        .arg(socket)
+        .arg(socket_option(alloc))
 }
 
 // The command of a program that goes by its own name. There `-h` isn't the help: others took it for a host.
@@ -33,13 +32,11 @@ pub fn named_command<'a>(
 ) -> Result<Command<'a>, AllocError>
     ensures { IfOk result (λ command. app_of command ≡ named_app name.entry.now) }
 {
-    let socket = socket_option(alloc);
-    let help = help_option(alloc);
     Command::new(alloc, name)
         .about(about)
         .disable_help_flag(true)
-        .arg(help)?
-        .arg(socket)
+        .arg(help_option(alloc))?
+        .arg(socket_option(alloc))
 }
 
 // `--help` alone.

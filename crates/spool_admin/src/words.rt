@@ -176,26 +176,23 @@ fn size_of(text: &str) -> Option<u64>
 fn admin_command<'a>(alloc: Global) -> Result<Command<'a>, AllocError>
     ensures { IfOk result (λ command. app_of command ≡ admin_app) }
 {
-    let task = word(
-        alloc,
-        "task",
-        "TASK",
-        "`look DIR` shows how full the spool is, `grow DIR BYTES` makes its file larger, and `split DIR INTO QUEUE..` gives queues to another spool",
-    );
-    let dir = word(
-        alloc,
-        "dir",
-        "DIR",
-        "The folder of the spool's file, spool.disk, which no other program may have meanwhile",
-    );
-    let rest = more_words(alloc);
     Command::new(alloc, "spool_admin")
         .about(
             "Looks at a print spool, makes it larger, or splits it by queues, while no spooler runs",
         )
-        .arg(task)?
-        .arg(dir)?
-        .arg(rest)
+        .arg(word(
+            alloc,
+            "task",
+            "TASK",
+            "`look DIR` shows how full the spool is, `grow DIR BYTES` makes its file larger, and `split DIR INTO QUEUE..` gives queues to another spool",
+        ))?
+        .arg(word(
+            alloc,
+            "dir",
+            "DIR",
+            "The folder of the spool's file, spool.disk, which no other program may have meanwhile",
+        ))?
+        .arg(more_words(alloc))
 }
 
 // A word that has to be there, and isn't empty.

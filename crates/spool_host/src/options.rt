@@ -41,39 +41,34 @@ pub fn spool_command<'a>(
 ) -> Result<Command<'a>, AllocError>
     ensures { IfOk result (λ command. app_of command ≡ spool_app name.entry.now) }
 {
-    let root = text_option(alloc, "root", "DIR", root_help);
-    let types = text_option(
-        alloc,
-        "types",
-        "FILE",
-        "Read the types of documents from this file [default: none]",
-    );
-    let convs = text_option(
-        alloc,
-        "convs",
-        "FILE",
-        "Read the filters that convert documents from this file [default: none]",
-    );
-    let programs = text_option(
-        alloc,
-        "programs",
-        "FILE",
-        "Read which programs filters and backends are from this file [default: none]",
-    );
-    let size = number_option(
-        alloc,
-        "size",
-        "BYTES",
-        (LEAST_SIZE, GREATEST_SIZE),
-        "The length of a spool that is made [default: 4194304]",
-    );
     Command::new(alloc, name)
         .about(about)
-        .arg(root)?
-        .arg(types)?
-        .arg(convs)?
-        .arg(programs)?
-        .arg(size)
+        .arg(text_option(alloc, "root", "DIR", root_help))?
+        .arg(text_option(
+            alloc,
+            "types",
+            "FILE",
+            "Read the types of documents from this file [default: none]",
+        ))?
+        .arg(text_option(
+            alloc,
+            "convs",
+            "FILE",
+            "Read the filters that convert documents from this file [default: none]",
+        ))?
+        .arg(text_option(
+            alloc,
+            "programs",
+            "FILE",
+            "Read which programs filters and backends are from this file [default: none]",
+        ))?
+        .arg(number_option(
+            alloc,
+            "size",
+            "BYTES",
+            (LEAST_SIZE, GREATEST_SIZE),
+            "The length of a spool that is made [default: 4194304]",
+        ))
 }
 
 /// An option with a text that isn't empty.

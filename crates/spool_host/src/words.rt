@@ -76,18 +76,17 @@ pub fn read_words<'a, S: AsStr>(alloc: Global, words: &'a [S]) -> Result<ShellWo
 fn shell_command<'a>(alloc: Global) -> Result<Command<'a>, AllocError>
     ensures { IfOk result (λ command. app_of command ≡ shell_app) }
 {
-    let devices = flag_option(
-        alloc,
-        "devices",
-        "List the devices that the backends know, and serve no commands",
-    );
     let command = spool_command(
         alloc,
         "spool_shell",
         "Serves a print spool: reads commands on standard input, and writes replies on standard output",
         "Keep the spool in the file spool.disk of this folder [default: in memory]",
     )?;
-    command.arg(devices)
+    command.arg(flag_option(
+        alloc,
+        "devices",
+        "List the devices that the backends know, and serve no commands",
+    ))
 }
 
 // Whether the folder's name has too many bytes.

@@ -151,54 +151,54 @@ fn service_command<'a>(alloc: Global) -> Result<Command<'a>, AllocError>
     )?;
     let command = socket_options(alloc, command)?;
     let command = bound_options(alloc, command)?;
-    let quiet = flag_option(alloc, "quiet", "Tell what failed alone");
-    let verbose = flag_option(alloc, "verbose", "Tell each start of a child too");
-    command.arg(quiet)?.arg(verbose)
+    command
+        .arg(flag_option(alloc, "quiet", "Tell what failed alone"))?
+        .arg(flag_option(alloc, "verbose", "Tell each start of a child too"))
 }
 
 // The command with the options of the socket, too.
 fn socket_options<'a>(alloc: Global, command: Command<'a>) -> Result<Command<'a>, AllocError>
     ensures { IfOk result (λ more. app_of more ≡ with_socket (app_of command.entry)) }
 {
-    let listen = text_option(
-        alloc,
-        "listen",
-        "SOCKET",
-        "Serve clients on this socket [default: DIR/spool.sock]",
-    );
-    let mode = text_option(
-        alloc,
-        "mode",
-        "MODE",
-        "Who may open the socket [default: 0660]",
-    );
-    command.arg(listen)?.arg(mode)
+    command
+        .arg(text_option(
+            alloc,
+            "listen",
+            "SOCKET",
+            "Serve clients on this socket [default: DIR/spool.sock]",
+        ))?
+        .arg(text_option(
+            alloc,
+            "mode",
+            "MODE",
+            "Who may open the socket [default: 0660]",
+        ))
 }
 
 // The command with the options that bound what is kept and run, too.
 fn bound_options<'a>(alloc: Global, command: Command<'a>) -> Result<Command<'a>, AllocError>
     ensures { IfOk result (λ more. app_of more ≡ with_bounds (app_of command.entry)) }
 {
-    let keep = number_option(
-        alloc,
-        "keep",
-        "N",
-        (0, 1_000_000),
-        "How many ended jobs are kept [default: 500]",
-    );
-    let room = number_option(
-        alloc,
-        "room",
-        "PERCENT",
-        (1, 90),
-        "Make a checkpoint where less of the journal is left [default: 25]",
-    );
-    let children = number_option(
-        alloc,
-        "children",
-        "N",
-        (1, 1_000),
-        "How many children run at once [default: 32]",
-    );
-    command.arg(keep)?.arg(room)?.arg(children)
+    command
+        .arg(number_option(
+            alloc,
+            "keep",
+            "N",
+            (0, 1_000_000),
+            "How many ended jobs are kept [default: 500]",
+        ))?
+        .arg(number_option(
+            alloc,
+            "room",
+            "PERCENT",
+            (1, 90),
+            "Make a checkpoint where less of the journal is left [default: 25]",
+        ))?
+        .arg(number_option(
+            alloc,
+            "children",
+            "N",
+            (1, 1_000),
+            "How many children run at once [default: 32]",
+        ))
 }

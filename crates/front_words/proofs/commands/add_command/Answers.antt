@@ -9,4 +9,4 @@ returns c = IfOk-weaker c.arg-5.result _ _ (λ command added. added.shape (searc
     ∙ ap₂ with_rule (c.in_ok-arg-3.ensures.shape (search rules)
     ∙ ap₂ with_rule (c.in_ok-arg-2.ensures.shape (search rules)
     ∙ ap₂ with_rule (c.in_ok-arg.ensures.shape (search rules)
-    ∙ ap₂ with_rule c.in_ok-command.ensures c.needed_word-uri.ensures.rule) c.text_option-media.ensures.rule) c.text_option-policy.ensures.rule) c.text_option-interval.ensures.rule) c.text_option-limit.ensures.rule) c.arg-5.ensures
+    ∙ ap₂ with_rule c.in_ok-command.ensures c.needed_word.ensures.rule) c.text_option.ensures.rule) c.text_option-2.ensures.rule) c.text_option-3.ensures.rule) c.text_option-4.ensures.rule) c.arg-5.ensures

@@ -8,4 +8,4 @@ returns c = IfOk-weaker c.arg-4.result _ _ (λ command added. added.shape (searc
     ∙ ap₂ with_rule (c.in_ok-arg-3.ensures.shape (search rules)
     ∙ ap₂ with_rule (c.in_ok-arg-2.ensures.shape (search rules)
     ∙ ap₂ with_rule (c.in_ok-arg.ensures.shape (search rules)
-    ∙ ap₂ with_rule c.in_ok-command.ensures c.text_option-copies.ensures.rule) c.text_option-priority.ensures.rule) c.text_option-pages.ensures.rule) c.letter_options-option.ensures.rule) c.arg-4.ensures
+    ∙ ap₂ with_rule c.in_ok-command.ensures c.text_option.ensures.rule) c.text_option-2.ensures.rule) c.text_option-3.ensures.rule) c.letter_options.ensures.rule) c.arg-4.ensures

@@ -9,4 +9,4 @@ returns c = IfOk-weaker c.arg-5.result _ _ (λ command added. added.shape (searc
     ∙ ap₂ with_rule (c.in_ok-arg-3.ensures.shape (search rules)
     ∙ ap₂ with_rule (c.in_ok-arg-2.ensures.shape (search rules)
     ∙ ap₂ with_rule (c.in_ok-arg.ensures.shape (search rules)
-    ∙ ap₂ with_rule refl c.flag_option-hold.ensures.rule) c.text_option-at.ensures.rule) c.text_option-by.ensures.rule) c.flag_option-wait.ensures.rule) c.flag_option-quiet.ensures.rule) c.arg-5.ensures
+    ∙ ap₂ with_rule refl c.flag_option.ensures.rule) c.text_option.ensures.rule) c.text_option-2.ensures.rule) c.flag_option-2.ensures.rule) c.flag_option-3.ensures.rule) c.arg-5.ensures

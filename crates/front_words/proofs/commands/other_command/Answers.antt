@@ -8,4 +8,4 @@ pub returns : goal.returns
 returns c =
     let about_is : app_of c.about.result ≡ new_app (codes "spool") = ap app_of_fields c.about.ensures ∙ c.new.ensures.app in
     let more_is : app_of c.after_help.result ≡ new_app (codes "spool") = ap app_of_fields c.after_help.ensures ∙ about_is in
-    IfOk-weaker c.arg.result _ _ (λ command added. added.shape (search rules) ∙ ap₂ with_rule more_is c.needed_words-task.ensures.rule) c.arg.ensures
+    IfOk-weaker c.arg.result _ _ (λ command added. added.shape (search rules) ∙ ap₂ with_rule more_is c.needed_words.ensures.rule) c.arg.ensures

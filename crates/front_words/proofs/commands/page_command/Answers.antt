@@ -6,4 +6,4 @@ use Rattle.front_words.proofs.commands.page_command.Goals as goal
 pub returns : goal.returns
 returns c = IfOk-weaker c.arg-2.result _ _ (λ command added. added.shape (search rules)
     ∙ ap₂ with_rule (c.in_ok-arg.ensures.shape (search rules)
-    ∙ ap₂ with_rule c.in_ok-command.ensures c.needed_word-file.ensures.rule) c.flag_option-follow.ensures.rule) c.arg-2.ensures
+    ∙ ap₂ with_rule c.in_ok-command.ensures c.needed_word.ensures.rule) c.flag_option.ensures.rule) c.arg-2.ensures

@@ -5,4 +5,4 @@ use Rattle.front_words.proofs.commands.queue_command.Goals as goal
 
 pub returns : goal.returns
 returns c = IfOk-weaker c.arg.result _ _ (λ command added. added.shape (search rules)
-    ∙ ap₂ with_rule c.in_ok-command.ensures c.needed_word-queue.ensures.rule) c.arg.ensures
+    ∙ ap₂ with_rule c.in_ok-command.ensures c.needed_word.ensures.rule) c.arg.ensures

@@ -5,4 +5,4 @@ use Rattle.front_words.proofs.commands.queues_command.Goals as goal
 
 pub returns : goal.returns
 returns c = IfOk-weaker c.arg.result _ _ (λ command added. added.shape (search rules)
-    ∙ ap₂ with_rule c.in_ok-command.ensures c.flag_option-json.ensures.rule) c.arg.ensures
+    ∙ ap₂ with_rule c.in_ok-command.ensures c.flag_option.ensures.rule) c.arg.ensures

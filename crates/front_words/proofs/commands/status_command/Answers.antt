@@ -7,4 +7,4 @@ pub returns : goal.returns
 returns c = IfOk-weaker c.arg-3.result _ _ (λ command added. added.shape (search rules)
     ∙ ap₂ with_rule (c.in_ok-arg-2.ensures.shape (search rules)
     ∙ ap₂ with_rule (c.in_ok-arg.ensures.shape (search rules)
-    ∙ ap₂ with_rule c.in_ok-command.ensures c.word-job.ensures.rule) c.letter_option-queue.ensures.rule) c.flag_option-json.ensures.rule) c.arg-3.ensures
+    ∙ ap₂ with_rule c.in_ok-command.ensures c.word.ensures.rule) c.letter_option.ensures.rule) c.flag_option.ensures.rule) c.arg-3.ensures

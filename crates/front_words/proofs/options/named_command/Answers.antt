@@ -10,4 +10,4 @@ returns c =
     let plain_is : app_of c.disable_help_flag.result ≡ on_top (λ s. record s { disable_help_flag = true }) (new_app c.args.name.now) =
     ap app_of_fields c.disable_help_flag.ensures ∙ ap (on_top (λ s. record s { disable_help_flag = true })) about_is in
     IfOk-weaker c.arg-2.result _ _ (λ command added. added.shape (search rules)
-    ∙ ap₂ with_rule (c.in_ok-arg.ensures.shape (search rules) ∙ ap₂ with_rule plain_is c.help_option-help.ensures.rule) c.socket_option-socket.ensures.rule) c.arg-2.ensures
+    ∙ ap₂ with_rule (c.in_ok-arg.ensures.shape (search rules) ∙ ap₂ with_rule plain_is c.help_option.ensures.rule) c.socket_option.ensures.rule) c.arg-2.ensures

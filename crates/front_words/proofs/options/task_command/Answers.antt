@@ -8,4 +8,4 @@ pub returns : goal.returns
 returns c =
     let about_is : app_of c.about.result ≡ new_app c.args.name.now = ap app_of_fields c.about.ensures ∙ c.new.ensures.app in
     let named_is : app_of c.in_ok-bin_name.field-0 ≡ new_app c.args.name.now = ap app_of_fields c.in_ok-bin_name.ensures.0 ∙ about_is in
-    IfOk-weaker c.arg.result _ _ (λ command added. added.shape (search rules) ∙ ap₂ with_rule named_is c.socket_option-socket.ensures.rule) c.arg.ensures
+    IfOk-weaker c.arg.result _ _ (λ command added. added.shape (search rules) ∙ ap₂ with_rule named_is c.socket_option.ensures.rule) c.arg.ensures

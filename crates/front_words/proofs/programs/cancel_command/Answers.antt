@@ -6,4 +6,4 @@ use Rattle.front_words.proofs.programs.cancel_command.Goals as goal
 pub returns : goal.returns
 returns c = IfOk-weaker c.arg-2.result _ _ (λ command added. added.shape (search rules)
     ∙ ap₂ with_rule (c.in_ok-arg.ensures.shape (search rules)
-    ∙ ap₂ with_rule c.in_ok-command.ensures c.words-job.ensures.rule) c.letter_flag-all.ensures.rule) c.arg-2.ensures
+    ∙ ap₂ with_rule c.in_ok-command.ensures c.words.ensures.rule) c.letter_flag.ensures.rule) c.arg-2.ensures

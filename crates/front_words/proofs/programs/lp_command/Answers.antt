@@ -10,4 +10,4 @@ returns c = IfOk-weaker c.arg-5.result _ _ (λ command added. added.shape (searc
     ∙ ap₂ with_rule (c.in_ok-arg-3.ensures.shape (search rules)
     ∙ ap₂ with_rule (c.in_ok-arg-2.ensures.shape (search rules)
     ∙ ap₂ with_rule (c.in_ok-arg.ensures.shape (search rules)
-    ∙ ap₂ with_rule (c.in_ok-command-2.ensures ∙ ap with_numbers c.in_ok-command.ensures) c.letter_options-option.ensures.rule) c.letter_option-pages.ensures.rule) c.letter_option-handling.ensures.rule) c.letter_flag-copy.ensures.rule) c.letter_flag-quiet.ensures.rule) c.arg-5.ensures
+    ∙ ap₂ with_rule (c.in_ok-command-2.ensures ∙ ap with_numbers c.in_ok-command.ensures) c.letter_options.ensures.rule) c.letter_option.ensures.rule) c.letter_option-2.ensures.rule) c.letter_flag.ensures.rule) c.letter_flag-2.ensures.rule) c.arg-5.ensures

@@ -7,4 +7,4 @@ pub returns : goal.returns
 returns c = IfOk-weaker c.arg-3.result _ _ (λ command added. added.shape (search rules)
     ∙ ap₂ with_rule (c.in_ok-arg-2.ensures.shape (search rules)
     ∙ ap₂ with_rule (c.in_ok-arg.ensures.shape (search rules)
-    ∙ ap₂ with_rule c.in_ok-command.ensures c.words-job.ensures.rule) c.letter_option-queue.ensures.rule) c.letter_flag-all.ensures.rule) c.arg-3.ensures
+    ∙ ap₂ with_rule c.in_ok-command.ensures c.words.ensures.rule) c.letter_option.ensures.rule) c.letter_flag.ensures.rule) c.arg-3.ensures

@@ -8,4 +8,4 @@ returns c = IfOk-weaker c.arg-4.result _ _ (λ command added. added.shape (searc
     ∙ ap₂ with_rule (c.in_ok-arg-3.ensures.shape (search rules)
     ∙ ap₂ with_rule (c.in_ok-arg-2.ensures.shape (search rules)
     ∙ ap₂ with_rule (c.in_ok-arg.ensures.shape (search rules)
-    ∙ ap₂ with_rule c.in_ok-command.ensures c.letter_option-copies.ensures.rule) c.letter_options-option.ensures.rule) c.letter_flag-hold.ensures.rule) c.letter_flag-banner.ensures.rule) c.arg-4.ensures
+    ∙ ap₂ with_rule c.in_ok-command.ensures c.letter_option.ensures.rule) c.letter_options.ensures.rule) c.letter_flag.ensures.rule) c.letter_flag-2.ensures.rule) c.arg-4.ensures

@@ -8,4 +8,4 @@ returns c = IfOk-weaker c.arg-4.result _ _ (λ command added. added.shape (searc
     ∙ ap₂ with_rule (c.in_ok-arg-3.ensures.shape (search rules)
     ∙ ap₂ with_rule (c.in_ok-arg-2.ensures.shape (search rules)
     ∙ ap₂ with_rule (c.in_ok-arg.ensures.shape (search rules)
-    ∙ ap₂ with_rule c.in_ok-command.ensures c.words-file.ensures.rule) c.letter_option-queue.ensures.rule) c.in_ok-title.ensures.rule) c.letter_option-user.ensures.rule) c.arg-4.ensures
+    ∙ ap₂ with_rule c.in_ok-command.ensures c.words.ensures.rule) c.letter_option.ensures.rule) c.in_ok-title_option.ensures.rule) c.letter_option-2.ensures.rule) c.arg-4.ensures

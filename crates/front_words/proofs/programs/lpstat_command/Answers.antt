@@ -8,4 +8,4 @@ returns c = IfOk-weaker c.arg-4.result _ _ (λ command added. added.shape (searc
     ∙ ap₂ with_rule (c.in_ok-arg-3.ensures.shape (search rules)
     ∙ ap₂ with_rule (c.in_ok-arg-2.ensures.shape (search rules)
     ∙ ap₂ with_rule (c.in_ok-arg.ensures.shape (search rules)
-    ∙ ap₂ with_rule c.in_ok-command.ensures c.letter_list-printers.ensures.rule) c.letter_list-accepting.ensures.rule) c.letter_list-devices.ensures.rule) c.letter_list-jobs.ensures.rule) c.arg-4.ensures
+    ∙ ap₂ with_rule c.in_ok-command.ensures c.letter_list.ensures.rule) c.letter_list-2.ensures.rule) c.letter_list-3.ensures.rule) c.letter_list-4.ensures.rule) c.arg-4.ensures

@@ -9,4 +9,4 @@ returns c =
     let about_is : app_of c.about.result ≡ new_app (codes "spool_admin") = ap app_of_fields c.about.ensures ∙ c.new.ensures.app in
     IfOk-weaker c.arg-3.result _ _ (λ command added. added.shape (search rules)
     ∙ ap₂ with_rule (c.in_ok-arg-2.ensures.shape (search rules) ∙ ap₂ with_rule (c.in_ok-arg.ensures.shape (search rules)
-    ∙ ap₂ with_rule about_is c.word-task.ensures.rule) c.word-dir.ensures.rule) c.more_words-rest.ensures.rule) c.arg-3.ensures
+    ∙ ap₂ with_rule about_is c.word.ensures.rule) c.word-2.ensures.rule) c.more_words.ensures.rule) c.arg-3.ensures

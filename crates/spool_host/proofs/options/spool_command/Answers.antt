@@ -10,5 +10,5 @@ returns c =
     IfOk-weaker c.arg-5.result _ _ (λ command added. added.shape (search rules)
     ∙ ap₂ with_rule (c.in_ok-arg-4.ensures.shape (search rules) ∙ ap₂ with_rule (c.in_ok-arg-3.ensures.shape (search rules)
     ∙ ap₂ with_rule (c.in_ok-arg-2.ensures.shape (search rules) ∙ ap₂ with_rule (c.in_ok-arg.ensures.shape (search rules)
-    ∙ ap₂ with_rule about_is c.text_option-root.ensures.rule) c.text_option-types.ensures.rule) c.text_option-convs.ensures.rule)
-    c.text_option-programs.ensures.rule) c.number_option-size.ensures.rule) c.arg-5.ensures
+    ∙ ap₂ with_rule about_is c.text_option.ensures.rule) c.text_option-2.ensures.rule) c.text_option-3.ensures.rule)
+    c.text_option-4.ensures.rule) c.number_option.ensures.rule) c.arg-5.ensures

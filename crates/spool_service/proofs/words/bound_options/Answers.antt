@@ -6,4 +6,4 @@ use Rattle.spool_service.proofs.words.bound_options.Goals as goal
 pub returns : goal.returns
 returns c = IfOk-weaker c.arg-3.result _ _ (λ more added. added.shape (search rules)
     ∙ ap₂ with_rule (c.in_ok-arg-2.ensures.shape (search rules) ∙ ap₂ with_rule (c.in_ok-arg.ensures.shape (search rules)
-    ∙ ap₂ with_rule refl c.number_option-keep.ensures.rule) c.number_option-room.ensures.rule) c.number_option-children.ensures.rule) c.arg-3.ensures
+    ∙ ap₂ with_rule refl c.number_option.ensures.rule) c.number_option-2.ensures.rule) c.number_option-3.ensures.rule) c.arg-3.ensures

@@ -7,5 +7,5 @@ use Rattle.spool_service.proofs.words.service_command.Goals as goal
 pub returns : goal.returns
 returns c = IfOk-weaker c.arg-2.result _ _ (λ command added. added.shape (search rules)
     ∙ ap₂ with_rule (c.in_ok-arg.ensures.shape (search rules)
-    ∙ ap₂ with_rule (c.in_ok-command-3.ensures ∙ ap with_bounds (c.in_ok-command-2.ensures ∙ ap with_socket c.in_ok-command.ensures)) c.flag_option-quiet.ensures.rule)
-    c.flag_option-verbose.ensures.rule) c.arg-2.ensures
+    ∙ ap₂ with_rule (c.in_ok-command-3.ensures ∙ ap with_bounds (c.in_ok-command-2.ensures ∙ ap with_socket c.in_ok-command.ensures)) c.flag_option.ensures.rule)
+    c.flag_option-2.ensures.rule) c.arg-2.ensures

@@ -5,5 +5,5 @@ use Rattle.spool_service.proofs.words.socket_options.Goals as goal
 
 pub returns : goal.returns
 returns c = IfOk-weaker c.arg-2.result _ _ (λ more added. added.shape (search rules)
-    ∙ ap₂ with_rule (c.in_ok-arg.ensures.shape (search rules) ∙ ap₂ with_rule refl c.text_option-listen.ensures.rule)
-    c.text_option-mode.ensures.rule) c.arg-2.ensures
+    ∙ ap₂ with_rule (c.in_ok-arg.ensures.shape (search rules) ∙ ap₂ with_rule refl c.text_option.ensures.rule)
+    c.text_option-2.ensures.rule) c.arg-2.ensures
