@@ -1,13 +1,16 @@
-"""What the tests of spool_admin share (grow.py, split.py): the programs, the spools that they look at, and the calls at which they
-are killed or that fail.
+"""What the tests of spool_admin share (grow.py, split.py): the programs, the spools that they look at, the calls at which they are killed
+or that fail, and how all tests are run.
 """
 import os
+import shutil
 import subprocess
 import sys
+import tempfile
 
 import journal
+import traces
 from journal import cancel, close, hold, image, send, start
-from stories import LAB, Q, of_lab, of_q, spelled
+from stories import LAB, Q, Difference, of_lab, of_q, spelled
 
 HERE = os.path.dirname(os.path.abspath(__file__))
 
@@ -52,3 +55,21 @@ def administer(*words, before=()):
     """The end of spool_admin with these words, and what it wrote. `before` is a command that runs it."""
     done = subprocess.run([*before, ADMIN, *words], capture_output=True, text=True, timeout=SECONDS)
     return done.returncode, done.stdout, done.stderr
+
+
+def run_all(prefix, plain, traced):
+    """Runs each test in a folder of its own, those that trace only where that is allowed. The first that finds a difference ends it,
+    with status 1, and its folder is left."""
+    for path in (ADMIN, SHELL):
+        if not os.path.exists(path):
+            sys.exit(f"no program {path}: run `rt run` in its crate first")
+    tests = plain + (traced if traces.may_trace() else [])
+    for test in tests:
+        folder = tempfile.mkdtemp(prefix=prefix)
+        try:
+            test(folder)
+        except (Difference, AssertionError, OSError, subprocess.TimeoutExpired) as difference:
+            print(f"{test.__name__}: {difference}, in {folder}")
+            sys.exit(1)
+        shutil.rmtree(folder)
+    print(f"{len(tests)} of {len(tests)}")

@@ -21,13 +21,12 @@ import os
 import shutil
 import stat
 import subprocess
-import sys
 import tempfile
 
 import journal
 import spool_model as model
 import traces
-from admin_parts import ADMIN, ERRORS, KILLED, LOCK, NAME, OWNED, SECONDS, SHELL, SIZE, administer, image_of, in_second_area
+from admin_parts import ERRORS, KILLED, LOCK, NAME, OWNED, SECONDS, SHELL, SIZE, administer, image_of, in_second_area, run_all
 from journal import image
 from stories import Q, Difference, of_q, same, spelled
 
@@ -298,21 +297,4 @@ PLAIN = [a_look_tells_what_there_is, a_look_at_no_spool, a_larger_file_has_the_t
          what_was_left_unfinished_goes, what_is_refused, a_listing_that_does_not_fit, a_running_shell_keeps_it, words_that_say_nothing]
 TRACED = [it_is_killed_at_each_call, each_call_fails_once, a_power_cut_leaves_the_old_or_the_new]
 
-
-def main():
-    for path in (ADMIN, SHELL):
-        if not os.path.exists(path):
-            sys.exit(f"no program {path}: run `rt run` in its crate first")
-    tests = PLAIN + (TRACED if traces.may_trace() else [])
-    for test in tests:
-        folder = tempfile.mkdtemp(prefix="grow-")
-        try:
-            test(folder)
-        except (Difference, AssertionError, OSError, subprocess.TimeoutExpired) as difference:
-            print(f"{test.__name__}: {difference}, in {folder}")
-            sys.exit(1)
-        shutil.rmtree(folder)
-    print(f"{len(tests)} of {len(tests)}")
-
-
-main()
+run_all("grow-", PLAIN, TRACED)

@@ -24,16 +24,15 @@ import os
 import shutil
 import stat
 import subprocess
-import sys
 import tempfile
 from concurrent.futures import ThreadPoolExecutor
 
 import journal
 import spool_model as model
 import traces
-from admin_parts import ADMIN, ERRORS, KILLED, LOCK, NAME, OWNED, SECONDS, SHELL, SIZE, administer, image_of, in_second_area
+from admin_parts import ERRORS, KILLED, LOCK, NAME, OWNED, SECONDS, SHELL, SIZE, administer, image_of, in_second_area, run_all
 from journal import close, image, send
-from stories import LAB, Q, Difference, of_lab, of_q, same, spelled
+from stories import LAB, Q, of_lab, of_q, same, spelled
 
 SIDE_BY_SIDE = 4
 PART = "spool.part."
@@ -342,21 +341,4 @@ PLAIN = [each_row_is_in_one_half, both_are_served, documents_are_whole, a_half_i
          a_running_shell_keeps_it, words_that_say_nothing, another_split_waits_for_the_first]
 TRACED = [it_is_killed_at_each_call, each_call_fails_once, a_power_cut_leaves_one_or_the_other, a_power_cut_behind_a_kill]
 
-
-def main():
-    for path in (ADMIN, SHELL):
-        if not os.path.exists(path):
-            sys.exit(f"no program {path}: run `rt run` in its crate first")
-    tests = PLAIN + (TRACED if traces.may_trace() else [])
-    for test in tests:
-        folder = tempfile.mkdtemp(prefix="split-")
-        try:
-            test(folder)
-        except (Difference, AssertionError, OSError, subprocess.TimeoutExpired) as difference:
-            print(f"{test.__name__}: {difference}, in {folder}")
-            sys.exit(1)
-        shutil.rmtree(folder)
-    print(f"{len(tests)} of {len(tests)}")
-
-
-main()
+run_all("split-", PLAIN, TRACED)
