@@ -1,5 +1,5 @@
 -- What is done to a job or a queue, as commands.
-use Rattle.std.specs.Prelude.{◌≡◌, ℕ, Bool, ◌&&◌, ◌||◌, not, cond, ◌==◌, List, length, codes, Option, None, Some}
+use Rattle.std.specs.Prelude.{◌≡◌, ℕ, Bool, true, ◌&&◌, ◌||◌, not, cond, ◌==◌, List, length, codes, Option, None, Some}
 use Rattle.std.specs.List.{list_any}
 use Rattle.command_lines.specs.Grammar.{is_word}
 use Rattle.front_texts.specs.States.{is_ended}
@@ -29,6 +29,11 @@ queue_act_line name Accept = name_line (codes "accept") name
 queue_act_line name Reject = name_line (codes "reject") name
 queue_act_line name Enable = name_line (codes "enable") name
 queue_act_line name Disable = name_line (codes "disable") name
+
+-- whether a job is of this queue; with none all are
+abbrev pub is_of : Option (List ℕ) → JobLine → Bool
+is_of None job = true
+is_of (Some queue) job = is_word job.queue queue
 
 -- whether a job is of one of these queues, or of any where none is named, and hasn't ended
 abbrev pub is_cleared : {T : Type 0} → List T → (T → List ℕ) → JobLine → Bool

@@ -7,13 +7,13 @@ use Rattle.front_texts.specs.declared.states.PrinterState.TheVariants.{Stopped}
 use Rattle.spool_front.specs.Chains.{leads}
 use Rattle.spool_front.specs.declared.chains.Chains.{Chains}
 use Rattle.spool_front.specs.declared.check.Hindrance.{Hindrance}
-use Rattle.spool_front.specs.declared.check.Hindrance.TheVariants.{NoChain, Halted, Rejecting}
+use Rattle.spool_front.specs.declared.check.Hindrance.TheVariants as found
 
 -- what keeps documents from being printed, by whether filters lead to the printer's type, its state, and whether it takes jobs
 abbrev pub hindrance_of : Bool → PrinterState → Bool → Option Hindrance
-hindrance_of false state accepting = Some NoChain
-hindrance_of true Stopped accepting = Some Halted
-hindrance_of true state false = Some Rejecting
+hindrance_of false state accepting = Some found.NoChain
+hindrance_of true Stopped accepting = Some found.Stopped
+hindrance_of true state false = Some found.Rejecting
 hindrance_of true state true = None
 
 -- whether a queue can print and takes jobs

@@ -1,7 +1,11 @@
 -- What lpstat and lpq are asked for.
-use Rattle.std.specs.Prelude.{ℕ, Bool, true, not, ◌||◌, List, [], ◌∷◌, String, string_bytes, Option, None, Some, is_some}
+use Rattle.std.specs.Prelude.{ℕ, Bool, true, not, ◌||◌, ◌==◌, cond, List, [], ◌∷◌, ◌++◌, length, codes, String, string_bytes, Option, None, Some, is_some, unwrap_or}
 use Rattle.std.specs.Global.{Global}
+use Rattle.std.specs.Fmt.{decimal}
+use Rattle.std.specs.List.{list_any, slice_split}
+use Rattle.std.specs.Option.{option_map}
 use Rattle.command_lines.specs.Grammar.{is_word}
+use Rattle.front_texts.specs.declared.job_line.JobLine.{JobLine}
 use Rattle.front_texts.specs.declared.queue_line.QueueLine.{QueueLine}
 use Rattle.front_words.specs.declared.asked.Lpstat.{Lpstat}
 
@@ -25,3 +29,33 @@ lists_jobs asked =
 abbrev pub is_meant : Option (String Global) → QueueLine → Bool
 is_meant None queue = true
 is_meant (Some name) queue = is_word (string_bytes name) queue.name
+
+-- a comma or a blank stands between two names
+abbrev pub is_between : ℕ → Bool
+is_between b = (b == 44) || (b == 32)
+
+abbrev pub is_part : List ℕ → List ℕ → Bool
+is_part names name = list_any (λ part. is_word part name) (slice_split is_between names)
+
+-- whether a name is in a list; the empty one has all
+abbrev pub has_name : List ℕ → List ℕ → Bool
+has_name names name = (length names == 0) || is_part names name
+
+-- the id of a job: its queue and its number
+abbrev pub job_id : JobLine → List ℕ
+job_id job = job.queue ++ codes "-" ++ decimal job.number
+
+-- whether a list has a job's queue, or its id
+abbrev pub lists_job : List ℕ → JobLine → Bool
+lists_job names job = has_name names job.queue || has_name names (job_id job)
+
+-- whether a job is asked for: by one of the names, or with none of them by the list of jobs
+abbrev pub is_named : Lpstat → JobLine → Bool
+is_named asked job =
+    cond (length asked.names.items == 0)
+    (lists_job (unwrap_or (option_map (λ names. names.now) asked.jobs) []) job)
+    (list_any (λ names. lists_job names.now job) asked.names.items)
+
+-- whether a job has one of these numbers; with no number all have
+abbrev pub is_numbered : List ℕ → JobLine → Bool
+is_numbered numbers job = (length numbers == 0) || list_any (λ number. number == job.number) numbers

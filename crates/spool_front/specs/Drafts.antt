@@ -1,5 +1,5 @@
 -- What is said of the job of a document.
-use Rattle.std.specs.Prelude.{◌≡◌, ℕ, ◌≤◌, List, [], ◌++◌, codes, Option, None, Some}
+use Rattle.std.specs.Prelude.{◌≡◌, ◌≢◌, ℕ, ◌<◌, ◌≤◌, ◌⊎◌, cond, List, [], ◌∷◌, ◌++◌, length, slice_index, map, chars, codes, encode_utf8_all, Option, None, Some}
 use Rattle.std.specs.List.{flat_map}
 use Rattle.std.specs.Option.{option_map}
 use Rattle.front_words.specs.declared.asked.Hold.{Hold}
@@ -7,6 +7,7 @@ use Rattle.front_words.specs.declared.asked.Hold.TheVariants.{No, Indefinite, Un
 use Rattle.front_words.specs.declared.asked.Moment.{Moment}
 use Rattle.front_words.specs.declared.asked.Moment.TheVariants.{Epoch, FromNow}
 use Rattle.front_words.specs.declared.asked.Submission.{Submission}
+use Rattle.spool_front.specs.Commands.{is_control}
 use Rattle.spool_front.specs.declared.commands.Until.{Until}
 use Rattle.spool_front.specs.declared.commands.Until.TheVariants.{Released, Reached}
 
@@ -39,3 +40,17 @@ pages_option (Some pages) = codes "page-ranges=" ++ option_text pages
 abbrev pub options_of : Submission → List ℕ → List ℕ
 options_of asked token =
     flat_map (λ option. option_text option.now) asked.options.items ++ pages_option (option_map (λ pages. pages.now) asked.pages) ++ token
+
+-- a question mark in place of a control character
+abbrev pub plain_char : ℕ → ℕ
+plain_char c = cond (is_control c) 63 c
+
+abbrev pub plain_text : List ℕ → List ℕ
+plain_text text = encode_utf8_all (map plain_char (chars text))
+
+abbrev pub HasNoSlash : List ℕ → Type 0
+HasNoSlash name = (i : ℕ) → i < length name → slice_index name i ≢ 47
+
+-- what stands behind the last slash of a path, or the whole path where it has none
+abbrev pub IsLastPart : List ℕ → List ℕ → Type 0
+IsLastPart path name = HasNoSlash name × ((path ≡ name) ⊎ ((front : List ℕ) × (path ≡ front ++ 47 ∷ name)))

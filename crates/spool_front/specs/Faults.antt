@@ -1,5 +1,5 @@
 -- Why tasks fail, and their statuses.
-use Rattle.std.specs.Prelude.{ℕ, Option, None, Some, Result, Ok, Err, String, alloc_error}
+use Rattle.std.specs.Prelude.{◌≡◌, ℕ, List, Option, None, Some, Result, Ok, Err, String, alloc_error, string_bytes}
 use Rattle.std.specs.Global.{Global}
 use Rattle.std.specs.declared.alloc.AllocError.{AllocError}
 use Rattle.std.specs.declared.env.VarError.{VarError}
@@ -9,7 +9,7 @@ use Rattle.std.specs.declared.io.ErrorKind.TheVariants.{OutOfMemory}
 use Rattle.spool_front.specs.declared.connection.ConnectionFault.{ConnectionFault}
 use Rattle.spool_front.specs.declared.connection.ConnectionFault.TheVariants as connection
 use Rattle.spool_front.specs.declared.fault.Fault.{Fault}
-use Rattle.spool_front.specs.declared.fault.Fault.TheVariants.{Memory, Gone, Unknown, Write, File}
+use Rattle.spool_front.specs.declared.fault.Fault.TheVariants.{Memory, Nobody, Gone, Unknown, Write, File}
 
 -- 3 where it isn't known whether something was done, and else 1: it wasn't
 abbrev pub status_of : Fault → ℕ
@@ -41,3 +41,7 @@ abbrev pub variable_as : {T : Type 0} → Result T VarError → Result (Option T
 variable_as (Ok text) = Ok (Some text)
 variable_as (Err told.OutOfMemory) = Err alloc_error
 variable_as (Err fault) = Ok None
+
+-- nobody serves at this socket
+abbrev pub IsNobodyAt : List ℕ → Fault → Type 0
+IsNobodyAt socket fault = (name : String Global) × (fault ≡ Nobody name) × (string_bytes name ≡ socket)

@@ -10,3 +10,5 @@ pub mod Found
 pub mod Pieces
 pub mod Places
 pub mod Replies
+pub mod Submissions
+pub mod Told

@@ -19,7 +19,7 @@ pub enum Hindrance {
     /// No chain of filters leads to the type of its printer.
     NoChain,
     /// It is stopped.
-    Halted,
+    Stopped,
     /// It takes no jobs.
     Rejecting,
 }
@@ -81,7 +81,7 @@ fn hindrance_of(chains: &Chains, queue: &QueueLine) -> Result<Option<Hindrance>,
         return Ok(Some(Hindrance::NoChain));
     }
     if matches!(queue.state, PrinterState::Stopped) {
-        return Ok(Some(Hindrance::Halted));
+        return Ok(Some(Hindrance::Stopped));
     }
     if !queue.accepting {
         return Ok(Some(Hindrance::Rejecting));
@@ -95,7 +95,7 @@ fn tell_queue<R: Print>(rt: &R, queue: &QueueLine, hindrance: Option<Hindrance>)
     let (says, target) = match hindrance {
         None => ("prints ", target),
         Some(Hindrance::NoChain) => ("prints nothing: no chain of filters leads to ", target),
-        Some(Hindrance::Halted) => ("is stopped", ""),
+        Some(Hindrance::Stopped) => ("is stopped", ""),
         Some(Hindrance::Rejecting) => ("takes no jobs", ""),
     };
     println!(rt; "queue {name} {says}{target}")

@@ -1,10 +1,11 @@
 //! The client of a service: a command is sent, and all of its reply is read.
-ghost use Rattle.std.specs.Prelude.{◌≡◌, ◌*◌, IfNone, IfOk, IfSome, IsSome, IsTrue, IsUtf8, MatchResult, None, filter_map, string_bytes};
+ghost use Rattle.std.specs.Prelude.{◌≡◌, ◌*◌, ◌↔◌, IfErr, IfNone, IfOk, IfSome, IsSome, IsTrue, IsUtf8, MatchResult, None, filter_map, string_bytes};
 ghost use Rattle.front_texts.specs.JobPage.{shown_job};
 ghost use Rattle.front_texts.specs.JobRows.{job_row};
 ghost use Rattle.front_texts.specs.QueueRows.{queue_row};
 ghost use Rattle.front_texts.specs.ReplyLines.{last_line};
 ghost use Rattle.spool_front.specs.Answers.{accepted, is_done, rows_text};
+ghost use Rattle.spool_front.specs.Faults.{IsNobodyAt};
 
 use crate::commands::job_line;
 use crate::connection::{Connection, ConnectionFault};
@@ -90,7 +91,9 @@ impl<'a, R: Host> Client<'a, R> {
     }
 
     /// Connects where there is no connection, and tries that until its patience is over. Whether there is one then.
-    pub fn connect(&mut self) -> Result<bool, AllocError> {
+    pub fn connect(&mut self) -> Result<bool, AllocError>
+        ensures { IfOk result (λ connected. IsTrue connected ↔ IsSome self.new.connection) }
+    {
         if self.connection.is_some() {
             return Ok(true);
         }
@@ -103,7 +106,10 @@ impl<'a, R: Host> Client<'a, R> {
         self.connect_once()
     }
 
-    fn connect_once(&mut self) -> Result<bool, AllocError> {
+    fn connect_once(&mut self) -> Result<bool, AllocError>
+        ensures connected { IfOk result (λ connected. IsTrue connected → IsSome self.new.connection) }
+        ensures not { IfOk result (λ connected. ¬ (IsTrue connected) → self.new.connection ≡ self.old.connection) }
+    {
         match Connection::open(self.rt, self.socket) {
             Ok(connection) => {
                 self.connection = Some(connection);
@@ -115,12 +121,16 @@ impl<'a, R: Host> Client<'a, R> {
     }
 
     /// Ends the connection.
-    pub fn disconnect(&mut self) {
+    pub fn disconnect(&mut self)
+        ensures { self.new.connection ≡ None }
+    {
         self.connection = None;
     }
 
     /// Sends a command, and reads its reply. The connection is over after a fault.
-    pub fn exchange(&mut self, text: &[u8]) -> Result<Answer, ConnectionFault> {
+    pub fn exchange(&mut self, text: &[u8]) -> Result<Answer, ConnectionFault>
+        ensures { IfErr result (λ _. self.new.connection ≡ None) }
+    {
         let answer = self.send_and_read(text);
         if answer.is_err() {
             self.connection = None;
@@ -155,7 +165,9 @@ impl<'a, R: Host> Client<'a, R> {
     }
 
     /// Sends what changes nothing, and sends it again where the connection is lost. The reply is no refusal.
-    pub fn ask(&mut self, text: &[u8]) -> Result<Answer, Fault> {
+    pub fn ask(&mut self, text: &[u8]) -> Result<Answer, Fault>
+        ensures { IfOk result (λ answer. IsTrue (is_done (string_bytes answer.last))) }
+    {
         accepted(self.ask_or_refused(text)?)
     }
 
@@ -186,7 +198,9 @@ impl<'a, R: Host> Client<'a, R> {
         }
     }
 
-    fn nobody(&self) -> Result<Fault, AllocError> {
+    fn nobody(&self) -> Result<Fault, AllocError>
+        ensures { IfOk result (IsNobodyAt self.now.socket.now) }
+    {
         Ok(Fault::Nobody(String::from_str(self.rt.alloc(), self.socket)?))
     }
 

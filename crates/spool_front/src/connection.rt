@@ -1,5 +1,5 @@
 //! One connection to a service: bytes are sent, and lines are read.
-ghost use Rattle.std.specs.Prelude.{◌≡◌};
+ghost use Rattle.std.specs.Prelude.{◌≡◌, ◌≢◌, ◌<◌, ℕ, IfOk, length, slice_index};
 ghost use Rattle.std.specs.IoError.{error_kind};
 ghost use Rattle.spool_front.specs.Faults.{lost_by};
 
@@ -73,7 +73,9 @@ impl Connection {
     }
 
     /// Reads the next line, and gives it without its line feed. One that is too long, or is cut off, ends the connection.
-    pub fn read_line(&mut self, alloc: Global) -> Result<Vec<u8>, ConnectionFault> {
+    pub fn read_line(&mut self, alloc: Global) -> Result<Vec<u8>, ConnectionFault>
+        ensures { IfOk result (λ line. (i : ℕ) → i < length line.items → slice_index line.items i ≢ 10) }
+    {
         let mut line = Vec::new(alloc);
         self.reader
             .by_ref()

@@ -1,7 +1,8 @@
 //! What is told in the forms of lpstat and lpq.
-ghost use Rattle.std.specs.Prelude.{◌≡◌};
+ghost use Rattle.std.specs.Prelude.{◌≡◌, ◌||◌, IfOk, filter, string_bytes};
+ghost use Rattle.std.specs.List.{list_any};
 ghost use Rattle.std.specs.Option.{option_map};
-ghost use Rattle.spool_front.specs.CupsForms.{is_meant, list_of, lists_jobs};
+ghost use Rattle.spool_front.specs.CupsForms.{has_name, is_meant, is_named, is_numbered, is_part, job_id, list_of, lists_jobs};
 
 use crate::fault::Fault;
 use crate::host::Host;
@@ -97,8 +98,18 @@ fn lists_jobs(asked: &Lpstat<'_>) -> bool
 }
 
 // Whether a name is in a list with commas or blanks between its names. The empty list has all.
-fn has_name(names: &str, name: &str) -> bool {
-    names.is_empty() || names.split([',', ' '].as_slice()).any(|part| part == name)
+fn has_name(names: &str, name: &str) -> bool
+    ensures { result ≡ has_name names.now name.now }
+{
+    names.is_empty() || is_part(names.as_bytes(), name.as_bytes())
+}
+
+fn is_part(names: &[u8], name: &[u8]) -> bool
+    ensures { result ≡ is_part names.now name.now }
+{
+    names
+        .split(|b| *b == b',' || *b == b' ')
+        .any(|part| part == name)
 }
 
 fn queues_named<R: Host>(
@@ -106,13 +117,15 @@ fn queues_named<R: Host>(
     places: Places<'_, '_>,
     names: &str,
 ) -> Result<Vec<QueueLine>, Fault> {
-    let mut named = Vec::new(rt.alloc());
-    for queue in all_queues(rt, places)? {
-        if has_name(names, queue.name.as_str()) {
-            named.push(queue)?;
-        }
-    }
-    Ok(named)
+    let mut queues = all_queues(rt, places)?;
+    keep_queues(&mut queues, names);
+    Ok(queues)
+}
+
+fn keep_queues(queues: &mut Vec<QueueLine>, names: &str)
+    ensures { queues.new.items ≡ filter (λ queue. has_name names.now queue.name) queues.old.items }
+{
+    queues.retain(|queue| has_name(names, queue.name.as_str()));
 }
 
 fn jobs_named<R: Host>(
@@ -120,9 +133,19 @@ fn jobs_named<R: Host>(
     places: Places<'_, '_>,
     asked: &Lpstat<'_>,
 ) -> Result<Vec<JobLine>, Fault> {
-    let mut named = Vec::new(rt.alloc());
-    for job in all_jobs(rt, places)? {
-        if is_named(rt.alloc(), asked, &job)? {
+    Ok(named_jobs(rt.alloc(), all_jobs(rt, places)?, asked)?)
+}
+
+fn named_jobs(
+    alloc: Global,
+    jobs: Vec<JobLine>,
+    asked: &Lpstat<'_>,
+) -> Result<Vec<JobLine>, AllocError>
+    ensures { IfOk result (λ named. named.items ≡ filter (is_named asked.now) jobs.items) }
+{
+    let mut named = Vec::new(alloc);
+    for job in jobs {
+        if is_named(alloc, asked, &job)? {
             named.push(job)?;
         }
     }
@@ -130,15 +153,37 @@ fn jobs_named<R: Host>(
 }
 
 // Whether a job is among those that are asked for, by its queue, or by its queue and its number.
-fn is_named(alloc: Global, asked: &Lpstat<'_>, job: &JobLine) -> Result<bool, AllocError> {
+fn is_named(alloc: Global, asked: &Lpstat<'_>, job: &JobLine) -> Result<bool, AllocError>
+    ensures { IfOk result (λ named. named ≡ is_named asked.now job.now) }
+{
+    let id = job_id(alloc, job)?;
+    let queue = job.queue.as_str();
+    if asked.names.is_empty() {
+        let names = asked.jobs.unwrap_or("");
+        return Ok(has_either(names, queue, id.as_str()));
+    }
+    Ok(is_in_any(asked.names.as_slice(), queue, id.as_str()))
+}
+
+fn is_in_any(lists: &[&str], queue: &str, id: &str) -> bool
+    ensures { result ≡ list_any (λ names. has_name names.now queue.now || has_name names.now id.now) lists.now }
+{
+    lists.iter().any(|names| has_either(names, queue, id))
+}
+
+fn has_either(names: &str, queue: &str, id: &str) -> bool
+    ensures { result ≡ (has_name names.now queue.now || has_name names.now id.now) }
+{
+    has_name(names, queue) || has_name(names, id)
+}
+
+fn job_id(alloc: Global, job: &JobLine) -> Result<String, AllocError>
+    ensures { IfOk result (λ id. string_bytes id ≡ job_id job.now) }
+{
     let queue = job.queue.as_str();
     let number = job.number.get();
     let id = format!(in alloc; "{queue}-{number}")?;
-    if asked.names.is_empty() {
-        let names = asked.jobs.unwrap_or("");
-        return Ok(has_name(names, queue) || has_name(names, id.as_str()));
-    }
-    Ok(asked.names.iter().any(|names| has_name(names, queue) || has_name(names, id.as_str())))
+    Ok(id)
 }
 
 fn tell_usual<R: Host>(rt: &R, places: Places<'_, '_>) -> Result<(), Fault> {
@@ -169,7 +214,8 @@ fn tell_queues<R: Host>(
     asked: &Lpq<'_>,
     queues: &[QueueLine],
 ) -> Result<bool, Fault> {
-    let jobs = numbered(rt.alloc(), all_jobs(rt, places)?, asked.jobs.as_slice())?;
+    let mut jobs = all_jobs(rt, places)?;
+    keep_numbered(&mut jobs, asked.jobs.as_slice());
     let found = tell_meant(rt, places, asked, queues, &jobs);
     drop(jobs);
     found
@@ -188,9 +234,20 @@ fn tell_meant<R: Host>(
         let (_, name) = queue_of(rt, places, asked.queue)?;
         Some(name)
     };
+    print_meant(rt, &name, queues, jobs)
+}
+
+fn print_meant<R: Host>(
+    rt: &R,
+    name: &Option<String>,
+    queues: &[QueueLine],
+    jobs: &[JobLine],
+) -> Result<bool, Fault>
+    ensures { IfOk result (λ found. found ≡ list_any (is_meant name.now) queues.now) }
+{
     let mut found = false;
     for queue in queues {
-        if is_meant(&name, queue) {
+        if is_meant(name, queue) {
             found = true;
             print_bytes(rt, lpq(rt.alloc(), queue, jobs)?.as_slice())?;
         }
@@ -208,20 +265,15 @@ fn is_meant(name: &Option<String>, queue: &QueueLine) -> bool
     }
 }
 
-// The jobs of these numbers, and all where there is none.
-fn numbered(
-    alloc: Global,
-    jobs: Vec<JobLine>,
-    numbers: &[u32],
-) -> Result<Vec<JobLine>, AllocError> {
-    if numbers.is_empty() {
-        return Ok(jobs);
-    }
-    let mut own = Vec::new(alloc);
-    for job in jobs {
-        if numbers.contains(&job.number.get()) {
-            own.push(job)?;
-        }
-    }
-    Ok(own)
+// Leaves the jobs of these numbers, and all where there is none.
+fn keep_numbered(jobs: &mut Vec<JobLine>, numbers: &[u32])
+    ensures { jobs.new.items ≡ filter (is_numbered numbers.now) jobs.old.items }
+{
+    jobs.retain(|job| is_numbered(numbers, job));
+}
+
+fn is_numbered(numbers: &[u32], job: &JobLine) -> bool
+    ensures { result ≡ is_numbered numbers.now job.now }
+{
+    numbers.is_empty() || numbers.contains(&job.number.get())
 }

@@ -1,7 +1,7 @@
 //! What is said of the job of a document.
-ghost use Rattle.std.specs.Prelude.{◌≡◌, ◌++◌, IfOk, OnOk, string_bytes};
+ghost use Rattle.std.specs.Prelude.{◌≡◌, ◌++◌, IfOk, IfSome, OnOk, string_bytes, unwrap_or};
 ghost use Rattle.std.specs.Option.{option_map};
-ghost use Rattle.spool_front.specs.Drafts.{IsBy, IsMoment, IsUntil, option_text, options_of, pages_option};
+ghost use Rattle.spool_front.specs.Drafts.{IsBy, IsMoment, IsUntil, option_text, options_of, pages_option, plain_char, plain_text};
 
 use crate::commands::{Draft, Until};
 use crate::fault::Fault;
@@ -17,7 +17,17 @@ pub fn draft_of<R: Host>(
     queue: &str,
     title: &str,
     name: &str,
-) -> Result<Draft, Fault> {
+) -> Result<Draft, Fault>
+    ensures queue { IfOk result (λ draft. string_bytes draft.queue ≡ queue.now) }
+    ensures user { IfOk result (λ draft. IfSome asked.now.user (λ user. string_bytes draft.user ≡ user.now)) }
+    ensures title { IfOk result (λ draft. string_bytes draft.title ≡ plain_text (unwrap_or (option_map (λ asked. asked.now) asked.now.title) title.now)) }
+    ensures copies { IfOk result (λ draft. draft.copies ≡ asked.now.copies) }
+    ensures priority { IfOk result (λ draft. draft.priority ≡ asked.now.priority) }
+    ensures options { IfOk result (λ draft. string_bytes draft.options ≡ options_of asked.now (string_bytes draft.token)) }
+    ensures by { IfOk result (λ draft. IsBy asked.now.by draft.by) }
+    ensures hold { IfOk result (λ draft. IsUntil asked.now.hold draft.hold) }
+    ensures name { IfOk result (λ draft. string_bytes draft.name ≡ plain_text name.now) }
+{
     let alloc = rt.alloc();
     let by = by_of(rt, asked.by)?;
     let hold = until_of(rt, asked.hold)?;
@@ -56,14 +66,22 @@ fn until_of<R: Host>(rt: &R, hold: Hold) -> Result<Option<Until>, Fault>
 }
 
 // The text with `?` for each control character, which no command may have.
-fn plain_text(alloc: Global, text: &str) -> Result<String, AllocError> {
-    text.chars()
-        .map(|c| if c.is_ascii_control() { '?' } else { c })
-        .collect(alloc)
+fn plain_text(alloc: Global, text: &str) -> Result<String, AllocError>
+    ensures { IfOk result (λ plain. string_bytes plain ≡ plain_text text.now) }
+{
+    text.chars().map(|c| plain_char(c)).collect(alloc)
+}
+
+fn plain_char(c: char) -> char
+    ensures { result ≡ plain_char c }
+{
+    if c.is_ascii_control() { '?' } else { c }
 }
 
 // In whose name: the one that is given, or that of the environment.
-fn user_of<R: Host>(rt: &R, user: Option<&str>) -> Result<String, AllocError> {
+fn user_of<R: Host>(rt: &R, user: Option<&str>) -> Result<String, AllocError>
+    ensures { IfOk result (λ name. IfSome user.entry (λ user. string_bytes name ≡ user.now)) }
+{
     if let Some(user) = user {
         return String::from_str(rt.alloc(), user);
     }

@@ -4,22 +4,13 @@ ghost use Rattle.std.specs.IoError.{error_kind};
 ghost use Rattle.spool_front.specs.Faults.{unread_by};
 
 use crate::fault::Fault;
-use crate::host::{Host, variable};
-use std::alloc::AllocError;
+use crate::host::{Host, variable_or};
 use std::io::ErrorKind;
 use std::{fs, io};
 
-/// The name of a file.
-pub fn file_name<R: Host>(rt: &R, of_name: &str, usual: &str) -> Result<String, AllocError> {
-    match variable(rt, of_name)? {
-        Some(name) => Ok(name),
-        None => String::from_str(rt.alloc(), usual),
-    }
-}
-
-/// The text of a file.
+/// The text of a file, by the variable that names it.
 pub fn file_text<R: Host>(rt: &R, of_name: &str, usual: &str) -> Result<String, Fault> {
-    let name = file_name(rt, of_name, usual)?;
+    let name = variable_or(rt, of_name, usual)?;
     match fs::read_to_string(rt, name.as_str()) {
         Ok(text) => Ok(text),
         Err(error) => Err(unread(&error, name)),

@@ -1,8 +1,9 @@
 //! What the program asks of its system.
-ghost use Rattle.std.specs.Prelude.{◌≡◌};
+ghost use Rattle.std.specs.Prelude.{◌≡◌, ◌≤◌, IfOk, string_bytes};
 ghost use Rattle.spool_front.specs.Faults.{variable_as};
+ghost use Rattle.spool_front.specs.Told.{IsNumberOr, text_or};
 
-use std::alloc::AllocError;
+use std::alloc::{AllocError, Global};
 use std::env::{self, VarError};
 use std::fs::{File, Files};
 use std::net::Net;
@@ -49,6 +50,35 @@ fn variable_as(told: Result<String, VarError>) -> Result<Option<String>, AllocEr
         Ok(text) => Ok(Some(text)),
         Err(VarError::OutOfMemory) => Err(AllocError),
         Err(_) => Ok(None),
+    }
+}
+
+/// What a variable of the environment tells, or else a usual text.
+pub fn variable_or<R: Host>(rt: &R, name: &str, usual: &str) -> Result<String, AllocError> {
+    text_or(rt.alloc(), variable(rt, name)?, usual)
+}
+
+fn text_or(alloc: Global, told: Option<String>, usual: &str) -> Result<String, AllocError>
+    ensures { IfOk result (λ text. string_bytes text ≡ text_or told usual.now) }
+{
+    match told {
+        Some(text) => Ok(text),
+        None => String::from_str(alloc, usual),
+    }
+}
+
+/// The number that was told, if it is none above `most`, or else the usual one.
+pub fn number_or(told: &Option<String>, most: u64, usual: u64) -> u64
+    requires { usual ≤ most }
+    ensures value { IsNumberOr most usual told.now result }
+    ensures bound { result ≤ most }
+{
+    let Some(text) = told else {
+        return usual;
+    };
+    match text.as_str().parse::<u64>() {
+        Ok(number) if number <= most => number,
+        _ => usual,
     }
 }
 

@@ -27,6 +27,7 @@ ghost use Rattle.std.specs.Prelude.{◌≡◌, ◌≢◌, MatchResult};
 ghost use Rattle.std.specs.IoError.{error_kind};
 ghost use Rattle.std.specs.Process.{exit_status};
 ghost use Rattle.spool_front.specs.Faults.{status_of};
+ghost use Rattle.spool_front.specs.Told.{IsNumberOr};
 
 mod chains;
 mod check;
@@ -51,7 +52,7 @@ mod web_page;
 use commands::has_control;
 use fault::Fault;
 use front_words::{Asked, Task, WordsFault, read_words};
-use host::{Host, Screen, variable};
+use host::{Host, Screen, number_or, variable};
 use places::{Places, patience, usual_socket};
 use std::alloc::AllocError;
 use std::io::{ErrorKind, IsTerminal};
@@ -59,7 +60,7 @@ use std::process::ExitCode;
 use std::{env, io};
 
 // The columns where the environment doesn't tell them.
-const USUAL_WIDTH: usize = 80;
+const USUAL_WIDTH: u64 = 80;
 
 fn main(rt: HostRuntime) -> ExitCode {
     let shows = rt.stderr().is_terminal();
@@ -125,10 +126,14 @@ fn told_of<R: Host>(rt: &R) -> Result<Told, AllocError> {
 }
 
 fn width<R: Host>(rt: &R) -> Result<usize, AllocError> {
-    match variable(rt, "COLUMNS")? {
-        Some(text) => Ok(text.as_str().parse::<usize>().unwrap_or(USUAL_WIDTH)),
-        None => Ok(USUAL_WIDTH),
-    }
+    let told = variable(rt, "COLUMNS")?;
+    Ok(width_in(&told))
+}
+
+fn width_in(told: &Option<String>) -> usize
+    ensures { IsNumberOr 18446744073709551615 80 told.now result }
+{
+    number_or(told, u64::MAX, USUAL_WIDTH) as usize
 }
 
 // The status, and a fault's line on standard error.

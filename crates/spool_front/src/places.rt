@@ -1,18 +1,22 @@
 //! Which services are asked, and which queue is meant.
-ghost use Rattle.std.specs.Prelude.{◌≡◌};
-ghost use Rattle.spool_front.specs.Places.{has_queue};
+ghost use Rattle.std.specs.Prelude.{◌≡◌, ◌≢◌, ◌*◌, IfErr, IfOk, IfSome, IsOk, OnOk, [], ◌∷◌, ◌++◌, length, map, string_bytes};
+ghost use Rattle.std.specs.List.{Contains};
+ghost use Rattle.spool_front.specs.Places.{has_queue, noted, place_at};
+ghost use Rattle.spool_front.specs.Told.{IsNumberOr};
 
 use crate::client::Client;
 use crate::commands::has_control;
 use crate::fault::Fault;
-use crate::host::{Host, variable};
+use crate::host::{Host, number_or, variable, variable_or};
 use front_texts::{JobLine, QueueLine};
 use std::alloc::{AllocError, Global};
 
 // The socket where none is named, and the seconds for which a service is waited for.
 const USUAL_SOCKET: &str = "/run/cegmandi/spool.sock";
 
-const USUAL_PATIENCE: u32 = 30;
+const USUAL_PATIENCE: u64 = 30;
+
+const MOST_PATIENCE: u64 = 4_294_967_295;
 
 /// The sockets of the services, of which there is one at least, and how long each is waited for.
 #[derive(Clone, Copy)]
@@ -23,27 +27,34 @@ pub struct Places<'p, 'a> {
 
 /// The socket of the environment, or else the usual one.
 pub fn usual_socket<R: Host>(rt: &R) -> Result<String, AllocError> {
-    match variable(rt, "SPOOL_SOCKET")? {
-        Some(socket) => Ok(socket),
-        None => String::from_str(rt.alloc(), USUAL_SOCKET),
-    }
+    variable_or(rt, "SPOOL_SOCKET", USUAL_SOCKET)
 }
 
 /// For how many seconds a service is waited for.
 pub fn patience<R: Host>(rt: &R) -> Result<u32, AllocError> {
-    match variable(rt, "SPOOL_PATIENCE")? {
-        Some(text) => Ok(text.as_str().parse::<u32>().unwrap_or(USUAL_PATIENCE)),
-        None => Ok(USUAL_PATIENCE),
-    }
+    let told = variable(rt, "SPOOL_PATIENCE")?;
+    Ok(patience_in(&told))
+}
+
+fn patience_in(told: &Option<String>) -> u32
+    ensures { IsNumberOr 4294967295 30 told.now result }
+{
+    number_or(told, MOST_PATIENCE, USUAL_PATIENCE) as u32
 }
 
 /// The client of the service at a socket.
-pub fn client_at<'a, R: Host>(rt: &'a R, places: Places<'_, '_>, socket: &'a str) -> Client<'a, R> {
+pub fn client_at<'a, R: Host>(rt: &'a R, places: Places<'_, '_>, socket: &'a str) -> Client<'a, R>
+    ensures patience { result.pauses ≡ places.entry.patience * 10 }
+    ensures socket { result.socket.now ≡ socket.now }
+{
     Client::new(rt, socket, places.patience)
 }
 
 /// The socket of the one service that is named. A job's number says nothing where there are several.
-pub fn only_socket<'a>(places: Places<'_, 'a>) -> Result<&'a str, Fault> {
+pub fn only_socket<'a>(places: Places<'_, 'a>) -> Result<&'a str, Fault>
+    ensures one { IfOk result (λ socket. map (λ place. place.now) places.entry.sockets.now ≡ socket.now ∷ []) }
+    ensures others { IfErr result (λ _. length places.entry.sockets.now ≢ 1) }
+{
     match places.sockets {
         [socket] => Ok(*socket),
         _ => Err(Fault::Words("several services are named, and this is asked of one")),
@@ -96,7 +107,10 @@ pub fn queue_of<'a, R: Host>(
     rt: &R,
     places: Places<'_, 'a>,
     queue: Option<&str>,
-) -> Result<(&'a str, String), Fault> {
+) -> Result<(&'a str, String), Fault>
+    ensures socket { IfOk result (λ place. Contains (map (λ socket. socket.now) places.entry.sockets.now) place.0.now) }
+    ensures named { IfOk result (λ place. IfSome queue.entry (λ name. string_bytes place.1 ≡ name.now)) }
+{
     let alloc = rt.alloc();
     if let Some(queue) = queue {
         return place_of(rt, places, String::from_str(alloc, queue)?);
@@ -116,17 +130,19 @@ fn place_of<'a, R: Host>(
     rt: &R,
     places: Places<'_, 'a>,
     queue: String,
-) -> Result<(&'a str, String), Fault> {
+) -> Result<(&'a str, String), Fault>
+    ensures socket { IfOk result (λ place. Contains (map (λ socket. socket.now) places.entry.sockets.now) place.0.now) }
+    ensures queue { IfOk result (λ place. place.1 ≡ queue) }
+{
     let socket = socket_of(rt, places, queue.as_str())?;
     Ok((socket, queue))
 }
 
 /// The socket of the service that has this queue. With one service nobody is asked.
-pub fn socket_of<'a, R: Host>(
-    rt: &R,
-    places: Places<'_, 'a>,
-    queue: &str,
-) -> Result<&'a str, Fault> {
+pub fn socket_of<'a, R: Host>(rt: &R, places: Places<'_, 'a>, queue: &str) -> Result<&'a str, Fault>
+    ensures socket { IfOk result (λ socket. Contains (map (λ place. place.now) places.entry.sockets.now) socket.now) }
+    ensures alone { length places.entry.sockets.now ≡ 1 → IsOk result }
+{
     if let [socket] = places.sockets {
         return Ok(*socket);
     }
@@ -145,7 +161,9 @@ pub fn has_queue(queues: &[QueueLine], name: &str) -> bool
     queues.iter().any(|row| row.name.as_str() == name)
 }
 
-fn only_queue<'a, R: Host>(rt: &R, places: Places<'_, 'a>) -> Result<(&'a str, String), Fault> {
+fn only_queue<'a, R: Host>(rt: &R, places: Places<'_, 'a>) -> Result<(&'a str, String), Fault>
+    ensures { IfOk result (λ place. Contains (map (λ socket. socket.now) places.entry.sockets.now) place.0.now) }
+{
     let mut only = None;
     for socket in places.sockets {
         note_only(
@@ -167,7 +185,9 @@ fn note_only<'a>(
     socket: &'a str,
     queues: &[QueueLine],
     only: &mut Option<(&'a str, String)>,
-) -> Result<(), Fault> {
+) -> Result<(), Fault>
+    ensures { OnOk result (noted only.new (λ place. place.now) ≡ noted only.old (λ place. place.now) ++ map (place_at socket.now) queues.now) }
+{
     for row in queues {
         if only.is_some() {
             return Err(Fault::Words("no queue is named, and there are several"));

@@ -1,6 +1,9 @@
 //! The task of printing files: each becomes a job.
-ghost use Rattle.std.specs.Prelude.{◌≡◌};
+ghost use Rattle.std.specs.Prelude.{◌≡◌, IsTrue};
+ghost use Rattle.std.specs.Io.KnownBytes.{IsAtEnd};
+ghost use Rattle.spool_front.specs.Drafts.{IsLastPart};
 ghost use Rattle.spool_front.specs.Replies.{status_at};
+ghost use Rattle.spool_front.specs.Submissions.{was_closed};
 
 use crate::client::{Client, pause};
 use crate::commands::Draft;
@@ -92,7 +95,9 @@ fn print_input<R: Host>(
 }
 
 // The last part of a path.
-fn base_name(path: &str) -> &str {
+fn base_name(path: &str) -> &str
+    ensures { IsLastPart path.now result.now }
+{
     match path.rsplit_once('/') {
         Some((_, name)) => name,
         None => path,
@@ -108,16 +113,33 @@ fn print_document<R: Host, S: Read + Drop>(
     screen: Screen,
 ) -> Result<u8, Fault> {
     let mut document = Document::new(rt.alloc(), source)?;
-    let mut submitting = Submitting::new(rt, draft, screen);
-    let end = submitting.submit(client, &mut document);
-    if screen.shows {
-        let _ = eprint!(rt; "\r");
-    }
-    tell(rt, asked.quiet, draft.queue.as_str(), end, &submitting);
+    let end = submit(rt, client, asked.quiet, draft, &mut document, screen);
+    drop(document);
     match end {
         End::Accepted { job } if asked.wait => Ok(wait_for(rt, client, job, screen)),
         _ => Ok(end.status()),
     }
+}
+
+// Makes a job of a document, and tells how that ended.
+fn submit<R: Host, S: Read + Drop>(
+    rt: &R,
+    client: &mut Client<'_, R>,
+    quiet: bool,
+    draft: &Draft,
+    document: &mut Document<S>,
+    screen: Screen,
+) -> End
+    ensures { IsTrue (was_closed result) → IsAtEnd (S.remaining document.new.source) }
+{
+    let mut submitting = Submitting::new(rt, draft, screen);
+    let end = submitting.submit(client, document);
+    if screen.shows {
+        let _ = eprint!(rt; "\r");
+    }
+    tell(rt, quiet, draft.queue.as_str(), end, &submitting);
+    drop(submitting);
+    end
 }
 
 // Tells how a submission ended. That stays its status, also where nobody can be told.

@@ -1,8 +1,8 @@
 //! Which programs of the service's file can't be run.
 
 use crate::fault::Fault;
-use crate::files::{file_name, file_text};
-use crate::host::Host;
+use crate::files::file_text;
+use crate::host::{Host, variable_or};
 use program_fitness::obstacle_of_program;
 use program_lists::{ListFault, ListedProgram, ProgramList};
 use std::fs::{File, Files};
@@ -25,7 +25,7 @@ fn list_of_file<R: Host>(rt: &R) -> Result<ProgramList, Fault> {
     let text = file_text(rt, VARIABLE, USUAL_PROGRAMS)?;
     match ProgramList::read(rt.alloc(), text.as_str()) {
         Ok(list) => Ok(list),
-        Err(ListFault::Unread) => Err(Fault::File(file_name(rt, VARIABLE, USUAL_PROGRAMS)?)),
+        Err(ListFault::Unread) => Err(Fault::File(variable_or(rt, VARIABLE, USUAL_PROGRAMS)?)),
         Err(ListFault::Memory) => Err(Fault::Memory),
     }
 }

@@ -1,8 +1,13 @@
 //! Making a job of a document, exactly once.
-ghost use Rattle.std.specs.Prelude.{◌≡◌, ◌↔◌, IfOk, IsTrue, string_bytes};
+ghost use Rattle.std.specs.Prelude.{◌≡◌, ◌<◌, ◌+◌, ◌↔◌, ◌⊎◌, IfOk, IsTrue, None, false, is_some, length, min, string_bytes};
+ghost use Rattle.std.specs.Io.KnownBytes.{IsAtEnd};
 ghost use Rattle.std.specs.Str.Iter.{HasSubslice};
 ghost use Rattle.spool_front.specs.Found.{may_be_own, own_job, with_job};
+ghost use Rattle.spool_front.specs.Pieces.{piece_of};
 ghost use Rattle.spool_front.specs.Replies.{reply_in};
+ghost use Rattle.spool_front.specs.Submissions.{IsAnswered, IsLooked, IsSupplied, cause_text, was_closed};
+ghost use Rattle.front_submission.specs.Moves.{deserted, heard, lost, unread};
+ghost use Rattle.front_submission.specs.declared.step.Step.{Step};
 
 use crate::client::{Answer, Client, pause};
 use crate::commands::{Draft, close_line, create_line, hold_line, job_line, send_line};
@@ -30,7 +35,13 @@ pub struct Submitting<'a, R> {
 }
 
 impl<'a, R: Host> Submitting<'a, R> {
-    pub fn new(rt: &'a R, draft: &'a Draft, screen: Screen) -> Submitting<'a, R> {
+    pub fn new(rt: &'a R, draft: &'a Draft, screen: Screen) -> Submitting<'a, R>
+        ensures draft { result.draft.now ≡ draft.now }
+        ensures screen { result.screen ≡ screen }
+        ensures refusal { result.refusal ≡ None }
+        ensures memory { result.memory ≡ false }
+        ensures lost { result.lost ≡ 0 }
+    {
         Submitting {
             rt,
             draft,
@@ -42,7 +53,9 @@ impl<'a, R: Host> Submitting<'a, R> {
     }
 
     /// Why the document is refused, for a person.
-    pub fn cause_text(&self, cause: Cause) -> &str {
+    pub fn cause_text(&self, cause: Cause) -> &str
+        ensures { result.now ≡ cause_text self.now.refusal self.now.memory cause }
+    {
         match cause {
             Cause::Declined => match &self.refusal {
                 Some(text) => text.as_str(),
@@ -61,7 +74,9 @@ impl<'a, R: Host> Submitting<'a, R> {
         &mut self,
         client: &mut Client<'_, R>,
         document: &mut Document<S>,
-    ) -> End {
+    ) -> End
+        ensures { IsTrue (was_closed result) → IsAtEnd (S.remaining document.new.source) }
+    {
         let mut step = Step::start();
         for _ in 0..u64::MAX {
             if let Step::Ended { end } = step {
@@ -75,12 +90,10 @@ impl<'a, R: Host> Submitting<'a, R> {
         ended(step)
     }
 
-    fn read_piece<S: Read + Drop>(
-        &self,
-        step: Step,
-        document: &mut Document<S>,
-        size: u64,
-    ) -> Step {
+    fn read_piece<S: Read + Drop>(&self, step: Step, document: &mut Document<S>, size: u64) -> Step
+        ensures step { IsSupplied step (length (piece_of document.new)) (is_some self.now.draft.now.hold) result }
+        ensures end { length (piece_of document.new) < 65536 → (result ≡ unread step) ⊎ IsAtEnd (S.remaining document.new.source) }
+    {
         if self.screen.shows {
             let _ = eprint!(self.rt; "\rspool: {size} bytes sent ");
         }
@@ -98,7 +111,9 @@ impl<'a, R: Host> Submitting<'a, R> {
         step: Step,
         request: Request,
         piece: &[u8],
-    ) -> Step {
+    ) -> Step
+        ensures { IsAnswered step result }
+    {
         if client.patience() < self.lost || !self.is_connected(client) {
             return step.deserted();
         }
@@ -126,7 +141,10 @@ impl<'a, R: Host> Submitting<'a, R> {
     }
 
     // What a reply makes of the step. What isn't clear ends the connection, and what was put off is sent again later.
-    fn after(&mut self, client: &mut Client<'_, R>, step: Step, reply: Reply) -> Step {
+    fn after(&mut self, client: &mut Client<'_, R>, step: Step, reply: Reply) -> Step
+        ensures step { result ≡ heard step reply }
+        ensures unclear { reply ≡ Reply.Unclear → client.new.connection ≡ None }
+    {
         match reply {
             Reply::Unclear => {
                 client.disconnect();
@@ -139,7 +157,9 @@ impl<'a, R: Host> Submitting<'a, R> {
         step.heard(reply)
     }
 
-    fn wait(&mut self) {
+    fn wait(&mut self)
+        ensures { self.new.lost ≡ min (self.old.lost + 1) 18446744073709551615 }
+    {
         self.lost = self.lost.saturating_add(1);
         pause(self.rt);
     }
@@ -260,7 +280,9 @@ impl<'a, R: Host> Submitting<'a, R> {
         client: &mut Client<'_, R>,
         job: u32,
         found: &mut Found,
-    ) -> Result<Result<(), Reply>, ConnectionFault> {
+    ) -> Result<Result<(), Reply>, ConnectionFault>
+        ensures { IsLooked job found.old found.new }
+    {
         match self.shown(client, job)? {
             Ok(shown) => {
                 if has_token(shown.asked.options.as_str(), self.draft.token.as_str()) {
@@ -326,7 +348,9 @@ fn with_job(found: Found, job: u32, size: u32) -> Found
 }
 
 // How a submission ends that has made so many steps that it is given up.
-fn ended(step: Step) -> End {
+fn ended(step: Step) -> End
+    ensures { deserted (lost step) ≡ Step.Ended result }
+{
     match step.lost().deserted() {
         Step::Ended { end } => end,
         _ => End::Refused {

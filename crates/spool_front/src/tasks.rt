@@ -1,8 +1,9 @@
 //! What is shown of jobs and queues, and what is done to them.
-ghost use Rattle.std.specs.Prelude.{◌≡◌, IfOk, filter_map};
+ghost use Rattle.std.specs.Prelude.{◌≡◌, IfOk, filter, filter_map};
 ghost use Rattle.std.specs.List.{list_any};
+ghost use Rattle.std.specs.Option.{option_map};
 ghost use Rattle.command_lines.specs.Grammar.{is_word};
-ghost use Rattle.spool_front.specs.Acts.{IsActLine, is_cleared, number_of, queue_act_line};
+ghost use Rattle.spool_front.specs.Acts.{IsActLine, is_cleared, is_of, number_of, queue_act_line};
 ghost use Rattle.spool_front.specs.Faults.{status_of};
 
 use crate::client::Client;
@@ -30,7 +31,8 @@ pub fn show_status<R: Host>(
     if let Some(job) = asked.job {
         return show_job(rt, places, job, asked.json, screen);
     }
-    let jobs = jobs_of(rt.alloc(), all_jobs(rt, places)?, asked.queue)?;
+    let mut jobs = all_jobs(rt, places)?;
+    keep_of(&mut jobs, asked.queue);
     let shown = print_jobs(rt, &jobs, asked.json, screen);
     drop(jobs);
     shown?;
@@ -54,22 +56,20 @@ fn print_json<R: Host>(rt: &R, value: Value) -> Result<(), Fault> {
     Ok(())
 }
 
-// The jobs of a queue, if one is named, and else all.
-fn jobs_of(
-    alloc: Global,
-    jobs: Vec<JobLine>,
-    queue: Option<&str>,
-) -> Result<Vec<JobLine>, AllocError> {
-    let Some(queue) = queue else {
-        return Ok(jobs);
-    };
-    let mut own = Vec::new(alloc);
-    for job in jobs {
-        if job.queue.as_str() == queue {
-            own.push(job)?;
-        }
+// Leaves the jobs of a queue, if one is named, and else all.
+fn keep_of(jobs: &mut Vec<JobLine>, queue: Option<&str>)
+    ensures { jobs.new.items ≡ filter (is_of (option_map (λ name. name.now) queue.entry)) jobs.old.items }
+{
+    jobs.retain(|job| is_of(queue, job));
+}
+
+fn is_of(queue: Option<&str>, job: &JobLine) -> bool
+    ensures { result ≡ is_of (option_map (λ name. name.now) queue.entry) job.now }
+{
+    match queue {
+        Some(queue) => job.queue.as_str() == queue,
+        None => true,
     }
-    Ok(own)
 }
 
 // Shows the job of this number of each service that has one.

@@ -1,0 +1,115 @@
+-- Nothing of a document is left to send only where its end was read.
+use Rattle.std.proofs.Common.{◌≡◌, ℕ, ◌<◌, ◌⊎◌, inl, inr, Bool, true, false, cond, ◌==◌, ◌+◌, refl, ap, sym, ◌∙◌, subst, arith, Option, None, Some}
+use Rattle.front_submission.specs.declared.step.Step.{Step}
+use Rattle.front_submission.specs.declared.step.Step.TheVariants.{Creating, Finding, Clearing, Reading, Sending, Measuring, Holding, Closing, Checking, Canceling, Ended}
+use Rattle.front_submission.specs.declared.reply.Own.{Own}
+use Rattle.front_submission.specs.declared.reply.Reply.{Reply}
+use Rattle.front_submission.specs.declared.reply.Reply.TheVariants.{Created, Sent, Closed, Done, Jobs, Job, Gone, Later, NotIncoming, Denied, Unclear}
+use Rattle.front_submission.specs.declared.reply.Shown.{Shown}
+use Rattle.front_submission.specs.declared.reply.Shown.TheVariants.{Arriving, WasClosed, NoFilters, NeverClosed}
+use Rattle.front_submission.specs.declared.step.Cause.{Cause}
+use Rattle.front_submission.specs.Moves.{heard, lost, deserted, unread, supplied, after_create, after_find, own_found, one_of, after_send, after_measure, after_cancel}
+use Rattle.front_submission.specs.Moves.{request}
+use Rattle.front_submission.specs.declared.step.Request.TheVariants.{Read}
+use Rattle.spool_front.specs.Submissions.{IsAnswered, IsSupplied, is_behind}
+
+either : (b : Bool) (x y : Step) → is_behind x ≡ false → is_behind y ≡ false → is_behind (cond b x y) ≡ false
+either true x y p q = p
+either false x y p q = q
+
+created : (tries : ℕ) (reply : Reply) → is_behind (after_create tries reply) ≡ false
+created tries Later = either (tries == 0) _ _ refl refl
+created tries reply = refl
+
+one : (own : Option Own) (another : Option ℕ) → is_behind (one_of own another) ≡ false
+one own (Some another) = refl
+one None None = refl
+one (Some own) None = either (own.size == 0) _ _ refl refl
+
+found : (reply : Reply) → is_behind (after_find reply) ≡ false
+found (Jobs jobs) = one jobs.own jobs.another
+found reply = refl
+
+sent : (job size piece tries : ℕ) (reply : Reply) → is_behind (after_send job size piece tries reply) ≡ false
+sent job size piece tries (Sent new) = either (new == size + piece) _ _ refl refl
+sent job size piece tries Later = either (tries == 0) _ _ refl refl
+sent job size piece tries reply = refl
+
+shown : (job size piece : ℕ) (told : Shown) → is_behind (after_measure job size piece (Job told)) ≡ false
+shown job size piece (Arriving new) = either (new == size) _ _ refl (either (new == size + piece) _ _ refl refl)
+shown job size piece told = refl
+
+measured : (job size piece : ℕ) (reply : Reply) → is_behind (after_measure job size piece reply) ≡ false
+measured job size piece (Job told) = shown job size piece told
+measured job size piece reply = refl
+
+canceled : (job : ℕ) (cause : Cause) (reply : Reply) → is_behind (after_cancel job cause reply) ≡ false
+canceled job cause Done = refl
+canceled job cause reply = refl
+
+pub heard_behind : (step : Step) (reply : Reply) → is_behind (heard step reply) ≡ true → is_behind step ≡ true
+heard_behind (Creating tries) reply h = sym (created tries reply) ∙ h
+heard_behind Finding reply h = sym (found reply) ∙ h
+heard_behind (Sending job size piece tries) reply h = sym (sent job size piece tries reply) ∙ h
+heard_behind (Measuring job size piece) reply h = sym (measured job size piece reply) ∙ h
+heard_behind (Canceling job cause) reply h = sym (canceled job cause reply) ∙ h
+heard_behind (Clearing job) reply h = h
+heard_behind (Reading job size) reply h = h
+heard_behind (Holding job size tries) reply h = refl
+heard_behind (Closing job size tries again) reply h = refl
+heard_behind (Checking job size) reply h = refl
+heard_behind (Ended end) reply h = h
+
+pub lost_behind : (step : Step) → is_behind (lost step) ≡ true → is_behind step ≡ true
+lost_behind (Closing job size tries again) h = refl
+lost_behind (Creating tries) h = h
+lost_behind (Clearing job) h = h
+lost_behind (Sending job size piece tries) h = h
+lost_behind step h = h
+
+pub unread_behind : (step : Step) → is_behind (unread step) ≡ true → is_behind step ≡ true
+unread_behind (Reading job size) h = h
+unread_behind step h = h
+
+pub deserted_behind : (step : Step) → is_behind (deserted step) ≡ true → is_behind step ≡ true
+deserted_behind (Holding job size tries) h = refl
+deserted_behind (Closing job size tries again) h = refl
+deserted_behind (Checking job size) h = refl
+deserted_behind (Canceling job cause) h = h
+deserted_behind (Ended end) h = h
+deserted_behind step h = h
+
+supplied_reading : (job size piece : ℕ) (holds : Bool) → is_behind (supplied (Reading job size) piece holds) ≡ true → (piece ≡ 0)
+supplied_reading job size piece holds h = grind arith
+
+pub supplied_behind : (step : Step) (piece : ℕ) (holds : Bool) → is_behind (supplied step piece holds) ≡ true → (is_behind step ≡ true) ⊎ (piece ≡ 0)
+supplied_behind (Reading job size) piece holds h = inr (supplied_reading job size piece holds h)
+supplied_behind step piece holds h = inl h
+
+pub answered_behind : (step next : Step) → IsAnswered step next → is_behind next ≡ true → is_behind step ≡ true
+answered_behind step next (inl (reply, is)) h = heard_behind step reply (ap is_behind (sym is) ∙ h)
+answered_behind step next (inr (inl is)) h = lost_behind step (ap is_behind (sym is) ∙ h)
+answered_behind step next (inr (inr (inl is))) h = deserted_behind step (ap is_behind (sym is) ∙ h)
+answered_behind step next (inr (inr (inr is))) h = lost_behind step (deserted_behind (lost step) (ap is_behind (sym is) ∙ h))
+
+-- where a piece is read, something is left to read
+reads : (step : Step) (size : ℕ) → request step ≡ Read size → is_behind step ≡ true → ⊥
+reads (Reading job at) size is h = cc
+reads (Creating tries) size is h = cc
+reads (Holding job at tries) size is h = cc
+reads (Closing job at tries again) size is h = cc
+reads (Checking job at) size is h = cc
+reads (Ended end) size is h = cc
+reads step size is h = cc
+
+pub read_behind : (P : Type 0) (step next : Step) (size count : ℕ) (holds : Bool) → request step ≡ Read size → IsSupplied step count holds next
+    → (count < 65536 → (next ≡ unread step) ⊎ P) → is_behind next ≡ true → P
+read_behind P step next size count holds reading (inr is) at_end h = absurd (reads step size reading (unread_behind step (ap is_behind (sym is) ∙ h)))
+read_behind P step next size count holds reading (inl is) at_end h =
+    elim (supplied_behind step count holds (ap is_behind (sym is) ∙ h)) [
+      | inl behind ↦ absurd (reads step size reading behind)
+      | inr none ↦ elim (at_end (omega (arith, none))) [
+        | inl unread_is ↦ absurd (reads step size reading (unread_behind step (ap is_behind (sym unread_is) ∙ h)))
+        | inr p ↦ p
+      ]
+    ]

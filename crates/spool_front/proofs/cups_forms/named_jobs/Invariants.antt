@@ -1,0 +1,7 @@
+-- those of the jobs so far that are asked for
+use Rattle.std.proofs.Common.{◌≡◌, filter}
+use Rattle.spool_front.specs.CupsForms.{is_named}
+use Rattle.spool_front.proofs.cups_forms.named_jobs.Given as goal
+
+abbrev pub invariant-loop-job : goal.invariant-loop-job
+invariant-loop-job l = l.named.items ≡ filter (is_named l.asked) l.yielded

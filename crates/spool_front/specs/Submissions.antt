@@ -1,0 +1,50 @@
+-- What a submission makes of what comes.
+use Rattle.std.specs.Prelude.{◌≡◌, ℕ, ◌⊎◌, Bool, true, false, List, codes, String, string_bytes, Option, None, Some}
+use Rattle.std.specs.Global.{Global}
+use Rattle.front_submission.specs.Moves.{deserted, heard, lost, supplied, unread}
+use Rattle.front_submission.specs.declared.reply.Found.{Found}
+use Rattle.front_submission.specs.declared.reply.Reply.{Reply}
+use Rattle.front_submission.specs.declared.step.Cause.{Cause}
+use Rattle.front_submission.specs.declared.step.Cause.TheVariants.{Declined, OtherSize, EndedEarly, Unreadable, Deserted}
+use Rattle.front_submission.specs.declared.step.End.{End}
+use Rattle.front_submission.specs.declared.step.End.TheVariants.{Accepted, Unprintable}
+use Rattle.front_submission.specs.declared.step.Step.{Step}
+use Rattle.front_submission.specs.declared.step.Step.TheVariants.{Holding, Closing, Checking, Ended}
+use Rattle.spool_front.specs.Found.{with_job}
+
+-- why a document is refused, for a person, by the words of the last refusal and whether there was no memory
+abbrev pub cause_text : Option (String Global) → Bool → Cause → List ℕ
+cause_text (Some text) memory Declined = string_bytes text
+cause_text None memory Declined = codes "refused"
+cause_text refusal memory OtherSize = codes "the job has another size than what was sent"
+cause_text refusal memory EndedEarly = codes "somebody has ended the job"
+cause_text refusal memory Unreadable = codes "the document can't be read"
+cause_text refusal true Deserted = codes "memory"
+cause_text refusal false Deserted = codes "nobody serves"
+
+-- the step behind a request: its reply was heard, it was lost, or it was given up
+abbrev pub IsAnswered : Step → Step → Type 0
+IsAnswered step next =
+    ((reply : Reply) × (next ≡ heard step reply)) ⊎ ((next ≡ lost step) ⊎ ((next ≡ deserted step) ⊎ (next ≡ deserted (lost step))))
+
+-- the step behind the next piece, which has so many bytes, or can't be read
+abbrev pub IsSupplied : Step → ℕ → Bool → Step → Type 0
+IsSupplied step count holds next = (next ≡ supplied step count holds) ⊎ (next ≡ unread step)
+
+-- what was found, where a job has the token or hasn't
+abbrev pub IsLooked : ℕ → Found → Found → Type 0
+IsLooked job before after = (after ≡ before) ⊎ ((size : ℕ) × (after ≡ with_job before job size))
+
+-- whether its job was closed, with filters that lead to the printer or not
+abbrev pub was_closed : End → Bool
+was_closed (Accepted job) = true
+was_closed (Unprintable job) = true
+was_closed end = false
+
+-- whether nothing of the document is left to send
+abbrev pub is_behind : Step → Bool
+is_behind (Holding job size tries) = true
+is_behind (Closing job size tries again) = true
+is_behind (Checking job size) = true
+is_behind (Ended end) = was_closed end
+is_behind step = false
