@@ -6,7 +6,6 @@ ghost use Rattle.spool_types.specs.Values.{media_in};
 
 use crate::fault::Fault;
 use crate::files::file_text;
-use crate::host::Host;
 use line_words::first_word;
 use mime_costs::Convs;
 use mime_lines::joined_lines;
@@ -29,18 +28,18 @@ pub struct Chains {
 }
 
 /// Reads both files, by the names of the environment or else the usual ones.
-pub fn read_chains<R: Host>(rt: &R) -> Result<Chains, Fault> {
+pub fn read_chains(rt: &HostRuntime) -> Result<Chains, Fault> {
     let kinds = kinds_of_file(rt)?;
     let convs = convs_of_file(rt)?;
     Ok(Chains { kinds, convs })
 }
 
-fn kinds_of_file<R: Host>(rt: &R) -> Result<Vec<MediaType>, Fault> {
+fn kinds_of_file(rt: &HostRuntime) -> Result<Vec<MediaType>, Fault> {
     let text = file_text(rt, "SPOOL_TYPES", USUAL_TYPES)?;
     Ok(kinds_in(rt.alloc(), text.as_str())?)
 }
 
-fn convs_of_file<R: Host>(rt: &R) -> Result<Convs, Fault> {
+fn convs_of_file(rt: &HostRuntime) -> Result<Convs, Fault> {
     let text = file_text(rt, "SPOOL_CONVS", USUAL_CONVS)?;
     let (convs, _) = Convs::read(rt.alloc(), text.as_str())?;
     Ok(convs)

@@ -6,7 +6,6 @@ ghost use Rattle.spool_front.specs.Checks.{hindrance_of, prints};
 
 use crate::chains::{Chains, read_chains};
 use crate::fault::Fault;
-use crate::host::Host;
 use crate::places::{Places, queues_at};
 use crate::programs::tell_programs;
 use front_texts::{PrinterState, QueueLine};
@@ -26,7 +25,7 @@ pub enum Hindrance {
 
 /// Tells each program that can't be run, of each service that it serves, and of each queue whether documents can be printed by
 /// it. The status is 0 where nothing is in the way.
-pub fn check<R: Host>(rt: &R, places: Places<'_, '_>) -> Result<u8, Fault> {
+pub fn check(rt: &HostRuntime, places: Places<'_, '_>) -> Result<u8, Fault> {
     let run = tell_programs(rt)?;
     let chains = read_chains(rt)?;
     let print = tell_services(rt, places, &chains);
@@ -35,7 +34,7 @@ pub fn check<R: Host>(rt: &R, places: Places<'_, '_>) -> Result<u8, Fault> {
 }
 
 // Whether all queues of all services print. It is told.
-fn tell_services<R: Host>(rt: &R, places: Places<'_, '_>, chains: &Chains) -> Result<bool, Fault> {
+fn tell_services(rt: &HostRuntime, places: Places<'_, '_>, chains: &Chains) -> Result<bool, Fault> {
     let mut all = true;
     for socket in places.sockets {
         let printing = tell_service(rt, places, socket, chains)?;
@@ -44,8 +43,8 @@ fn tell_services<R: Host>(rt: &R, places: Places<'_, '_>, chains: &Chains) -> Re
     Ok(all)
 }
 
-fn tell_service<R: Host>(
-    rt: &R,
+fn tell_service(
+    rt: &HostRuntime,
     places: Places<'_, '_>,
     socket: &str,
     chains: &Chains,
@@ -56,8 +55,8 @@ fn tell_service<R: Host>(
     all
 }
 
-fn tell_queues<R: Print>(
-    rt: &R,
+fn tell_queues(
+    rt: &HostRuntime,
     socket: &str,
     chains: &Chains,
     queues: &[QueueLine],
@@ -89,7 +88,7 @@ fn hindrance_of(chains: &Chains, queue: &QueueLine) -> Result<Option<Hindrance>,
     Ok(None)
 }
 
-fn tell_queue<R: Print>(rt: &R, queue: &QueueLine, hindrance: Option<Hindrance>) -> io::Result<()> {
+fn tell_queue(rt: &HostRuntime, queue: &QueueLine, hindrance: Option<Hindrance>) -> io::Result<()> {
     let name = queue.name.as_str();
     let target = queue.target.as_str();
     let (says, target) = match hindrance {

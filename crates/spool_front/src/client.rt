@@ -10,7 +10,6 @@ ghost use Rattle.spool_front.specs.Faults.{IsNobodyAt};
 use crate::commands::job_line;
 use crate::connection::{Connection, ConnectionFault};
 use crate::fault::Fault;
-use crate::host::Host;
 use crate::replies::is_gone;
 use front_texts::{
     JobLine, JobShown, LastLine, QueueLine, read_job_line, read_job_shown, read_last_line,
@@ -56,22 +55,22 @@ impl Answer {
 }
 
 /// A pause before something is tried again.
-pub fn pause<R: Host>(rt: &R) {
+pub fn pause(rt: &HostRuntime) {
     std::thread::sleep(rt, Duration::from_millis(PAUSE));
 }
 
 /// A service, and the connection to it, if there is one.
 #[derive(Drop)]
-pub struct Client<'a, R> {
-    rt: &'a R,
+pub struct Client<'a> {
+    rt: &'a HostRuntime,
     socket: &'a str,
     // The pauses that are made before the service is given up.
     pauses: u64,
     connection: Option<Connection>,
 }
 
-impl<'a, R: Host> Client<'a, R> {
-    pub fn new(rt: &'a R, socket: &'a str, patience: u32) -> Client<'a, R>
+impl<'a> Client<'a> {
+    pub fn new(rt: &'a HostRuntime, socket: &'a str, patience: u32) -> Client<'a>
         ensures patience { result.pauses ≡ patience * 10 }
         ensures socket { result.socket.now ≡ socket.now }
     {

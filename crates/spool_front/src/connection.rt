@@ -6,7 +6,6 @@ ghost use Rattle.spool_front.specs.Faults.{lost_by};
 use std::alloc::{AllocError, AllocFailed, Global};
 use std::io;
 use std::io::{BufRead, BufReader, ErrorKind, Read, Write};
-use std::net::Net;
 use std::os::unix::net::UnixStream;
 
 // The longest line that is read.
@@ -59,7 +58,7 @@ pub struct Connection {
 }
 
 impl Connection {
-    pub fn open<R: Net + AllocGlobal>(rt: &R, socket: &str) -> Result<Connection, ConnectionFault> {
+    pub fn open(rt: &HostRuntime, socket: &str) -> Result<Connection, ConnectionFault> {
         let stream = UnixStream::connect(rt, socket)?;
         let reader = BufReader::new(rt.alloc(), stream)?;
         Ok(Connection { reader })

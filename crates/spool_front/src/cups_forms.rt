@@ -5,7 +5,6 @@ ghost use Rattle.std.specs.Option.{option_map};
 ghost use Rattle.spool_front.specs.CupsForms.{has_name, is_meant, is_named, is_numbered, is_part, job_id, list_of, lists_jobs};
 
 use crate::fault::Fault;
-use crate::host::Host;
 use crate::output::print_bytes;
 use crate::places::{Places, all_jobs, all_queues, queue_of};
 use front_texts::{JobLine, QueueLine, lpq, lpstat_accepting, lpstat_jobs, lpstat_printers};
@@ -13,8 +12,8 @@ use front_words::{Lpq, Lpstat};
 use std::alloc::{AllocError, Global};
 
 /// Prints what lpstat was asked for. With nothing asked these are the jobs.
-pub fn show_lpstat<R: Host>(
-    rt: &R,
+pub fn show_lpstat(
+    rt: &HostRuntime,
     places: Places<'_, '_>,
     asked: &Lpstat<'_>,
 ) -> Result<u8, Fault> {
@@ -40,7 +39,7 @@ pub fn show_lpstat<R: Host>(
     Ok(0)
 }
 
-fn tell_accepting<R: Host>(rt: &R, places: Places<'_, '_>, names: &str) -> Result<(), Fault> {
+fn tell_accepting(rt: &HostRuntime, places: Places<'_, '_>, names: &str) -> Result<(), Fault> {
     let queues = queues_named(rt, places, names)?;
     let text = lpstat_accepting(rt.alloc(), &queues);
     drop(queues);
@@ -48,7 +47,7 @@ fn tell_accepting<R: Host>(rt: &R, places: Places<'_, '_>, names: &str) -> Resul
     Ok(())
 }
 
-fn tell_printers<R: Host>(rt: &R, places: Places<'_, '_>, names: &str) -> Result<(), Fault> {
+fn tell_printers(rt: &HostRuntime, places: Places<'_, '_>, names: &str) -> Result<(), Fault> {
     let queues = queues_named(rt, places, names)?;
     let text = printers_text(rt, places, &queues);
     drop(queues);
@@ -56,8 +55,8 @@ fn tell_printers<R: Host>(rt: &R, places: Places<'_, '_>, names: &str) -> Result
     Ok(())
 }
 
-fn printers_text<R: Host>(
-    rt: &R,
+fn printers_text(
+    rt: &HostRuntime,
     places: Places<'_, '_>,
     queues: &[QueueLine],
 ) -> Result<Vec<u8>, Fault> {
@@ -67,7 +66,7 @@ fn printers_text<R: Host>(
     Ok(text?)
 }
 
-fn tell_jobs<R: Host>(rt: &R, places: Places<'_, '_>, asked: &Lpstat<'_>) -> Result<(), Fault> {
+fn tell_jobs(rt: &HostRuntime, places: Places<'_, '_>, asked: &Lpstat<'_>) -> Result<(), Fault> {
     let jobs = jobs_named(rt, places, asked)?;
     let text = lpstat_jobs(rt.alloc(), &jobs);
     drop(jobs);
@@ -112,8 +111,8 @@ fn is_part(names: &[u8], name: &[u8]) -> bool
         .any(|part| part == name)
 }
 
-fn queues_named<R: Host>(
-    rt: &R,
+fn queues_named(
+    rt: &HostRuntime,
     places: Places<'_, '_>,
     names: &str,
 ) -> Result<Vec<QueueLine>, Fault> {
@@ -128,8 +127,8 @@ fn keep_queues(queues: &mut Vec<QueueLine>, names: &str)
     queues.retain(|queue| has_name(names, queue.name.as_str()));
 }
 
-fn jobs_named<R: Host>(
-    rt: &R,
+fn jobs_named(
+    rt: &HostRuntime,
     places: Places<'_, '_>,
     asked: &Lpstat<'_>,
 ) -> Result<Vec<JobLine>, Fault> {
@@ -186,7 +185,7 @@ fn job_id(alloc: Global, job: &JobLine) -> Result<String, AllocError>
     Ok(id)
 }
 
-fn tell_usual<R: Host>(rt: &R, places: Places<'_, '_>) -> Result<(), Fault> {
+fn tell_usual(rt: &HostRuntime, places: Places<'_, '_>) -> Result<(), Fault> {
     let told = match queue_of(rt, places, None) {
         Ok((_, queue)) => println!(rt; "system default destination: {queue}"),
         Err(Fault::Words(_)) => println!(rt; "no system default destination"),
@@ -197,7 +196,7 @@ fn tell_usual<R: Host>(rt: &R, places: Places<'_, '_>) -> Result<(), Fault> {
 }
 
 /// Prints what lpq was asked for.
-pub fn show_lpq<R: Host>(rt: &R, places: Places<'_, '_>, asked: &Lpq<'_>) -> Result<u8, Fault> {
+pub fn show_lpq(rt: &HostRuntime, places: Places<'_, '_>, asked: &Lpq<'_>) -> Result<u8, Fault> {
     let queues = all_queues(rt, places)?;
     let found = tell_queues(rt, places, asked, &queues);
     drop(queues);
@@ -208,8 +207,8 @@ pub fn show_lpq<R: Host>(rt: &R, places: Places<'_, '_>, asked: &Lpq<'_>) -> Res
 }
 
 // Whether one of the queues is asked for. Each that is is told, with its jobs.
-fn tell_queues<R: Host>(
-    rt: &R,
+fn tell_queues(
+    rt: &HostRuntime,
     places: Places<'_, '_>,
     asked: &Lpq<'_>,
     queues: &[QueueLine],
@@ -221,8 +220,8 @@ fn tell_queues<R: Host>(
     found
 }
 
-fn tell_meant<R: Host>(
-    rt: &R,
+fn tell_meant(
+    rt: &HostRuntime,
     places: Places<'_, '_>,
     asked: &Lpq<'_>,
     queues: &[QueueLine],
@@ -237,8 +236,8 @@ fn tell_meant<R: Host>(
     print_meant(rt, &name, queues, jobs)
 }
 
-fn print_meant<R: Host>(
-    rt: &R,
+fn print_meant(
+    rt: &HostRuntime,
     name: &Option<String>,
     queues: &[QueueLine],
     jobs: &[JobLine],

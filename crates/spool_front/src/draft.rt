@@ -5,14 +5,15 @@ ghost use Rattle.spool_front.specs.Drafts.{IsBy, IsMoment, IsUntil, option_text,
 
 use crate::commands::{Draft, Until};
 use crate::fault::Fault;
-use crate::host::{Host, variable};
+use crate::host::variable;
 use front_words::{Hold, Moment, Submission};
 use std::alloc::{AllocError, Global};
+use std::random::RandomSource;
 use std::time::SystemTime;
 
 /// The job of a document for a queue. `title` is its title where none is asked for, and `name` that of its file.
-pub fn draft_of<R: Host>(
-    rt: &R,
+pub fn draft_of(
+    rt: &HostRuntime,
     asked: &Submission<'_>,
     queue: &str,
     title: &str,
@@ -46,7 +47,7 @@ pub fn draft_of<R: Host>(
     })
 }
 
-fn by_of<R: Host>(rt: &R, by: Option<Moment>) -> Result<Option<u64>, Fault>
+fn by_of(rt: &HostRuntime, by: Option<Moment>) -> Result<Option<u64>, Fault>
     ensures { IfOk result (IsBy by) }
 {
     match by {
@@ -55,7 +56,7 @@ fn by_of<R: Host>(rt: &R, by: Option<Moment>) -> Result<Option<u64>, Fault>
     }
 }
 
-fn until_of<R: Host>(rt: &R, hold: Hold) -> Result<Option<Until>, Fault>
+fn until_of(rt: &HostRuntime, hold: Hold) -> Result<Option<Until>, Fault>
     ensures { IfOk result (IsUntil hold) }
 {
     match hold {
@@ -79,7 +80,7 @@ fn plain_char(c: char) -> char
 }
 
 // In whose name: the one that is given, or that of the environment.
-fn user_of<R: Host>(rt: &R, user: Option<&str>) -> Result<String, AllocError>
+fn user_of(rt: &HostRuntime, user: Option<&str>) -> Result<String, AllocError>
     ensures { IfOk result (λ name. IfSome user.entry (λ user. string_bytes name ≡ user.now)) }
 {
     if let Some(user) = user {
@@ -94,13 +95,13 @@ fn user_of<R: Host>(rt: &R, user: Option<&str>) -> Result<String, AllocError>
 }
 
 // An option whose value are 32 hexadecimal digits that no other submission has.
-fn token_option<R: Host>(rt: &R) -> Result<String, Fault> {
+fn token_option(rt: &HostRuntime) -> Result<String, Fault> {
     let high = random_number(rt)?;
     let low = random_number(rt)?;
     Ok(format!(in rt.alloc(); "submission={high:016x}{low:016x}")?)
 }
 
-fn random_number<R: Host>(rt: &R) -> Result<u64, Fault> {
+fn random_number(rt: &HostRuntime) -> Result<u64, Fault> {
     let mut bytes = [0u8; 8];
     match rt.fill_bytes(&mut bytes) {
         Ok(()) => Ok(u64::from_be_bytes(bytes)),
@@ -141,7 +142,7 @@ fn push_option(options: &mut String, text: &str) -> Result<(), AllocError>
 }
 
 /// The seconds of a moment since the epoch.
-pub fn seconds_of<R: Host>(rt: &R, moment: Moment) -> Result<u64, Fault>
+pub fn seconds_of(rt: &HostRuntime, moment: Moment) -> Result<u64, Fault>
     ensures { IfOk result (IsMoment moment) }
 {
     match moment {
@@ -151,7 +152,7 @@ pub fn seconds_of<R: Host>(rt: &R, moment: Moment) -> Result<u64, Fault>
 }
 
 /// The seconds since the epoch.
-pub fn now<R: Host>(rt: &R) -> Result<u64, Fault> {
+pub fn now(rt: &HostRuntime) -> Result<u64, Fault> {
     let Ok(now) = SystemTime::now(rt) else {
         return Err(Fault::Words("the clock can't be read"));
     };

@@ -4,12 +4,12 @@ ghost use Rattle.std.specs.IoError.{error_kind};
 ghost use Rattle.spool_front.specs.Faults.{unread_by};
 
 use crate::fault::Fault;
-use crate::host::{Host, variable_or};
+use crate::host::variable_or;
 use std::io::ErrorKind;
 use std::{fs, io};
 
 /// The text of a file, by the variable that names it.
-pub fn file_text<R: Host>(rt: &R, of_name: &str, usual: &str) -> Result<String, Fault> {
+pub fn file_text(rt: &HostRuntime, of_name: &str, usual: &str) -> Result<String, Fault> {
     let name = variable_or(rt, of_name, usual)?;
     match fs::read_to_string(rt, name.as_str()) {
         Ok(text) => Ok(text),

@@ -5,40 +5,9 @@ ghost use Rattle.spool_front.specs.Told.{IsNumberOr, text_or};
 
 use std::alloc::{AllocError, Global};
 use std::env::{self, VarError};
-use std::fs::{File, Files};
-use std::net::Net;
-use std::random::RandomSource;
-use std::rt::Env;
-use std::time::Clock;
-
-/// Files, sockets, the environment, the clock and the standard streams.
-pub trait Host: Files<File = File>
-    + Net
-    + Env
-    + Clock
-    + Print
-    + Eprint
-    + Input
-    + RandomSource
-    + AllocGlobal
-    + Drop {}
-
-impl<R> Host for R
-where
-    R: Files<File = File>
-        + Net
-        + Env
-        + Clock
-        + Print
-        + Eprint
-        + Input
-        + RandomSource
-        + AllocGlobal
-        + Drop,
-{}
 
 /// A variable of the environment, if it is there and a text.
-pub fn variable<R: Host>(rt: &R, name: &str) -> Result<Option<String>, AllocError> {
+pub fn variable(rt: &HostRuntime, name: &str) -> Result<Option<String>, AllocError> {
     variable_as(env::var(rt, name))
 }
 
@@ -54,7 +23,7 @@ fn variable_as(told: Result<String, VarError>) -> Result<Option<String>, AllocEr
 }
 
 /// What a variable of the environment tells, or else a usual text.
-pub fn variable_or<R: Host>(rt: &R, name: &str, usual: &str) -> Result<String, AllocError> {
+pub fn variable_or(rt: &HostRuntime, name: &str, usual: &str) -> Result<String, AllocError> {
     text_or(rt.alloc(), variable(rt, name)?, usual)
 }
 

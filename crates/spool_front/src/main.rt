@@ -52,7 +52,7 @@ mod web_page;
 use commands::has_control;
 use fault::Fault;
 use front_words::{Asked, Task, WordsFault, read_words};
-use host::{Host, Screen, number_or, variable};
+use host::{Screen, number_or, variable};
 use places::{Places, patience, usual_socket};
 use std::alloc::AllocError;
 use std::io::{ErrorKind, IsTerminal};
@@ -89,13 +89,13 @@ fn main(rt: HostRuntime) -> ExitCode {
     }
 }
 
-fn given_words<R: Host>(rt: &R) -> io::Result<Vec<String>> {
+fn given_words(rt: &HostRuntime) -> io::Result<Vec<String>> {
     let words = env::args(rt)?.collect(rt.alloc())?;
     Ok(words)
 }
 
 // Tells that the words couldn't be had: they are no text, or there was no memory.
-fn no_words<R: Eprint>(rt: &R, error: &io::Error) -> ExitCode
+fn no_words(rt: &HostRuntime, error: &io::Error) -> ExitCode
     ensures no_text { error_kind error.now ≡ ErrorKind.InvalidData → exit_status result ≡ 2 }
     ensures memory { error_kind error.now ≢ ErrorKind.InvalidData → exit_status result ≡ 1 }
 {
@@ -114,7 +114,7 @@ struct Told {
     width: usize,
 }
 
-fn told_of<R: Host>(rt: &R) -> Result<Told, AllocError> {
+fn told_of(rt: &HostRuntime) -> Result<Told, AllocError> {
     let patience = patience(rt)?;
     let width = width(rt)?;
     let socket = usual_socket(rt)?;
@@ -125,7 +125,7 @@ fn told_of<R: Host>(rt: &R) -> Result<Told, AllocError> {
     })
 }
 
-fn width<R: Host>(rt: &R) -> Result<usize, AllocError> {
+fn width(rt: &HostRuntime) -> Result<usize, AllocError> {
     let told = variable(rt, "COLUMNS")?;
     Ok(width_in(&told))
 }
@@ -137,7 +137,7 @@ fn width_in(told: &Option<String>) -> usize
 }
 
 // The status, and a fault's line on standard error.
-fn ended<R: Eprint>(rt: &R, ended: Result<u8, Fault>) -> ExitCode
+fn ended(rt: &HostRuntime, ended: Result<u8, Fault>) -> ExitCode
     ensures { MatchResult ended (λ status. exit_status result ≡ status) (λ fault. exit_status result ≡ status_of fault) }
 {
     match ended {
@@ -150,7 +150,7 @@ fn ended<R: Eprint>(rt: &R, ended: Result<u8, Fault>) -> ExitCode
 }
 
 // Does what is asked for, at the usual socket where the words name none. `shows` tells whether standard error is a terminal.
-fn run<R: Host>(rt: &R, asked: &Asked<'_>, told: &Told, shows: bool) -> Result<u8, Fault> {
+fn run(rt: &HostRuntime, asked: &Asked<'_>, told: &Told, shows: bool) -> Result<u8, Fault> {
     let patience = told.patience;
     let screen = Screen {
         shows,
@@ -171,8 +171,8 @@ fn run<R: Host>(rt: &R, asked: &Asked<'_>, told: &Told, shows: bool) -> Result<u
     run_task(rt, places, &asked.task, screen)
 }
 
-fn run_task<R: Host>(
-    rt: &R,
+fn run_task(
+    rt: &HostRuntime,
     places: Places<'_, '_>,
     task: &Task<'_>,
     screen: Screen,

@@ -4,7 +4,7 @@ use std::io;
 use std::io::Write;
 
 /// Prints lines.
-pub fn print_lines<R: Print>(rt: &R, lines: &[String]) -> io::Result<()> {
+pub fn print_lines(rt: &HostRuntime, lines: &[String]) -> io::Result<()> {
     for line in lines {
         println!(rt; "{line}")?;
     }
@@ -12,6 +12,6 @@ pub fn print_lines<R: Print>(rt: &R, lines: &[String]) -> io::Result<()> {
 }
 
 /// Prints bytes.
-pub fn print_bytes<R: Print>(rt: &R, bytes: &[u8]) -> io::Result<()> {
+pub fn print_bytes(rt: &HostRuntime, bytes: &[u8]) -> io::Result<()> {
     io::writer(rt).write_all(bytes)
 }

@@ -7,7 +7,7 @@ ghost use Rattle.spool_front.specs.Told.{IsNumberOr};
 use crate::client::Client;
 use crate::commands::has_control;
 use crate::fault::Fault;
-use crate::host::{Host, number_or, variable, variable_or};
+use crate::host::{number_or, variable, variable_or};
 use front_texts::{JobLine, QueueLine};
 use std::alloc::{AllocError, Global};
 
@@ -26,12 +26,12 @@ pub struct Places<'p, 'a> {
 }
 
 /// The socket of the environment, or else the usual one.
-pub fn usual_socket<R: Host>(rt: &R) -> Result<String, AllocError> {
+pub fn usual_socket(rt: &HostRuntime) -> Result<String, AllocError> {
     variable_or(rt, "SPOOL_SOCKET", USUAL_SOCKET)
 }
 
 /// For how many seconds a service is waited for.
-pub fn patience<R: Host>(rt: &R) -> Result<u32, AllocError> {
+pub fn patience(rt: &HostRuntime) -> Result<u32, AllocError> {
     let told = variable(rt, "SPOOL_PATIENCE")?;
     Ok(patience_in(&told))
 }
@@ -43,7 +43,7 @@ fn patience_in(told: &Option<String>) -> u32
 }
 
 /// The client of the service at a socket.
-pub fn client_at<'a, R: Host>(rt: &'a R, places: Places<'_, '_>, socket: &'a str) -> Client<'a, R>
+pub fn client_at<'a>(rt: &'a HostRuntime, places: Places<'_, '_>, socket: &'a str) -> Client<'a>
     ensures patience { result.pauses ≡ places.entry.patience * 10 }
     ensures socket { result.socket.now ≡ socket.now }
 {
@@ -62,8 +62,8 @@ pub fn only_socket<'a>(places: Places<'_, 'a>) -> Result<&'a str, Fault>
 }
 
 /// The queues of the service at a socket.
-pub fn queues_at<R: Host>(
-    rt: &R,
+pub fn queues_at(
+    rt: &HostRuntime,
     places: Places<'_, '_>,
     socket: &str,
 ) -> Result<Vec<QueueLine>, Fault> {
@@ -74,7 +74,7 @@ pub fn queues_at<R: Host>(
 }
 
 /// The queues of all services.
-pub fn all_queues<R: Host>(rt: &R, places: Places<'_, '_>) -> Result<Vec<QueueLine>, Fault> {
+pub fn all_queues(rt: &HostRuntime, places: Places<'_, '_>) -> Result<Vec<QueueLine>, Fault> {
     let mut queues = Vec::new(rt.alloc());
     for socket in places.sockets {
         for queue in queues_at(rt, places, socket)? {
@@ -85,7 +85,7 @@ pub fn all_queues<R: Host>(rt: &R, places: Places<'_, '_>) -> Result<Vec<QueueLi
 }
 
 /// The jobs of all services.
-pub fn all_jobs<R: Host>(rt: &R, places: Places<'_, '_>) -> Result<Vec<JobLine>, Fault> {
+pub fn all_jobs(rt: &HostRuntime, places: Places<'_, '_>) -> Result<Vec<JobLine>, Fault> {
     let mut jobs = Vec::new(rt.alloc());
     for socket in places.sockets {
         for job in jobs_at(rt, places, socket)? {
@@ -95,7 +95,7 @@ pub fn all_jobs<R: Host>(rt: &R, places: Places<'_, '_>) -> Result<Vec<JobLine>,
     Ok(jobs)
 }
 
-fn jobs_at<R: Host>(rt: &R, places: Places<'_, '_>, socket: &str) -> Result<Vec<JobLine>, Fault> {
+fn jobs_at(rt: &HostRuntime, places: Places<'_, '_>, socket: &str) -> Result<Vec<JobLine>, Fault> {
     let mut client = client_at(rt, places, socket);
     let jobs = client.jobs();
     drop(client);
@@ -103,8 +103,8 @@ fn jobs_at<R: Host>(rt: &R, places: Places<'_, '_>, socket: &str) -> Result<Vec<
 }
 
 /// The socket and the name of the queue that is meant: the one that is named, that of the environment, or the only one.
-pub fn queue_of<'a, R: Host>(
-    rt: &R,
+pub fn queue_of<'a>(
+    rt: &HostRuntime,
     places: Places<'_, 'a>,
     queue: Option<&str>,
 ) -> Result<(&'a str, String), Fault>
@@ -126,8 +126,8 @@ pub fn queue_of<'a, R: Host>(
     only_queue(rt, places)
 }
 
-fn place_of<'a, R: Host>(
-    rt: &R,
+fn place_of<'a>(
+    rt: &HostRuntime,
     places: Places<'_, 'a>,
     queue: String,
 ) -> Result<(&'a str, String), Fault>
@@ -139,7 +139,11 @@ fn place_of<'a, R: Host>(
 }
 
 /// The socket of the service that has this queue. With one service nobody is asked.
-pub fn socket_of<'a, R: Host>(rt: &R, places: Places<'_, 'a>, queue: &str) -> Result<&'a str, Fault>
+pub fn socket_of<'a>(
+    rt: &HostRuntime,
+    places: Places<'_, 'a>,
+    queue: &str,
+) -> Result<&'a str, Fault>
     ensures socket { IfOk result (λ socket. Contains (map (λ place. place.now) places.entry.sockets.now) socket.now) }
     ensures alone { length places.entry.sockets.now ≡ 1 → IsOk result }
 {
@@ -161,7 +165,7 @@ pub fn has_queue(queues: &[QueueLine], name: &str) -> bool
     queues.iter().any(|row| row.name.as_str() == name)
 }
 
-fn only_queue<'a, R: Host>(rt: &R, places: Places<'_, 'a>) -> Result<(&'a str, String), Fault>
+fn only_queue<'a>(rt: &HostRuntime, places: Places<'_, 'a>) -> Result<(&'a str, String), Fault>
     ensures { IfOk result (λ place. Contains (map (λ socket. socket.now) places.entry.sockets.now) place.0.now) }
 {
     let mut only = None;

@@ -10,7 +10,7 @@ use crate::commands::Draft;
 use crate::document::Document;
 use crate::draft::draft_of;
 use crate::fault::Fault;
-use crate::host::{Host, Screen};
+use crate::host::Screen;
 use crate::places::{Places, client_at, queue_of};
 use crate::submit::Submitting;
 use front_submission::End;
@@ -27,8 +27,8 @@ const NOT_KNOWN: u8 = 3;
 const NOT_COMPLETED: u8 = 5;
 
 /// Prints the files, one after the other, and gives the status of the first that fails.
-pub fn print_files<R: Host>(
-    rt: &R,
+pub fn print_files(
+    rt: &HostRuntime,
     places: Places<'_, '_>,
     asked: &Submission<'_>,
     screen: Screen,
@@ -40,9 +40,9 @@ pub fn print_files<R: Host>(
     status
 }
 
-fn print_all<R: Host>(
-    rt: &R,
-    client: &mut Client<'_, R>,
+fn print_all(
+    rt: &HostRuntime,
+    client: &mut Client<'_>,
     asked: &Submission<'_>,
     queue: &str,
     screen: Screen,
@@ -60,9 +60,9 @@ fn print_all<R: Host>(
     Ok(status)
 }
 
-fn print_named<R: Host>(
-    rt: &R,
-    client: &mut Client<'_, R>,
+fn print_named(
+    rt: &HostRuntime,
+    client: &mut Client<'_>,
     asked: &Submission<'_>,
     queue: &str,
     file: &str,
@@ -83,9 +83,9 @@ fn print_named<R: Host>(
     print_document(rt, client, asked, &draft, source, screen)
 }
 
-fn print_input<R: Host>(
-    rt: &R,
-    client: &mut Client<'_, R>,
+fn print_input(
+    rt: &HostRuntime,
+    client: &mut Client<'_>,
     asked: &Submission<'_>,
     queue: &str,
     screen: Screen,
@@ -104,9 +104,9 @@ fn base_name(path: &str) -> &str
     }
 }
 
-fn print_document<R: Host, S: Read + Drop>(
-    rt: &R,
-    client: &mut Client<'_, R>,
+fn print_document<S: Read + Drop>(
+    rt: &HostRuntime,
+    client: &mut Client<'_>,
     asked: &Submission<'_>,
     draft: &Draft,
     source: S,
@@ -122,9 +122,9 @@ fn print_document<R: Host, S: Read + Drop>(
 }
 
 // Makes a job of a document, and tells how that ended.
-fn submit<R: Host, S: Read + Drop>(
-    rt: &R,
-    client: &mut Client<'_, R>,
+fn submit<S: Read + Drop>(
+    rt: &HostRuntime,
+    client: &mut Client<'_>,
     quiet: bool,
     draft: &Draft,
     document: &mut Document<S>,
@@ -143,7 +143,7 @@ fn submit<R: Host, S: Read + Drop>(
 }
 
 // Tells how a submission ended. That stays its status, also where nobody can be told.
-fn tell<R: Host>(rt: &R, quiet: bool, queue: &str, end: End, submitting: &Submitting<'_, R>) {
+fn tell(rt: &HostRuntime, quiet: bool, queue: &str, end: End, submitting: &Submitting<'_>) {
     match end {
         End::Accepted { .. } if quiet => {}
         End::Accepted { job } => {
@@ -163,7 +163,7 @@ fn tell<R: Host>(rt: &R, quiet: bool, queue: &str, end: End, submitting: &Submit
     }
 }
 
-fn tell_refused<R: Host>(rt: &R, job: Option<u32>, cause: &str, canceled: bool) {
+fn tell_refused(rt: &HostRuntime, job: Option<u32>, cause: &str, canceled: bool) {
     let _ = match job {
         Some(job) if canceled => eprintln!(rt; "spool: {cause}, job {job} canceled"),
         Some(job) => eprintln!(rt; "spool: {cause}, job {job} isn't printed"),
@@ -172,7 +172,7 @@ fn tell_refused<R: Host>(rt: &R, job: Option<u32>, cause: &str, canceled: bool) 
 }
 
 // Waits until the job has ended, and gives the status. On a terminal its way is told.
-fn wait_for<R: Host>(rt: &R, client: &mut Client<'_, R>, job: u32, screen: Screen) -> u8 {
+fn wait_for(rt: &HostRuntime, client: &mut Client<'_>, job: u32, screen: Screen) -> u8 {
     for _ in 0..u64::MAX {
         if let Some(status) = status_of(rt, client, job, screen) {
             return status;
@@ -183,7 +183,7 @@ fn wait_for<R: Host>(rt: &R, client: &mut Client<'_, R>, job: u32, screen: Scree
 }
 
 // The status, where the job has ended, or can't be seen.
-fn status_of<R: Host>(rt: &R, client: &mut Client<'_, R>, job: u32, screen: Screen) -> Option<u8> {
+fn status_of(rt: &HostRuntime, client: &mut Client<'_>, job: u32, screen: Screen) -> Option<u8> {
     match client.job(job) {
         Ok(Some(shown)) => tell_shown(rt, shown, screen),
         Ok(None) => {
@@ -194,7 +194,7 @@ fn status_of<R: Host>(rt: &R, client: &mut Client<'_, R>, job: u32, screen: Scre
     }
 }
 
-fn tell_shown<R: Host>(rt: &R, shown: JobShown, screen: Screen) -> Option<u8>
+fn tell_shown(rt: &HostRuntime, shown: JobShown, screen: Screen) -> Option<u8>
     ensures { result ≡ status_at shown.course.state }
 {
     tell_way(rt, &shown, screen);
@@ -203,7 +203,7 @@ fn tell_shown<R: Host>(rt: &R, shown: JobShown, screen: Screen) -> Option<u8>
     status
 }
 
-fn tell_unknown<R: Host>(rt: &R, job: u32, fault: Fault) -> u8
+fn tell_unknown(rt: &HostRuntime, job: u32, fault: Fault) -> u8
     ensures { result ≡ 3 }
 {
     let _ = eprintln!(rt; "spool: it isn't known how job {job} ends: {fault}");
@@ -211,7 +211,7 @@ fn tell_unknown<R: Host>(rt: &R, job: u32, fault: Fault) -> u8
     NOT_KNOWN
 }
 
-fn tell_way<R: Host>(rt: &R, shown: &JobShown, screen: Screen) {
+fn tell_way(rt: &HostRuntime, shown: &JobShown, screen: Screen) {
     if !screen.shows {
         return;
     }
@@ -224,7 +224,7 @@ fn tell_way<R: Host>(rt: &R, shown: &JobShown, screen: Screen) {
 }
 
 // The status where the job has ended. Why it isn't completed is told.
-fn end_of<R: Host>(rt: &R, shown: &JobShown) -> Option<u8>
+fn end_of(rt: &HostRuntime, shown: &JobShown) -> Option<u8>
     ensures { result ≡ status_at shown.now.course.state }
 {
     match shown.course.state {
@@ -237,7 +237,7 @@ fn end_of<R: Host>(rt: &R, shown: &JobShown) -> Option<u8>
     }
 }
 
-fn tell_end<R: Host>(rt: &R, shown: &JobShown) {
+fn tell_end(rt: &HostRuntime, shown: &JobShown) {
     let job = shown.asked.number.get();
     let state = shown.course.state.word();
     let _ = match &shown.course.reason {

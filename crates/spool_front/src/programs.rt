@@ -2,10 +2,9 @@
 
 use crate::fault::Fault;
 use crate::files::file_text;
-use crate::host::{Host, variable_or};
+use crate::host::variable_or;
 use program_fitness::obstacle_of_program;
 use program_lists::{ListFault, ListedProgram, ProgramList};
-use std::fs::{File, Files};
 use std::io;
 
 // What names the file in the environment, and the file where nothing does.
@@ -14,14 +13,14 @@ const VARIABLE: &str = "SPOOL_PROGRAMS";
 const USUAL_PROGRAMS: &str = "/etc/cegmandi/programs";
 
 /// Tells each program of the service's file that can't be run as it is. Whether all can.
-pub fn tell_programs<R: Host>(rt: &R) -> Result<bool, Fault> {
+pub fn tell_programs(rt: &HostRuntime) -> Result<bool, Fault> {
     let list = list_of_file(rt)?;
     let all = tell_list(rt, &list);
     drop(list);
     Ok(all?)
 }
 
-fn list_of_file<R: Host>(rt: &R) -> Result<ProgramList, Fault> {
+fn list_of_file(rt: &HostRuntime) -> Result<ProgramList, Fault> {
     let text = file_text(rt, VARIABLE, USUAL_PROGRAMS)?;
     match ProgramList::read(rt.alloc(), text.as_str()) {
         Ok(list) => Ok(list),
@@ -30,7 +29,7 @@ fn list_of_file<R: Host>(rt: &R) -> Result<ProgramList, Fault> {
     }
 }
 
-fn tell_list<R: Files<File = File> + Print>(rt: &R, list: &ProgramList) -> io::Result<bool> {
+fn tell_list(rt: &HostRuntime, list: &ProgramList) -> io::Result<bool> {
     let mut all = true;
     for filter in list.filters() {
         let runs = tell_program(rt, "filter", filter.name.as_str(), &filter.program)?;
@@ -48,8 +47,8 @@ fn tell_list<R: Files<File = File> + Print>(rt: &R, list: &ProgramList) -> io::R
 }
 
 // Whether a program can be run. Where it can't it is told.
-fn tell_program<R: Files<File = File> + Print>(
-    rt: &R,
+fn tell_program(
+    rt: &HostRuntime,
     kind: &str,
     name: &str,
     program: &ListedProgram,

@@ -13,7 +13,7 @@ use crate::client::{Answer, Client, pause};
 use crate::commands::{Draft, close_line, create_line, hold_line, job_line, send_line};
 use crate::connection::ConnectionFault;
 use crate::document::Document;
-use crate::host::{Host, Screen};
+use crate::host::Screen;
 use crate::replies::{has_reason, reply_in, shown_of};
 use front_submission::{Cause, End, Found, Own, Reply, Request, Step};
 use front_texts::{JobLine, JobShown, read_job_line, read_job_shown};
@@ -22,8 +22,8 @@ use std::io::Read;
 
 /// A submission, and what its messages speak of.
 #[derive(Drop)]
-pub struct Submitting<'a, R> {
-    rt: &'a R,
+pub struct Submitting<'a> {
+    rt: &'a HostRuntime,
     draft: &'a Draft,
     screen: Screen,
     // The words of the last refusal.
@@ -34,8 +34,8 @@ pub struct Submitting<'a, R> {
     lost: u64,
 }
 
-impl<'a, R: Host> Submitting<'a, R> {
-    pub fn new(rt: &'a R, draft: &'a Draft, screen: Screen) -> Submitting<'a, R>
+impl<'a> Submitting<'a> {
+    pub fn new(rt: &'a HostRuntime, draft: &'a Draft, screen: Screen) -> Submitting<'a>
         ensures draft { result.draft.now ≡ draft.now }
         ensures screen { result.screen ≡ screen }
         ensures refusal { result.refusal ≡ None }
@@ -72,7 +72,7 @@ impl<'a, R: Host> Submitting<'a, R> {
     /// Makes one job of the document, and gives how that ends. Whatever happens it has an end, whose status is true.
     pub fn submit<S: Read + Drop>(
         &mut self,
-        client: &mut Client<'_, R>,
+        client: &mut Client<'_>,
         document: &mut Document<S>,
     ) -> End
         ensures { IsTrue (was_closed result) → IsAtEnd (S.remaining document.new.source) }
@@ -107,7 +107,7 @@ impl<'a, R: Host> Submitting<'a, R> {
     // sent may have been done.
     fn request(
         &mut self,
-        client: &mut Client<'_, R>,
+        client: &mut Client<'_>,
         step: Step,
         request: Request,
         piece: &[u8],
@@ -130,7 +130,7 @@ impl<'a, R: Host> Submitting<'a, R> {
         }
     }
 
-    fn is_connected(&mut self, client: &mut Client<'_, R>) -> bool {
+    fn is_connected(&mut self, client: &mut Client<'_>) -> bool {
         match client.connect() {
             Ok(connected) => connected,
             Err(_) => {
@@ -141,7 +141,7 @@ impl<'a, R: Host> Submitting<'a, R> {
     }
 
     // What a reply makes of the step. What isn't clear ends the connection, and what was put off is sent again later.
-    fn after(&mut self, client: &mut Client<'_, R>, step: Step, reply: Reply) -> Step
+    fn after(&mut self, client: &mut Client<'_>, step: Step, reply: Reply) -> Step
         ensures step { result ≡ heard step reply }
         ensures unclear { reply ≡ Reply.Unclear → client.new.connection ≡ None }
     {
@@ -167,7 +167,7 @@ impl<'a, R: Host> Submitting<'a, R> {
     // The reply to a request.
     fn reply(
         &mut self,
-        client: &mut Client<'_, R>,
+        client: &mut Client<'_>,
         request: Request,
         piece: &[u8],
     ) -> Result<Reply, ConnectionFault> {
@@ -190,13 +190,13 @@ impl<'a, R: Host> Submitting<'a, R> {
     }
 
     // A refusal of a `cancel` isn't kept: that of the document is told.
-    fn cancel(&mut self, client: &mut Client<'_, R>, job: u32) -> Result<Reply, ConnectionFault> {
+    fn cancel(&mut self, client: &mut Client<'_>, job: u32) -> Result<Reply, ConnectionFault> {
         let line = job_line(self.rt.alloc(), "cancel", job)?;
         let answer = client.exchange(line.as_slice())?;
         Ok(reply_in(answer.last.as_str()))
     }
 
-    fn order(&mut self, client: &mut Client<'_, R>, line: &[u8]) -> Result<Reply, ConnectionFault> {
+    fn order(&mut self, client: &mut Client<'_>, line: &[u8]) -> Result<Reply, ConnectionFault> {
         let answer = client.exchange(line)?;
         Ok(self.reply_of(answer))
     }
@@ -215,7 +215,7 @@ impl<'a, R: Host> Submitting<'a, R> {
     }
 
     // What has become of a job.
-    fn show(&mut self, client: &mut Client<'_, R>, job: u32) -> Result<Reply, ConnectionFault> {
+    fn show(&mut self, client: &mut Client<'_>, job: u32) -> Result<Reply, ConnectionFault> {
         match self.shown(client, job)? {
             Ok(job) => {
                 let shown = shown_of(&job);
@@ -228,7 +228,7 @@ impl<'a, R: Host> Submitting<'a, R> {
 
     fn shown(
         &mut self,
-        client: &mut Client<'_, R>,
+        client: &mut Client<'_>,
         job: u32,
     ) -> Result<Result<JobShown, Reply>, ConnectionFault> {
         let alloc = self.rt.alloc();
@@ -245,7 +245,7 @@ impl<'a, R: Host> Submitting<'a, R> {
     }
 
     // The jobs that arrive with the token.
-    fn find(&mut self, client: &mut Client<'_, R>) -> Result<Reply, ConnectionFault> {
+    fn find(&mut self, client: &mut Client<'_>) -> Result<Reply, ConnectionFault> {
         let answer = client.exchange(b"jobs\n")?;
         if !answer.is_done() {
             return Ok(self.reply_of(answer));
@@ -257,7 +257,7 @@ impl<'a, R: Host> Submitting<'a, R> {
 
     fn find_in(
         &mut self,
-        client: &mut Client<'_, R>,
+        client: &mut Client<'_>,
         rows: &[Vec<u8>],
     ) -> Result<Reply, ConnectionFault> {
         let mut found = Found {
@@ -277,7 +277,7 @@ impl<'a, R: Host> Submitting<'a, R> {
     // Adds a job to those that were found, if it has the token.
     fn look(
         &mut self,
-        client: &mut Client<'_, R>,
+        client: &mut Client<'_>,
         job: u32,
         found: &mut Found,
     ) -> Result<Result<(), Reply>, ConnectionFault>

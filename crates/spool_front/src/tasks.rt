@@ -10,7 +10,7 @@ use crate::client::Client;
 use crate::commands::{Until, hold_line, info_line, job_line, name_line, queue_line};
 use crate::draft::seconds_of;
 use crate::fault::Fault;
-use crate::host::{Host, Screen};
+use crate::host::Screen;
 use crate::output::{print_bytes, print_lines};
 use crate::places::{Places, all_jobs, all_queues, client_at, has_queue, only_socket, socket_of};
 use front_texts::{
@@ -22,8 +22,8 @@ use serde_json::Value;
 use std::alloc::{AllocError, Global};
 
 /// Shows one job, those of a queue, or all.
-pub fn show_status<R: Host>(
-    rt: &R,
+pub fn show_status(
+    rt: &HostRuntime,
     places: Places<'_, '_>,
     asked: Status<'_>,
     screen: Screen,
@@ -39,7 +39,7 @@ pub fn show_status<R: Host>(
     Ok(0)
 }
 
-fn print_jobs<R: Host>(rt: &R, jobs: &[JobLine], json: bool, screen: Screen) -> Result<(), Fault> {
+fn print_jobs(rt: &HostRuntime, jobs: &[JobLine], json: bool, screen: Screen) -> Result<(), Fault> {
     let alloc = rt.alloc();
     if json {
         return print_json(rt, jobs_json(alloc, jobs)?);
@@ -48,7 +48,7 @@ fn print_jobs<R: Host>(rt: &R, jobs: &[JobLine], json: bool, screen: Screen) -> 
     Ok(())
 }
 
-fn print_json<R: Host>(rt: &R, value: Value) -> Result<(), Fault> {
+fn print_json(rt: &HostRuntime, value: Value) -> Result<(), Fault> {
     let text = value.to_string(rt.alloc());
     drop(value);
     let text = text?;
@@ -73,8 +73,8 @@ fn is_of(queue: Option<&str>, job: &JobLine) -> bool
 }
 
 // Shows the job of this number of each service that has one.
-fn show_job<R: Host>(
-    rt: &R,
+fn show_job(
+    rt: &HostRuntime,
     places: Places<'_, '_>,
     job: u32,
     json: bool,
@@ -97,13 +97,13 @@ fn show_job<R: Host>(
     }
 }
 
-fn print_shown<R: Host>(rt: &R, shown: JobShown, json: bool, screen: Screen) -> Result<(), Fault> {
+fn print_shown(rt: &HostRuntime, shown: JobShown, json: bool, screen: Screen) -> Result<(), Fault> {
     let printed = print_job(rt, &shown, json, screen);
     drop(shown);
     printed
 }
 
-fn print_job<R: Host>(rt: &R, shown: &JobShown, json: bool, screen: Screen) -> Result<(), Fault> {
+fn print_job(rt: &HostRuntime, shown: &JobShown, json: bool, screen: Screen) -> Result<(), Fault> {
     let alloc = rt.alloc();
     if json {
         return print_json(rt, job_shown_json(alloc, shown)?);
@@ -113,8 +113,8 @@ fn print_job<R: Host>(rt: &R, shown: &JobShown, json: bool, screen: Screen) -> R
 }
 
 /// Shows the queues.
-pub fn show_queues<R: Host>(
-    rt: &R,
+pub fn show_queues(
+    rt: &HostRuntime,
     places: Places<'_, '_>,
     json: bool,
     screen: Screen,
@@ -126,8 +126,8 @@ pub fn show_queues<R: Host>(
     Ok(0)
 }
 
-fn print_queues<R: Host>(
-    rt: &R,
+fn print_queues(
+    rt: &HostRuntime,
     queues: &[QueueLine],
     json: bool,
     screen: Screen,
@@ -141,7 +141,7 @@ fn print_queues<R: Host>(
 }
 
 /// Prints each line that the service tells of what changes, until it goes.
-pub fn watch<R: Host>(rt: &R, places: Places<'_, '_>) -> Result<u8, Fault> {
+pub fn watch(rt: &HostRuntime, places: Places<'_, '_>) -> Result<u8, Fault> {
     let mut client = client_at(rt, places, only_socket(places)?);
     let ended = watch_by(rt, &mut client);
     drop(client);
@@ -149,7 +149,7 @@ pub fn watch<R: Host>(rt: &R, places: Places<'_, '_>) -> Result<u8, Fault> {
     Ok(0)
 }
 
-fn watch_by<R: Host>(rt: &R, client: &mut Client<'_, R>) -> Result<(), Fault> {
+fn watch_by(rt: &HostRuntime, client: &mut Client<'_>) -> Result<(), Fault> {
     client.order(b"watch\n")?;
     for _ in 0..u64::MAX {
         let mut line = client.read_line()?;
@@ -160,8 +160,8 @@ fn watch_by<R: Host>(rt: &R, client: &mut Client<'_, R>) -> Result<(), Fault> {
 }
 
 /// Does the same to each of these jobs.
-pub fn act_on_jobs<R: Host>(
-    rt: &R,
+pub fn act_on_jobs(
+    rt: &HostRuntime,
     places: Places<'_, '_>,
     act: JobAct,
     jobs: &[u32],
@@ -173,9 +173,9 @@ pub fn act_on_jobs<R: Host>(
 }
 
 // Where it is refused for a job, or the reply is lost, that is told, and the other jobs have their turn.
-fn act_by<R: Host>(
-    rt: &R,
-    client: &mut Client<'_, R>,
+fn act_by(
+    rt: &HostRuntime,
+    client: &mut Client<'_>,
     act: JobAct,
     jobs: &[u32],
 ) -> Result<u8, Fault> {
@@ -193,7 +193,7 @@ fn act_by<R: Host>(
 }
 
 // Tells why something wasn't done to a job, and gives the status. Any other fault is one of all jobs.
-fn tell_fault<R: Host>(rt: &R, job: u32, fault: Fault) -> Result<u8, Fault>
+fn tell_fault(rt: &HostRuntime, job: u32, fault: Fault) -> Result<u8, Fault>
     ensures { IfOk result (λ status. status ≡ status_of fault) }
 {
     if !matches!(fault, Fault::Refused(_) | Fault::Unknown) {
@@ -206,7 +206,7 @@ fn tell_fault<R: Host>(rt: &R, job: u32, fault: Fault) -> Result<u8, Fault>
     Ok(status)
 }
 
-fn act_line<R: Host>(rt: &R, act: JobAct, job: u32) -> Result<Vec<u8>, Fault>
+fn act_line(rt: &HostRuntime, act: JobAct, job: u32) -> Result<Vec<u8>, Fault>
     ensures { IfOk result (λ line. IsActLine act job line.items) }
 {
     let alloc = rt.alloc();
@@ -224,7 +224,7 @@ fn act_line<R: Host>(rt: &R, act: JobAct, job: u32) -> Result<Vec<u8>, Fault>
 }
 
 /// Cancels each job of these queues, or of all, that hasn't ended.
-pub fn clear<R: Host>(rt: &R, places: Places<'_, '_>, names: &[&str]) -> Result<u8, Fault> {
+pub fn clear(rt: &HostRuntime, places: Places<'_, '_>, names: &[&str]) -> Result<u8, Fault> {
     let queues = all_queues(rt, places)?;
     let known = names.iter().all(|name| has_queue(&queues, name));
     drop(queues);
@@ -244,7 +244,7 @@ pub fn clear<R: Host>(rt: &R, places: Places<'_, '_>, names: &[&str]) -> Result<
     Ok(status)
 }
 
-fn clear_by<R: Host>(rt: &R, client: &mut Client<'_, R>, names: &[&str]) -> Result<u8, Fault> {
+fn clear_by(rt: &HostRuntime, client: &mut Client<'_>, names: &[&str]) -> Result<u8, Fault> {
     let jobs = client.jobs()?;
     let numbers = numbers_of(rt.alloc(), &jobs, names);
     drop(jobs);
@@ -277,8 +277,8 @@ fn is_among(names: &[&str], queue: &str) -> bool
 }
 
 /// Does something to a queue.
-pub fn act_on_queue<R: Host>(
-    rt: &R,
+pub fn act_on_queue(
+    rt: &HostRuntime,
     places: Places<'_, '_>,
     name: &str,
     act: QueueAct<'_>,

@@ -2,7 +2,6 @@
 
 use crate::draft::now;
 use crate::fault::Fault;
-use crate::host::Host;
 use crate::places::{Places, all_jobs, all_queues};
 use front_texts::{JobLine, QueueLine, moment_text, page};
 use spool_types::Moment;
@@ -13,8 +12,8 @@ use std::time::Duration;
 const PAGE_SECONDS: u64 = 5;
 
 /// Writes the page: to another file first, which then takes its name. With `follow` it does so every five seconds.
-pub fn write_page<R: Host>(
-    rt: &R,
+pub fn write_page(
+    rt: &HostRuntime,
     places: Places<'_, '_>,
     file: &str,
     follow: bool,
@@ -29,8 +28,8 @@ pub fn write_page<R: Host>(
     Ok(0)
 }
 
-fn write_one_page<R: Host>(
-    rt: &R,
+fn write_one_page(
+    rt: &HostRuntime,
     places: Places<'_, '_>,
     file: &str,
     follow: bool,
@@ -42,8 +41,8 @@ fn write_one_page<R: Host>(
 }
 
 // The page of these queues, and of the jobs.
-fn page_of<R: Host>(
-    rt: &R,
+fn page_of(
+    rt: &HostRuntime,
     places: Places<'_, '_>,
     queues: &[QueueLine],
     follow: bool,
@@ -55,8 +54,8 @@ fn page_of<R: Host>(
 }
 
 // The page as it is now.
-fn page_at<R: Host>(
-    rt: &R,
+fn page_at(
+    rt: &HostRuntime,
     queues: &[QueueLine],
     jobs: &[JobLine],
     follow: bool,
@@ -66,7 +65,7 @@ fn page_at<R: Host>(
     Ok(page(alloc, queues, jobs, stamp.as_str(), follow)?)
 }
 
-fn write_as<R: Host>(rt: &R, file: &str, text: &[u8]) -> Result<(), Fault> {
+fn write_as(rt: &HostRuntime, file: &str, text: &[u8]) -> Result<(), Fault> {
     let alloc = rt.alloc();
     let unfinished = format!(in alloc; "{file}.new")?;
     if fs::write(rt, unfinished.as_str(), text).is_err()

@@ -5,4 +5,4 @@ use Rattle.spool_front.specs.Checks.{prints}
 use Rattle.spool_front.proofs.check.tell_queues.Given as goal
 
 abbrev pub invariant-loop-queue : goal.invariant-loop-queue
-invariant-loop-queue g l = l.all ≡ list_all (prints l.chains) (take l.queue-index l.queues)
+invariant-loop-queue l = l.all ≡ list_all (prints l.chains) (take l.queue-index l.queues)

@@ -5,4 +5,4 @@ use Rattle.spool_front.specs.CupsForms.{is_meant}
 use Rattle.spool_front.proofs.cups_forms.print_meant.Given as goal
 
 abbrev pub invariant-loop-queue : goal.invariant-loop-queue
-invariant-loop-queue g l = l.found ≡ list_any (is_meant l.name) (take l.queue-index l.queues)
+invariant-loop-queue l = l.found ≡ list_any (is_meant l.name) (take l.queue-index l.queues)

@@ -19,6 +19,6 @@ noted_at P text None (Some after) socket (row ∷ rows) is h p =
     subst P (sym (ap (λ (place : List ℕ × List ℕ). place.0) both)) p
 
 pub loop-socket-preserved : goal.loop-socket-preserved
-loop-socket-preserved g c =
+loop-socket-preserved c =
     noted_at (Contains (map (λ socket. socket.now) c.args.places.sockets.now)) (λ place. place.now) c.loop-socket.only c.note_only.new.only _ _
     c.in_ok-note_only.ensures c.loop-socket.invariant (grind (arith, common_steps))

@@ -3,4 +3,4 @@ use Rattle.std.proofs.Common.{◌≡◌, None}
 use Rattle.spool_front.proofs.client.Client.connect.Given as goal
 
 abbrev pub invariant-loop : goal.invariant-loop
-invariant-loop g l = l.self.connection ≡ None
+invariant-loop l = l.self.connection ≡ None
