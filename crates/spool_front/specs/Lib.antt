@@ -7,6 +7,7 @@ pub mod CupsForms
 pub mod Drafts
 pub mod Faults
 pub mod Found
+pub mod Pages
 pub mod Pieces
 pub mod Places
 pub mod Replies

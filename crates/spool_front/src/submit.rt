@@ -1,5 +1,5 @@
 //! Making a job of a document, exactly once.
-ghost use Rattle.std.specs.Prelude.{◌≡◌, ◌<◌, ◌+◌, ◌↔◌, ◌⊎◌, IfOk, IsTrue, None, false, is_some, length, min, string_bytes};
+ghost use Rattle.std.specs.Prelude.{◌≡◌, ◌<◌, ◌+◌, ◌↔◌, ◌⊎◌, IfOk, IsSome, IsTrue, None, false, is_some, length, min, string_bytes};
 ghost use Rattle.std.specs.Io.KnownBytes.{IsAtEnd};
 ghost use Rattle.std.specs.Str.Iter.{HasSubslice};
 ghost use Rattle.spool_front.specs.Found.{may_be_own, own_job, with_job};
@@ -130,7 +130,9 @@ impl<'a> Submitting<'a> {
         }
     }
 
-    fn is_connected(&mut self, client: &mut Client<'_>) -> bool {
+    fn is_connected(&mut self, client: &mut Client<'_>) -> bool
+        ensures { IsTrue result → IsSome client.new.connection }
+    {
         match client.connect() {
             Ok(connected) => connected,
             Err(_) => {

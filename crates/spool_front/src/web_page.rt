@@ -1,4 +1,6 @@
 //! The queues and jobs as a page, written to a file.
+ghost use Rattle.std.specs.Prelude.{IfOk};
+ghost use Rattle.spool_front.specs.Pages.{IsPage};
 
 use crate::draft::now;
 use crate::fault::Fault;
@@ -59,7 +61,9 @@ fn page_at(
     queues: &[QueueLine],
     jobs: &[JobLine],
     follow: bool,
-) -> Result<Vec<u8>, Fault> {
+) -> Result<Vec<u8>, Fault>
+    ensures { IfOk result (λ page. IsPage queues.now jobs.now follow page.items) }
+{
     let alloc = rt.alloc();
     let stamp = moment_text(alloc, Moment::ZERO.plus(now(rt)?))?;
     Ok(page(alloc, queues, jobs, stamp.as_str(), follow)?)
