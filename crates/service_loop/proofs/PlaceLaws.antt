@@ -1,12 +1,14 @@
 -- What becomes of each client in the turns of all.
-use Rattle.std.proofs.Common.{◌≡◌, ◌⊎◌, inl, inr, ℕ, zero, suc, ◌+◌, ◌<◌, ◌≤◌, List, Option, None, Some, true, false, is_some, refl, ap, sym, ◌∙◌, subst, add-one, arith}
+use Rattle.std.proofs.Common.{◌≡◌, ◌⊎◌, inl, inr, ℕ, zero, suc, ◌+◌, ◌<◌, ◌≤◌, List, Option, None, Some, IfSome, true, false, is_some, refl, ap, sym, ◌∙◌, subst, add-one, arith}
 use Rattle.slab.specs.Slab.{Slab, Updates, get, with_value}
 use Rattle.slab.proofs.SlabLemmas.{Updates-with_value}
 use Rattle.spool_disk.specs.Disk.{DiskView}
+use Rattle.spool_types.specs.State.{State}
 use Rattle.spool_engine.specs.Runs.{Engine}
 use Rattle.service_loop.specs.Lines.{LineView}
 use Rattle.service_loop.specs.Deeds.{Deed}
-use Rattle.service_loop.specs.Places.{HadOwnTurn, HasTurn, HaveTurns, KeepsOthers, PlaceHadTurn, unless_parted}
+use Rattle.service_loop.specs.Places.{HadOwnTurn, HasNoneNow, HasTurn, HaveTurns, KeepsOthers, PlaceHadTurn, leaves_more, unless_parted}
+use Rattle.service_loop.specs.Progress.{EndsTurn, IsAtRest, IsBrimful, IsGiven}
 use Rattle.service_loop.specs.Visits.{IsVisit, is_starved}
 use Rattle.service_loop.specs.declared.client.Client.{Client}
 use Rattle.service_loop.specs.declared.client.Parting.{Parting}
@@ -66,10 +68,11 @@ module _ {D L : Type 0} (device : DiskView D) (view : LineView L) where
 
   pub had_turn : (e : Engine D) (places : Slab (Client L)) (key : ℕ) (was is : Client L) (turn : Turn) (e' : Engine D) (left : Slab (Client L)) → get places key ≡ Some was →
       e'.mime ≡ e.mime → e'.place ≡ e.place → (is_starved turn.parting ≡ false → (deeds : List (Deed D)) × IsVisit device view e was deeds e' is) →
+      EndsTurn view e'.course.spool.state was turn is →
       Updates places left key (unless_parted turn.parting is) → HasTurn device view e places key (Some turn) e' left
-  had_turn e places key was is turn e' left there mime place visit updates = record {
+  had_turn e places key was is turn e' left there mime place visit ends updates = record {
     own = subst (λ (c : Option (Client L)). PlaceHadTurn device view e c (Some turn) e' (get left key)) (sym there)
-        (record { mime = mime; place = place; is = is; visit = visit; stays = updates.changed });
+        (record { mime = mime; place = place; is = is; visit = visit; ends = ends; stays = updates.changed });
     others = updates.others;
   }
 
@@ -92,3 +95,42 @@ pub has_stayed : {L : Type 0} (places : Slab (Client L)) (key : ℕ) (was is : C
     Updates places (with_value places key is) key (unless_parted parting is)
 has_stayed {L} places key was is parting there stays =
     subst (λ (slot : Option (Client L)). Updates places (with_value places key is) key slot) (stayed parting is stays) (written places key was is there)
+
+-- ## Who stays
+
+who_stays : {L : Type 0} (P : Client L → Type 0) (parting : Option Parting) (c : Client L) → (parting ≡ None → P c) → IfSome (unless_parted parting c) P
+who_stays P None c holds = holds refl
+who_stays P (Some parting) c holds = tt
+
+has_none_now : {L : Type 0} (s : State) (c : Client L) → IsAtRest s c ⊎ IsBrimful c → HasNoneNow c
+has_none_now s c (inl (inl waiting)) = inl (ap is_some waiting.1)
+has_none_now s c (inl (inr none)) = inr (inl none)
+has_none_now s c (inr full) = inr (inr full)
+
+module _ {D L : Type 0} (device : DiskView D) (view : LineView L) where
+  -- who stays was given what its line takes
+  pub given_there : (e : Engine D) (was : Option (Client L)) (turn : Option Turn) (e' : Engine D) (left : Option (Client L)) → PlaceHadTurn device view e was turn e' left → IfSome left IsGiven
+  given_there e None None e' left had = subst (λ (c : Option (Client L)). IfSome c IsGiven) (sym had.1) tt
+  given_there e None (Some turn) e' left had = absurd had
+  given_there e (Some was) None e' left had = absurd had
+  given_there e (Some was) (Some turn) e' left had = subst (λ (c : Option (Client L)). IfSome c IsGiven) (sym had.stays) (who_stays IsGiven turn.parting had.is had.ends.given)
+
+  -- and nothing can be done for it now, unless its turn left more
+  pub rests_there : (e : Engine D) (was : Option (Client L)) (turn : Option Turn) (e' : Engine D) (left : Option (Client L)) → PlaceHadTurn device view e was turn e' left →
+      leaves_more turn ≡ false → IfSome left HasNoneNow
+  rests_there e None None e' left had none = subst (λ (c : Option (Client L)). IfSome c HasNoneNow) (sym had.1) tt
+  rests_there e None (Some turn) e' left had none = absurd had
+  rests_there e (Some was) None e' left had none = absurd had
+  rests_there e (Some was) (Some turn) e' left had none =
+      subst (λ (c : Option (Client L)). IfSome c HasNoneNow) (sym had.stays)
+      (who_stays HasNoneNow turn.parting had.is (λ stays. has_none_now e'.course.spool.state had.is (had.ends.rests stays none)))
+
+each_of : {L : Type 0} (P : Client L → Type 0) (places left : Slab (Client L)) (key : ℕ) → KeepsOthers key places left →
+    ((k : ℕ) → k < key → IfSome (get places k) P) → IfSome (get left key) P → (k : ℕ) → (k < key) ⊎ (k ≡ key) → IfSome (get left k) P
+each_of {L} P places left key others below here k (inl lt) = subst (λ (c : Option (Client L)). IfSome c P) (sym (others k (omega arith))) (below k lt)
+each_of {L} P places left key others below here k (inr same) = subst (λ (j : ℕ). IfSome (get left j) P) (sym same) here
+
+-- what holds of each place below a key, and of the one that had its turn, holds of each below the next key
+pub each_more : {L : Type 0} (P : Client L → Type 0) (places left : Slab (Client L)) (key : ℕ) → KeepsOthers key places left →
+    ((k : ℕ) → k < key → IfSome (get places k) P) → IfSome (get left key) P → (k : ℕ) → k < key + 1 → IfSome (get left k) P
+each_more {L} P places left key others below here k lt = each_of P places left key others below here k (either k key lt)

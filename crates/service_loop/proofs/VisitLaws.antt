@@ -23,6 +23,7 @@ use Rattle.spool_engine.specs.Ticks.{Ticked, IsTicked}
 use Rattle.spool_engine.specs.Runs.{Engine, Serves, Turn, is_round, texts_of}
 use Rattle.service_loop.specs.Deeds.{Deed, answers, ticks, says, ends, IsSaid, IsEndTold, IsTimely, AreDeeds, after_deed, wait_after, asks_by, asks_in, text_by, texts_in}
 use Rattle.service_loop.specs.Lines.{LineView}
+use Rattle.service_loop.specs.Progress.{IsRead}
 use Rattle.service_loop.specs.Visits.{AreVisits, Asks, AsksFirst, GivesNext, Goes, HasAll, IsAdded, IsAnswered, IsEntry, IsVisit, IsVisitBy, Visit, turns, changes, signs, client_after, deeds_by, deeds_of, told_to}
 use Rattle.service_loop.specs.declared.client.Client.{Client}
 
@@ -133,14 +134,6 @@ appends_kept : (old new : Option (List ℕ)) (untaken : List ℕ) → Keeps old 
 appends_kept None new untaken kept = tt
 appends_kept (Some said) None untaken kept = absurd kept
 appends_kept (Some said) (Some now) untaken kept = ap (λ l. l ++ untaken) kept ∙ sym (append-nil (said ++ untaken))
-
--- a piece came of its line, and its reader took it
-pub record IsRead {L : Type 0} (view : LineView L) (old : Client L) (piece : List ℕ) (new : Client L) : Type 0 where
-  pub consumed : Consumes (view.remaining old.line) (view.remaining new.line) piece
-  pub kept : Keeps (view.contents old.line) (view.contents new.line)
-  pub took : (asks : List ℕ → List Ask) → Awaits old.reader asks → Awaits new.reader (λ more. asks (piece ++ more))
-  pub taken : new.taken ≡ old.taken
-  pub replies : new.replies.items ≡ old.replies.items
 
 pub goes_read : {L : Type 0} (view : LineView L) (old : Client L) (piece : List ℕ) (new : Client L) → IsRead view old piece new → Goes view old [] [] new
 goes_read view old piece new read = record {

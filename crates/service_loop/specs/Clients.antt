@@ -1,5 +1,5 @@
 -- What is known of the clients where a newcomer wants a place.
-use Rattle.std.specs.Prelude.{ℕ, ◌-◌, ◌==◌, Bool, not, ◌&&◌, ◌||◌, List, map, vec_len, is_some}
+use Rattle.std.specs.Prelude.{ℕ, ◌-◌, ◌==◌, Bool, not, ◌&&◌, ◌||◌, List, map, vec_len, is_some, Option, None, Some, false}
 use Rattle.slab.specs.Slab.{Slab, entries}
 use Rattle.service_rules.specs.declared.places.Client.{Client as Heard}
 use Rattle.service_loop.specs.declared.client.Client.{Client}
@@ -11,6 +11,11 @@ unread c = vec_len c.replies - c.taken
 -- it is told what changes, until its text has ended
 abbrev pub watches : {L : Type 0} → Client L → Bool
 watches c = c.watches && not c.over
+
+-- somebody is in the place who is told what changes
+abbrev pub is_watched : {L : Type 0} → Option (Client L) → Bool
+is_watched None = false
+is_watched (Some c) = watches c
 
 -- It waits for the end of a job, or is told what changes, and has taken all that it was told. So it isn't idle.
 abbrev pub listens : {L : Type 0} → Client L → Bool

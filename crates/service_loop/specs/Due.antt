@@ -9,6 +9,8 @@ use Rattle.spool_types.specs.Limits.{greatest_moment}
 use Rattle.spool_types.specs.Phases.{is_in_force}
 use Rattle.spool_types.specs.State.{State, Job, queue_at, job_at}
 use Rattle.service_rules.specs.Looks.{earlier}
+use Rattle.service_rules.specs.declared.clocks.Clocks.{Clocks}
+use Rattle.service_loop.specs.declared.house.House.{House}
 
 -- the moment after this one, if there is one
 abbrev pub next_moment : ℕ → Option ℕ
@@ -68,3 +70,7 @@ pub record IsQuietUntil (s : State) (m : ℕ) : Type 0 where
   pub later : s.moment < m
   pub at_most : m ≤ greatest_moment
   pub none_due : (j : ℕ) (r : Job) → job_at s j ≡ Some r → IfSome (due_of s r) (λ due. m < due)
+
+-- what a house knows of the time, over a table, in a second of the system's clock
+abbrev pub clocks_of : House → State → ℕ → Clocks
+clocks_of house s system = record { system = system; table = s.moment; told = house.told; due = house.due }

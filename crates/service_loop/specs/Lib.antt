@@ -4,4 +4,5 @@ pub mod Due
 pub mod Endings
 pub mod Lines
 pub mod Places
+pub mod Progress
 pub mod Visits

@@ -1,5 +1,5 @@
 -- What becomes of the clients, each in its own place. A place is its key.
-use Rattle.std.specs.Prelude.{◌≡◌, ◌≢◌, ◌⊎◌, ℕ, zero, suc, false, List, [], Option, None, Some}
+use Rattle.std.specs.Prelude.{◌≡◌, ◌≢◌, ◌⊎◌, ℕ, zero, suc, Bool, true, false, List, [], Option, None, Some, is_some}
 use Rattle.slab.specs.Slab.{Slab, SameValues, Updates, get}
 use Rattle.spool_disk.specs.Disk.{DiskView}
 use Rattle.spool_engine.specs.Runs.{Engine}
@@ -7,6 +7,7 @@ use Rattle.service_rules.specs.declared.places.Admission.{Admission}
 use Rattle.service_rules.specs.declared.places.Admission.TheVariants.{InsteadOf}
 use Rattle.service_loop.specs.Deeds.{Deed}
 use Rattle.service_loop.specs.Lines.{LineView, IsUntouched}
+use Rattle.service_loop.specs.Progress.{EndsTurn, IsBrimful, misses, signed, text_for}
 use Rattle.service_loop.specs.Visits.{Goes, IsAdded, IsEntry, IsToldOf, IsVisit, is_starved}
 use Rattle.service_loop.specs.declared.client.Client.{Client}
 use Rattle.service_loop.specs.declared.client.Parting.{Parting}
@@ -17,12 +18,14 @@ abbrev pub unless_parted : {L : Type 0} → Option Parting → Client L → Opti
 unless_parted None c = Some c
 unless_parted (Some parting) c = None
 
--- A client had a turn, and left its place to another or to nobody only if it parted. Unless it went for want of memory the turn was a visit.
+-- A client had a turn, and left its place to another or to nobody only if it parted. Unless it went for want of memory the turn was a
+-- visit. One that stayed was given what its line takes, and is at rest unless the turn says that there is more.
 pub record HadTurn {D L : Type 0} (device : DiskView D) (view : LineView L) (old : Engine D) (was : Client L) (turn : Turn) (new : Engine D) (left : Option (Client L)) : Type 0 where
   pub mime : new.mime ≡ old.mime
   pub place : new.place ≡ old.place
   pub is : Client L
   pub visit : is_starved turn.parting ≡ false → (deeds : List (Deed D)) × IsVisit device view old was deeds new is
+  pub ends : EndsTurn view new.course.spool.state was turn is
   pub stays : left ≡ unless_parted turn.parting is
 
 -- a place had a turn, if there was somebody; else nothing was done
@@ -51,17 +54,26 @@ HaveTurns {D} {L} device view old places (suc key) new left =
 abbrev pub HadOwnTurn : {D L : Type 0} → DiskView D → LineView L → Option (Client L) → Option (Client L) → Type 0
 HadOwnTurn {D} device view was left = (old : Engine D) × (turn : Option Turn) × (new : Engine D) × PlaceHadTurn device view old was turn new left
 
+-- nothing can be done for it now, as far as is seen of it alone
+abbrev pub HasNoneNow : {L : Type 0} → Client L → Type 0
+HasNoneNow c = (is_some c.waits ≡ true) ⊎ (c.readable ≡ false) ⊎ IsBrimful c
+
+-- whether a turn left something to be done at once
+abbrev pub leaves_more : Option Turn → Bool
+leaves_more None = false
+leaves_more (Some turn) = turn.more
+
 -- what a text that tells what has changed makes of a place: its client is told of it, or has gone for want of memory
 abbrev pub IsPlaceTold : {L : Type 0} → List ℕ → Option (Client L) → Option (Client L) → Type 0
 IsPlaceTold text None left = left ≡ None
 IsPlaceTold text (Some c) None = Unit {0}
-IsPlaceTold text (Some c) (Some left) = (told : List ℕ) × IsToldOf text told × IsAdded c told left × (left.waits ≡ c.waits)
+IsPlaceTold text (Some c) (Some left) = IsToldOf text (text_for c text) × IsAdded c (text_for c text) left × (left.missed ≡ misses c) × (left.waits ≡ c.waits)
 
 -- what a sign makes of a place
-abbrev pub IsPlaceSigned : {L : Type 0} → LineView L → Option (Client L) → Option (Client L) → Type 0
-IsPlaceSigned view None left = left ≡ None
-IsPlaceSigned view (Some c) None = ⊥
-IsPlaceSigned view (Some c) (Some left) = Goes view c [] [] left × (left.waits ≡ c.waits)
+abbrev pub IsPlaceSigned : {L : Type 0} → LineView L → Bool → Bool → Option (Client L) → Option (Client L) → Type 0
+IsPlaceSigned view writable gone None left = left ≡ None
+IsPlaceSigned view writable gone (Some c) None = ⊥
+IsPlaceSigned view writable gone (Some c) (Some left) = Goes view c [] [] left × (left ≡ signed c writable gone)
 
 -- a newcomer of this line is in the place, and nothing was read of its line or written to it
 abbrev pub IsNewcomer : {L : Type 0} → LineView L → L → Option (Client L) → Type 0

@@ -2,13 +2,15 @@
 //!
 //! Of its text no more is read than a piece beyond a line's beginning. What it asks for is what its reader gives
 //! (`client_reader`), in order.
-ghost use Rattle.std.specs.Prelude.{◌≡◌, ◌<◌, ℕ, vec_len, true, false, List, [], None, IfOk, OnOk};
+ghost use Rattle.std.specs.Prelude.{◌≡◌, ◌⊎◌, ◌<◌, ◌&&◌, ◌||◌, ℕ, nat_lt, vec_len, is_some, true, false, List, [], None, Some, IfOk, OnOk};
+ghost use Rattle.service_rules.specs.Bounds.{most_unread};
 ghost use Rattle.service_loop.specs.Clients.{listens, unread, watches};
 ghost use Rattle.service_loop.specs.Deeds.{Deed};
+ghost use Rattle.service_loop.specs.Progress.{EndsTurn, HasLeft, HasRead, IsAtRest, IsBrimful, IsCut, IsGiven, IsMarked, IsReadAs, IsUnheard, as_given, as_read, as_served, as_told, heard_after, is_shutdown, is_watch, misses, signed, text_for};
 ghost use Rattle.service_loop.specs.Visits.{Goes, GivesNext, IsAdded, IsAnswered, IsEntry, IsToldOf, IsVisit, is_starved};
 
 use crate::bounds::{MOST_STEPS, PIECE};
-use crate::connection::Connection;
+use crate::connection::{Connection, read_of, write_to};
 use crate::office::Office;
 use child_pipeline::Children;
 use client_reader::{Ask, Next, Reader};
@@ -73,7 +75,9 @@ pub struct Turn {
 }
 
 impl Turn {
-    fn new() -> Turn {
+    fn new() -> Turn
+        ensures { result ≡ record { served = false; more = false; brimful = false; shutdown = false; parting = None } }
+    {
         Turn {
             served: false,
             more: false,
@@ -122,7 +126,10 @@ pub struct Client<L: Connection> {
 impl<L: Connection> Client<L> {
     /// A client of this line.
     pub fn new(alloc: Global, line: L, now: u64) -> Client<L>
-        ensures { IsEntry line result }
+        ensures entry { IsEntry line result }
+        ensures line { (result.readable ≡ true) × (result.writable ≡ true) × (result.over ≡ false) × (result.gone ≡ false) }
+        ensures told { (result.waits ≡ None) × (result.watches ≡ false) × (result.missed ≡ false) }
+        ensures heard { result.stirred ≡ now }
     {
         Client {
             line,
@@ -158,6 +165,7 @@ impl<L: Connection> Client<L> {
     pub fn signal(&mut self, writable: bool, gone: bool)
         ensures goes { Goes L.view self.old [] [] self.new }
         ensures waits { self.new.waits ≡ self.old.waits }
+        ensures signed { self.new ≡ signed self.old writable gone }
     {
         self.readable = true;
         self.writable = self.writable || writable;
@@ -175,6 +183,9 @@ impl<L: Connection> Client<L> {
         // Unless there was no memory for it, what it asked for was done, and it was told that, in order, and nothing else.
         ensures visit { is_starved result.parting ≡ false → (deeds : List (Deed D)) ×
             IsVisit D.device L.view office.old.engine self.old deeds office.new.engine self.new }
+
+        // What its line takes was written to it, and unless there is more to be done at once nothing can be done for it now.
+        ensures ends { EndsTurn L.view office.new.engine.course.spool.state self.old result self.new }
         ensures mime { office.new.engine.mime ≡ office.old.engine.mime }
         ensures place { office.new.engine.place ≡ office.old.engine.place }
     {
@@ -194,12 +205,21 @@ impl<L: Connection> Client<L> {
         now: u64,
         turn: &mut Turn,
     ) -> Result<bool, ClientFault>
+        requires { turn.old.brimful ≡ false }
         ensures visit { OnOk result ((deeds : List (Deed D)) ×
             IsVisit D.device L.view office.old.engine self.old deeds office.new.engine self.new) }
+        ensures given { IfOk result (λ there. there ≡ true → IsGiven self.new) }
+        ensures rests { IfOk result (λ there. there ≡ true → turn.new.more ≡ false → IsAtRest office.new.engine.course.spool.state self.new ⊎ IsBrimful self.new) }
+        ensures leaves { IfOk result (λ there. there ≡ false → HasLeft L.view self.new) }
+        ensures marked { IsMarked L.view self.old → IsMarked L.view self.new }
+        ensures parting { turn.new.parting ≡ turn.old.parting }
         ensures mime { office.new.engine.mime ≡ office.old.engine.mime }
         ensures place { office.new.engine.place ≡ office.old.engine.place }
     {
-        if !self.give(now) || self.waits_for_nobody() {
+        if !self.give(now) {
+            return Ok(false);
+        }
+        if self.has_left_waiting() {
             return Ok(false);
         }
         if !self.serve_some(office, now, turn)? {
@@ -208,8 +228,10 @@ impl<L: Connection> Client<L> {
         Ok(self.end_turn(now, turn))
     }
 
-    // Whether it waits and has gone: of one that waits nothing is read, so that its end isn't found.
-    fn waits_for_nobody(&self) -> bool {
+    // Whether it has gone while it waits: of one that waits nothing is read, so that its end isn't found.
+    fn has_left_waiting(&self) -> bool
+        ensures { result ≡ (self.now.gone && is_some self.now.waits) }
+    {
         self.gone && self.waits.is_some()
     }
 
@@ -217,6 +239,11 @@ impl<L: Connection> Client<L> {
     fn end_turn(&mut self, now: u64, turn: &mut Turn) -> bool
         ensures goes { Goes L.view self.old [] [] self.new }
         ensures waits { self.new.waits ≡ self.old.waits }
+        ensures given { result ≡ true → IsGiven self.new }
+        ensures leaves { result ≡ false → IsUnheard L.view self.new ⊎ ((self.new.over ≡ true) × (unread self.new ≡ 0)) }
+        ensures more { turn.new ≡ record turn.old { more = turn.old.more || (turn.old.brimful && nat_lt (unread self.new) most_unread) } }
+        ensures marked { IsMarked L.view self.old → IsMarked L.view self.new }
+        ensures kept { self.new ≡ as_given self.old self.new }
     {
         // A line that its text ends in is no command: a client that was killed may have been in the middle of another one.
         let ended = self.over && !turn.more && !turn.brimful && self.waits.is_none();
@@ -233,8 +260,13 @@ impl<L: Connection> Client<L> {
         now: u64,
         turn: &mut Turn,
     ) -> Result<bool, ClientFault>
+        requires { turn.old.brimful ≡ false }
         ensures visit { OnOk result ((deeds : List (Deed D)) ×
             IsVisit D.device L.view office.old.engine self.old deeds office.new.engine self.new) }
+        ensures rests { IfOk result (λ there. there ≡ true → turn.new.more ≡ false → IsAtRest office.new.engine.course.spool.state self.new ⊎ (turn.new.brimful ≡ true)) }
+        ensures leaves { IfOk result (λ there. there ≡ false → IsCut L.view self.new) }
+        ensures marked { IsMarked L.view self.old → IsMarked L.view self.new }
+        ensures parting { turn.new.parting ≡ turn.old.parting }
         ensures mime { office.new.engine.mime ≡ office.old.engine.mime }
         ensures place { office.new.engine.place ≡ office.old.engine.place }
     {
@@ -268,6 +300,10 @@ impl<L: Connection> Client<L> {
     ) -> Result<Step, ClientFault>
         ensures visit { OnOk result ((deeds : List (Deed D)) ×
             IsVisit D.device L.view office.old.engine self.old deeds office.new.engine self.new) }
+        ensures rests { IfOk result (λ step. step ≡ Step.Rests → IsAtRest office.new.engine.course.spool.state self.new) }
+        ensures leaves { IfOk result (λ step. step ≡ Step.Lost → IsCut L.view self.new) }
+        ensures marked { IsMarked L.view self.old → IsMarked L.view self.new }
+        ensures turn { turn.new ≡ as_served turn.old turn.new }
         ensures mime { office.new.engine.mime ≡ office.old.engine.mime }
         ensures place { office.new.engine.place ≡ office.old.engine.place }
     {
@@ -288,6 +324,8 @@ impl<L: Connection> Client<L> {
     fn next_asked(&mut self) -> Result<Next, AllocError>
         ensures next { IfOk result (λ next. GivesNext L.view self.old next self.new) }
         ensures waits { self.new.waits ≡ self.old.waits }
+        ensures marked { IsMarked L.view self.old → IsMarked L.view self.new }
+        ensures kept { self.new ≡ record self.old { reader = self.new.reader } }
     {
         let next = self.reader.next()?;
         Ok(next)
@@ -301,6 +339,9 @@ impl<L: Connection> Client<L> {
         ensures visit { OnOk result ((deeds : List (Deed D)) ×
             IsVisit D.device L.view office.now.engine self.old deeds office.now.engine self.new) }
         ensures waits { IfOk result (λ over. over ≡ true → self.new.waits ≡ None) }
+        ensures rests { IfOk result (λ over. over ≡ false → IsAtRest office.now.engine.course.spool.state self.new) }
+        ensures marked { IsMarked L.view self.old → IsMarked L.view self.new }
+        ensures kept { self.new ≡ record self.old { replies = self.new.replies; waits = self.new.waits } }
     {
         let Some(job) = self.waits else {
             return Ok(true);
@@ -324,6 +365,9 @@ impl<L: Connection> Client<L> {
     ) -> Result<(), ClientFault>
         requires { self.old.waits ≡ None }
         ensures done { OnOk result (IsAnswered D.device office.old.engine self.old ask office.new.engine self.new) }
+        ensures marked { IsMarked L.view self.old → IsMarked L.view self.new }
+        ensures kept { self.new ≡ record self.old { replies = self.new.replies; waits = self.new.waits; watches = self.new.watches } }
+        ensures turn { turn.new ≡ record turn.old { served = true; shutdown = turn.new.shutdown } }
         ensures mime { office.new.engine.mime ≡ office.old.engine.mime }
         ensures place { office.new.engine.place ≡ office.old.engine.place }
     {
@@ -342,6 +386,8 @@ impl<L: Connection> Client<L> {
     ) -> Result<(), ClientFault>
         requires { self.old.waits ≡ None }
         ensures done { OnOk result (IsAnswered D.device office.old.engine self.old (Ask.Command command) office.new.engine self.new) }
+        ensures marked { IsMarked L.view self.old → IsMarked L.view self.new }
+        ensures kept { self.new ≡ record self.old { replies = self.new.replies } }
         ensures mime { office.new.engine.mime ≡ office.old.engine.mime }
         ensures place { office.new.engine.place ≡ office.old.engine.place }
     {
@@ -368,6 +414,10 @@ impl<L: Connection> Client<L> {
     ) -> Result<(), ClientFault>
         requires { self.old.waits ≡ None }
         ensures done { OnOk result (IsAnswered D.device office.old.engine self.old (Ask.Own word) office.new.engine self.new) }
+        ensures marked { IsMarked L.view self.old → IsMarked L.view self.new }
+        ensures kept { self.new ≡ record self.old { replies = self.new.replies; waits = self.new.waits; watches = self.new.watches } }
+        ensures watches { OnOk result (self.new.watches ≡ (self.old.watches || is_watch word)) }
+        ensures turn { turn.new ≡ record turn.old { shutdown = turn.old.shutdown || is_shutdown word } }
         ensures mime { office.new.engine.mime ≡ office.old.engine.mime }
         ensures place { office.new.engine.place ≡ office.old.engine.place }
     {
@@ -403,8 +453,11 @@ impl<L: Connection> Client<L> {
     /// Tells it what changed, if it watches. One that left too much unread is told later that it wasn't told all. Whether there
     /// was memory for it.
     pub fn tell(&mut self, text: &[u8]) -> bool
-        ensures told { result ≡ true → (told : List ℕ) × IsToldOf text.now told × IsAdded self.old told self.new }
+        ensures told { result ≡ true → IsAdded self.old (text_for self.old text.now) self.new }
+        ensures of { IsToldOf text.now (text_for self.old text.now) }
+        ensures missed { result ≡ true → self.new.missed ≡ misses self.old }
         ensures waits { self.new.waits ≡ self.old.waits }
+        ensures kept { self.new ≡ as_told self.old self.new }
     {
         if !self.watches() {
             return true;
@@ -426,6 +479,7 @@ impl<L: Connection> Client<L> {
     fn add(&mut self, text: &[u8]) -> Result<(), AllocError>
         ensures added { OnOk result (IsAdded self.old text.now self.new) }
         ensures waits { self.new.waits ≡ self.old.waits }
+        ensures kept { self.new ≡ record self.old { replies = self.new.replies } }
     {
         self.replies.extend_from_slice(text)?;
         Ok(())
@@ -435,30 +489,36 @@ impl<L: Connection> Client<L> {
     fn give(&mut self, now: u64) -> bool
         ensures goes { Goes L.view self.old [] [] self.new }
         ensures waits { self.new.waits ≡ self.old.waits }
+        ensures given { result ≡ true → IsGiven self.new }
+        ensures lost { result ≡ false → IsUnheard L.view self.new }
+        ensures heard { self.new.stirred ≡ heard_after self.old now self.new }
+        ensures marked { IsMarked L.view self.old → IsMarked L.view self.new }
+        ensures kept { self.new ≡ as_given self.old self.new }
     {
-        for _ in 0..u32::MAX {
-            if self.replies.len() <= self.taken {
-                self.replies.clear();
-                self.taken = 0;
-                return true;
-            }
-            if !self.writable {
-                return true;
-            }
+        while self.writable && self.taken < self.replies.len() {
             if !self.write_some(now) {
                 return false;
             }
+        }
+        if self.replies.len() <= self.taken {
+            self.replies.clear();
+            self.taken = 0;
         }
         true
     }
 
     // Writes some of its replies. Whether it is still there.
     fn write_some(&mut self, now: u64) -> bool
-        requires { self.old.taken < vec_len self.old.replies }
+        requires unread { self.old.taken < vec_len self.old.replies }
+        requires writable { self.old.writable ≡ true }
         ensures goes { Goes L.view self.old [] [] self.new }
-        ensures waits { self.new.waits ≡ self.old.waits }
+        ensures some { result ≡ true → (unread self.new < unread self.old) ⊎ ((self.new.writable ≡ false) × (unread self.new ≡ unread self.old)) }
+        ensures lost { result ≡ false → IsUnheard L.view self.new × (unread self.new ≡ unread self.old) }
+        ensures heard { self.new.stirred ≡ heard_after self.old now self.new }
+        ensures marked { IsMarked L.view self.old → IsMarked L.view self.new }
+        ensures kept { self.new ≡ as_given self.old self.new }
     {
-        match self.line.write(&self.replies[self.taken..]) {
+        match write_to(&mut self.line, &self.replies[self.taken..]) {
             Ok(0) => false,
             Ok(count) => {
                 self.taken += count;
@@ -470,7 +530,7 @@ impl<L: Connection> Client<L> {
                 self.writable = false;
                 true
             }
-            Err(error) => error.kind() == ErrorKind::Interrupted,
+            Err(_) => false,
         }
     }
 
@@ -478,7 +538,9 @@ impl<L: Connection> Client<L> {
     // always leaves something, no more is kept.
     fn forget_taken(&mut self)
         ensures goes { Goes L.view self.old [] [] self.new }
-        ensures waits { self.new.waits ≡ self.old.waits }
+        ensures unread { unread self.new ≡ unread self.old }
+        ensures few { self.new.taken < most_unread }
+        ensures kept { self.new ≡ record self.old { replies = self.new.replies; taken = self.new.taken } }
     {
         if MOST_UNREAD <= self.taken {
             self.replies.drain(..self.taken.min(self.replies.len()));
@@ -490,6 +552,9 @@ impl<L: Connection> Client<L> {
     fn read_more(&mut self, now: u64) -> Result<Step, ClientFault>
         ensures goes { OnOk result (Goes L.view self.old [] [] self.new) }
         ensures waits { self.new.waits ≡ self.old.waits }
+        ensures read { IfOk result (λ step. IsReadAs L.view self.old now step self.new) }
+        ensures marked { IsMarked L.view self.old → IsMarked L.view self.new }
+        ensures kept { self.new ≡ as_read self.old self.new }
     {
         if !self.readable {
             return Ok(Step::Rests);
@@ -503,11 +568,15 @@ impl<L: Connection> Client<L> {
 
     // Reads a piece of its text. Whether it is still there.
     fn read(&mut self, now: u64) -> Result<bool, AllocError>
+        requires { self.old.readable ≡ true }
         ensures goes { OnOk result (Goes L.view self.old [] [] self.new) }
-        ensures waits { self.new.waits ≡ self.old.waits }
+        ensures there { IfOk result (λ there. there ≡ true → HasRead L.view self.old now self.new) }
+        ensures lost { IfOk result (λ there. there ≡ false → IsCut L.view self.new) }
+        ensures marked { IsMarked L.view self.old → IsMarked L.view self.new }
+        ensures kept { self.new ≡ as_read self.old self.new }
     {
         let mut piece = [0u8; PIECE];
-        match self.line.read(&mut piece) {
+        match read_of(&mut self.line, &mut piece) {
             Ok(0) => {
                 self.readable = false;
                 self.over = true;
@@ -522,7 +591,7 @@ impl<L: Connection> Client<L> {
                 self.readable = false;
                 Ok(true)
             }
-            Err(error) => Ok(error.kind() == ErrorKind::Interrupted),
+            Err(_) => Ok(false),
         }
     }
 }

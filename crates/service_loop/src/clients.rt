@@ -1,9 +1,11 @@
 //! The clients, each at a place of its own.
-ghost use Rattle.std.specs.Prelude.{◌≡◌, ◌+◌, ◌<◌, ◌≤◌, ℕ, IfOk, OnOk};
+ghost use Rattle.std.specs.Prelude.{◌≡◌, ◌+◌, ◌<◌, ◌≤◌, ◌||◌, ℕ, cond, true, false, None, IfOk, IfSome, OnOk};
 ghost use Rattle.service_rules.specs.Places.{IsAdmission};
-ghost use Rattle.slab.specs.Slab.{get};
-ghost use Rattle.service_loop.specs.Clients.{heard_of};
-ghost use Rattle.service_loop.specs.Places.{HadOwnTurn, HasTurn, HaveTurns, IsEntered, IsLetIn, IsPlaceSigned, IsPlaceTold, KeepsOthers};
+ghost use Rattle.slab.specs.Slab.{get, slab_len};
+ghost use Rattle.service_loop.specs.Clients.{heard_of, is_watched};
+ghost use Rattle.service_loop.specs.Places.{HadOwnTurn, HasNoneNow, HasTurn, HaveTurns, IsEntered, IsLetIn, IsPlaceSigned, IsPlaceTold, KeepsOthers};
+ghost use Rattle.service_loop.specs.Progress.{IsGiven};
+ghost use Rattle.service_loop.specs.Visits.{is_starved};
 
 use crate::client::{Client, Parting, Turn};
 use crate::connection::Connection;
@@ -33,7 +35,12 @@ impl Turns {
     // Adds what one turn came to.
     fn add(&mut self, turn: Turn)
         requires { self.old.starved < MOST_CLIENTS }
-        ensures { self.new.starved ≤ self.old.starved + 1 }
+        ensures { self.new ≡ record {
+          served = self.old.served || turn.served;
+          more = self.old.more || turn.more;
+          shutdown = self.old.shutdown || turn.shutdown;
+          starved = cond (is_starved turn.parting) (self.old.starved + 1) self.old.starved;
+        } }
     {
         self.served = self.served || turn.served;
         self.more = self.more || turn.more;
@@ -53,7 +60,9 @@ pub struct Clients<L: Connection> {
 }
 
 impl<L: Connection> Clients<L> {
-    pub fn new(alloc: Global) -> Result<Clients<L>, AllocError> {
+    pub fn new(alloc: Global) -> Result<Clients<L>, AllocError>
+        ensures { IfOk result (λ clients. (key : ℕ) → get clients.places key ≡ None) }
+    {
         Ok(Clients {
             alloc,
             places: Slab::with_capacity(alloc, MOST_CLIENTS)?,
@@ -61,13 +70,15 @@ impl<L: Connection> Clients<L> {
         })
     }
 
-    pub fn len(&self) -> usize {
+    pub fn len(&self) -> usize
+        ensures { result ≡ slab_len self.now.places }
+    {
         self.places.len()
     }
 
     /// There is a sign of the client at this place.
     pub fn signal(&mut self, key: usize, writable: bool, gone: bool)
-        ensures own { IsPlaceSigned L.view (get self.old.places key) (get self.new.places key) }
+        ensures own { IsPlaceSigned L.view writable gone (get self.old.places key) (get self.new.places key) }
         ensures others { KeepsOthers key self.old.places self.new.places }
     {
         if let Some(client) = self.places.get_mut(key) {
@@ -122,11 +133,26 @@ impl<L: Connection> Clients<L> {
     }
 
     /// Whether a client watches.
-    pub fn watch(&self) -> bool {
-        (0..MOST_CLIENTS).any(|key| match self.places.get(key) {
+    pub fn watch(&self) -> bool
+        ensures some { result ≡ true → (key : ℕ) × (key < MOST_CLIENTS) × (is_watched (get self.now.places key) ≡ true) }
+        ensures none { result ≡ false → (key : ℕ) → key < MOST_CLIENTS → is_watched (get self.now.places key) ≡ false }
+    {
+        for key in 0..MOST_CLIENTS {
+            if self.is_watched(key) {
+                return true;
+            }
+        }
+        false
+    }
+
+    // Whether there is a client at this place who watches.
+    fn is_watched(&self, key: usize) -> bool
+        ensures { result ≡ is_watched (get self.now.places key) }
+    {
+        match self.places.get(key) {
             Some(client) => client.watches(),
             None => false,
-        })
+        }
     }
 
     /// Tells those that watch what changed. How many went for want of memory.
@@ -165,6 +191,10 @@ impl<L: Connection> Clients<L> {
         // So each client had a turn of its own, and was touched by nothing else.
         ensures own { (key : ℕ) → key < MOST_CLIENTS → HadOwnTurn D.device L.view (get self.old.places key) (get self.new.places key) }
         ensures others { (key : ℕ) → MOST_CLIENTS ≤ key → get self.new.places key ≡ get self.old.places key }
+
+        // Each one that stayed was given what its line takes, and unless there is more nothing can be done for it now.
+        ensures given { (key : ℕ) → key < MOST_CLIENTS → IfSome (get self.new.places key) IsGiven }
+        ensures rests { result.more ≡ false → (key : ℕ) → key < MOST_CLIENTS → IfSome (get self.new.places key) HasNoneNow }
     {
         let mut turns = Turns {
             served: false,

@@ -1,14 +1,17 @@
 //! A client's line.
+ghost use Rattle.std.specs.Prelude.{◌≡◌};
 ghost use Rattle.std.specs.Io.{ReadsAtMost, WritesAtMost};
 ghost use Rattle.std.specs.Io.KnownBytes.{Keeps, ReadConsumes, WriteAppends};
-ghost use Rattle.service_loop.specs.Lines.{LineView};
+ghost use Rattle.service_loop.specs.Lines.{CameTo, LineView};
 
 use std::io;
+use std::io::ErrorKind;
 
 /// A client's line. What it can't do at once is the error `WouldBlock`.
 ///
-/// Its written meaning is what it tells: the bytes that will still come, and those that were written to it. A read takes
-/// from the first and leaves the second, and a write the other way round. A line may tell nothing; the clauses then say nothing of it.
+/// Its written meaning is what it tells: the bytes that will still come, those that were written to it, and what its last read
+/// and its last write came to. A read takes from the first and leaves the second, and a write the other way round. A line may tell
+/// nothing; the clauses then say nothing of it.
 pub trait Connection: Drop {
     /// What is seen of it.
     ghost view: { LineView Self };
@@ -17,11 +20,49 @@ pub trait Connection: Drop {
     fn read(&mut self, piece: &mut [u8]) -> io::Result<usize>
         ensures bound { ReadsAtMost result piece.new }
         ensures bytes { ReadConsumes (view.remaining self.old) (view.remaining self.new) result piece.new }
-        ensures kept { Keeps (view.contents self.old) (view.contents self.new) };
+        ensures kept { Keeps (view.contents self.old) (view.contents self.new) }
+        ensures came { CameTo (view.gave self.new) result }
+        ensures other { view.took self.new ≡ view.took self.old };
 
     /// Writes some of a text, from its beginning.
     fn write(&mut self, text: &[u8]) -> io::Result<usize>
         ensures bound { WritesAtMost result text.now }
         ensures bytes { WriteAppends (view.contents self.old) (view.contents self.new) result text.now }
-        ensures kept { Keeps (view.remaining self.old) (view.remaining self.new) };
+        ensures kept { Keeps (view.remaining self.old) (view.remaining self.new) }
+        ensures came { CameTo (view.took self.new) result }
+        ensures other { view.gave self.new ≡ view.gave self.old };
+}
+
+/// Reads what has come, and again where that is interrupted.
+pub(crate) fn read_of<L: Connection>(line: &mut L, piece: &mut [u8]) -> io::Result<usize>
+    ensures bound { ReadsAtMost result piece.new }
+    ensures bytes { ReadConsumes (L.view.remaining line.old) (L.view.remaining line.new) result piece.new }
+    ensures kept { Keeps (L.view.contents line.old) (L.view.contents line.new) }
+    ensures came { CameTo (L.view.gave line.new) result }
+    ensures other { L.view.took line.new ≡ L.view.took line.old }
+{
+    for _ in 0..u32::MAX {
+        match line.read(piece) {
+            Err(error) if error.kind() == ErrorKind::Interrupted => {}
+            outcome => return outcome,
+        }
+    }
+    line.read(piece)
+}
+
+/// Writes some of a text, and again where that is interrupted.
+pub(crate) fn write_to<L: Connection>(line: &mut L, text: &[u8]) -> io::Result<usize>
+    ensures bound { WritesAtMost result text.now }
+    ensures bytes { WriteAppends (L.view.contents line.old) (L.view.contents line.new) result text.now }
+    ensures kept { Keeps (L.view.remaining line.old) (L.view.remaining line.new) }
+    ensures came { CameTo (L.view.took line.new) result }
+    ensures other { L.view.gave line.new ≡ L.view.gave line.old }
+{
+    for _ in 0..u32::MAX {
+        match line.write(text) {
+            Err(error) if error.kind() == ErrorKind::Interrupted => {}
+            outcome => return outcome,
+        }
+    }
+    line.write(text)
 }

@@ -1,5 +1,5 @@
 //! The children that somebody wants to be ended: each is sent SIGTERM, and SIGKILL ten seconds later.
-ghost use Rattle.std.specs.Prelude.{◌≡◌, ℕ, ◌+◌, ◌≤◌, Some, IsNone, OnOk, OnErr};
+ghost use Rattle.std.specs.Prelude.{◌≡◌, ◌↔◌, ℕ, ◌+◌, ◌≤◌, true, false, List, [], Some, IsNone, IfOk, IsTrue, OnOk, OnErr, vec_len};
 ghost use Rattle.service_loop.specs.Endings.{grace, is_listed, signal_of, with_ending};
 
 use crate::children::Watch;
@@ -26,14 +26,20 @@ pub(crate) struct Endings {
 }
 
 impl Endings {
-    pub fn new(alloc: Global) -> Endings {
+    pub fn new(alloc: Global) -> Endings
+        ensures { result.list.items ≡ [] }
+    {
         Endings {
             list: Vec::new(alloc),
         }
     }
 
     /// Somebody wants the child of a job to end. Whether one runs.
-    pub fn ask(&mut self, watch: &Watch, job: JobId) -> Result<bool, AllocError> {
+    pub fn ask(&mut self, watch: &Watch, job: JobId) -> Result<bool, AllocError>
+        ensures runs { IfOk result (λ runs. runs ≡ true → (group : ℕ) × (self.new.list.items ≡ with_ending job group self.old.list.items)) }
+        ensures none { IfOk result (λ runs. runs ≡ false → self.new.list.items ≡ self.old.list.items) }
+        ensures err { OnErr result (self.new.list.items ≡ self.old.list.items) }
+    {
         let Some(group) = watch.group_of(job) else {
             return Ok(false);
         };
@@ -60,12 +66,16 @@ impl Endings {
     }
 
     /// Whether no child is to end.
-    pub fn is_empty(&self) -> bool {
+    pub fn is_empty(&self) -> bool
+        ensures { IsTrue result ↔ (self.now.list.items ≡ []) }
+    {
         self.list.is_empty()
     }
 
     /// Asks those to end that weren't asked yet, kills those whose grace is over, and forgets those that have ended.
-    pub fn act<S: Signals>(&mut self, watch: &Watch, signals: &mut S, now: u64) {
+    pub fn act<S: Signals>(&mut self, watch: &Watch, signals: &mut S, now: u64)
+        ensures { vec_len self.new.list ≤ vec_len self.old.list }
+    {
         self.list
             .retain(|ending| watch.group_of(ending.job) == Some(ending.group));
         for ending in self.list.iter_mut() {

@@ -2,10 +2,12 @@
 //!
 //! The table is looked at once a second at most, and only where something was done since ([`House::look`]): then it is known
 //! what comes due next, and which ended jobs are to go. So an idle service looks at nothing, and tells nothing.
-ghost use Rattle.std.specs.Prelude.{◌≡◌, None, Some, cond, IfOk};
+ghost use Rattle.std.specs.Prelude.{◌≡◌, ◌<◌, ◌≤◌, ◌-◌, ◌/◌, ◌%◌, true, false, [], None, Some, cond, IfOk, IfSome, OnOk, Ok};
+ghost use Rattle.spool_types.specs.Limits.{greatest_moment};
 ghost use Rattle.service_rules.specs.Checkpoints.{is_wanted, room_in};
+ghost use Rattle.service_rules.specs.Clocks.{clock_to_tell, clock_wait};
 ghost use Rattle.service_rules.specs.Looks.{earlier};
-ghost use Rattle.service_loop.specs.Due.{due_of, end_of_hold, has_come, is_changed_by, is_stopped, late_from, next_moment};
+ghost use Rattle.service_loop.specs.Due.{clocks_of, due_of, end_of_hold, has_come, is_changed_by, is_stopped, late_from, next_moment};
 
 use crate::office::Office;
 use child_pipeline::Children;
@@ -55,6 +57,8 @@ impl House {
         ensures area { IfOk result (λ house. house.area ≡ area) }
         ensures left { IfOk result (λ house. house.left ≡ None) }
         ensures last { IfOk result (λ house. house.last ≡ None) }
+        ensures times { IfOk result (λ house. (house.looked ≡ None) × (house.told ≡ None) × (house.due ≡ None)) }
+        ensures jobs { IfOk result (λ house. (house.ended ≡ 0) × (house.listed.items ≡ [])) }
     {
         Ok(House {
             alloc,
@@ -76,7 +80,15 @@ impl House {
         &mut self,
         office: &mut Office<'_, D, C>,
         millis: u64,
-    ) -> Result<(), AllocError> {
+    ) -> Result<(), AllocError>
+        // Where nothing was done since the last look, and nothing has come due, nothing is done.
+        ensures idle { office.old.stirred ≡ false → clock_to_tell (clocks_of self.old office.old.engine.course.spool.state (millis / 1000)) ≡ None →
+            (office.new ≡ office.old) × (self.new ≡ self.old) }
+        ensures told { OnOk result (office.old.stirred ≡ false → IfSome (clock_to_tell (clocks_of self.old office.old.engine.course.spool.state (millis / 1000)))
+            (λ moment. moment ≤ greatest_moment → self.new.told ≡ Some moment)) }
+        ensures mime { office.new.engine.mime ≡ office.old.engine.mime }
+        ensures place { office.new.engine.place ≡ office.old.engine.place }
+    {
         let Some(system) = Moment::new(millis / SECOND) else {
             return Ok(());
         };
@@ -94,7 +106,9 @@ impl House {
         Ok(())
     }
 
-    fn clocks(&self, table: &Table, system: Moment) -> Clocks {
+    fn clocks(&self, table: &Table, system: Moment) -> Clocks
+        ensures { result ≡ record { system = system; table = table.now.state.moment; told = self.now.told; due = self.now.due } }
+    {
         Clocks {
             system,
             table: table.now(),
@@ -104,11 +118,12 @@ impl House {
     }
 
     /// How many milliseconds it is until the time is to be told or the table looked at, if it is.
-    pub fn wait<D: Disk, C: Children>(
-        &self,
-        office: &Office<'_, D, C>,
-        millis: u64,
-    ) -> Option<u64> {
+    pub fn wait<D: Disk, C: Children>(&self, office: &Office<'_, D, C>, millis: u64) -> Option<u64>
+        ensures stirred { office.now.stirred ≡ true → result ≡ Some (1000 - millis % 1000) }
+        ensures due { office.now.stirred ≡ false → millis / 1000 ≤ greatest_moment →
+            result ≡ clock_wait (clocks_of self.now office.now.engine.course.spool.state (millis / 1000)) self.now.due (millis % 1000) }
+        ensures never { office.now.stirred ≡ false → greatest_moment < millis / 1000 → result ≡ None }
+    {
         let part = millis % SECOND;
         if office.stirred {
             return Some(SECOND - part);
@@ -145,7 +160,12 @@ impl House {
     pub fn purge<D: Disk, C: Children>(
         &mut self,
         office: &mut Office<'_, D, C>,
-    ) -> Result<bool, AllocError> {
+    ) -> Result<bool, AllocError>
+        // Where there are no more than are kept nothing is done.
+        ensures within { self.old.ended ≤ self.old.keep → (result ≡ Ok false) × (office.new ≡ office.old) × (self.new ≡ self.old) }
+        ensures mime { office.new.engine.mime ≡ office.old.engine.mime }
+        ensures place { office.new.engine.place ≡ office.old.engine.place }
+    {
         let count = purge_count(self.ended, self.keep);
         if count == 0 || self.listed.is_empty() {
             return Ok(false);
@@ -202,7 +222,10 @@ fn say<D: Disk, C: Children>(
     alloc: Global,
     office: &mut Office<'_, D, C>,
     command: Command,
-) -> Result<(), AllocError> {
+) -> Result<(), AllocError>
+    ensures mime { office.new.engine.mime ≡ office.old.engine.mime }
+    ensures place { office.new.engine.place ≡ office.old.engine.place }
+{
     let mut reply = Vec::new(alloc);
     office.answer(command, &mut reply)
 }

@@ -39,6 +39,9 @@
 //!   the texts go to the same line, each byte once. `Places` says it of all clients: each has a turn of its own, on the engine that
 //!   the one before it left, and nothing else touches it (`HaveTurns`, `HadOwnTurn`). So it is over any row of visits from its
 //!   entry on ([`clients_of_the_loop_stay_apart`]). Of a client that goes for want of memory nothing is said in that turn.
+//! - Clients get on, whatever their lines (`Progress`). Behind a turn one that stays was given what its line takes, and unless the turn
+//!   says that there is more nothing can be done for it now (`EndsTurn`). So it is behind the turns of all (`given`, `rests` of
+//!   `Clients::serve`). Who watches is told exactly `text_for` of each text.
 //! - [`nothing_is_due_before`]: before something comes due (`due_of`) the clock changes no row, starts no job and shows none
 //!   otherwise. So an idle service tells none.
 //! - A newcomer is let in by when each client was heard last (`IsAdmission`, `heard_of`).

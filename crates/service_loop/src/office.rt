@@ -1,5 +1,7 @@
 //! What the clients and the house share: the engine, and what is told of what it did.
-ghost use Rattle.std.specs.Prelude.{◌≡◌, List, Ok, OnOk, Some};
+ghost use Rattle.std.specs.Prelude.{◌≡◌, ◌≤◌, ◌++◌, true, false, length, List, [], Ok, OnOk, Some};
+ghost use Rattle.std.specs.FinMap as finite;
+ghost use Rattle.service_texts.specs.Changes.{nothing_noted, told, with_stages};
 ghost use Rattle.spool_types.specs.declared.event.Event.{Event};
 ghost use Rattle.spool_engine.specs.EventTurns.{setting};
 ghost use Rattle.spool_engine.specs.Runs.{Turn, Serves};
@@ -40,7 +42,11 @@ pub(crate) struct Office<'a, D: Disk, C: Children> {
 }
 
 impl<'a, D: Disk, C: Children> Office<'a, D, C> {
-    pub fn new(alloc: Global, watch: &'a Watch, engine: Engine<D, C>) -> Office<'a, D, C> {
+    pub fn new(alloc: Global, watch: &'a Watch, engine: Engine<D, C>) -> Office<'a, D, C>
+        ensures engine { result.engine ≡ engine }
+        ensures marks { (result.watched ≡ false) × (result.full ≡ false) × (result.stirred ≡ true) × (result.ends ≡ false) }
+        ensures none { (result.endings.list.items ≡ []) × (result.changes.noted ≡ nothing_noted) × (result.changes.stages ≡ []) }
+    {
         Office {
             engine,
             watch,
@@ -102,7 +108,11 @@ impl<'a, D: Disk, C: Children> Office<'a, D, C> {
     }
 
     /// Notes what the last ticks changed, where somebody watches.
-    pub fn note_stages(&mut self) -> Result<(), AllocError> {
+    pub fn note_stages(&mut self) -> Result<(), AllocError>
+        ensures watched { self.old.watched ≡ true → OnOk result (self.new.changes ≡ with_stages self.old.engine.course.spool.state self.old.changes) }
+        ensures unwatched { self.old.watched ≡ false → self.new ≡ self.old }
+        ensures kept { self.new ≡ record self.old { changes = self.new.changes } }
+    {
         if self.watched {
             self.changes.note_stages(self.engine.table())
         } else {
@@ -111,7 +121,10 @@ impl<'a, D: Disk, C: Children> Office<'a, D, C> {
     }
 
     /// Notes the jobs that a clock of this moment cancels, or whose hold it ends, where somebody watches.
-    pub fn note_due(&mut self, moment: Moment) -> Result<(), AllocError> {
+    pub fn note_due(&mut self, moment: Moment) -> Result<(), AllocError>
+        ensures unwatched { self.old.watched ≡ false → self.new ≡ self.old }
+        ensures kept { self.new ≡ record self.old { changes = self.new.changes } }
+    {
         if !self.watched {
             return Ok(());
         }
@@ -125,18 +138,26 @@ impl<'a, D: Disk, C: Children> Office<'a, D, C> {
     }
 
     /// Adds a line for each thing that changed since the last call.
-    pub fn tell_changes(&mut self, text: &mut Vec<u8>) -> Result<(), AllocError> {
+    pub fn tell_changes(&mut self, text: &mut Vec<u8>) -> Result<(), AllocError>
+        ensures told { OnOk result (text.new.items ≡ text.old.items ++ told self.old.engine.course.spool.state self.old.changes.noted) }
+        ensures none { OnOk result (self.new.changes.noted ≡ nothing_noted) }
+        ensures kept { self.new ≡ record self.old { changes = self.new.changes } }
+    {
         self.changes.tell(self.engine.table(), text)
     }
 
     /// Sends the children that are to end the signals that they are to have now.
-    pub fn end_children<S: Signals>(&mut self, signals: &mut S, now: u64) {
+    pub fn end_children<S: Signals>(&mut self, signals: &mut S, now: u64)
+        ensures { self.new ≡ record self.old { endings = self.new.endings } }
+    {
         let watch = self.watch;
         self.endings.act(watch, signals, now);
     }
 
     /// How many jobs are processing without a child that runs.
-    pub fn at_rest(&self) -> usize {
+    pub fn at_rest(&self) -> usize
+        ensures { result ≤ length (finite.values self.now.engine.course.spool.state.queues) }
+    {
         let table = self.engine.table();
         let mut count = 0;
         for queue in table.queues() {

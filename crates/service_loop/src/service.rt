@@ -1,5 +1,6 @@
 //! The loop: clients are served while children run.
-ghost use Rattle.std.specs.Prelude.{◌≡◌, ◌*◌, ◌-◌, ◌^◌, min};
+ghost use Rattle.std.specs.Prelude.{◌≡◌, ◌*◌, ◌-◌, ◌^◌, ℕ, min, true, false, None, IfOk};
+ghost use Rattle.slab.specs.Slab.{get};
 ghost use Rattle.std.specs.Option.{option_map};
 ghost use Rattle.service_rules.specs.Bounds.{millisecond};
 
@@ -61,7 +62,12 @@ impl<'a, L: Log, D: Disk + Drop, C: Children + Drop, R: Door> Service<'a, L, D, 
         watch: &'a Watch,
         engine: Engine<D, C>,
         keeping: Keeping,
-    ) -> Result<Service<'a, L, D, C, R>, AllocError> {
+    ) -> Result<Service<'a, L, D, C, R>, AllocError>
+        ensures engine { IfOk result (λ service. service.office.engine ≡ engine) }
+        ensures clients { IfOk result (λ service. (key : ℕ) → get service.clients.places key ≡ None) }
+        ensures house { IfOk result (λ service. (service.house.keep ≡ keeping.jobs) × (service.house.percent ≡ keeping.room) × (service.house.area ≡ keeping.area)) }
+        ensures starts { IfOk result (λ service. (service.more ≡ true) × (service.knocks ≡ true) × (service.barred ≡ false) × (service.ends ≡ None) × (service.begun ≡ 0)) }
+    {
         let house = House::new(alloc, keeping.jobs, keeping.room, keeping.area)?;
         Ok(Service {
             log,

@@ -1,5 +1,6 @@
 -- what was done so far
-use Rattle.std.proofs.Common.{◌≡◌, ◌≤◌}
+use Rattle.std.proofs.Common.{◌≡◌, ◌≤◌, true, false}
+use Rattle.service_loop.specs.Progress.{IsMarked}
 use Rattle.service_loop.proofs.VisitLaws.{Visited}
 use Rattle.service_loop.proofs.client.Client.serve_some.Given as goal
 
@@ -9,4 +10,8 @@ invariant-loop g l = record {
   mime : l.office.engine.mime ≡ l.fn.office.engine.mime;
   place : l.office.engine.place ≡ l.fn.office.engine.place;
   visited : Visited g.D.Disk.device g.L.Connection.view l.fn.office.engine l.fn.self l.office.engine l.self;
+  marked : IsMarked g.L.Connection.view l.fn.self → IsMarked g.L.Connection.view l.self;
+  brimful : l.turn.brimful ≡ false;
+  more : l.turn.more ≡ true;
+  parting : l.turn.parting ≡ l.fn.turn.parting;
 }

@@ -13,7 +13,7 @@ returns-in-Ok-clause-goes g c =
     let count_fits = subst (λ (l : List ℕ). c.in-Ok.count ≤ length l) piece wrote.bound in
     goes_then _ _ _ _ _ _ _ _ (goes_written _ client c.in-Ok.count _ (record {
       kept = wrote.kept;
-      wrote = subst (λ (l : List ℕ). Appends (g.L.Connection.view.contents client.line) (g.L.Connection.view.contents c.write.new.self) (take c.in-Ok.count l)) piece wrote.bytes;
+      wrote = subst (λ (l : List ℕ). Appends (g.L.Connection.view.contents client.line) (g.L.Connection.view.contents c.write_to.new.line) (take c.in-Ok.count l)) piece wrote.bytes;
       reader = refl;
       taken = refl;
       replies = refl;

@@ -1,18 +1,47 @@
 -- each place had its turn behind the others, and so each client had one of its own
-use Rattle.std.proofs.Common.{◌≡◌, ℕ, subst, arith}
-use Rattle.service_loop.specs.Places.{HaveTurns}
-use Rattle.service_loop.proofs.PlaceLaws.{each_own, none_yet, one_more, untouched}
+use Rattle.std.proofs.Common.{◌≡◌, ◌+◌, ◌≤◌, ◌||◌, ℕ, Bool, true, false, cond, ap, refl, sym, ◌∙◌, subst, arith}
+use Rattle.service_loop.specs.Places.{HasNoneNow, HaveTurns, leaves_more}
+use Rattle.service_loop.specs.Progress.{IsGiven}
+use Rattle.service_loop.specs.Visits.{is_starved}
+use Rattle.service_loop.specs.declared.clients.Turns.{Turns}
+use Rattle.service_loop.proofs.PlaceLaws.{each_more, each_own, given_there, none_yet, one_more, rests_there, untouched}
 use Rattle.service_loop.proofs.clients.Clients.serve.Goals as goal
 use Rattle.service_loop.proofs.clients.Clients.serve.Goals.{in-Some, in_default}
 
 pub loop-key-init : goal.loop-key-init
-loop-key-init g c = record { starved = omega arith; turns = none_yet _ _ _ _ }
+loop-key-init g c = record { starved = omega arith; turns = none_yet _ _ _ _; given = λ key lt. absurd (omega arith); rests = λ none key lt. absurd (omega arith) }
+
+one_went : (old new : ℕ) (starved : Bool) → new ≡ cond starved (old + 1) old → new ≤ old + 1
+one_went old new true e = omega arith
+one_went old new false e = omega arith
+
+neither : (a b : Bool) → (a || b) ≡ false → (a ≡ false) × (b ≡ false)
+neither false false none = (refl, refl)
+neither false true none = cc
+neither true b none = cc
 
 pub loop-key-preserved : goal.loop-key-preserved
-loop-key-preserved g c = record {
-  starved = elim c.match-serve_at.branch [ in-Some w ↦ rw w.turns-is (let more = w.add.ensures in omega arith) | in_default w ↦ rw w.turns-is (omega arith) ];
-  turns = one_more _ _ _ _ _ _ _ c.serve_at.result _ _ c.loop-key.invariant.turns c.serve_at.ensures;
-}
+loop-key-preserved g c =
+    let so_far = c.loop-key.invariant in
+    let turn = c.serve_at.ensures in
+    record {
+      starved = elim c.match-serve_at.branch [
+        | in-Some w ↦ rw w.turns-is (let more = one_went _ _ (is_starved w.in-Some.turn.parting) (ap (λ (t : Turns). t.starved) w.add.ensures) in omega arith)
+        | in_default w ↦ rw w.turns-is (omega arith)
+      ];
+      turns = one_more _ _ _ _ _ _ _ c.serve_at.result _ _ so_far.turns turn;
+      given = each_more IsGiven c.loop-key.self.places c.serve_at.new.self.places c.loop-key.key turn.others so_far.given (given_there g.D.Disk.device g.L.Connection.view _ _ c.serve_at.result _ _ turn.own);
+      rests = λ none.
+          let quiet : (c.loop-key.turns.more ≡ false) × (leaves_more c.serve_at.result ≡ false) =
+          elim c.match-serve_at.branch [
+            | in-Some w ↦ (
+                let both = neither c.loop-key.turns.more w.in-Some.turn.more (sym (ap (λ (t : Turns). t.more) (w.turns-is ∙ w.add.ensures)) ∙ none) in
+                (both.0, ap leaves_more w.in-Some.is ∙ both.1)
+                )
+            | in_default w ↦ (sym (ap (λ (t : Turns). t.more) w.turns-is) ∙ none, ap leaves_more w.in_default.is)
+          ] in
+          each_more HasNoneNow c.loop-key.self.places c.serve_at.new.self.places c.loop-key.key turn.others (so_far.rests quiet.0) (rests_there g.D.Disk.device g.L.Connection.view _ _ c.serve_at.result _ _ turn.own quiet.1);
+    }
 
 pub returns-clause-own : goal.returns-clause-own
 returns-clause-own g c =

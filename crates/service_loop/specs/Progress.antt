@@ -1,0 +1,141 @@
+-- What is done for a client: what it was told is written, and what it sent is read and served, unless its line says that it can't be.
+use Rattle.std.specs.Prelude.{◌≡◌, ◌⊎◌, ℕ, ◌<◌, ◌≤◌, Bool, true, false, cond, nat_le, nat_lt, ◌&&◌, ◌||◌, List, [], ◌++◌, length, codes, None, Some, Ok, IfSome, is_some}
+use Rattle.std.specs.Io.KnownBytes.{Consumes, Keeps}
+use Rattle.spool_types.specs.State.{State}
+use Rattle.service_rules.specs.Bounds.{most_unread}
+use Rattle.service_texts.specs.Shown.{has_settled}
+use Rattle.service_texts.specs.declared.own_words.OwnWord.{OwnWord}
+use Rattle.service_texts.specs.declared.own_words.OwnWord.TheVariants.{Shutdown, Watch}
+use Rattle.client_reader.specs.Reading.{Awaits}
+use Rattle.client_reader.specs.declared.ask.Ask.{Ask}
+use Rattle.service_loop.specs.Clients.{unread, watches}
+use Rattle.service_loop.specs.Lines.{LineView, has_no_more, is_cut, takes_later, takes_no_more}
+use Rattle.service_loop.specs.declared.client.Client.{Client}
+use Rattle.service_loop.specs.declared.client.Parting.TheVariants.{Left}
+use Rattle.service_loop.specs.declared.client.Step.{Step}
+use Rattle.service_loop.specs.declared.client.Step.TheVariants.{Served, Goes, Rests, Lost}
+use Rattle.service_loop.specs.declared.client.Turn.{Turn}
+
+-- ## What is left as it was
+
+-- a client, with what writing to its line made of another
+abbrev pub as_given : {L : Type 0} → Client L → Client L → Client L
+as_given old new = record old { line = new.line; replies = new.replies; taken = new.taken; writable = new.writable; stirred = new.stirred }
+
+-- a client, with what reading of its line made of another
+abbrev pub as_read : {L : Type 0} → Client L → Client L → Client L
+as_read old new = record old { line = new.line; reader = new.reader; readable = new.readable; over = new.over; stirred = new.stirred }
+
+-- a client, with what telling it something made of another
+abbrev pub as_told : {L : Type 0} → Client L → Client L → Client L
+as_told old new = record old { replies = new.replies; missed = new.missed }
+
+-- ## Its line
+
+-- a client of which there is a sign
+abbrev pub signed : {L : Type 0} → Client L → Bool → Bool → Client L
+signed c writable gone = record c { readable = true; writable = c.writable || writable; gone = c.gone || gone }
+
+-- It isn't read, or not written to, only where its line has said last that nothing comes now, or ever, or that it takes nothing now.
+pub record IsMarked {L : Type 0} (view : LineView L) (c : Client L) : Type 0 where
+  pub readable : c.readable ≡ false → IfSome (view.gave c.line) (λ last. has_no_more last ≡ true)
+  pub writable : c.writable ≡ false → IfSome (view.took c.line) (λ last. takes_later last ≡ true)
+
+-- its line has said that it takes nothing any more
+abbrev pub IsUnheard : {L : Type 0} → LineView L → Client L → Type 0
+IsUnheard view c = IfSome (view.took c.line) (λ last. takes_no_more last ≡ true)
+
+-- its line has said that it can't be read
+abbrev pub IsCut : {L : Type 0} → LineView L → Client L → Type 0
+IsCut view c = IfSome (view.gave c.line) (λ last. is_cut last ≡ true)
+
+-- ## What it was told is written
+
+-- all of it, or as much as its line takes now
+abbrev pub IsGiven : {L : Type 0} → Client L → Type 0
+IsGiven c = (unread c ≡ 0) ⊎ (c.writable ≡ false)
+
+-- it was heard now if it has taken something
+abbrev pub heard_after : {L : Type 0} → Client L → ℕ → Client L → ℕ
+heard_after old now new = cond (nat_lt (unread new) (unread old)) now old.stirred
+
+-- ## What it sent is read
+
+-- a piece came of its line, and its reader took it
+pub record IsRead {L : Type 0} (view : LineView L) (old : Client L) (piece : List ℕ) (new : Client L) : Type 0 where
+  pub consumed : Consumes (view.remaining old.line) (view.remaining new.line) piece
+  pub kept : Keeps (view.contents old.line) (view.contents new.line)
+  pub took : (asks : List ℕ → List Ask) → Awaits old.reader asks → Awaits new.reader (λ more. asks (piece ++ more))
+  pub taken : new.taken ≡ old.taken
+  pub replies : new.replies.items ≡ old.replies.items
+
+-- some bytes came, and it was heard now
+pub record HasPiece {L : Type 0} (view : LineView L) (old : Client L) (now : ℕ) (new : Client L) : Type 0 where
+  pub piece : List ℕ
+  pub some : 0 < length piece
+  pub read : IsRead view old piece new
+  pub over : new.over ≡ old.over
+  pub heard : new.stirred ≡ now
+
+-- nothing comes now, or its text has ended
+pub record HasNoMore {L : Type 0} (view : LineView L) (old new : Client L) : Type 0 where
+  pub readable : new.readable ≡ false
+  pub reader : new.reader ≡ old.reader
+  pub over : (new.over ≡ old.over) ⊎ ((new.over ≡ true) × IfSome (view.gave new.line) (λ last. last ≡ Ok 0))
+  pub heard : new.stirred ≡ old.stirred
+
+-- what a read came to
+abbrev pub HasRead : {L : Type 0} → LineView L → Client L → ℕ → Client L → Type 0
+HasRead view old now new = HasPiece view old now new ⊎ HasNoMore view old new
+
+-- and where there is nothing to be read there was none
+abbrev pub IsReadAs : {L : Type 0} → LineView L → Client L → ℕ → Step → Client L → Type 0
+IsReadAs view old now Served new = ⊥
+IsReadAs view old now Goes new = HasRead view old now new
+IsReadAs view old now Rests new = (new ≡ old) × (old.readable ≡ false)
+IsReadAs view old now Lost new = IsCut view new
+
+-- ## What has changed
+
+-- what it is told of a text that tells that: nothing where it doesn't watch, or left too much unread
+abbrev pub text_for : {L : Type 0} → Client L → List ℕ → List ℕ
+text_for c text = cond (watches c && nat_lt (unread c) most_unread) (cond c.missed (codes "missed\n" ++ text) text) []
+
+-- whether it wasn't told all then
+abbrev pub misses : {L : Type 0} → Client L → Bool
+misses c = cond (watches c) (nat_le most_unread (unread c)) c.missed
+
+-- ## A turn
+
+-- the word that asks to be told what changes, and the one that ends the service
+abbrev pub is_watch : OwnWord → Bool
+is_watch Watch = true
+is_watch word = false
+
+abbrev pub is_shutdown : OwnWord → Bool
+is_shutdown Shutdown = true
+is_shutdown word = false
+
+-- a turn in which something was served, and perhaps an end asked for
+abbrev pub as_served : Turn → Turn → Turn
+as_served old new = record old { served = new.served; shutdown = new.shutdown }
+
+-- nothing can be done for it now: the end that it waits for hasn't come, or nothing more of its text comes now
+abbrev pub IsAtRest : {L : Type 0} → State → Client L → Type 0
+IsAtRest s c = ((job : ℕ) × (c.waits ≡ Some job) × (has_settled s job ≡ false)) ⊎ (c.readable ≡ false)
+
+-- it has left too much unread
+abbrev pub IsBrimful : {L : Type 0} → Client L → Type 0
+IsBrimful c = most_unread ≤ unread c
+
+-- its line is lost, or it has gone and waits for an end, or its text has ended and it has all replies
+abbrev pub HasLeft : {L : Type 0} → LineView L → Client L → Type 0
+HasLeft view c = IsUnheard view c ⊎ IsCut view c ⊎ ((c.gone ≡ true) × (is_some c.waits ≡ true)) ⊎ ((c.over ≡ true) × (unread c ≡ 0))
+
+-- How a turn ends, over the table that it leaves. One who stays was given what its line takes, and unless there is more to be
+-- done at once it is at rest, or has left too much unread.
+pub record EndsTurn {L : Type 0} (view : LineView L) (s : State) (was : Client L) (turn : Turn) (is : Client L) : Type 0 where
+  pub given : turn.parting ≡ None → IsGiven is
+  pub rests : turn.parting ≡ None → turn.more ≡ false → IsAtRest s is ⊎ IsBrimful is
+  pub leaves : turn.parting ≡ Some Left → HasLeft view is
+  pub marked : IsMarked view was → IsMarked view is
