@@ -17,7 +17,9 @@ pub struct SystemTimes<'a, R> {
 }
 
 impl<'a, R: Clock> SystemTimes<'a, R> {
-    pub fn new(rt: &'a R) -> SystemTimes<'a, R> {
+    pub fn new(rt: &'a R) -> SystemTimes<'a, R>
+        ensures { result.last ≡ 0 }
+    {
         SystemTimes {
             rt,
             start: Instant::now(rt).ok(),

@@ -23,7 +23,9 @@ pub struct Kills<'a, R> {
 }
 
 impl<'a, R: Processes + AllocGlobal> Kills<'a, R> {
-    pub fn new(rt: &'a R) -> Kills<'a, R> {
+    pub fn new(rt: &'a R) -> Kills<'a, R>
+        ensures { result.rt.now ≡ rt.now }
+    {
         Kills { rt }
     }
 }

@@ -1,5 +1,5 @@
 //! Where clients come in, and what wakes the service: a socket in the file system, over `mio`.
-ghost use Rattle.std.specs.Prelude.{◌≡◌, ◌++◌, OnOk, map};
+ghost use Rattle.std.specs.Prelude.{◌≡◌, ◌++◌, [], IfOk, OnOk, map};
 ghost use Rattle.mio.specs.Events.{items};
 ghost use Rattle.spool_service.specs.Socket.{coming_of, sign_of, without_client};
 
@@ -55,7 +55,9 @@ impl SocketDoor {
         rt: &R,
         path: &str,
         mode: u32,
-    ) -> io::Result<SocketDoor> {
+    ) -> io::Result<SocketDoor>
+        ensures { IfOk result (λ door. door.signs.items ≡ []) }
+    {
         remove_if_there(rt, Path::new(path))?;
         let mut listener = UnixListener::bind(rt, path)?;
         fs::set_permissions(rt, path, Permissions::from_mode(mode))?;
