@@ -211,7 +211,7 @@ def run_all(names, at_once, room):
             last = text.strip().split("\n")[-1]
             print(f"{name:18} {seconds:6.1f} s  {'passed' if status == 0 else 'FAILED'}: {last}", flush=True)
             if status:
-                failures.append(f"{name} ended with {status}:\n{text[-3000:]}")
+                failures.append(f"{name} ended with {status}:\n{text[-30_000:]}")
     return failures
 
 
