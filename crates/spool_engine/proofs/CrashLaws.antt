@@ -84,7 +84,7 @@ after_turn v m t ts true is one more alive tells rest = subst (λ x. LeavesOnly 
     (one_turn v m t ts one alive tells)
 
 -- turns from an opened spool on
-along : {D : Type 0} (v : Setting D) (m : Course D) (ts : List (Turn D)) → OnlyNow v.device → IsKept v.device m.spool → AreTurns v m ts → m.spool.dead ≡ false → IsSome (v.device.bytes m.spool.disk) → LeavesOnly v.device m.spool.disk (last_course m ts).spool.disk (IsAlong v.mime m ts)
+pub along : {D : Type 0} (v : Setting D) (m : Course D) (ts : List (Turn D)) → OnlyNow v.device → IsKept v.device m.spool → AreTurns v m ts → m.spool.dead ≡ false → IsSome (v.device.bytes m.spool.disk) → LeavesOnly v.device m.spool.disk (last_course m ts).spool.disk (IsAlong v.mime m ts)
 along v m [] now kept h alive tells = unmoved v.device m.spool (IsAlong v.mime m []) now kept (λ c has. has) alive tells
 along v m (t ∷ ts) now kept h alive tells = after_turn v m t ts t.next.spool.dead refl h.0 h.1 alive tells (λ lives. along v t.next ts now h.0.kept h.1 lives (h.0.told.1 tells))
 
@@ -102,7 +102,7 @@ after_whole_turn v m documents t ts false is one more alive tells has rest = run
 after_whole_turn v m documents t ts true is one more alive tells has rest = subst (λ x. LeavesOnly v.device m.spool.disk x.disk (IsWholeAlong v.mime m documents (t ∷ ts))) (sym (dead_last v t.next ts is more))
     (one_whole_turn v m documents t ts one alive tells has)
 
-whole_along : {D : Type 0} (v : Setting D) (m : Course D) (documents : Documents) (ts : List (Turn D)) → OnlyNow v.device → IsKept v.device m.spool → AreTurns v m ts → m.spool.dead ≡ false → IsSome (v.device.bytes m.spool.disk) → LeavesDocuments v.device documents m.spool → LeavesOnly v.device m.spool.disk (last_course m ts).spool.disk (IsWholeAlong v.mime m documents ts)
+pub whole_along : {D : Type 0} (v : Setting D) (m : Course D) (documents : Documents) (ts : List (Turn D)) → OnlyNow v.device → IsKept v.device m.spool → AreTurns v m ts → m.spool.dead ≡ false → IsSome (v.device.bytes m.spool.disk) → LeavesDocuments v.device documents m.spool → LeavesOnly v.device m.spool.disk (last_course m ts).spool.disk (IsWholeAlong v.mime m documents ts)
 whole_along v m documents [] now kept h alive tells has = unmoved_whole v.device m.spool documents (IsWholeAlong v.mime m documents []) now kept (λ c whole. whole) alive tells has
 whole_along v m documents (t ∷ ts) now kept h alive tells has = after_whole_turn v m documents t ts t.next.spool.dead refl h.0 h.1 alive tells has (λ lives left. whole_along v t.next (documents_left v.mime m documents t) ts now h.0.kept h.1 lives (h.0.told.1 tells) left)
 

@@ -1,19 +1,21 @@
 -- A call of an engine as a turn: a round, a tick, or a run by its turns. And the calls of an engine, one after the other.
-use Rattle.std.specs.Prelude.{◌≡◌, true, List, [], ◌∷◌, ◌++◌, map, Some}
+use Rattle.std.specs.Prelude.{◌≡◌, ◌⊎◌, ℕ, true, List, [], ◌∷◌, ◌++◌, map, Some}
 use Rattle.spool_types.specs.declared.event.Event.{Event}
 use Rattle.job_table.specs.Fold.{accepted}
 use Rattle.job_table.specs.Turns.{AreOnce}
 use Rattle.child_pipeline.specs.Tickets.{HasTickets}
 use Rattle.child_pipeline.specs.Told.{Told}
 use Rattle.child_pipeline.specs.declared.order.Placed.{Placed}
+use Rattle.spool_core.specs.Image.{HasTable, HasWhole}
 use Rattle.print_rounds.specs.Counts.{AreAcknowledged}
 use Rattle.print_rounds.specs.Courses.{Course}
 use Rattle.print_rounds.specs.Inputs.{answered, AreRight, HaveDocuments}
+use Rattle.print_rounds.specs.Rounds.{HasSomeOf, HasSomeWhole}
 use Rattle.print_rounds.specs.World.{keys_in, IsCallTurn}
 use Rattle.spool_engine.specs.EventTurns.{Setting}
 use Rattle.spool_engine.specs.Mime.{Mime}
 use Rattle.spool_engine.specs.Rounds.{Ran, IsRan}
-use Rattle.spool_engine.specs.Runs.{Turn, AreTurns, KeepVersion, commands_in, documents_left, last_course, last_documents, tried_in}
+use Rattle.spool_engine.specs.Runs.{Turn, AreTurns, IsAlong, IsWholeAlong, KeepVersion, commands_in, documents_left, last_course, last_documents, tried_in}
 use Rattle.spool_engine.specs.Script.{Documents}
 use Rattle.spool_engine.specs.Ticks.{Ticked, IsTicked}
 
@@ -129,3 +131,31 @@ documents_by m s documents (run_call turns) = last_documents m s documents turns
 abbrev pub CallsHandDocuments : {D : Type 0} → Mime → Course D → Documents → List (Call D) → Type 0
 CallsHandDocuments m s documents [] = Unit {0}
 CallsHandDocuments m s documents (c ∷ cs) = CallHandsDocuments m s documents c × CallsHandDocuments m (left_by s c) (documents_by m s documents c) cs
+
+-- ## What a crash leaves of them
+
+-- the table after some of a call's events, the first of them, in order
+abbrev pub HasTableBy : {D : Type 0} → Mime → Course D → Call D → List ℕ → Type 0
+HasTableBy m s (round_call r) image = HasSomeOf s.spool.state r.tried image
+HasTableBy m s (tick_call t) image = HasSomeOf s.spool.state t.tried image
+HasTableBy m s (run_call turns) image = IsAlong m s turns image
+
+-- so it is of the events of these calls
+abbrev pub IsAlongCalls : {D : Type 0} → Mime → Course D → List (Call D) → List ℕ → Type 0
+IsAlongCalls m s [] image = HasTable s.spool.state image
+IsAlongCalls m s (c ∷ cs) image = HasTableBy m s c image ⊎ IsAlongCalls m (left_by s c) cs image
+
+-- and these documents, with what the events sent
+abbrev pub HasWholeBy : {D : Type 0} → Mime → Course D → Documents → Call D → List ℕ → Type 0
+HasWholeBy m s documents (round_call r) image = HasSomeWhole s.spool.state documents r.tried image
+HasWholeBy m s documents (tick_call t) image = HasSomeWhole s.spool.state documents t.tried image
+HasWholeBy m s documents (run_call turns) image = IsWholeAlong m s documents turns image
+
+abbrev pub IsWholeAlongCalls : {D : Type 0} → Mime → Course D → Documents → List (Call D) → List ℕ → Type 0
+IsWholeAlongCalls m s documents [] image = HasWhole s.spool.state documents image
+IsWholeAlongCalls m s documents (c ∷ cs) image = HasWholeBy m s documents c image ⊎ IsWholeAlongCalls m (left_by s c) (documents_by m s documents c) cs image
+
+-- the documents behind these calls
+abbrev pub last_documents_by : {D : Type 0} → Mime → Course D → Documents → List (Call D) → Documents
+last_documents_by m s documents [] = documents
+last_documents_by m s documents (c ∷ cs) = last_documents_by m (left_by s c) (documents_by m s documents c) cs

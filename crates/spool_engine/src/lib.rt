@@ -66,8 +66,8 @@
 //!   the documents after the same events (`whole`). A crash after the turn leaves the table that is shown or, after a fault
 //!   of the device, that table or the one with the event in hand. While the device hasn't failed it leaves all that the
 //!   turn sent (`lasting`). [`crashes_between_replies`] says of whole runs that no turn is lost, as long as the device
-//!   hasn't failed: not its events (`tables`), nor what they sent (`documents`). This speaks of disks that tell their
-//!   bytes.
+//!   hasn't failed: not its events (`tables`), nor what they sent (`documents`); [`crashes_between_calls`] says the same of
+//!   any row of calls. This speaks of disks that tell their bytes.
 //! - *ClientsApart* ([`clients_stay_apart`]): over any row of ticks and of commands of several clients, the commands that are
 //!   served for a client are the first of those that it sent, it is given exactly their replies, and each is Script's on the
 //!   table that its command found.
@@ -101,6 +101,6 @@ pub use answers::rounded_text;
 pub use engine::Engine;
 pub use fault::RunFault;
 pub use laws::{
-    calls_are_turns, clients_stay_apart, crashes_between_replies, lives_law,
+    calls_are_turns, clients_stay_apart, crashes_between_calls, crashes_between_replies, lives_law,
     no_stage_is_ordered_twice, quiet_scenes_stay, stages_have_right_input,
 };
