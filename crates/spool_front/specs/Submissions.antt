@@ -1,9 +1,10 @@
 -- What a submission makes of what comes.
-use Rattle.std.specs.Prelude.{◌≡◌, ℕ, ◌⊎◌, Bool, true, false, List, codes, String, string_bytes, Option, None, Some}
+use Rattle.std.specs.Prelude.{◌≡◌, ℕ, ◌+◌, ◌⊎◌, Bool, true, false, min, List, codes, String, string_bytes, Option, None, Some}
 use Rattle.std.specs.Global.{Global}
 use Rattle.front_submission.specs.Moves.{deserted, heard, lost, supplied, unread}
 use Rattle.front_submission.specs.declared.reply.Found.{Found}
 use Rattle.front_submission.specs.declared.reply.Reply.{Reply}
+use Rattle.front_submission.specs.declared.reply.Reply.TheVariants.{Created, Sent, Done, Gone, Later, NotIncoming, Denied, Unclear}
 use Rattle.front_submission.specs.declared.step.Cause.{Cause}
 use Rattle.front_submission.specs.declared.step.Cause.TheVariants.{Declined, OtherSize, EndedEarly, Unreadable, Deserted}
 use Rattle.front_submission.specs.declared.step.End.{End}
@@ -21,6 +22,27 @@ cause_text refusal memory EndedEarly = codes "somebody has ended the job"
 cause_text refusal memory Unreadable = codes "the document can't be read"
 cause_text refusal true Deserted = codes "memory"
 cause_text refusal false Deserted = codes "nobody serves"
+
+-- one more reply was lost, or not clear, as far as that is counted
+abbrev pub one_more : ℕ → ℕ
+one_more n = min (n + 1) 18446744073709551615
+
+-- how many were, behind a reply, since the document last came further
+abbrev pub lost_after : ℕ → Reply → ℕ
+lost_after n Unclear = one_more n
+lost_after n Later = one_more n
+lost_after n (Created job) = 0
+lost_after n (Sent size) = 0
+lost_after n Done = 0
+lost_after n reply = n
+
+-- whether the words of a reply are those of a refusal
+abbrev pub is_refusal : Reply → Bool
+is_refusal Denied = true
+is_refusal NotIncoming = true
+is_refusal Later = true
+is_refusal Gone = true
+is_refusal reply = false
 
 -- the step behind a request: its reply was heard, it was lost, or it was given up
 abbrev pub IsAnswered : Step → Step → Type 0

@@ -91,7 +91,8 @@ impl<'a> Client<'a> {
 
     /// Connects where there is no connection, and tries that until its patience is over. Whether there is one then.
     pub fn connect(&mut self) -> Result<bool, AllocError>
-        ensures { IfOk result (λ connected. IsTrue connected ↔ IsSome self.new.connection) }
+        ensures connected { IfOk result (λ connected. IsTrue connected ↔ IsSome self.new.connection) }
+        ensures kept { self.new ≡ record self.old { connection = self.new.connection } }
     {
         if self.connection.is_some() {
             return Ok(true);
@@ -108,6 +109,7 @@ impl<'a> Client<'a> {
     fn connect_once(&mut self) -> Result<bool, AllocError>
         ensures connected { IfOk result (λ connected. IsTrue connected → IsSome self.new.connection) }
         ensures not { IfOk result (λ connected. ¬ (IsTrue connected) → self.new.connection ≡ self.old.connection) }
+        ensures kept { self.new ≡ record self.old { connection = self.new.connection } }
     {
         match Connection::open(self.rt, self.socket) {
             Ok(connection) => {
@@ -121,14 +123,15 @@ impl<'a> Client<'a> {
 
     /// Ends the connection.
     pub fn disconnect(&mut self)
-        ensures { self.new.connection ≡ None }
+        ensures { self.new ≡ record self.old { connection = None } }
     {
         self.connection = None;
     }
 
     /// Sends a command, and reads its reply. The connection is over after a fault.
     pub fn exchange(&mut self, text: &[u8]) -> Result<Answer, ConnectionFault>
-        ensures { IfErr result (λ _. self.new.connection ≡ None) }
+        ensures over { IfErr result (λ _. self.new.connection ≡ None) }
+        ensures kept { self.new ≡ record self.old { connection = self.new.connection } }
     {
         let answer = self.send_and_read(text);
         if answer.is_err() {
@@ -137,7 +140,9 @@ impl<'a> Client<'a> {
         answer
     }
 
-    fn send_and_read(&mut self, text: &[u8]) -> Result<Answer, ConnectionFault> {
+    fn send_and_read(&mut self, text: &[u8]) -> Result<Answer, ConnectionFault>
+        ensures { self.new ≡ record self.old { connection = self.new.connection } }
+    {
         let alloc = self.rt.alloc();
         let Some(connection) = &mut self.connection else {
             return Err(ConnectionFault::Lost);
@@ -165,13 +170,16 @@ impl<'a> Client<'a> {
 
     /// Sends what changes nothing, and sends it again where the connection is lost. The reply is no refusal.
     pub fn ask(&mut self, text: &[u8]) -> Result<Answer, Fault>
-        ensures { IfOk result (λ answer. IsTrue (is_done (string_bytes answer.last))) }
+        ensures done { IfOk result (λ answer. IsTrue (is_done (string_bytes answer.last))) }
+        ensures kept { self.new ≡ record self.old { connection = self.new.connection } }
     {
         accepted(self.ask_or_refused(text)?)
     }
 
     // The same, where the reply may be a refusal.
-    fn ask_or_refused(&mut self, text: &[u8]) -> Result<Answer, Fault> {
+    fn ask_or_refused(&mut self, text: &[u8]) -> Result<Answer, Fault>
+        ensures { self.new ≡ record self.old { connection = self.new.connection } }
+    {
         for _ in 0..=self.pauses {
             if !self.connect()? {
                 return Err(self.nobody()?);

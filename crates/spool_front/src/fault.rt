@@ -1,5 +1,5 @@
 //! Why a task fails.
-ghost use Rattle.std.specs.Prelude.{◌≡◌};
+ghost use Rattle.std.specs.Prelude.{◌≡◌, ◌==◌, cond};
 ghost use Rattle.std.specs.IoError.{error_kind};
 ghost use Rattle.spool_front.specs.Faults.{gone_by, status_of, unwritten_by};
 
@@ -46,6 +46,14 @@ impl Fault {
             _ => 1,
         }
     }
+}
+
+/// The status of several things that were done in turn: that of the first which failed. Here is what those before it ended with,
+/// and what the next one did.
+pub fn first_failure(status: u8, next: u8) -> u8
+    ensures { result ≡ cond (status == 0) next status }
+{
+    if status == 0 { next } else { status }
 }
 
 impl From<AllocError> for Fault {

@@ -9,7 +9,7 @@ use crate::client::{Client, pause};
 use crate::commands::Draft;
 use crate::document::Document;
 use crate::draft::draft_of;
-use crate::fault::Fault;
+use crate::fault::{Fault, first_failure};
 use crate::host::Screen;
 use crate::places::{Places, client_at, queue_of};
 use crate::submit::Submitting;
@@ -53,9 +53,7 @@ fn print_all(
     let mut status = 0;
     for file in &asked.files {
         let ended = print_named(rt, client, asked, queue, file, screen)?;
-        if status == 0 {
-            status = ended;
-        }
+        status = first_failure(status, ended);
     }
     Ok(status)
 }

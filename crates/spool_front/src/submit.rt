@@ -1,11 +1,11 @@
 //! Making a job of a document, exactly once.
-ghost use Rattle.std.specs.Prelude.{◌≡◌, ◌<◌, ◌+◌, ◌↔◌, ◌⊎◌, IfOk, IsSome, IsTrue, None, false, is_some, length, min, string_bytes};
+ghost use Rattle.std.specs.Prelude.{◌≡◌, ◌<◌, ◌↔◌, ◌⊎◌, IfOk, IsSome, IsTrue, None, Some, cond, false, is_some, length, string_bytes};
 ghost use Rattle.std.specs.Io.KnownBytes.{IsAtEnd};
 ghost use Rattle.std.specs.Str.Iter.{HasSubslice};
 ghost use Rattle.spool_front.specs.Found.{may_be_own, own_job, with_job};
 ghost use Rattle.spool_front.specs.Pieces.{piece_of};
 ghost use Rattle.spool_front.specs.Replies.{reply_in};
-ghost use Rattle.spool_front.specs.Submissions.{IsAnswered, IsLooked, IsSupplied, cause_text, was_closed};
+ghost use Rattle.spool_front.specs.Submissions.{IsAnswered, IsLooked, IsSupplied, cause_text, is_refusal, lost_after, one_more, was_closed};
 ghost use Rattle.front_submission.specs.Moves.{deserted, heard, lost, unread};
 ghost use Rattle.front_submission.specs.declared.step.Step.{Step};
 
@@ -131,7 +131,9 @@ impl<'a> Submitting<'a> {
     }
 
     fn is_connected(&mut self, client: &mut Client<'_>) -> bool
-        ensures { IsTrue result → IsSome client.new.connection }
+        ensures connected { IsTrue result → IsSome client.new.connection }
+        ensures kept { self.new ≡ record self.old { memory = self.new.memory } }
+        ensures client { client.new ≡ record client.old { connection = client.new.connection } }
     {
         match client.connect() {
             Ok(connected) => connected,
@@ -146,6 +148,7 @@ impl<'a> Submitting<'a> {
     fn after(&mut self, client: &mut Client<'_>, step: Step, reply: Reply) -> Step
         ensures step { result ≡ heard step reply }
         ensures unclear { reply ≡ Reply.Unclear → client.new.connection ≡ None }
+        ensures lost { self.new ≡ record self.old { lost = lost_after self.old.lost reply } }
     {
         match reply {
             Reply::Unclear => {
@@ -160,7 +163,7 @@ impl<'a> Submitting<'a> {
     }
 
     fn wait(&mut self)
-        ensures { self.new.lost ≡ min (self.old.lost + 1) 18446744073709551615 }
+        ensures { self.new ≡ record self.old { lost = one_more self.old.lost } }
     {
         self.lost = self.lost.saturating_add(1);
         pause(self.rt);
@@ -204,7 +207,8 @@ impl<'a> Submitting<'a> {
     }
 
     fn reply_of(&mut self, answer: Answer) -> Reply
-        ensures { result ≡ reply_in (string_bytes answer.last) }
+        ensures reply { result ≡ reply_in (string_bytes answer.last) }
+        ensures refusal { self.new ≡ record self.old { refusal = cond (is_refusal result) (Some answer.last) self.old.refusal } }
     {
         let reply = reply_in(answer.last.as_str());
         if matches!(

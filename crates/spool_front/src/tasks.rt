@@ -9,7 +9,7 @@ ghost use Rattle.spool_front.specs.Faults.{status_of};
 use crate::client::Client;
 use crate::commands::{Until, hold_line, info_line, job_line, name_line, queue_line};
 use crate::draft::seconds_of;
-use crate::fault::Fault;
+use crate::fault::{Fault, first_failure};
 use crate::host::Screen;
 use crate::output::{print_bytes, print_lines};
 use crate::places::{Places, all_jobs, all_queues, client_at, has_queue, only_socket, socket_of};
@@ -184,9 +184,7 @@ fn act_by(
         let line = act_line(rt, act, *job)?;
         if let Err(fault) = client.order(line.as_slice()) {
             let ended = tell_fault(rt, *job, fault)?;
-            if status == 0 {
-                status = ended;
-            }
+            status = first_failure(status, ended);
         }
     }
     Ok(status)
@@ -236,10 +234,7 @@ pub fn clear(rt: &HostRuntime, places: Places<'_, '_>, names: &[&str]) -> Result
         let mut client = client_at(rt, places, socket);
         let ended = clear_by(rt, &mut client, names);
         drop(client);
-        let ended = ended?;
-        if status == 0 {
-            status = ended;
-        }
+        status = first_failure(status, ended?);
     }
     Ok(status)
 }
