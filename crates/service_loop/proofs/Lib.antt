@@ -1,3 +1,4 @@
+pub mod CallLaws
 pub mod DueLaws
 pub mod PlaceLaws
 pub mod ProgressLaws

@@ -5,6 +5,7 @@ use Rattle.slab.proofs.SlabLemmas.{Updates-with_value}
 use Rattle.spool_disk.specs.Disk.{DiskView}
 use Rattle.spool_types.specs.State.{State}
 use Rattle.spool_engine.specs.Runs.{Engine}
+use Rattle.service_loop.specs.Calls.{GoesByCalls}
 use Rattle.service_loop.specs.Lines.{LineView}
 use Rattle.service_loop.specs.Deeds.{Deed}
 use Rattle.service_loop.specs.Places.{HadOwnTurn, HasNoneNow, HasTurn, HaveTurns, KeepsOthers, PlaceHadTurn, leaves_more, unless_parted}
@@ -67,12 +68,12 @@ module _ {D L : Type 0} (device : DiskView D) (view : LineView L) where
   }
 
   pub had_turn : (e : Engine D) (places : Slab (Client L)) (key : ℕ) (was is : Client L) (turn : Turn) (e' : Engine D) (left : Slab (Client L)) → get places key ≡ Some was →
-      e'.mime ≡ e.mime → e'.place ≡ e.place → (is_starved turn.parting ≡ false → (deeds : List (Deed D)) × IsVisit device view e was deeds e' is) →
+      GoesByCalls device e e' → (is_starved turn.parting ≡ false → (deeds : List (Deed D)) × IsVisit device view e was deeds e' is) →
       EndsTurn view e'.course.spool.state was turn is →
       Updates places left key (unless_parted turn.parting is) → HasTurn device view e places key (Some turn) e' left
-  had_turn e places key was is turn e' left there mime place visit ends updates = record {
+  had_turn e places key was is turn e' left there calls visit ends updates = record {
     own = subst (λ (c : Option (Client L)). PlaceHadTurn device view e c (Some turn) e' (get left key)) (sym there)
-        (record { mime = mime; place = place; is = is; visit = visit; ends = ends; stays = updates.changed });
+        (record { calls = calls; is = is; visit = visit; ends = ends; stays = updates.changed });
     others = updates.others;
   }
 

@@ -1,3 +1,4 @@
+pub mod Calls
 pub mod Clients
 pub mod Deeds
 pub mod Due

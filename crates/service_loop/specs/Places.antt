@@ -5,6 +5,7 @@ use Rattle.spool_disk.specs.Disk.{DiskView}
 use Rattle.spool_engine.specs.Runs.{Engine}
 use Rattle.service_rules.specs.declared.places.Admission.{Admission}
 use Rattle.service_rules.specs.declared.places.Admission.TheVariants.{InsteadOf}
+use Rattle.service_loop.specs.Calls.{GoesByCalls}
 use Rattle.service_loop.specs.Deeds.{Deed}
 use Rattle.service_loop.specs.Lines.{LineView, IsUntouched}
 use Rattle.service_loop.specs.Progress.{EndsTurn, IsBrimful, misses, signed, text_for}
@@ -21,8 +22,7 @@ unless_parted (Some parting) c = None
 -- A client had a turn, and left its place to another or to nobody only if it parted. Unless it went for want of memory the turn was a
 -- visit. One that stayed was given what its line takes, and is at rest unless the turn says that there is more.
 pub record HadTurn {D L : Type 0} (device : DiskView D) (view : LineView L) (old : Engine D) (was : Client L) (turn : Turn) (new : Engine D) (left : Option (Client L)) : Type 0 where
-  pub mime : new.mime ≡ old.mime
-  pub place : new.place ≡ old.place
+  pub calls : GoesByCalls device old new
   pub is : Client L
   pub visit : is_starved turn.parting ≡ false → (deeds : List (Deed D)) × IsVisit device view old was deeds new is
   pub ends : EndsTurn view new.course.spool.state was turn is

@@ -4,6 +4,7 @@
 //! (`client_reader`), in order.
 ghost use Rattle.std.specs.Prelude.{◌≡◌, ◌⊎◌, ◌<◌, ◌&&◌, ◌||◌, ℕ, nat_lt, vec_len, is_some, true, false, List, [], None, Some, IfOk, OnOk};
 ghost use Rattle.service_rules.specs.Bounds.{most_unread};
+ghost use Rattle.service_loop.specs.Calls.{GoesByCalls};
 ghost use Rattle.service_loop.specs.Clients.{listens, unread, watches};
 ghost use Rattle.service_loop.specs.Deeds.{Deed};
 ghost use Rattle.service_loop.specs.Progress.{EndsTurn, HasLeft, HasRead, IsAtRest, IsBrimful, IsCut, IsGiven, IsMarked, IsReadAs, IsUnheard, as_given, as_read, as_served, as_told, heard_after, is_shutdown, is_watch, misses, signed, text_for};
@@ -186,8 +187,7 @@ impl<L: Connection> Client<L> {
 
         // What its line takes was written to it, and unless there is more to be done at once nothing can be done for it now.
         ensures ends { EndsTurn L.view office.new.engine.course.spool.state self.old result self.new }
-        ensures mime { office.new.engine.mime ≡ office.old.engine.mime }
-        ensures place { office.new.engine.place ≡ office.old.engine.place }
+        ensures calls { GoesByCalls D.device office.old.engine office.new.engine }
     {
         let mut turn = Turn::new();
         match self.try_serve(office, now, &mut turn) {
@@ -213,8 +213,7 @@ impl<L: Connection> Client<L> {
         ensures leaves { IfOk result (λ there. there ≡ false → HasLeft L.view self.new) }
         ensures marked { IsMarked L.view self.old → IsMarked L.view self.new }
         ensures parting { turn.new.parting ≡ turn.old.parting }
-        ensures mime { office.new.engine.mime ≡ office.old.engine.mime }
-        ensures place { office.new.engine.place ≡ office.old.engine.place }
+        ensures calls { GoesByCalls D.device office.old.engine office.new.engine }
     {
         if !self.give(now) {
             return Ok(false);
@@ -267,8 +266,7 @@ impl<L: Connection> Client<L> {
         ensures leaves { IfOk result (λ there. there ≡ false → IsCut L.view self.new) }
         ensures marked { IsMarked L.view self.old → IsMarked L.view self.new }
         ensures parting { turn.new.parting ≡ turn.old.parting }
-        ensures mime { office.new.engine.mime ≡ office.old.engine.mime }
-        ensures place { office.new.engine.place ≡ office.old.engine.place }
+        ensures calls { GoesByCalls D.device office.old.engine office.new.engine }
     {
         turn.more = true;
         let mut served = 0;
@@ -304,8 +302,7 @@ impl<L: Connection> Client<L> {
         ensures leaves { IfOk result (λ step. step ≡ Step.Lost → IsCut L.view self.new) }
         ensures marked { IsMarked L.view self.old → IsMarked L.view self.new }
         ensures turn { turn.new ≡ as_served turn.old turn.new }
-        ensures mime { office.new.engine.mime ≡ office.old.engine.mime }
-        ensures place { office.new.engine.place ≡ office.old.engine.place }
+        ensures calls { GoesByCalls D.device office.old.engine office.new.engine }
     {
         if !self.is_told_end(office)? {
             return Ok(Step::Rests);
@@ -368,8 +365,7 @@ impl<L: Connection> Client<L> {
         ensures marked { IsMarked L.view self.old → IsMarked L.view self.new }
         ensures kept { self.new ≡ record self.old { replies = self.new.replies; waits = self.new.waits; watches = self.new.watches } }
         ensures turn { turn.new ≡ record turn.old { served = true; shutdown = turn.new.shutdown } }
-        ensures mime { office.new.engine.mime ≡ office.old.engine.mime }
-        ensures place { office.new.engine.place ≡ office.old.engine.place }
+        ensures calls { GoesByCalls D.device office.old.engine office.new.engine }
     {
         turn.served = true;
         match ask {
@@ -388,8 +384,7 @@ impl<L: Connection> Client<L> {
         ensures done { OnOk result (IsAnswered D.device office.old.engine self.old (Ask.Command command) office.new.engine self.new) }
         ensures marked { IsMarked L.view self.old → IsMarked L.view self.new }
         ensures kept { self.new ≡ record self.old { replies = self.new.replies } }
-        ensures mime { office.new.engine.mime ≡ office.old.engine.mime }
-        ensures place { office.new.engine.place ≡ office.old.engine.place }
+        ensures calls { GoesByCalls D.device office.old.engine office.new.engine }
     {
         match command {
             Command::Round | Command::Drain(_) => {
@@ -418,8 +413,7 @@ impl<L: Connection> Client<L> {
         ensures kept { self.new ≡ record self.old { replies = self.new.replies; waits = self.new.waits; watches = self.new.watches } }
         ensures watches { OnOk result (self.new.watches ≡ (self.old.watches || is_watch word)) }
         ensures turn { turn.new ≡ record turn.old { shutdown = turn.old.shutdown || is_shutdown word } }
-        ensures mime { office.new.engine.mime ≡ office.old.engine.mime }
-        ensures place { office.new.engine.place ≡ office.old.engine.place }
+        ensures calls { GoesByCalls D.device office.old.engine office.new.engine }
     {
         match word {
             OwnWord::Job(job) => {

@@ -2,6 +2,7 @@
 ghost use Rattle.std.specs.Prelude.{◌≡◌, ◌+◌, ◌<◌, ◌≤◌, ◌||◌, ℕ, cond, true, false, None, IfOk, IfSome, OnOk};
 ghost use Rattle.service_rules.specs.Places.{IsAdmission};
 ghost use Rattle.slab.specs.Slab.{get, slab_len};
+ghost use Rattle.service_loop.specs.Calls.{GoesByCalls};
 ghost use Rattle.service_loop.specs.Clients.{heard_of, is_watched};
 ghost use Rattle.service_loop.specs.Places.{HadOwnTurn, HasNoneNow, HasTurn, HaveTurns, IsEntered, IsLetIn, IsPlaceSigned, IsPlaceTold, KeepsOthers};
 ghost use Rattle.service_loop.specs.Progress.{IsGiven};
@@ -188,6 +189,7 @@ impl<L: Connection> Clients<L> {
     pub fn serve<D: Disk, C: Children>(&mut self, office: &mut Office<'_, D, C>, now: u64) -> Turns
         // One place after the other had its turn, on the engine that the one before it left.
         ensures turns { HaveTurns D.device L.view office.old.engine self.old.places MOST_CLIENTS office.new.engine self.new.places }
+        ensures calls { GoesByCalls D.device office.old.engine office.new.engine }
         // So each client had a turn of its own, and was touched by nothing else.
         ensures own { (key : ℕ) → key < MOST_CLIENTS → HadOwnTurn D.device L.view (get self.old.places key) (get self.new.places key) }
         ensures others { (key : ℕ) → MOST_CLIENTS ≤ key → get self.new.places key ≡ get self.old.places key }

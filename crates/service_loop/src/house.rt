@@ -7,6 +7,8 @@ ghost use Rattle.spool_types.specs.Limits.{greatest_moment};
 ghost use Rattle.service_rules.specs.Checkpoints.{is_wanted, room_in};
 ghost use Rattle.service_rules.specs.Clocks.{clock_to_tell, clock_wait};
 ghost use Rattle.service_rules.specs.Looks.{earlier};
+ghost use Rattle.service_rules.specs.Purges.{purge_count, purged};
+ghost use Rattle.service_loop.specs.Calls.{GoesByCalls, HasAnswered, HasAnsweredAll, purges};
 ghost use Rattle.service_loop.specs.Due.{clocks_of, due_of, end_of_hold, has_come, is_changed_by, is_stopped, late_from, next_moment};
 
 use crate::office::Office;
@@ -86,8 +88,9 @@ impl House {
             (office.new ≡ office.old) × (self.new ≡ self.old) }
         ensures told { OnOk result (office.old.stirred ≡ false → IfSome (clock_to_tell (clocks_of self.old office.old.engine.course.spool.state (millis / 1000)))
             (λ moment. moment ≤ greatest_moment → self.new.told ≡ Some moment)) }
-        ensures mime { office.new.engine.mime ≡ office.old.engine.mime }
-        ensures place { office.new.engine.place ≡ office.old.engine.place }
+        ensures said { OnOk result (office.old.stirred ≡ false → IfSome (clock_to_tell (clocks_of self.old office.old.engine.course.spool.state (millis / 1000)))
+            (λ moment. moment ≤ greatest_moment → HasAnswered D.device office.old.engine (Command.Apply (Event.Clock moment)) office.new.engine)) }
+        ensures calls { GoesByCalls D.device office.old.engine office.new.engine }
     {
         let Some(system) = Moment::new(millis / SECOND) else {
             return Ok(());
@@ -163,8 +166,8 @@ impl House {
     ) -> Result<bool, AllocError>
         // Where there are no more than are kept nothing is done.
         ensures within { self.old.ended ≤ self.old.keep → (result ≡ Ok false) × (office.new ≡ office.old) × (self.new ≡ self.old) }
-        ensures mime { office.new.engine.mime ≡ office.old.engine.mime }
-        ensures place { office.new.engine.place ≡ office.old.engine.place }
+        ensures purged { OnOk result (HasAnsweredAll D.device office.old.engine (purges (purged (purge_count self.old.ended self.old.keep) self.old.listed.items)) office.new.engine) }
+        ensures calls { GoesByCalls D.device office.old.engine office.new.engine }
     {
         let count = purge_count(self.ended, self.keep);
         if count == 0 || self.listed.is_empty() {
@@ -197,6 +200,8 @@ impl House {
         office: &mut Office<'_, D, C>,
     ) -> Result<bool, AllocError>
         ensures left { IfOk result (λ made. self.new.left ≡ cond made (Some office.new.engine.course.spool.room) self.old.left) }
+        ensures answered { OnOk result (HasAnswered D.device office.old.engine Command.Checkpoint office.new.engine) }
+        ensures calls { GoesByCalls D.device office.old.engine office.new.engine }
     {
         office.full = false;
         let mut reply = Vec::new(self.alloc);
@@ -223,8 +228,8 @@ fn say<D: Disk, C: Children>(
     office: &mut Office<'_, D, C>,
     command: Command,
 ) -> Result<(), AllocError>
-    ensures mime { office.new.engine.mime ≡ office.old.engine.mime }
-    ensures place { office.new.engine.place ≡ office.old.engine.place }
+    ensures answered { OnOk result (HasAnswered D.device office.old.engine command office.new.engine) }
+    ensures calls { GoesByCalls D.device office.old.engine office.new.engine }
 {
     let mut reply = Vec::new(alloc);
     office.answer(command, &mut reply)

@@ -1,15 +1,21 @@
-//! What is so of the service's clock, and of its clients. The functions do nothing: their clauses are the laws.
-ghost use Rattle.std.specs.Prelude.{◌≡◌, ℕ, List, false, Some, Ok};
+//! What is so of the service's clock, of its clients, and of its engine. The functions do nothing: their clauses are the laws.
+ghost use Rattle.std.specs.Prelude.{◌≡◌, ℕ, List, false, Some, Ok, IsSome};
 ghost use Rattle.std.specs.FinMap as finite;
 ghost use Rattle.spool_types.specs.Phases.{job_state, job_reason};
 ghost use Rattle.spool_types.specs.State.{State, Job, queue_at, job_at};
 ghost use Rattle.spool_types.specs.declared.event.Event.TheVariants.{Clock};
 ghost use Rattle.spool_types.specs.declared.event.Reply.TheVariants.{Done};
 ghost use Rattle.spool_types.specs.declared.rows.QueueRow.{QueueRow};
+ghost use Rattle.spool_disk.specs.Disk.{LeavesOnly};
 ghost use Rattle.queue_sched.specs.Next.{is_eligible};
 ghost use Rattle.job_table.specs.Step.{step};
+ghost use Rattle.job_table.specs.Turns.{AreOnce};
+ghost use Rattle.spool_engine.specs.Calls.{IsAlongCalls};
+ghost use Rattle.spool_engine.specs.EventTurns.{IsKept};
+ghost use Rattle.spool_engine.specs.Runs.{Engine};
 ghost use Rattle.client_reader.specs.Asks.{asks_of};
 ghost use Rattle.client_reader.specs.Calls.{AreFirstOf};
+ghost use Rattle.service_loop.specs.Calls.{GoesByCalls, ServiceLife, IsServiceWorld, keys_ordered};
 ghost use Rattle.service_loop.specs.Deeds.{asks_in, texts_in};
 ghost use Rattle.service_loop.specs.Due.{IsQuietUntil};
 ghost use Rattle.service_loop.specs.Visits.{AreVisits, HasAll, IsEntry, Visit, deeds_of};
@@ -17,6 +23,7 @@ ghost use Rattle.service_loop.specs.declared.client.Client.{Client};
 
 use crate::connection::Connection;
 use spool_disk::Disk;
+use spool_engine::{crashes_between_calls, no_stage_is_ordered_twice};
 
 /// A clock that comes before anything is due is worth nothing, so the service tells none.
 pub fn nothing_is_due_before()
@@ -46,3 +53,22 @@ pub fn clients_of_the_loop_stay_apart<L: Connection, D: Disk>()
         IsEntry own c → AreVisits D.device L.view c visits last →
         (said : List ℕ) → L.view.contents own ≡ Some said → HasAll L.view said (texts_in (deeds_of visits)) last }
 {}
+
+/// *NoStageTwice*, through the service: over any number of services, each made on what the one before left and perhaps some further
+/// events, as an opening finds it, no stage of an attempt is ordered twice. Whoever says what a service did says that its engine
+/// went on by calls (`calls` of [`crate::Service::serve`]).
+pub fn services_order_no_stage_twice<D: Disk>()
+    ensures { (lives : List (ServiceLife D)) → IsServiceWorld D.device lives → AreOnce (keys_ordered lives) }
+{
+    no_stage_is_ordered_twice::<D>();
+}
+
+/// *A crash*, through the service: at any moment from which on the engine goes on by calls a crash leaves the table that it had
+/// then, or the one after some of the events since, the first of them.
+pub fn crashes_lose_no_call<D: Disk>()
+    ensures { (old new : Engine D) (goes : GoesByCalls D.device old new) → IsKept D.device old.course.spool →
+        old.course.spool.dead ≡ false → IsSome (D.device.bytes old.course.spool.disk) →
+        LeavesOnly D.device old.course.spool.disk new.course.spool.disk (IsAlongCalls old.mime old.course goes.calls) }
+{
+    crashes_between_calls::<D>();
+}

@@ -34,14 +34,18 @@
 //! # Promises
 //!
 //! - A command is served, and a tick is made, as the engine does it (`Serves`, `IsTicked`): the service adds nothing.
+//! - Whatever comes, and however it ends, its engine goes on by calls alone (`calls` of [`Service::serve`], `GoesByCalls`). So what
+//!   is so of calls is so of the service: no stage of an attempt is ordered twice, over any number of services
+//!   ([`services_order_no_stage_twice`]), and a crash loses nothing that was acknowledged ([`crashes_lose_no_call`]).
+//! - What is due is said to the engine as commands: the time, the purges and the checkpoint (`HasAnswered`).
 //! - Clients are kept apart, on lines that tell what comes and what goes ([`Connection`]). `Deeds` says what is done for a client,
 //!   and `Visits` what a turn makes of it (`IsVisit`): what was done is what its own line asked for, one for one and in order, and
 //!   the texts go to the same line, each byte once. `Places` says it of all clients: each has a turn of its own, on the engine that
 //!   the one before it left, and nothing else touches it (`HaveTurns`, `HadOwnTurn`). So it is over any row of visits from its
 //!   entry on ([`clients_of_the_loop_stay_apart`]). Of a client that goes for want of memory nothing is said in that turn.
-//! - Clients get on, whatever their lines (`Progress`). Behind a turn one that stays was given what its line takes, and unless the turn
-//!   says that there is more nothing can be done for it now (`EndsTurn`). So it is behind the turns of all (`given`, `rests` of
-//!   `Clients::serve`). Who watches is told exactly `text_for` of each text.
+//! - Clients get on (`Progress`; what is marked is true on lines that tell). Behind a turn one that stays was given what its line
+//!   takes, and unless the turn says that there is more nothing can be done for it now (`EndsTurn`). So it is behind the turns of
+//!   all (`given`, `rests` of `Clients::serve`). Who watches is told exactly `text_for` of each text.
 //! - [`nothing_is_due_before`]: before something comes due (`due_of`) the clock changes no row, starts no job and shows none
 //!   otherwise. So an idle service tells none.
 //! - A newcomer is let in by when each client was heard last (`IsAdmission`, `heard_of`).
@@ -73,7 +77,10 @@ pub use children::{Run, Watch, WatchedChildren, WatchedTicket};
 pub use connection::Connection;
 pub use door::{Coming, Door, Sign};
 pub use fault::ServiceFault;
-pub use laws::{clients_of_the_loop_stay_apart, nothing_is_due_before};
+pub use laws::{
+    clients_of_the_loop_stay_apart, crashes_lose_no_call, nothing_is_due_before,
+    services_order_no_stage_twice,
+};
 pub use service::{Keeping, Service};
 pub use signals::{Signal, Signals};
 pub use times::Times;

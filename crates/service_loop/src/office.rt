@@ -3,6 +3,7 @@ ghost use Rattle.std.specs.Prelude.{◌≡◌, ◌≤◌, ◌++◌, true, false,
 ghost use Rattle.std.specs.FinMap as finite;
 ghost use Rattle.service_texts.specs.Changes.{nothing_noted, told, with_stages};
 ghost use Rattle.spool_types.specs.declared.event.Event.{Event};
+ghost use Rattle.service_loop.specs.Calls.{GoesByCalls};
 ghost use Rattle.spool_engine.specs.EventTurns.{setting};
 ghost use Rattle.spool_engine.specs.Runs.{Turn, Serves};
 ghost use Rattle.spool_engine.specs.Ticks.{IsTicked};
@@ -63,8 +64,7 @@ impl<'a, D: Disk, C: Children> Office<'a, D, C> {
     pub fn answer(&mut self, command: Command, replies: &mut Vec<u8>) -> Result<(), AllocError>
         ensures served { OnOk result ((t : Turn D) × Serves (setting D.device self.old.engine.mime self.old.engine.place)
             self.old.engine.course command t self.new.engine.course (Ok tt) (Some replies.old.items) (Some replies.new.items)) }
-        ensures mime { self.new.engine.mime ≡ self.old.engine.mime }
-        ensures place { self.new.engine.place ≡ self.old.engine.place }
+        ensures calls { GoesByCalls D.device self.old.engine self.new.engine }
     {
         self.stirred = true;
         let creates = matches!(
@@ -88,8 +88,7 @@ impl<'a, D: Disk, C: Children> Office<'a, D, C> {
     pub fn tick(&mut self) -> Result<Round, RoundFault>
         ensures tick { (tried : List Event) × IsTicked (setting D.device self.old.engine.mime self.old.engine.place) self.old.engine.course
             (record { next = self.new.engine.course; result = result; tried = tried }) }
-        ensures mime { self.new.engine.mime ≡ self.old.engine.mime }
-        ensures place { self.new.engine.place ≡ self.old.engine.place }
+        ensures calls { GoesByCalls D.device self.old.engine self.new.engine }
     {
         self.bound_starts();
         let counts = self.engine.tick();
@@ -245,8 +244,7 @@ fn serve<D: Disk, C: Children>(
 ) -> Result<(), AllocError>
     ensures served { OnOk result ((t : Turn D) × Serves (setting D.device engine.old.mime engine.old.place)
         engine.old.course command t engine.new.course (Ok tt) (Some replies.old.items) (Some replies.new.items)) }
-    ensures mime { engine.new.mime ≡ engine.old.mime }
-    ensures place { engine.new.place ≡ engine.old.place }
+    ensures calls { GoesByCalls D.device engine.old engine.new }
 {
     match engine.answer(command, replies) {
         Ok(()) => Ok(()),

@@ -1,8 +1,9 @@
 //! The loop: clients are served while children run.
-ghost use Rattle.std.specs.Prelude.{◌≡◌, ◌*◌, ◌-◌, ◌^◌, ℕ, min, true, false, None, IfOk};
+ghost use Rattle.std.specs.Prelude.{◌≡◌, ◌*◌, ◌-◌, ◌^◌, ℕ, min, true, false, None, IfOk, OnErr, Err};
 ghost use Rattle.slab.specs.Slab.{get};
 ghost use Rattle.std.specs.Option.{option_map};
 ghost use Rattle.service_rules.specs.Bounds.{millisecond};
+ghost use Rattle.service_loop.specs.Calls.{GoesByCalls};
 
 use crate::bounds::{LONGEST_END, LONGEST_IDLE, MOST_ACCEPTED};
 use crate::children::Watch;
@@ -89,7 +90,11 @@ impl<'a, L: Log, D: Disk + Drop, C: Children + Drop, R: Door> Service<'a, L, D, 
         door: &mut R,
         times: &mut T,
         signals: &mut S,
-    ) -> Result<(), ServiceFault> {
+    ) -> Result<(), ServiceFault>
+        // However it ends, its engine went on by calls alone.
+        ensures calls { GoesByCalls D.device self.old.office.engine self.new.office.engine }
+        ensures disk { result ≡ Err ServiceFault.Disk → self.new.office.engine.course.spool.dead ≡ true }
+    {
         for _ in 0..u64::MAX {
             if !self.turn(door, times, signals)? {
                 break;
@@ -105,28 +110,25 @@ impl<'a, L: Log, D: Disk + Drop, C: Children + Drop, R: Door> Service<'a, L, D, 
         door: &mut R,
         times: &mut T,
         signals: &mut S,
-    ) -> Result<bool, ServiceFault> {
+    ) -> Result<bool, ServiceFault>
+        ensures calls { GoesByCalls D.device self.old.office.engine self.new.office.engine }
+        ensures disk { result ≡ Err ServiceFault.Disk → self.new.office.engine.course.spool.dead ≡ true }
+    {
         self.wait(door, times)?;
         let now = times.millis();
         // Before the clients are served: so they are told what the last turn did.
         let over = self.is_over(now);
         self.let_in(door, now)?;
-        let turns = self.clients.serve(&mut self.office, now);
-        self.heed(turns, now);
-        self.office.end_children(signals, now);
-        let ticked = self.tick();
-        if self.office.watch.take_started() {
-            self.begun = times.micros();
-        }
+        let turns = self.serve_clients(signals, now);
+        let ticked = self.tick(times);
         let kept = self.keep_house(times)?;
         // Behind an end the next job of its queue is started at once.
         let moved = turns.served || ticked;
-        if moved {
-            self.office.note_stages()?;
-        }
+        self.note_stages(moved)?;
         // Of those who wait to come in no further sign comes.
         let knocks = self.knocks && !self.barred && self.ends.is_none();
-        self.more = turns.more || moved || kept || knocks;
+        let more = turns.more || moved || kept || knocks;
+        self.more = more;
         self.tell_changes()?;
         if self.office.engine.met_fault() {
             return Err(ServiceFault::Disk);
@@ -134,8 +136,21 @@ impl<'a, L: Log, D: Disk + Drop, C: Children + Drop, R: Door> Service<'a, L, D, 
         Ok(!over)
     }
 
+    // Gives each client a turn, and heeds what that came to.
+    fn serve_clients<S: Signals>(&mut self, signals: &mut S, now: u64) -> Turns
+        ensures calls { GoesByCalls D.device self.old.office.engine self.new.office.engine }
+    {
+        let turns = self.clients.serve(&mut self.office, now);
+        self.heed(turns, now);
+        self.office.end_children(signals, now);
+        turns
+    }
+
     // Waits for a sign, and notes it.
-    fn wait<T: Times>(&mut self, door: &mut R, times: &mut T) -> Result<(), ServiceFault> {
+    fn wait<T: Times>(&mut self, door: &mut R, times: &mut T) -> Result<(), ServiceFault>
+        ensures engine { self.new.office.engine ≡ self.old.office.engine }
+        ensures fault { OnErr result (result ≡ Err ServiceFault.Socket) }
+    {
         let millis = match self.pause(times) {
             Some(micros) => {
                 let pause = pause_for(micros);
@@ -156,7 +171,9 @@ impl<'a, L: Log, D: Disk + Drop, C: Children + Drop, R: Door> Service<'a, L, D, 
     }
 
     // Notes the signs that the wait has found.
-    fn note_signs(&mut self, door: &mut R) {
+    fn note_signs(&mut self, door: &mut R)
+        ensures { self.new.office.engine ≡ self.old.office.engine }
+    {
         for _ in 0..u32::MAX {
             match door.next_sign() {
                 Some(Sign::Knock) => self.knocks = true,
@@ -189,7 +206,9 @@ impl<'a, L: Log, D: Disk + Drop, C: Children + Drop, R: Door> Service<'a, L, D, 
     }
 
     // Lets in who comes.
-    fn let_in(&mut self, door: &mut R, now: u64) -> Result<(), AllocError> {
+    fn let_in(&mut self, door: &mut R, now: u64) -> Result<(), AllocError>
+        ensures { self.new.office.engine ≡ self.old.office.engine }
+    {
         if !self.knocks || self.ends.is_some() {
             return Ok(());
         }
@@ -228,7 +247,9 @@ impl<'a, L: Log, D: Disk + Drop, C: Children + Drop, R: Door> Service<'a, L, D, 
     }
 
     // Heeds what the clients' turns came to.
-    fn heed(&mut self, turns: Turns, now: u64) {
+    fn heed(&mut self, turns: Turns, now: u64)
+        ensures { self.new.office.engine ≡ self.old.office.engine }
+    {
         self.tell_starved(turns.starved);
         if turns.shutdown && self.ends.is_none() {
             info!(self.log; "is to end: {} children run", self.office.watch.running());
@@ -244,10 +265,16 @@ impl<'a, L: Log, D: Disk + Drop, C: Children + Drop, R: Door> Service<'a, L, D, 
         }
     }
 
-    // One tick, so that clients have a turn behind it. Whether something moved. Where the service is to end no job is started,
-    // and those that are processing go on.
-    fn tick(&mut self) -> bool {
-        match self.office.tick() {
+    // One tick, so that clients have a turn behind it, and when a child was started in it. Whether something moved. Where the
+    // service is to end no job is started, and those that are processing go on.
+    fn tick<T: Times>(&mut self, times: &mut T) -> bool
+        ensures { GoesByCalls D.device self.old.office.engine self.new.office.engine }
+    {
+        let counts = self.office.tick();
+        if self.office.watch.take_started() {
+            self.begun = times.micros();
+        }
+        match counts {
             Ok(
                 Round {
                     started: 0,
@@ -270,12 +297,30 @@ impl<'a, L: Log, D: Disk + Drop, C: Children + Drop, R: Door> Service<'a, L, D, 
         }
     }
 
-    // Tells the time, purges and makes a checkpoint, each where it is wanted. Whether there is more to be done at once.
-    fn keep_house<T: Times>(&mut self, times: &mut T) -> Result<bool, ServiceFault> {
+    // Tells the time, purges and makes a checkpoint, each where it is wanted. Whether there is more to be purged at once.
+    fn keep_house<T: Times>(&mut self, times: &mut T) -> Result<bool, AllocError>
+        ensures { GoesByCalls D.device self.old.office.engine self.new.office.engine }
+    {
+        self.tell_time(times)?;
+        let more = self.house.purge(&mut self.office)?;
+        self.make_checkpoint(times)?;
+        Ok(more)
+    }
+
+    // Tells the engine the system's time, where it is known and wanted.
+    fn tell_time<T: Times>(&mut self, times: &mut T) -> Result<(), AllocError>
+        ensures { GoesByCalls D.device self.old.office.engine self.new.office.engine }
+    {
         if let Some(millis) = times.system() {
             self.house.tell_time(&mut self.office, millis)?;
         }
-        let more = self.house.purge(&mut self.office)?;
+        Ok(())
+    }
+
+    // Makes a checkpoint, where one is wanted.
+    fn make_checkpoint<T: Times>(&mut self, times: &mut T) -> Result<(), AllocError>
+        ensures { GoesByCalls D.device self.old.office.engine self.new.office.engine }
+    {
         let began = times.millis();
         if self.house.wants_checkpoint(&self.office, began) {
             let made = self.house.checkpoint(&mut self.office)?;
@@ -288,11 +333,23 @@ impl<'a, L: Log, D: Disk + Drop, C: Children + Drop, R: Door> Service<'a, L, D, 
                 error!(self.log; "a checkpoint can't be made");
             }
         }
-        Ok(more)
+        Ok(())
+    }
+
+    // Notes what moved, where something did.
+    fn note_stages(&mut self, moved: bool) -> Result<(), AllocError>
+        ensures { self.new.office.engine ≡ self.old.office.engine }
+    {
+        if moved {
+            self.office.note_stages()?;
+        }
+        Ok(())
     }
 
     // Tells the clients that watch what changed.
-    fn tell_changes(&mut self) -> Result<(), AllocError> {
+    fn tell_changes(&mut self) -> Result<(), AllocError>
+        ensures { self.new.office.engine ≡ self.old.office.engine }
+    {
         if !self.office.watched {
             return Ok(());
         }

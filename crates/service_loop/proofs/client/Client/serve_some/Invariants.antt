@@ -1,5 +1,6 @@
 -- what was done so far
 use Rattle.std.proofs.Common.{◌≡◌, ◌≤◌, true, false}
+use Rattle.service_loop.specs.Calls.{GoesByCalls}
 use Rattle.service_loop.specs.Progress.{IsMarked}
 use Rattle.service_loop.proofs.VisitLaws.{Visited}
 use Rattle.service_loop.proofs.client.Client.serve_some.Given as goal
@@ -7,8 +8,7 @@ use Rattle.service_loop.proofs.client.Client.serve_some.Given as goal
 abbrev pub invariant-loop : goal.invariant-loop
 invariant-loop g l = record {
   counted : l.served ≤ l.counter;
-  mime : l.office.engine.mime ≡ l.fn.office.engine.mime;
-  place : l.office.engine.place ≡ l.fn.office.engine.place;
+  calls : GoesByCalls g.D.Disk.device l.fn.office.engine l.office.engine;
   visited : Visited g.D.Disk.device g.L.Connection.view l.fn.office.engine l.fn.self l.office.engine l.self;
   marked : IsMarked g.L.Connection.view l.fn.self → IsMarked g.L.Connection.view l.self;
   brimful : l.turn.brimful ≡ false;

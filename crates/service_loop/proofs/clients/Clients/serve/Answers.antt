@@ -4,6 +4,7 @@ use Rattle.service_loop.specs.Places.{HasNoneNow, HaveTurns, leaves_more}
 use Rattle.service_loop.specs.Progress.{IsGiven}
 use Rattle.service_loop.specs.Visits.{is_starved}
 use Rattle.service_loop.specs.declared.clients.Turns.{Turns}
+use Rattle.service_loop.proofs.CallLaws.{by_turns}
 use Rattle.service_loop.proofs.PlaceLaws.{each_more, each_own, given_there, none_yet, one_more, rests_there, untouched}
 use Rattle.service_loop.proofs.clients.Clients.serve.Goals as goal
 use Rattle.service_loop.proofs.clients.Clients.serve.Goals.{in-Some, in_default}
@@ -42,6 +43,9 @@ loop-key-preserved g c =
           ] in
           each_more HasNoneNow c.loop-key.self.places c.serve_at.new.self.places c.loop-key.key turn.others (so_far.rests quiet.0) (rests_there g.D.Disk.device g.L.Connection.view _ _ c.serve_at.result _ _ turn.own quiet.1);
     }
+
+pub returns-clause-calls : goal.returns-clause-calls
+returns-clause-calls g c = by_turns g.D.Disk.device g.L.Connection.view _ _ _ _ _ c.loop-key.invariant.turns
 
 pub returns-clause-own : goal.returns-clause-own
 returns-clause-own g c =

@@ -1,9 +1,12 @@
--- the rules and the place stay
-use Rattle.std.proofs.Common.{◌≡◌}
+-- the engine went on by calls, and what is still to be purged is the rest of what is to go
+use Rattle.service_rules.specs.Purges.{purged}
+use Rattle.spool_engine.specs.Runs.{Engine}
+use Rattle.service_loop.specs.Calls.{GoesByCalls, HasAnsweredAll, purges}
 use Rattle.service_loop.proofs.house.House.purge.Given as goal
 
 abbrev pub invariant-loop-job : goal.invariant-loop-job
 invariant-loop-job g l = record {
-  mime : l.office.engine.mime ≡ l.fn.office.engine.mime;
-  place : l.office.engine.place ≡ l.fn.office.engine.place;
+  calls : GoesByCalls g.D.Disk.device l.fn.office.engine l.office.engine;
+  rest : (e : Engine _) → HasAnsweredAll g.D.Disk.device l.office.engine (purges l.job-iterator) e →
+      HasAnsweredAll g.D.Disk.device l.fn.office.engine (purges (purged l.count l.fn.self.listed.items)) e;
 }

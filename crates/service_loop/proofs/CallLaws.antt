@@ -1,0 +1,169 @@
+-- The engine of a service goes on by calls.
+use Rattle.std.proofs.Common.{◌≡◌, ℕ, zero, suc, List, [], ◌∷◌, ◌++◌, Option, None, Some, Result, refl, ap, sym, ◌∙◌, subst}
+use Rattle.std.specs.Prelude.{Ok, Err, OnOk}
+use Rattle.std.specs.declared.alloc.AllocError.{AllocError}
+use Rattle.slab.specs.Slab.{Slab, get}
+use Rattle.spool_types.specs.State.{State}
+use Rattle.spool_types.specs.declared.event.Event.TheVariants.{Purge}
+use Rattle.spool_disk.specs.Disk.{DiskView, LeavesOnly}
+use Rattle.job_table.specs.Fold.{after_all}
+use Rattle.job_table.specs.Turns.{AreOnce}
+use Rattle.job_table.specs.Versions.{raised}
+use Rattle.command_lines.specs.declared.command.Command.{Command}
+use Rattle.command_lines.specs.declared.command.Command.TheVariants.{Apply}
+use Rattle.print_rounds.specs.Courses.{Course}
+use Rattle.print_rounds.specs.World.{keys_in}
+use Rattle.spool_engine.specs.Calls.{Call, tick_call, run_call, left_by, AreCalls, IsAlongCalls, last_by}
+use Rattle.spool_engine.specs.EventTurns.{Setting, setting}
+use Rattle.spool_engine.specs.Lives.{EngineLife, IsEngineLife, AreEngineLives, IsEngineWorld, keys_told, last_of}
+use Rattle.spool_engine.specs.Runs.{Engine, Serves, Turn}
+use Rattle.spool_engine.specs.Ticks.{Ticked, IsTicked}
+use Rattle.spool_engine.specs.declared.fault.RunFault.{RunFault}
+use Rattle.service_loop.specs.Calls.{GoesByCalls, HasAnswered, HasAnsweredAll, purges, ServiceLife, IsServiceLife, AreServiceLives, IsServiceWorld, keys_ordered}
+use Rattle.service_loop.specs.Lines.{LineView}
+use Rattle.service_loop.specs.Places.{HaveTurns, PlaceHadTurn}
+use Rattle.service_loop.specs.declared.client.Client.{Client}
+use Rattle.service_loop.specs.declared.client.Turn as client_turn
+
+module _ {D : Type 0} (device : DiskView D) where
+  pub no_calls : (e : Engine D) → GoesByCalls device e e
+  no_calls e = record { mime = refl; place = refl; calls = []; are = tt; last = refl }
+
+  are_then : (v : Setting D) (s : Course D) (first later : List (Call D)) (mid : Course D) → last_by s first ≡ mid → AreCalls v s first → AreCalls v mid later → AreCalls v s (first ++ later)
+  are_then v s [] later mid is one other = subst (λ (x : Course D). AreCalls v x later) (sym is) other
+  are_then v s (c ∷ first) later mid is one other = (one.0, are_then v (left_by s c) first later mid is one.1 other)
+
+  last_then : (s : Course D) (first later : List (Call D)) (mid : Course D) → last_by s first ≡ mid → last_by s (first ++ later) ≡ last_by mid later
+  last_then s [] later mid is = ap (λ (x : Course D). last_by x later) is
+  last_then s (c ∷ first) later mid is = last_then (left_by s c) first later mid is
+
+  -- calls, and then further ones
+  pub calls_then : (e e1 e2 : Engine D) → GoesByCalls device e e1 → GoesByCalls device e1 e2 → GoesByCalls device e e2
+  calls_then e e1 e2 one other = record {
+    mime = other.mime ∙ one.mime;
+    place = other.place ∙ one.place;
+    calls = one.calls ++ other.calls;
+    are =
+        are_then (setting device e.mime e.place) e.course one.calls other.calls e1.course one.last one.are
+        (subst (λ m. AreCalls (setting device m e.place) e1.course other.calls) one.mime
+        (subst (λ p. AreCalls (setting device e1.mime p) e1.course other.calls) one.place other.are));
+    last = last_then e.course one.calls other.calls e1.course one.last ∙ other.last;
+  }
+
+  -- what a turn of the loop does with its engine: nothing before its clients, and then three rows of calls
+  pub turn_calls : (e e1 e2 e3 e4 e5 : Engine D) → e1 ≡ e → e2 ≡ e1 → GoesByCalls device e2 e3 → GoesByCalls device e3 e4 → GoesByCalls device e4 e5 → GoesByCalls device e e5
+  turn_calls e e1 e2 e3 e4 e5 waited entered clients ticked kept =
+      calls_then e e4 e5 (calls_then e e3 e4 (subst (λ (x : Engine D). GoesByCalls device x e3) (entered ∙ waited) clients) ticked) kept
+
+  -- calls, and an engine that is as they left it
+  pub calls_kept : (e e1 e2 : Engine D) → GoesByCalls device e e1 → e2 ≡ e1 → GoesByCalls device e e2
+  calls_kept e e1 e2 goes same = subst (λ (x : Engine D). GoesByCalls device e x) (sym same) goes
+
+  -- an engine that is as it was
+  pub calls_none : (e e1 : Engine D) → e1 ≡ e → GoesByCalls device e e1
+  calls_none e e1 same = subst (λ (x : Engine D). GoesByCalls device e x) (sym same) (no_calls e)
+
+  -- a command that was answered
+  pub by_turn : (e e1 : Engine D) (command : Command) (t : Turn D) (result : Result (Unit {0}) RunFault) (before after : Option (List ℕ)) → e1.mime ≡ e.mime → e1.place ≡ e.place →
+      Serves (setting device e.mime e.place) e.course command t e1.course result before after → GoesByCalls device e e1
+  by_turn e e1 command t result before after mime place served = record {
+    mime = mime;
+    place = place;
+    calls = run_call (t ∷ []) ∷ [];
+    are = ((served.legal, tt), tt);
+    last = served.next;
+  }
+
+  -- a tick
+  pub by_tick : (e e1 : Engine D) (t : Ticked D) → e1.mime ≡ e.mime → e1.place ≡ e.place → IsTicked (setting device e.mime e.place) e.course t → t.next ≡ e1.course → GoesByCalls device e e1
+  by_tick e e1 t mime place ticked next = record { mime = mime; place = place; calls = tick_call t ∷ []; are = (ticked, tt); last = next }
+
+  -- a command was answered as it is served
+  pub answered_by : (e e1 : Engine D) (command : Command) (t : Turn D) (result : Result (Unit {0}) RunFault) (before after : Option (List ℕ)) → GoesByCalls device e e1 →
+      Serves (setting device e.mime e.place) e.course command t e1.course result before after → HasAnswered device e command e1
+  answered_by e e1 command t result before after goes served = record {
+    mime = goes.mime;
+    place = goes.place;
+    turn = t;
+    takes = record { legal = served.legal; command = served.command; next = served.next };
+  }
+
+  -- so it was, if there was memory
+  pub answered_as : (e e1 : Engine D) (command : Command) (result : Result (Unit {0}) AllocError) (before after : List ℕ) → GoesByCalls device e e1 →
+      OnOk result ((t : Turn D) × Serves (setting device e.mime e.place) e.course command t e1.course (Ok tt) (Some before) (Some after)) → OnOk result (HasAnswered device e command e1)
+  answered_as e e1 command (Ok done) before after goes served = answered_by e e1 command served.0 (Ok tt) (Some before) (Some after) goes served.1
+  answered_as e e1 command (Err error) before after goes served = tt
+
+  -- a job was purged, and then the others
+  pub purged_next : (e e1 e2 : Engine D) (jobs : List ℕ) (job : ℕ) (others : List ℕ) → jobs ≡ job ∷ others → HasAnswered device e (Apply (Purge job)) e1 → HasAnsweredAll device e1 (purges others) e2 →
+      HasAnsweredAll device e (purges jobs) e2
+  purged_next e e1 e2 jobs job others is answered all = subst (λ (js : List ℕ). HasAnsweredAll device e (purges js) e2) (sym is) (e1, answered, all)
+
+  -- ## The turns of all clients
+
+  module _ {L : Type 0} (view : LineView L) where
+    by_place : (e : Engine D) (was : Option (Client L)) (turn : Option client_turn.Turn) (e1 : Engine D) (left : Option (Client L)) → PlaceHadTurn device view e was turn e1 left → GoesByCalls device e e1
+    by_place e None None e1 left had = calls_none e e1 had.0
+    by_place e None (Some turn) e1 left had = absurd had
+    by_place e (Some was) None e1 left had = absurd had
+    by_place e (Some was) (Some turn) e1 left had = had.calls
+
+    pub by_turns : (e : Engine D) (places : Slab (Client L)) (n : ℕ) (e1 : Engine D) (left : Slab (Client L)) → HaveTurns device view e places n e1 left → GoesByCalls device e e1
+    unfolding HaveTurns
+    by_turns e places zero e1 left (same, kept) = calls_none e e1 same
+    by_turns e places (suc n) e1 left (between, mid, turn, so_far, next) =
+        calls_then e between e1 (by_turns e places n between mid so_far) (by_place between (get mid n) turn e1 (get left n) next.own)
+
+  -- ## What a crash leaves
+
+  -- what is so of the disk after the last call is so of the one that is left
+  pub along_service : (e e1 : Engine D) (goes : GoesByCalls device e e1) →
+      LeavesOnly device e.course.spool.disk (last_by e.course goes.calls).spool.disk (IsAlongCalls e.mime e.course goes.calls) →
+      LeavesOnly device e.course.spool.disk e1.course.spool.disk (IsAlongCalls e.mime e.course goes.calls)
+  along_service e e1 goes run =
+      subst (λ (s : Course D). LeavesOnly device e.course.spool.disk s.spool.disk (IsAlongCalls e.mime e.course goes.calls)) goes.last run
+
+  -- ## Lives
+
+  -- A service's engine has a life: a run of no command, and its calls.
+  as_engine : (l : ServiceLife D) → IsServiceLife device l → EngineLife D
+  as_engine l is = record {
+    mime = (l.start).mime;
+    place = (l.start).place;
+    start = (l.start).course;
+    told = l.told;
+    first = run_call [];
+    later = is.goes.calls;
+    orders = l.orders;
+  }
+
+  is_engine : (l : ServiceLife D) (is : IsServiceLife device l) → IsEngineLife device (as_engine l is)
+  unfolding as_engine
+  is_engine l is = record {
+    legal = is.legal;
+    idle = is.idle;
+    empty = is.empty;
+    tells = is.tells;
+    quiet = is.quiet;
+    calls = (tt, is.goes.are);
+    now = is.now;
+    tells_then = ap (λ (s : Course D). s.told) is.goes.last ∙ is.tells_then;
+    added = is.added;
+  }
+
+  as_engines : (ls : List (ServiceLife D)) (s u : State) → u ≡ s → AreServiceLives device s ls → (es : List (EngineLife D)) × AreEngineLives device u es × (keys_told es ≡ keys_ordered ls)
+  unfolding as_engine
+  as_engines [] s u same are = ([], tt, refl)
+  as_engines (l ∷ ls) s u same (is, further, others) =
+      let (es, lives, keys) = as_engines ls (l.last).course.spool.state (last_of (as_engine l is)).spool.state (ap (λ (c : Course D). c.spool.state) is.goes.last) others in (
+        as_engine l is ∷ es,
+        (is_engine l is, (further.0, further.1 ∙ ap (λ w. after_all (raised w) further.0) (sym same)), lives),
+        ap (λ k. keys_in l.orders ++ k) keys,
+      )
+
+  pub services_once : ((es : List (EngineLife D)) → IsEngineWorld device es → AreOnce (keys_told es)) → (ls : List (ServiceLife D)) → IsServiceWorld device ls → AreOnce (keys_ordered ls)
+  unfolding as_engine
+  services_once once [] world = tt
+  services_once once (l ∷ ls) (is, others) =
+      let (es, lives, keys) = as_engines ls (l.last).course.spool.state (last_of (as_engine l is)).spool.state (ap (λ (c : Course D). c.spool.state) is.goes.last) others in
+      subst AreOnce (ap (λ k. keys_in l.orders ++ k) keys) (once (as_engine l is ∷ es) (is_engine l is, lives))
