@@ -1,6 +1,7 @@
 -- Up to a moment at which nothing is due, the clock changes nothing.
-use Rattle.std.proofs.Common.{◌≡◌, ℕ, ◌+◌, ◌<◌, ◌≤◌, max, Bool, true, false, cond, not, ◌&&◌, ◌||◌, nat_lt, nat_le, List, codes, Option, Some, None, Ok, refl, ap, subst, ◌∙◌, arith}
+use Rattle.std.proofs.Common.{◌≡◌, ⊎_elim, ℕ, ◌+◌, ◌<◌, ◌≤◌, max, Bool, true, false, cond, not, ◌&&◌, ◌||◌, nat_lt, nat_le, List, [], ◌∷◌, codes, Option, Some, None, Ok, refl, ap, subst, ◌∙◌, arith}
 use Rattle.std.specs.Prelude.{IfSome}
+use Rattle.std.specs.List.{Contains}
 use Rattle.std.specs.FinMap as finite
 use Rattle.std.specs.Cmp.Lexicographic.{bytes_decides}
 use Rattle.std.proofs.lemmas.Bool.Decides.{nat_tests}
@@ -19,8 +20,10 @@ use Rattle.queue_sched.specs.Next.{is_eligible, is_ready, may_start}
 use Rattle.service_rules.specs.Looks.{earlier}
 use Rattle.job_table.specs.Changes.{at_moment, change_jobs, is_passed}
 use Rattle.job_table.specs.Step.{step}
+use Rattle.job_table.proofs.Choice.{value_there}
 use Rattle.job_table.proofs.Clocked.{none_late}
-use Rattle.service_loop.specs.Due.{due_in, end_of_hold, is_stopped, is_stopped_row, late_from, next_moment, start_of, IsQuietUntil}
+use Rattle.slab.proofs.SlabLemmas.{Contains-cons_cases}
+use Rattle.service_loop.specs.Due.{due_among, due_in, due_of, end_of_hold, next_due, is_stopped, is_stopped_row, late_from, next_moment, start_of, IsQuietUntil}
 
 abbrev IsLater : ℕ → Option ℕ → Type 0
 IsLater m due = IfSome due (λ d. m < d)
@@ -185,3 +188,15 @@ module _ (s : State) (m : ℕ) (quiet : IsQuietUntil s m) where
 
   pub reason_stays : (j : ℕ) (r : Job) → job_at s j ≡ Some r → job_reason m r.phase ≡ job_reason s.moment r.phase
   reason_stays j r there = reason_in r r.phase (quiet.none_due j r there)
+
+-- ## What a look finds
+
+before_all : (s : State) (m : ℕ) (due : Option ℕ) (rs : List Job) → IsLater m (due_among s due rs) → IsLater m due × ((r : Job) → Contains rs r → IsLater m (due_of s r))
+before_all s m due [] later = (later, λ r there. absurd (omega (arith, there.1)))
+before_all s m due (x ∷ rs) later =
+    let (sooner, others) = before_all s m (earlier due (due_of s x)) rs later in
+    let both = both_later m due (due_of s x) sooner in
+    (both.0, λ r there. ⊎_elim (λ same. subst (λ (y : Job). IsLater m (due_of s y)) same both.1) (others r) (Contains-cons_cases x r rs there))
+
+pub quiet_until : (s : State) (m : ℕ) → s.moment < m → m ≤ greatest_moment → IsLater m (next_due s) → IsQuietUntil s m
+quiet_until s m later most due = record { later = later; at_most = most; none_due = λ j r there. (before_all s m None (finite.values s.jobs) due).1 r (value_there s j r there) }

@@ -1,5 +1,6 @@
 pub mod CallLaws
 pub mod DueLaws
+pub mod EndingLaws
 pub mod PlaceLaws
 pub mod ProgressLaws
 pub mod VisitLaws

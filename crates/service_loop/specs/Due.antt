@@ -1,15 +1,17 @@
 -- What comes due when the clock brings a later moment. Moments are in seconds.
-use Rattle.std.specs.Prelude.{◌≡◌, ℕ, ◌+◌, ◌<◌, ◌≤◌, Bool, true, false, ◌||◌, cond, nat_lt, nat_le, Option, None, Some, IfSome}
+use Rattle.std.specs.Prelude.{◌≡◌, ℕ, ◌+◌, ◌<◌, ◌≤◌, min, Bool, true, false, ◌||◌, cond, nat_lt, nat_le, List, [], ◌∷◌, ◌++◌, Option, None, Some, IfSome}
+use Rattle.std.specs.FinMap as finite
 use Rattle.spool_types.specs.declared.phase.Phase.{Phase}
 use Rattle.spool_types.specs.declared.phase.Phase.TheVariants.{Incoming, Waiting, Processing}
 use Rattle.spool_types.specs.declared.phase.Hold.{Hold}
 use Rattle.spool_types.specs.declared.phase.Hold.TheVariants.{Until}
 use Rattle.spool_types.specs.declared.rows.QueueRow.{QueueRow}
 use Rattle.spool_types.specs.Limits.{greatest_moment}
-use Rattle.spool_types.specs.Phases.{is_in_force}
+use Rattle.spool_types.specs.Phases.{has_ended, is_in_force}
 use Rattle.spool_types.specs.State.{State, Job, queue_at, job_at}
 use Rattle.service_rules.specs.Looks.{earlier}
 use Rattle.service_rules.specs.declared.clocks.Clocks.{Clocks}
+use Rattle.service_rules.specs.declared.purges.Candidate.{Candidate}
 use Rattle.service_loop.specs.declared.house.House.{House}
 
 -- the moment after this one, if there is one
@@ -52,6 +54,28 @@ due_in s r phase = None
 abbrev pub due_of : State → Job → Option ℕ
 due_of s r = due_in s r r.phase
 
+-- the least moment at which something of these jobs is due, or this one
+abbrev pub due_among : State → Option ℕ → List Job → Option ℕ
+due_among s due [] = due
+due_among s due (r ∷ rs) = due_among s (earlier due (due_of s r)) rs
+
+-- the least moment at which something of any job is due
+abbrev pub next_due : State → Option ℕ
+next_due s = due_among s None (finite.values s.jobs)
+
+-- one more where a job has ended, as far as a count goes
+abbrev pub with_ended : ℕ → Job → ℕ
+with_ended n r = cond (has_ended r.phase) (min (n + 1) 18446744073709551615) n
+
+-- so many jobs, and those of these that have ended
+abbrev pub ended_among : ℕ → List Job → ℕ
+ended_among n [] = n
+ended_among n (r ∷ rs) = ended_among (with_ended n r) rs
+
+-- a job that has ended is listed behind the others, whether a child of it runs or not
+abbrev pub IsListedBehind : List Candidate → Job → List Candidate → Type 0
+IsListedBehind listed r new = (runs : Bool) × (new ≡ listed ++ record { id = r.id; ended = true; runs = runs } ∷ [])
+
 abbrev pub has_come : Option ℕ → ℕ → Bool
 has_come None m = false
 has_come (Some due) m = nat_le due m
@@ -74,3 +98,7 @@ pub record IsQuietUntil (s : State) (m : ℕ) : Type 0 where
 -- what a house knows of the time, over a table, in a second of the system's clock
 abbrev pub clocks_of : House → State → ℕ → Clocks
 clocks_of house s system = record { system = system; table = s.moment; told = house.told; due = house.due }
+
+-- the same behind a look at the table
+abbrev pub clocks_found : House → State → ℕ → Clocks
+clocks_found house s system = record { system = system; table = s.moment; told = house.told; due = next_due s }

@@ -1,6 +1,7 @@
 -- The children that somebody wants to end, and when each is sent which signal. Moments are in milliseconds.
-use Rattle.std.specs.Prelude.{ℕ, ◌-◌, ◌==◌, Bool, cond, nat_le, List, [], ◌∷◌, ◌++◌, Option, None, Some}
+use Rattle.std.specs.Prelude.{◌≡◌, ℕ, ◌-◌, ◌==◌, Bool, cond, filter_map, is_some, nat_le, List, [], ◌∷◌, ◌++◌, Option, None, Some}
 use Rattle.std.specs.List.{list_any}
+use Rattle.std.specs.Option.{option_map}
 use Rattle.service_loop.specs.declared.endings.Ending.{Ending}
 use Rattle.service_loop.specs.declared.signals.Signal.{Signal}
 use Rattle.service_loop.specs.declared.signals.Signal.TheVariants.{Terminate, Kill}
@@ -22,3 +23,21 @@ is_listed group endings = list_any (λ ending. ending.group == group) endings
 abbrev pub with_ending : ℕ → ℕ → List Ending → List Ending
 with_ending job group endings =
     cond (is_listed group endings) endings (endings ++ record { job = job; group = group; sent = None } ∷ [])
+
+-- a child that is to end, once it was sent what is due to it
+abbrev pub signalled : ℕ → Ending → Ending
+signalled now e = record e { sent = cond (is_some (signal_of e.sent now)) (Some now) e.sent }
+
+-- the signal that is due to it, with its group
+abbrev pub due_to : ℕ → Ending → Option (ℕ × Signal)
+due_to now e = option_map (λ signal. (e.group, signal)) (signal_of e.sent now)
+
+-- the signals that are due to these, in order
+abbrev pub signals_due : ℕ → List Ending → List (ℕ × Signal)
+signals_due now endings = filter_map (due_to now) endings
+
+-- these signals were sent behind those before, where that is told
+abbrev pub Sends : Option (List (ℕ × Signal)) → Option (List (ℕ × Signal)) → List (ℕ × Signal) → Type 0
+Sends None new signals = Unit {0}
+Sends (Some sent) None signals = ⊥
+Sends (Some sent) (Some now) signals = now ≡ sent ++ signals

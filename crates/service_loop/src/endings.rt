@@ -1,6 +1,7 @@
 //! The children that somebody wants to be ended: each is sent SIGTERM, and SIGKILL ten seconds later.
-ghost use Rattle.std.specs.Prelude.{◌≡◌, ◌↔◌, ℕ, ◌+◌, ◌≤◌, true, false, List, [], Some, IsNone, IfOk, IsTrue, OnOk, OnErr, vec_len};
-ghost use Rattle.service_loop.specs.Endings.{grace, is_listed, signal_of, with_ending};
+ghost use Rattle.std.specs.Prelude.{◌≡◌, ◌↔◌, ℕ, ◌+◌, ◌≤◌, true, false, List, [], ◌∷◌, Some, IsNone, IfOk, IsTrue, OnOk, OnErr, map, vec_len};
+ghost use Rattle.service_loop.specs.Endings.{Sends, grace, is_listed, signal_of, signalled, signals_due, with_ending};
+ghost use Rattle.service_loop.specs.declared.endings.Ending.{Ending as AnyEnding};
 
 use crate::children::Watch;
 use crate::signals::{Signal, Signals};
@@ -74,16 +75,34 @@ impl Endings {
 
     /// Asks those to end that weren't asked yet, kills those whose grace is over, and forgets those that have ended.
     pub fn act<S: Signals>(&mut self, watch: &Watch, signals: &mut S, now: u64)
-        ensures { vec_len self.new.list ≤ vec_len self.old.list }
+        ensures few { vec_len self.new.list ≤ vec_len self.old.list }
+        // Those that are kept were sent what was due to them, and nobody else was sent anything.
+        ensures sent { (kept : List AnyEnding) × (self.new.list.items ≡ map (signalled now) kept) × Sends (S.sent signals.old) (S.sent signals.new) (signals_due now kept) }
     {
         self.list
             .retain(|ending| watch.group_of(ending.job) == Some(ending.group));
+        self.send_due(signals, now);
+    }
+
+    // Sends each what is due to it.
+    fn send_due<S: Signals>(&mut self, signals: &mut S, now: u64)
+        ensures list { self.new.list.items ≡ map (signalled now) self.old.list.items }
+        ensures sent { Sends (S.sent signals.old) (S.sent signals.new) (signals_due now self.old.list.items) }
+    {
         for ending in self.list.iter_mut() {
-            if let Some(signal) = signal_of(ending.sent, now) {
-                signals.send(ending.group, signal);
-                ending.sent = Some(now);
-            }
+            send_one(ending, signals, now);
         }
+    }
+}
+
+// Sends a child what is due to it.
+fn send_one<S: Signals>(ending: &mut Ending, signals: &mut S, now: u64)
+    ensures ending { ending.new ≡ signalled now ending.old }
+    ensures sent { Sends (S.sent signals.old) (S.sent signals.new) (signals_due now (ending.old ∷ [])) }
+{
+    if let Some(signal) = signal_of(ending.sent, now) {
+        signals.send(ending.group, signal);
+        ending.sent = Some(now);
     }
 }
 

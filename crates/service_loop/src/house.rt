@@ -2,15 +2,18 @@
 //!
 //! The table is looked at once a second at most, and only where something was done since ([`House::look`]): then it is known
 //! what comes due next, and which ended jobs are to go. So an idle service looks at nothing, and tells nothing.
-ghost use Rattle.std.specs.Prelude.{◌≡◌, ◌<◌, ◌≤◌, ◌-◌, ◌/◌, ◌%◌, true, false, [], None, Some, cond, IfOk, IfSome, OnOk, Ok};
+ghost use Rattle.std.specs.Prelude.{◌≡◌, ◌≢◌, ◌<◌, ◌≤◌, ◌-◌, ◌/◌, ◌%◌, true, false, [], None, Some, cond, IfOk, IfSome, OnErr, OnOk, Ok, vec_len};
+ghost use Rattle.std.specs.FinMap as finite;
 ghost use Rattle.spool_types.specs.Limits.{greatest_moment};
+ghost use Rattle.spool_types.specs.Phases.{has_ended};
 ghost use Rattle.service_rules.specs.Checkpoints.{is_wanted, room_in};
 ghost use Rattle.service_rules.specs.Clocks.{clock_to_tell, clock_wait};
 ghost use Rattle.service_rules.specs.Looks.{earlier};
 ghost use Rattle.service_rules.specs.Purges.{purge_count, purged};
 ghost use Rattle.service_loop.specs.Calls.{GoesByCalls, HasAnswered, HasAnsweredAll, purges};
-ghost use Rattle.service_loop.specs.Due.{clocks_of, due_of, end_of_hold, has_come, is_changed_by, is_stopped, late_from, next_moment};
+ghost use Rattle.service_loop.specs.Due.{IsListedBehind, clocks_found, clocks_of, due_of, end_of_hold, ended_among, has_come, is_changed_by, is_stopped, late_from, next_due, next_moment, with_ended};
 
+use crate::children::Watch;
 use crate::office::Office;
 use child_pipeline::Children;
 use command_lines::Command;
@@ -90,21 +93,40 @@ impl House {
             (λ moment. moment ≤ greatest_moment → self.new.told ≡ Some moment)) }
         ensures said { OnOk result (office.old.stirred ≡ false → IfSome (clock_to_tell (clocks_of self.old office.old.engine.course.spool.state (millis / 1000)))
             (λ moment. moment ≤ greatest_moment → HasAnswered D.device office.old.engine (Command.Apply (Event.Clock moment)) office.new.engine)) }
+        // Where something was done, what comes due is found in the table, once a second.
+        ensures found { OnOk result (office.old.stirred ≡ true → millis / 1000 ≤ greatest_moment → self.old.looked ≢ Some (millis / 1000) →
+            IfSome (clock_to_tell (clocks_found self.old office.old.engine.course.spool.state (millis / 1000)))
+            (λ moment. moment ≤ greatest_moment → HasAnswered D.device office.old.engine (Command.Apply (Event.Clock moment)) office.new.engine)) }
         ensures calls { GoesByCalls D.device office.old.engine office.new.engine }
     {
         let Some(system) = Moment::new(millis / SECOND) else {
             return Ok(());
         };
-        if office.stirred && self.looked != Some(system) {
-            office.stirred = false;
-            self.looked = Some(system);
-            self.look(office)?;
-        }
+        self.look_anew(office, system)?;
         let clocks = self.clocks(office.engine.table(), system);
         if let Some(moment) = clock_to_tell(&clocks) {
             self.told = Some(moment);
             office.note_due(moment)?;
             say(self.alloc, office, Command::Apply(Event::Clock(moment)))?;
+        }
+        Ok(())
+    }
+
+    // Looks at the table where something was done since the last look, and that wasn't in this second.
+    fn look_anew<D: Disk, C: Children>(
+        &mut self,
+        office: &mut Office<'_, D, C>,
+        system: Moment,
+    ) -> Result<(), AllocError>
+        ensures due { OnOk result (office.old.stirred ≡ true → self.old.looked ≢ Some system → self.new.due ≡ next_due office.old.engine.course.spool.state) }
+        ensures idle { office.old.stirred ≡ false → (office.new ≡ office.old) × (self.new ≡ self.old) }
+        ensures told { self.new.told ≡ self.old.told }
+        ensures engine { office.new.engine ≡ office.old.engine }
+    {
+        if office.stirred && self.looked != Some(system) {
+            office.stirred = false;
+            self.looked = Some(system);
+            self.look(office)?;
         }
         Ok(())
     }
@@ -136,25 +158,39 @@ impl House {
     }
 
     // Looks at all jobs.
-    fn look<D: Disk, C: Children>(&mut self, office: &Office<'_, D, C>) -> Result<(), AllocError> {
+    fn look<D: Disk, C: Children>(&mut self, office: &Office<'_, D, C>) -> Result<(), AllocError>
+        ensures due { OnOk result (self.new.due ≡ next_due office.now.engine.course.spool.state) }
+        ensures ended { OnOk result (self.new.ended ≡ ended_among 0 (finite.values office.now.engine.course.spool.state.jobs)) }
+        ensures kept { self.new ≡ record self.old { due = self.new.due; ended = self.new.ended; listed = self.new.listed } }
+    {
         let table = office.engine.table();
         self.due = None;
         self.ended = 0;
         self.listed.clear();
         for row in table.jobs().iter() {
-            let job = &row.job;
-            self.due = earlier(self.due, due_of(table, job));
-            if job.phase.has_ended() {
-                // No memory holds more jobs than a count does.
-                self.ended = self.ended.saturating_add(1);
-                if self.listed.len() < MOST_LISTED {
-                    self.listed.push(Candidate {
-                        id: job.id,
-                        ended: true,
-                        runs: office.watch.group_of(job.id).is_some(),
-                    })?;
-                }
-            }
+            self.due = earlier(self.due, due_of(table, &row.job));
+            self.note_ended(&row.job, office.watch)?;
+        }
+        Ok(())
+    }
+
+    // Counts a job, if it has ended, and lists it among the oldest.
+    fn note_ended(&mut self, job: &Job, watch: &Watch) -> Result<(), AllocError>
+        ensures ended { OnOk result (self.new.ended ≡ with_ended self.old.ended job.now) }
+        ensures listed { OnOk result (has_ended job.now.phase ≡ true → vec_len self.old.listed < 1024 → IsListedBehind self.old.listed.items job.now self.new.listed.items) }
+        ensures kept { self.new ≡ record self.old { ended = self.new.ended; listed = self.new.listed } }
+    {
+        if !job.phase.has_ended() {
+            return Ok(());
+        }
+        // No memory holds more jobs than a count does.
+        self.ended = self.ended.saturating_add(1);
+        if self.listed.len() < MOST_LISTED {
+            self.listed.push(Candidate {
+                id: job.id,
+                ended: true,
+                runs: watch.group_of(job.id).is_some(),
+            })?;
         }
         Ok(())
     }
@@ -199,7 +235,8 @@ impl House {
         &mut self,
         office: &mut Office<'_, D, C>,
     ) -> Result<bool, AllocError>
-        ensures left { IfOk result (λ made. self.new.left ≡ cond made (Some office.new.engine.course.spool.room) self.old.left) }
+        ensures left { IfOk result (λ made. self.new ≡ record self.old { left = cond made (Some office.new.engine.course.spool.room) self.old.left }) }
+        ensures err { OnErr result (self.new ≡ self.old) }
         ensures answered { OnOk result (HasAnswered D.device office.old.engine Command.Checkpoint office.new.engine) }
         ensures calls { GoesByCalls D.device office.old.engine office.new.engine }
     {
@@ -215,7 +252,7 @@ impl House {
 
     /// A checkpoint was made, or tried, between these moments, in milliseconds. None of the room that it left is used.
     pub fn note_checkpoint(&mut self, began: u64, ended: u64, made: bool)
-        ensures { self.new.last ≡ Some (record { began = began; ended = ended; left = cond made (Some 0) None }) }
+        ensures { self.new ≡ record self.old { last = Some (record { began = began; ended = ended; left = cond made (Some 0) None }) } }
     {
         let left = if made { Some(0) } else { None };
         self.last = Some(Checkpoint { began, ended, left });

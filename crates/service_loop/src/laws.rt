@@ -1,6 +1,7 @@
 //! What is so of the service's clock, of its clients, and of its engine. The functions do nothing: their clauses are the laws.
-ghost use Rattle.std.specs.Prelude.{◌≡◌, ℕ, List, false, Some, Ok, IsSome};
+ghost use Rattle.std.specs.Prelude.{◌≡◌, ◌<◌, ◌≤◌, ℕ, List, false, Some, Ok, IfSome, IsSome};
 ghost use Rattle.std.specs.FinMap as finite;
+ghost use Rattle.spool_types.specs.Limits.{greatest_moment};
 ghost use Rattle.spool_types.specs.Phases.{job_state, job_reason};
 ghost use Rattle.spool_types.specs.State.{State, Job, queue_at, job_at};
 ghost use Rattle.spool_types.specs.declared.event.Event.TheVariants.{Clock};
@@ -17,7 +18,7 @@ ghost use Rattle.client_reader.specs.Asks.{asks_of};
 ghost use Rattle.client_reader.specs.Calls.{AreFirstOf};
 ghost use Rattle.service_loop.specs.Calls.{GoesByCalls, ServiceLife, IsServiceWorld, keys_ordered};
 ghost use Rattle.service_loop.specs.Deeds.{asks_in, texts_in};
-ghost use Rattle.service_loop.specs.Due.{IsQuietUntil};
+ghost use Rattle.service_loop.specs.Due.{IsQuietUntil, next_due};
 ghost use Rattle.service_loop.specs.Visits.{AreVisits, HasAll, IsEntry, Visit, deeds_of};
 ghost use Rattle.service_loop.specs.declared.client.Client.{Client};
 
@@ -27,6 +28,9 @@ use spool_engine::{crashes_between_calls, no_stage_is_ordered_twice};
 
 /// A clock that comes before anything is due is worth nothing, so the service tells none.
 pub fn nothing_is_due_before()
+    // Nothing is due before the moment that a look at all jobs finds (`House::look`).
+    ensures found { (s : State) (m : ℕ) → s.moment < m → m ≤ greatest_moment → IfSome (next_due s) (λ due. m < due) → IsQuietUntil s m }
+
     // It changes no row, and says nothing else than that it was told.
     ensures rows { (s : State) (m : ℕ) → IsQuietUntil s m → step s (Clock m) ≡ Ok (record s { moment = m }, Done) }
 

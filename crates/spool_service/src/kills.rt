@@ -31,6 +31,10 @@ impl<'a, R: Processes + AllocGlobal> Kills<'a, R> {
 }
 
 impl<'a, R: Processes + AllocGlobal> Signals for Kills<'a, R> {
+    ghost use Rattle.std.specs.Prelude.{None};
+
+    ghost sent = { λ _. None };
+
     fn send(&mut self, group: u32, signal: Signal) -> bool {
         let Ok(mut command) = command_of(self.rt.alloc(), group, signal) else {
             return false;

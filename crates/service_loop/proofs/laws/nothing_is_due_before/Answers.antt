@@ -1,6 +1,9 @@
 -- each clause is a law on what is due
-use Rattle.service_loop.proofs.DueLaws.{changes_nothing, starts_none, state_stays, reason_stays}
+use Rattle.service_loop.proofs.DueLaws.{changes_nothing, quiet_until, starts_none, state_stays, reason_stays}
 use Rattle.service_loop.proofs.laws.nothing_is_due_before.Goals as goal
+
+pub returns-clause-found : goal.returns-clause-found
+returns-clause-found c = quiet_until
 
 pub returns-clause-rows : goal.returns-clause-rows
 returns-clause-rows c = changes_nothing
