@@ -232,6 +232,8 @@ def main():
     names = [name for name in names if not missing.get(name, (False,))[0]]
     begun = time.monotonic()
     room = tempfile.mkdtemp(prefix="all-")
+    # Some of what is tried runs as another user, who has to reach its files.
+    os.chmod(room, 0o711)
     failures += run_all([name for name in names if name not in ALONE], AT_ONCE, room)
     failures += run_all([name for name in names if name in ALONE], 1, room)
     for failure in failures:
