@@ -1,5 +1,5 @@
 //! Whether the service's programs can be run, and each service and each queue can print.
-ghost use Rattle.std.specs.Prelude.{◌≡◌, IfOk};
+ghost use Rattle.std.specs.Prelude.{◌≡◌, ◌⊎◌, IfOk};
 ghost use Rattle.std.specs.List.{list_all, list_any};
 ghost use Rattle.spool_front.specs.Chains.{leads};
 ghost use Rattle.spool_front.specs.Checks.{hindrance_of, prints};
@@ -25,7 +25,9 @@ pub enum Hindrance {
 
 /// Tells each program that can't be run, of each service that it serves, and of each queue whether documents can be printed by
 /// it. The status is 0 where nothing is in the way.
-pub fn check(rt: &HostRuntime, places: Places<'_, '_>) -> Result<u8, Fault> {
+pub fn check(rt: &HostRuntime, places: Places<'_, '_>) -> Result<u8, Fault>
+    ensures { IfOk result (λ status. (status ≡ 0) ⊎ (status ≡ 1)) }
+{
     let run = tell_programs(rt)?;
     let chains = read_chains(rt)?;
     let print = tell_services(rt, places, &chains);

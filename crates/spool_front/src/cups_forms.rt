@@ -16,7 +16,9 @@ pub fn show_lpstat(
     rt: &HostRuntime,
     places: Places<'_, '_>,
     asked: &Lpstat<'_>,
-) -> Result<u8, Fault> {
+) -> Result<u8, Fault>
+    ensures { IfOk result (λ status. status ≡ 0) }
+{
     if asked.devices.is_some() {
         return Err(Fault::Words("the service doesn't tell its devices"));
     }
@@ -196,7 +198,9 @@ fn tell_usual(rt: &HostRuntime, places: Places<'_, '_>) -> Result<(), Fault> {
 }
 
 /// Prints what lpq was asked for.
-pub fn show_lpq(rt: &HostRuntime, places: Places<'_, '_>, asked: &Lpq<'_>) -> Result<u8, Fault> {
+pub fn show_lpq(rt: &HostRuntime, places: Places<'_, '_>, asked: &Lpq<'_>) -> Result<u8, Fault>
+    ensures { IfOk result (λ status. status ≡ 0) }
+{
     let queues = all_queues(rt, places)?;
     let found = tell_queues(rt, places, asked, &queues);
     drop(queues);

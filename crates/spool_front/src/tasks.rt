@@ -27,7 +27,9 @@ pub fn show_status(
     places: Places<'_, '_>,
     asked: Status<'_>,
     screen: Screen,
-) -> Result<u8, Fault> {
+) -> Result<u8, Fault>
+    ensures { IfOk result (λ status. status ≡ 0) }
+{
     if let Some(job) = asked.job {
         return show_job(rt, places, job, asked.json, screen);
     }
@@ -79,7 +81,9 @@ fn show_job(
     job: u32,
     json: bool,
     screen: Screen,
-) -> Result<u8, Fault> {
+) -> Result<u8, Fault>
+    ensures { IfOk result (λ status. status ≡ 0) }
+{
     let mut found = false;
     for socket in places.sockets {
         let mut client = client_at(rt, places, socket);
@@ -118,7 +122,9 @@ pub fn show_queues(
     places: Places<'_, '_>,
     json: bool,
     screen: Screen,
-) -> Result<u8, Fault> {
+) -> Result<u8, Fault>
+    ensures { IfOk result (λ status. status ≡ 0) }
+{
     let queues = all_queues(rt, places)?;
     let shown = print_queues(rt, &queues, json, screen);
     drop(queues);
@@ -141,7 +147,9 @@ fn print_queues(
 }
 
 /// Prints each line that the service tells of what changes, until it goes.
-pub fn watch(rt: &HostRuntime, places: Places<'_, '_>) -> Result<u8, Fault> {
+pub fn watch(rt: &HostRuntime, places: Places<'_, '_>) -> Result<u8, Fault>
+    ensures { IfOk result (λ status. status ≡ 0) }
+{
     let mut client = client_at(rt, places, only_socket(places)?);
     let ended = watch_by(rt, &mut client);
     drop(client);
@@ -277,7 +285,9 @@ pub fn act_on_queue(
     places: Places<'_, '_>,
     name: &str,
     act: QueueAct<'_>,
-) -> Result<u8, Fault> {
+) -> Result<u8, Fault>
+    ensures { IfOk result (λ status. status ≡ 0) }
+{
     let line = act_text(rt.alloc(), name, act)?;
     let socket = match act {
         QueueAct::Add(_) => only_socket(places)?,

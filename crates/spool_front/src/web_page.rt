@@ -1,5 +1,5 @@
 //! The queues and jobs as a page, written to a file.
-ghost use Rattle.std.specs.Prelude.{IfOk};
+ghost use Rattle.std.specs.Prelude.{◌≡◌, IfOk};
 ghost use Rattle.spool_front.specs.Pages.{IsPage};
 
 use crate::draft::now;
@@ -19,7 +19,9 @@ pub fn write_page(
     places: Places<'_, '_>,
     file: &str,
     follow: bool,
-) -> Result<u8, Fault> {
+) -> Result<u8, Fault>
+    ensures { IfOk result (λ status. status ≡ 0) }
+{
     write_one_page(rt, places, file, follow)?;
     if follow {
         for _ in 0..u64::MAX {
