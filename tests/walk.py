@@ -3,7 +3,8 @@
 
 A block of the README that begins with ```console has commands, each behind `$ ` on a line of its own, and below each what it shows. They
 are run one after another by one bash, in a copy of the repository with the results of the proved build, in a home of
-their own (HOME), so `~` is an empty folder at first. What a command shows on both streams has to be the lines below it: carriage returns, form
+their own (HOME), so `~` is an empty folder at first. `rt run` starts the program that is built: `rt ci` keeps no more than that, and
+another proof would take hours. What a command shows on both streams has to be the lines below it: carriage returns, form
 feeds and blanks at the end of a line aside. `...` stands for any text of a line, and alone on a line for any lines. --show prints what is
 shown.
 
@@ -64,13 +65,37 @@ def copy_of_all(room):
             subprocess.run(["umount", "-l", folder], check=True)
 
 
+# In the place of the toolchain's `rt`: `rt run` starts the built program, and anything else is rt's.
+STAND_IN = """#!/bin/sh
+case $1 in
+run)
+    shift
+    [ "$1" = -- ] && shift
+    exec "out/${PWD##*/}" "$@"
+    ;;
+esac
+exec RT "$@"
+"""
+
+
+def stand_in(room):
+    """A folder with the stand-in of `rt`."""
+    folder = room / "bin"
+    folder.mkdir()
+    program = folder / "rt"
+    program.write_text(STAND_IN.replace("RT", shutil.which("rt") or "false"), encoding="utf-8")
+    program.chmod(0o755)
+    return folder
+
+
 def walked(found, folder):
     """What each command shows, run by one bash in this folder."""
     mark = "=walk-mark="
     script = "".join(f"echo; echo {mark}\n{command}\n" for command, _ in found) + f"echo; echo {mark}\n"
     home = folder.parent / "home"
     home.mkdir()
-    environment = {**os.environ, "HOME": str(home), "LC_ALL": "C.UTF-8", "COLUMNS": "80"}
+    path = f"{stand_in(folder.parent)}:{os.environ['PATH']}"
+    environment = {**os.environ, "PATH": path, "HOME": str(home), "LC_ALL": "C.UTF-8", "COLUMNS": "80"}
     for name in ("SPOOL_SOCKET", "LPDEST", "PRINTER", "DESTDIR"):
         environment.pop(name, None)
     shell = subprocess.Popen(
