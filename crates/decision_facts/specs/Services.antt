@@ -22,8 +22,14 @@ pause nap poll = record { nap = nap; poll = poll }
 
 -- no child; one that was just started; one that has run for 0.8 ms and for 16 ms, beside two more; the longest, and longer
 abbrev pub LookRows : Type 0
-LookRows = next_look 9000 0 ∷ next_look 0 1 ∷ next_look 800 1 ∷ next_look 16000 3 ∷ next_look 1024000 1 ∷ next_look 9000000 1 ∷ []
+LookRows = next_look 0 9000 0 ∷ next_look 0 0 1 ∷ next_look 0 800 1 ∷ next_look 0 16000 3 ∷ next_look 0 1024000 1 ∷ next_look 0 9000000 1 ∷ []
     ≡ None ∷ Some 50 ∷ Some 50 ∷ Some 1000 ∷ Some 64000 ∷ Some 64000 ∷ []
+
+-- Behind one that ran for 1.6 ms: just started, one that has run for 1 ms, until just before and at its first look, and beside
+-- another. Behind one of five seconds: just started.
+abbrev pub FirstLookRows : Type 0
+FirstLookRows = next_look 1600 0 1 ∷ next_look 1600 1000 1 ∷ next_look 1600 1499 1 ∷ next_look 1600 1500 1 ∷ next_look 1600 0 2 ∷ next_look 5000000 0 1 ∷ []
+    ≡ Some 1500 ∷ Some 500 ∷ Some 50 ∷ Some 93 ∷ Some 50 ∷ Some 2000 ∷ []
 
 -- nothing, less than a millisecond, one, and a part more than two
 abbrev pub PauseRows : Type 0

@@ -32,7 +32,7 @@ ghost use Rattle.decision_facts.specs.ListedFaults.{ListedFaultRows, QueueFaultR
 ghost use Rattle.decision_facts.specs.Options.{OptionRows, OptionFaultRows, LastValueRows};
 ghost use Rattle.decision_facts.specs.Children.{FileRows, ArgumentRows, EnvironmentRows};
 ghost use Rattle.decision_facts.specs.Devices.{JournalRows, DamagedRows, ClosedRows, LeastAreaRows, MadeRows, MadeAnewRows, AreaRows, VersionRows, HeaderFaultRows, PlanRows};
-ghost use Rattle.decision_facts.specs.Services.{ServedRows, LookRows, PauseRows, WaitRows, ClockRows, ClockWaitRows, RoomRows, ShortRows, CheckpointRows, PurgeCountRows, PurgeRows, SweptRows, StartRows};
+ghost use Rattle.decision_facts.specs.Services.{ServedRows, LookRows, FirstLookRows, PauseRows, WaitRows, ClockRows, ClockWaitRows, RoomRows, ShortRows, CheckpointRows, PurgeCountRows, PurgeRows, SweptRows, StartRows};
 
 /// Limits, texts, media types and the size of effects.
 pub fn values()
@@ -157,6 +157,7 @@ pub fn devices()
 pub fn services()
     ensures served { ServedRows }
     ensures looks { LookRows }
+    ensures first_looks { FirstLookRows }
     ensures pauses { PauseRows }
     ensures waits { WaitRows }
     ensures clocks { ClockRows }

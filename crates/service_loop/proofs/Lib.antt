@@ -3,4 +3,5 @@ pub mod DueLaws
 pub mod EndingLaws
 pub mod PlaceLaws
 pub mod ProgressLaws
+pub mod TurnLaws
 pub mod VisitLaws

@@ -1,5 +1,5 @@
 -- What comes due when the clock brings a later moment. Moments are in seconds.
-use Rattle.std.specs.Prelude.{◌≡◌, ℕ, ◌+◌, ◌<◌, ◌≤◌, min, Bool, true, false, ◌||◌, cond, nat_lt, nat_le, List, [], ◌∷◌, ◌++◌, Option, None, Some, IfSome}
+use Rattle.std.specs.Prelude.{◌≡◌, ℕ, ◌+◌, ◌<◌, ◌≤◌, min, Bool, true, false, ◌&&◌, ◌||◌, cond, nat_lt, nat_le, List, [], ◌∷◌, ◌++◌, length, Option, None, Some, IfSome}
 use Rattle.std.specs.FinMap as finite
 use Rattle.spool_types.specs.declared.phase.Phase.{Phase}
 use Rattle.spool_types.specs.declared.phase.Phase.TheVariants.{Incoming, Waiting, Processing}
@@ -75,6 +75,19 @@ ended_among n (r ∷ rs) = ended_among (with_ended n r) rs
 -- a job that has ended is listed behind the others, whether a child of it runs or not
 abbrev pub IsListedBehind : List Candidate → Job → List Candidate → Type 0
 IsListedBehind listed r new = (runs : Bool) × (new ≡ listed ++ record { id = r.id; ended = true; runs = runs } ∷ [])
+
+-- it is where it has ended, and fewer are listed than are at once
+abbrev pub IsListed : Bool → List Candidate → Job → List Candidate → Type 0
+IsListed true listed r new = IsListedBehind listed r new
+IsListed false listed r new = new ≡ listed
+
+abbrev pub is_to_list : List Candidate → Job → Bool
+is_to_list listed r = has_ended r.phase && nat_lt (length listed) 1024
+
+-- the first of these jobs that have ended are listed behind others, in order
+abbrev pub AreListed : List Candidate → List Job → List Candidate → Type 0
+AreListed listed [] new = new ≡ listed
+AreListed listed (r ∷ rs) new = (next : List Candidate) × IsListed (is_to_list listed r) listed r next × AreListed next rs new
 
 abbrev pub has_come : Option ℕ → ℕ → Bool
 has_come None m = false

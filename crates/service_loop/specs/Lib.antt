@@ -6,4 +6,5 @@ pub mod Endings
 pub mod Lines
 pub mod Places
 pub mod Progress
+pub mod Turns
 pub mod Visits

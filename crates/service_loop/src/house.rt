@@ -2,16 +2,16 @@
 //!
 //! The table is looked at once a second at most, and only where something was done since ([`House::look`]): then it is known
 //! what comes due next, and which ended jobs are to go. So an idle service looks at nothing, and tells nothing.
-ghost use Rattle.std.specs.Prelude.{◌≡◌, ◌≢◌, ◌<◌, ◌≤◌, ◌-◌, ◌/◌, ◌%◌, true, false, [], None, Some, cond, IfOk, IfSome, OnErr, OnOk, Ok, vec_len};
+ghost use Rattle.std.specs.Prelude.{◌≡◌, ◌≢◌, ◌<◌, ◌≤◌, ◌-◌, ◌/◌, ◌%◌, true, false, [], None, Some, cond, length, IfOk, IfSome, OnErr, OnOk, Ok};
 ghost use Rattle.std.specs.FinMap as finite;
 ghost use Rattle.spool_types.specs.Limits.{greatest_moment};
-ghost use Rattle.spool_types.specs.Phases.{has_ended};
 ghost use Rattle.service_rules.specs.Checkpoints.{is_wanted, room_in};
 ghost use Rattle.service_rules.specs.Clocks.{clock_to_tell, clock_wait};
 ghost use Rattle.service_rules.specs.Looks.{earlier};
-ghost use Rattle.service_rules.specs.Purges.{purge_count, purged};
+ghost use Rattle.service_rules.specs.Purges.{above, purge_count, purged, swept_to};
 ghost use Rattle.service_loop.specs.Calls.{GoesByCalls, HasAnswered, HasAnsweredAll, purges};
-ghost use Rattle.service_loop.specs.Due.{IsListedBehind, clocks_found, clocks_of, due_of, end_of_hold, ended_among, has_come, is_changed_by, is_stopped, late_from, next_due, next_moment, with_ended};
+ghost use Rattle.service_loop.specs.Due.{AreListed, IsListed, clocks_found, clocks_of, due_of, end_of_hold, ended_among, has_come, is_changed_by, is_stopped, is_to_list, late_from, next_due, next_moment, with_ended};
+ghost use Rattle.service_loop.specs.Turns.{HasNoneToPurge, IsTimely};
 
 use crate::children::Watch;
 use crate::office::Office;
@@ -80,12 +80,12 @@ impl House {
         })
     }
 
-    /// Looks at the table and tells the system's time, in milliseconds, where that is wanted.
+    /// Looks at the table and tells the system's time, in milliseconds, where that is wanted. Whether it was told.
     pub fn tell_time<D: Disk, C: Children>(
         &mut self,
         office: &mut Office<'_, D, C>,
         millis: u64,
-    ) -> Result<(), AllocError>
+    ) -> Result<bool, AllocError>
         // Where nothing was done since the last look, and nothing has come due, nothing is done.
         ensures idle { office.old.stirred ≡ false → clock_to_tell (clocks_of self.old office.old.engine.course.spool.state (millis / 1000)) ≡ None →
             (office.new ≡ office.old) × (self.new ≡ self.old) }
@@ -97,19 +97,23 @@ impl House {
         ensures found { OnOk result (office.old.stirred ≡ true → millis / 1000 ≤ greatest_moment → self.old.looked ≢ Some (millis / 1000) →
             IfSome (clock_to_tell (clocks_found self.old office.old.engine.course.spool.state (millis / 1000)))
             (λ moment. moment ≤ greatest_moment → HasAnswered D.device office.old.engine (Command.Apply (Event.Clock moment)) office.new.engine)) }
+        // Behind it no time is left to be told, and unless it was told nothing was said.
+        ensures timely { OnOk result (IsTimely self.new office.new.engine.course.spool.state (Some millis)) }
+        ensures silent { result ≡ Ok false → office.new.engine ≡ office.old.engine }
         ensures calls { GoesByCalls D.device office.old.engine office.new.engine }
     {
         let Some(system) = Moment::new(millis / SECOND) else {
-            return Ok(());
+            return Ok(false);
         };
         self.look_anew(office, system)?;
         let clocks = self.clocks(office.engine.table(), system);
-        if let Some(moment) = clock_to_tell(&clocks) {
-            self.told = Some(moment);
-            office.note_due(moment)?;
-            say(self.alloc, office, Command::Apply(Event::Clock(moment)))?;
-        }
-        Ok(())
+        let Some(moment) = clock_to_tell(&clocks) else {
+            return Ok(false);
+        };
+        self.told = Some(moment);
+        office.note_due(moment)?;
+        say(self.alloc, office, Command::Apply(Event::Clock(moment)))?;
+        Ok(true)
     }
 
     // Looks at the table where something was done since the last look, and that wasn't in this second.
@@ -161,6 +165,7 @@ impl House {
     fn look<D: Disk, C: Children>(&mut self, office: &Office<'_, D, C>) -> Result<(), AllocError>
         ensures due { OnOk result (self.new.due ≡ next_due office.now.engine.course.spool.state) }
         ensures ended { OnOk result (self.new.ended ≡ ended_among 0 (finite.values office.now.engine.course.spool.state.jobs)) }
+        ensures listed { OnOk result (AreListed [] (finite.values office.now.engine.course.spool.state.jobs) self.new.listed.items) }
         ensures kept { self.new ≡ record self.old { due = self.new.due; ended = self.new.ended; listed = self.new.listed } }
     {
         let table = office.engine.table();
@@ -177,7 +182,7 @@ impl House {
     // Counts a job, if it has ended, and lists it among the oldest.
     fn note_ended(&mut self, job: &Job, watch: &Watch) -> Result<(), AllocError>
         ensures ended { OnOk result (self.new.ended ≡ with_ended self.old.ended job.now) }
-        ensures listed { OnOk result (has_ended job.now.phase ≡ true → vec_len self.old.listed < 1024 → IsListedBehind self.old.listed.items job.now self.new.listed.items) }
+        ensures listed { OnOk result (IsListed (is_to_list self.old.listed.items job.now) self.old.listed.items job.now self.new.listed.items) }
         ensures kept { self.new ≡ record self.old { ended = self.new.ended; listed = self.new.listed } }
     {
         if !job.phase.has_ended() {
@@ -195,13 +200,20 @@ impl House {
         Ok(())
     }
 
-    /// Purges the oldest ended jobs beyond those that are kept, a few at once. Whether there may be more to purge.
+    /// Purges the oldest ended jobs beyond those that are kept, a few at once. Whether some may have been on the list.
     pub fn purge<D: Disk, C: Children>(
         &mut self,
         office: &mut Office<'_, D, C>,
     ) -> Result<bool, AllocError>
         // Where there are no more than are kept nothing is done.
         ensures within { self.old.ended ≤ self.old.keep → (result ≡ Ok false) × (office.new ≡ office.old) × (self.new ≡ self.old) }
+        // Where it says no there is none left, and nothing was said. Those that were purged, and those before them, are crossed off.
+        ensures none { result ≡ Ok false → HasNoneToPurge self.new × (office.new.engine ≡ office.old.engine) }
+        ensures crossed { OnOk result (self.old.keep < self.old.ended → self.new.listed.items ≡
+            above (swept_to 0 (purge_count self.old.ended self.old.keep) self.old.listed.items) self.old.listed.items) }
+        ensures counted { OnOk result (self.old.keep < self.old.ended → self.new.ended ≡
+            self.old.ended - length (purged (purge_count self.old.ended self.old.keep) self.old.listed.items)) }
+        ensures kept { self.new ≡ record self.old { ended = self.new.ended; listed = self.new.listed } }
         ensures purged { OnOk result (HasAnsweredAll D.device office.old.engine (purges (purged (purge_count self.old.ended self.old.keep) self.old.listed.items)) office.new.engine) }
         ensures calls { GoesByCalls D.device office.old.engine office.new.engine }
     {
@@ -210,12 +222,14 @@ impl House {
             return Ok(false);
         }
         let swept = swept_to(&self.listed, count, 0);
+        let mut ended = self.ended;
         for job in jobs_to_purge(&self.listed, count) {
-            self.ended = self.ended.saturating_sub(1);
+            ended = ended.saturating_sub(1);
             say(self.alloc, office, Command::Apply(Event::Purge(job)))?;
         }
+        self.ended = ended;
         self.listed.retain(|candidate| swept < candidate.id.get());
-        Ok(!self.listed.is_empty() && 0 < purge_count(self.ended, self.keep))
+        Ok(true)
     }
 
     /// Whether a checkpoint is to be made at a moment in milliseconds.

@@ -46,6 +46,9 @@
 //! - Clients get on (`Progress`; what is marked is true on lines that tell). Behind a turn one that stays was given what its line
 //!   takes, and unless the turn says that there is more nothing can be done for it now (`EndsTurn`). So it is behind the turns of
 //!   all (`given`, `rests` of `Clients::serve`). Who watches is told exactly `text_for` of each text.
+//! - A turn that doesn't say that there is more leaves nothing undone (`Turns`): no client could be served further, the tick moved
+//!   nothing, the house said nothing but a checkpoint that failed, no listed job is to be purged, and nobody waits to come in. So no
+//!   wait keeps anybody waiting.
 //! - [`nothing_is_due_before`]: before something comes due (`due_of`) the clock changes no row, starts no job and shows none
 //!   otherwise. So an idle service tells none.
 //! - A newcomer is let in by when each client was heard last (`IsAdmission`, `heard_of`).

@@ -1,9 +1,10 @@
 //! The loop: clients are served while children run.
-ghost use Rattle.std.specs.Prelude.{◌≡◌, ◌*◌, ◌-◌, ◌^◌, ℕ, min, true, false, None, IfOk, OnErr, Err};
+ghost use Rattle.std.specs.Prelude.{◌≡◌, ◌*◌, ◌-◌, ◌^◌, ◌||◌, ℕ, min, true, false, None, IfOk, IfSome, OnErr, OnOk, Ok, Err};
 ghost use Rattle.slab.specs.Slab.{get};
 ghost use Rattle.std.specs.Option.{option_map};
 ghost use Rattle.service_rules.specs.Bounds.{millisecond};
 ghost use Rattle.service_loop.specs.Calls.{GoesByCalls};
+ghost use Rattle.service_loop.specs.Turns.{AreAtRest, HasNoneToPurge, HasTicked, HasTriedAtMost, HasTurned, IsTimely, KeepsTime, has_moved, is_knocked};
 
 use crate::bounds::{LONGEST_END, LONGEST_IDLE, MOST_ACCEPTED};
 use crate::children::Watch;
@@ -44,8 +45,9 @@ pub struct Service<'a, L, D: Disk, C: Children, R: Door> {
     office: Office<'a, D, C>,
     clients: Clients<R::Line>,
     house: House,
-    // When the youngest child was started, in microseconds.
+    // When the youngest child was started, and how long it had run when the end of one was seen last, in microseconds.
     begun: u64,
+    lasted: u64,
     // Whether there is more to be done at once.
     more: bool,
     // Whether somebody may want to come in, and whether the last one who came couldn't be let in, which is told once.
@@ -67,7 +69,7 @@ impl<'a, L: Log, D: Disk + Drop, C: Children + Drop, R: Door> Service<'a, L, D, 
         ensures engine { IfOk result (λ service. service.office.engine ≡ engine) }
         ensures clients { IfOk result (λ service. (key : ℕ) → get service.clients.places key ≡ None) }
         ensures house { IfOk result (λ service. (service.house.keep ≡ keeping.jobs) × (service.house.percent ≡ keeping.room) × (service.house.area ≡ keeping.area)) }
-        ensures starts { IfOk result (λ service. (service.more ≡ true) × (service.knocks ≡ true) × (service.barred ≡ false) × (service.ends ≡ None) × (service.begun ≡ 0)) }
+        ensures starts { IfOk result (λ service. (service.more ≡ true) × (service.knocks ≡ true) × (service.barred ≡ false) × (service.ends ≡ None) × (service.begun ≡ 0) × (service.lasted ≡ 0)) }
     {
         let house = House::new(alloc, keeping.jobs, keeping.room, keeping.area)?;
         Ok(Service {
@@ -77,6 +79,7 @@ impl<'a, L: Log, D: Disk + Drop, C: Children + Drop, R: Door> Service<'a, L, D, 
             clients: Clients::new(alloc)?,
             house,
             begun: 0,
+            lasted: 0,
             more: true,
             knocks: true,
             barred: false,
@@ -112,6 +115,11 @@ impl<'a, L: Log, D: Disk + Drop, C: Children + Drop, R: Door> Service<'a, L, D, 
         signals: &mut S,
     ) -> Result<bool, ServiceFault>
         ensures calls { GoesByCalls D.device self.old.office.engine self.new.office.engine }
+        ensures turned { OnOk result (HasTurned D.device self.old.office.engine self.new.house (T.told times.new) self.new.more self.new.office.engine) }
+        // Unless there is more to be done at once nothing is left undone: so the next wait keeps nobody waiting.
+        ensures clients { OnOk result (self.new.more ≡ false → AreAtRest self.new.clients.places) }
+        ensures house { OnOk result (self.new.more ≡ false → HasNoneToPurge self.new.house) }
+        ensures door { OnOk result (self.new.more ≡ false → is_knocked self.new.knocks self.new.barred self.new.ends ≡ false) }
         ensures disk { result ≡ Err ServiceFault.Disk → self.new.office.engine.course.spool.dead ≡ true }
     {
         self.wait(door, times)?;
@@ -122,13 +130,8 @@ impl<'a, L: Log, D: Disk + Drop, C: Children + Drop, R: Door> Service<'a, L, D, 
         let turns = self.serve_clients(signals, now);
         let ticked = self.tick(times);
         let kept = self.keep_house(times)?;
-        // Behind an end the next job of its queue is started at once.
-        let moved = turns.served || ticked;
-        self.note_stages(moved)?;
-        // Of those who wait to come in no further sign comes.
-        let knocks = self.knocks && !self.barred && self.ends.is_none();
-        let more = turns.more || moved || kept || knocks;
-        self.more = more;
+        self.note_more(turns, ticked, kept);
+        self.note_stages(turns.served || ticked)?;
         self.tell_changes()?;
         if self.office.engine.met_fault() {
             return Err(ServiceFault::Disk);
@@ -136,9 +139,20 @@ impl<'a, L: Log, D: Disk + Drop, C: Children + Drop, R: Door> Service<'a, L, D, 
         Ok(!over)
     }
 
+    // Notes whether there is more to be done at once. Behind an end the next job of its queue is started, and of those who wait to
+    // come in no further sign comes.
+    fn note_more(&mut self, turns: Turns, ticked: bool, kept: bool)
+        ensures more { self.new.more ≡ (turns.more || (turns.served || (ticked || (kept || is_knocked self.old.knocks self.old.barred self.old.ends)))) }
+        ensures kept { self.new ≡ record self.old { more = self.new.more } }
+    {
+        let knocks = self.knocks && !self.barred && self.ends.is_none();
+        self.more = turns.more || turns.served || ticked || kept || knocks;
+    }
+
     // Gives each client a turn, and heeds what that came to.
     fn serve_clients<S: Signals>(&mut self, signals: &mut S, now: u64) -> Turns
         ensures calls { GoesByCalls D.device self.old.office.engine self.new.office.engine }
+        ensures rests { result.more ≡ false → AreAtRest self.new.clients.places }
     {
         let turns = self.clients.serve(&mut self.office, now);
         self.heed(turns, now);
@@ -193,7 +207,7 @@ impl<'a, L: Log, D: Disk + Drop, C: Children + Drop, R: Door> Service<'a, L, D, 
     // to do.
     fn pause<T: Times>(&self, times: &mut T) -> Option<u64> {
         let ran = times.micros().saturating_sub(self.begun);
-        let look = next_look(ran, self.office.watch.running());
+        let look = next_look(self.lasted, ran, self.office.watch.running());
         let house = match times.system() {
             Some(millis) => micros_of(self.house.wait(&self.office, millis)),
             None => Some(LONGEST_IDLE),
@@ -248,7 +262,8 @@ impl<'a, L: Log, D: Disk + Drop, C: Children + Drop, R: Door> Service<'a, L, D, 
 
     // Heeds what the clients' turns came to.
     fn heed(&mut self, turns: Turns, now: u64)
-        ensures { self.new.office.engine ≡ self.old.office.engine }
+        ensures engine { self.new.office.engine ≡ self.old.office.engine }
+        ensures clients { self.new.clients ≡ self.old.clients }
     {
         self.tell_starved(turns.starved);
         if turns.shutdown && self.ends.is_none() {
@@ -268,24 +283,36 @@ impl<'a, L: Log, D: Disk + Drop, C: Children + Drop, R: Door> Service<'a, L, D, 
     // One tick, so that clients have a turn behind it, and when a child was started in it. Whether something moved. Where the
     // service is to end no job is started, and those that are processing go on.
     fn tick<T: Times>(&mut self, times: &mut T) -> bool
-        ensures { GoesByCalls D.device self.old.office.engine self.new.office.engine }
+        ensures calls { GoesByCalls D.device self.old.office.engine self.new.office.engine }
+        ensures ticked { HasTicked D.device self.old.office.engine result self.new.office.engine }
+        ensures kept { self.new ≡ record self.old { office = self.new.office; begun = self.new.begun; lasted = self.new.lasted } }
     {
+        let looked = times.micros();
         let counts = self.office.tick();
+        self.note_times(times, &counts, looked);
+        let moved = has_moved(&counts);
+        if let Err(fault) = counts {
+            self.tell_fault(fault);
+        }
+        moved
+    }
+
+    // Notes how long the youngest child had run at a look that saw the end of one, and when another one was started.
+    fn note_times<T: Times>(
+        &mut self,
+        times: &mut T,
+        counts: &Result<Round, RoundFault>,
+        looked: u64,
+    )
+        ensures { self.new ≡ record self.old { begun = self.new.begun; lasted = self.new.lasted } }
+    {
+        if let Ok(round) = counts {
+            if 0 < round.finished {
+                self.lasted = looked.saturating_sub(self.begun);
+            }
+        }
         if self.office.watch.take_started() {
             self.begun = times.micros();
-        }
-        match counts {
-            Ok(
-                Round {
-                    started: 0,
-                    finished: 0,
-                },
-            ) => false,
-            Ok(_) => true,
-            Err(fault) => {
-                self.tell_fault(fault);
-                false
-            }
         }
     }
 
@@ -297,48 +324,61 @@ impl<'a, L: Log, D: Disk + Drop, C: Children + Drop, R: Door> Service<'a, L, D, 
         }
     }
 
-    // Tells the time, purges and makes a checkpoint, each where it is wanted. Whether there is more to be purged at once.
+    // Tells the time, purges and makes a checkpoint, each where it is wanted. Whether it did one of these, so that there may be more
+    // to do: a time that is told may end a job that somebody waits for, or let one start, as may a checkpoint that made room.
     fn keep_house<T: Times>(&mut self, times: &mut T) -> Result<bool, AllocError>
-        ensures { GoesByCalls D.device self.old.office.engine self.new.office.engine }
+        ensures calls { GoesByCalls D.device self.old.office.engine self.new.office.engine }
+        ensures time { OnOk result (KeepsTime D.device self.old.office.engine self.new.house (T.told times.new) self.new.office.engine) }
+        ensures idle { result ≡ Ok false → HasNoneToPurge self.new.house × HasTriedAtMost D.device self.old.office.engine self.new.office.engine }
+        ensures kept { self.new ≡ record self.old { office = self.new.office; house = self.new.house } }
     {
-        self.tell_time(times)?;
-        let more = self.house.purge(&mut self.office)?;
-        self.make_checkpoint(times)?;
-        Ok(more)
+        let told = self.tell_time(times)?;
+        let purged = self.house.purge(&mut self.office)?;
+        let made = self.make_checkpoint(times)?;
+        Ok(told || purged || made)
     }
 
-    // Tells the engine the system's time, where it is known and wanted.
-    fn tell_time<T: Times>(&mut self, times: &mut T) -> Result<(), AllocError>
-        ensures { GoesByCalls D.device self.old.office.engine self.new.office.engine }
+    // Tells the engine the system's time, where it is known and wanted. Whether it did.
+    fn tell_time<T: Times>(&mut self, times: &mut T) -> Result<bool, AllocError>
+        ensures calls { GoesByCalls D.device self.old.office.engine self.new.office.engine }
+        ensures timely { OnOk result (IfSome (T.told times.new) (λ last. IsTimely self.new.house self.new.office.engine.course.spool.state last)) }
+        ensures silent { result ≡ Ok false → self.new.office.engine ≡ self.old.office.engine }
+        ensures kept { self.new ≡ record self.old { office = self.new.office; house = self.new.house } }
     {
-        if let Some(millis) = times.system() {
-            self.house.tell_time(&mut self.office, millis)?;
+        match times.system() {
+            Some(millis) => self.house.tell_time(&mut self.office, millis),
+            None => Ok(false),
         }
-        Ok(())
     }
 
-    // Makes a checkpoint, where one is wanted.
-    fn make_checkpoint<T: Times>(&mut self, times: &mut T) -> Result<(), AllocError>
-        ensures { GoesByCalls D.device self.old.office.engine self.new.office.engine }
+    // Makes a checkpoint, where one is wanted. Whether it was made.
+    fn make_checkpoint<T: Times>(&mut self, times: &mut T) -> Result<bool, AllocError>
+        ensures calls { GoesByCalls D.device self.old.office.engine self.new.office.engine }
+        ensures told { T.told times.new ≡ T.told times.old }
+        ensures tried { result ≡ Ok false → HasTriedAtMost D.device self.old.office.engine self.new.office.engine }
+        ensures house { self.new.house ≡ record self.old.house { left = self.new.house.left; last = self.new.house.last } }
+        ensures kept { self.new ≡ record self.old { office = self.new.office; house = self.new.house } }
     {
         let began = times.millis();
-        if self.house.wants_checkpoint(&self.office, began) {
-            let made = self.house.checkpoint(&mut self.office)?;
-            let ended = times.millis();
-            self.house.note_checkpoint(began, ended, made);
-            let took = ended.saturating_sub(began);
-            if made {
-                info!(self.log; "a checkpoint took {took} ms");
-            } else {
-                error!(self.log; "a checkpoint can't be made");
-            }
+        if !self.house.wants_checkpoint(&self.office, began) {
+            return Ok(false);
         }
-        Ok(())
+        let made = self.house.checkpoint(&mut self.office)?;
+        let ended = times.millis();
+        self.house.note_checkpoint(began, ended, made);
+        let took = ended.saturating_sub(began);
+        if made {
+            info!(self.log; "a checkpoint took {took} ms");
+        } else {
+            error!(self.log; "a checkpoint can't be made");
+        }
+        Ok(made)
     }
 
     // Notes what moved, where something did.
     fn note_stages(&mut self, moved: bool) -> Result<(), AllocError>
-        ensures { self.new.office.engine ≡ self.old.office.engine }
+        ensures engine { self.new.office.engine ≡ self.old.office.engine }
+        ensures kept { self.new ≡ record self.old { office = self.new.office } }
     {
         if moved {
             self.office.note_stages()?;
@@ -348,7 +388,9 @@ impl<'a, L: Log, D: Disk + Drop, C: Children + Drop, R: Door> Service<'a, L, D, 
 
     // Tells the clients that watch what changed.
     fn tell_changes(&mut self) -> Result<(), AllocError>
-        ensures { self.new.office.engine ≡ self.old.office.engine }
+        ensures engine { self.new.office.engine ≡ self.old.office.engine }
+        ensures still { OnOk result (self.new.more ≡ false → (self.old.more ≡ false) × (self.new.clients ≡ self.old.clients)) }
+        ensures kept { self.new ≡ record self.old { office = self.new.office; clients = self.new.clients; more = self.new.more } }
     {
         if !self.office.watched {
             return Ok(());
@@ -369,6 +411,16 @@ impl<'a, L: Log, D: Disk + Drop, C: Children + Drop, R: Door> Service<'a, L, D, 
             Some(asked) => LONGEST_END <= now.saturating_sub(asked) || self.office.is_quiet(),
             None => false,
         }
+    }
+}
+
+// Whether something was started in a tick, or the end of something told.
+fn has_moved(counts: &Result<Round, RoundFault>) -> bool
+    ensures { result ≡ has_moved counts.now }
+{
+    match counts {
+        Ok(round) => 0 < round.started || 0 < round.finished,
+        Err(_) => false,
     }
 }
 

@@ -29,6 +29,10 @@ last_look = 64000
 abbrev pub look_parts : ℕ
 look_parts = 16
 
+-- how long a child has run that is alone before it is looked at first, at most, in microseconds
+abbrev pub longest_first : ℕ
+longest_first = 2000
+
 -- microseconds of a millisecond
 abbrev pub millisecond : ℕ
 millisecond = 1000

@@ -1,16 +1,25 @@
 -- How long the service pauses before it looks at its children again. These times are in microseconds.
-use Rattle.std.specs.Prelude.{ℕ, ◌/◌, zero, suc, min, max, Bool, true, false, cond, nat_lt, Option, None, Some}
+use Rattle.std.specs.Prelude.{ℕ, ◌-◌, ◌/◌, zero, suc, min, max, Bool, true, false, cond, nat_lt, Option, None, Some}
 use Rattle.service_rules.specs.declared.looks.Pause.{Pause}
-use Rattle.service_rules.specs.Bounds.{first_look, last_look, look_parts, millisecond}
+use Rattle.service_rules.specs.Bounds.{first_look, last_look, longest_first, look_parts, millisecond}
 
 -- the pause where the youngest child has run so long: a part of that time, within the bounds
 abbrev pub pause_of : ℕ → ℕ
 pause_of ran = max first_look (min (ran / look_parts) last_look)
 
+-- When a child that is alone is looked at first: a little before the time that the one before it had run, but soon.
+abbrev pub first_after : ℕ → ℕ
+first_after before = min (before - before / look_parts) longest_first
+
+-- the pause where the only child has run so long: until its first look, and then as of any
+abbrev pub pause_alone : ℕ → ℕ → ℕ
+pause_alone before ran = cond (nat_lt ran (first_after before)) (max first_look (first_after before - ran)) (pause_of ran)
+
 -- none where no child runs
-abbrev pub next_look : ℕ → ℕ → Option ℕ
-next_look ran zero = None
-next_look ran (suc running) = Some (pause_of ran)
+abbrev pub next_look : ℕ → ℕ → ℕ → Option ℕ
+next_look before ran zero = None
+next_look before ran (suc zero) = Some (pause_alone before ran)
+next_look before ran (suc (suc running)) = Some (pause_of ran)
 
 -- the earlier of two ends of a wait, of which either may be missing
 abbrev pub earlier : Option ℕ → Option ℕ → Option ℕ

@@ -22,6 +22,10 @@ pub const LAST_LOOK: u64 = 64_000;
 /// A pause between two looks at children is one part of so many parts of the time that the youngest of them has run.
 pub const LOOK_PARTS: u64 = 16;
 
+/// How long a child has run that is alone before it is looked at first, at most, in microseconds. It bounds how long the end of one
+/// goes unseen that ran much shorter than the one before it.
+pub const LONGEST_FIRST: u64 = 2_000;
+
 /// How many microseconds a millisecond has.
 pub const MILLISECOND: u64 = 1_000;
 

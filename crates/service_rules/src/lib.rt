@@ -12,8 +12,9 @@
 //! - [`is_served_on`]: a command of a client is served in its turn exactly where fewer than 32 were and fewer than 65,536
 //!   bytes of its replies are unread.
 //! - [`next_look`]: the pause before the next look at children, a sixteenth of the time that the youngest has run, between 0.05 and
-//!   64 milliseconds, and none exactly where none runs. [`ends_are_seen_soon`]: so an end is seen after a sixteenth of the time that
-//!   the child ran, or 0.05 ms. [`poll_wait`]: the earlier of two ends of a wait. [`pause_for`]: how it is waited.
+//!   64 milliseconds, and none exactly where none runs. One that is alone is looked at first when about as long has passed as the one
+//!   before it ran, or 2 milliseconds. [`ends_are_seen_soon`]: so an end is seen after a sixteenth of the time that the child ran, or
+//!   0.05 ms, or at its first look. [`poll_wait`]: the earlier of two ends of a wait. [`pause_for`]: how it is waited.
 //! - [`clock_to_tell`]: the system's second exactly where something has come due, the table's moment is earlier, and no clock
 //!   was told in that second. [`clock_wait`]: the time until then; it is over exactly where there is a clock to tell (`over`).
 //! - [`is_wanted`]: a checkpoint is made exactly where the journal is short or an event was Full, another one may free something,

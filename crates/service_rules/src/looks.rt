@@ -1,10 +1,10 @@
 //! How long the service waits: for its next look at children, and in its poll.
 ghost use Rattle.std.specs.Prelude.{◌≡◌, ℕ, ◌+◌, ◌*◌, ◌/◌, ◌≤◌, ◌↔◌, max, min, IfSome};
 ghost use Rattle.std.specs.Option.{IsNone};
-ghost use Rattle.service_rules.specs.Bounds.{first_look, last_look, look_parts, millisecond};
-ghost use Rattle.service_rules.specs.Looks.{next_look, pause_for, pause_of, poll_wait};
+ghost use Rattle.service_rules.specs.Bounds.{first_look, last_look, longest_first, look_parts, millisecond};
+ghost use Rattle.service_rules.specs.Looks.{first_after, next_look, pause_alone, pause_for, pause_of, poll_wait};
 
-use crate::bounds::{FIRST_LOOK, LAST_LOOK, LOOK_PARTS, MILLISECOND};
+use crate::bounds::{FIRST_LOOK, LAST_LOOK, LONGEST_FIRST, LOOK_PARTS, MILLISECOND};
 
 /// A wait: a nap, in microseconds, and then a poll, in milliseconds.
 #[derive(Clone, Copy)]
@@ -14,16 +14,37 @@ pub struct Pause {
 }
 
 /// The pause before the next look at children, in microseconds, where so many run and the youngest has run for so many
-/// microseconds.
-pub fn next_look(ran: u64, running: usize) -> Option<u64>
-    ensures value { result ≡ next_look ran running }
+/// microseconds. The child before it ran for `before` of them, as far as was seen: as each look takes a little of the time of the
+/// child that it looks at, one that is alone isn't looked at before it may have ended.
+pub fn next_look(before: u64, ran: u64, running: usize) -> Option<u64>
+    ensures value { result ≡ next_look before ran running }
     ensures within { IfSome result (λ pause. (first_look ≤ pause) × (pause ≤ last_look)) }
     ensures none { IsNone result ↔ (running ≡ 0) }
 {
-    if running == 0 {
-        return None;
+    match running {
+        0 => None,
+        1 => Some(pause_alone(before, ran)),
+        _ => Some(pause_of(ran)),
     }
-    Some((ran / LOOK_PARTS).min(LAST_LOOK).max(FIRST_LOOK))
+}
+
+// The pause where the only child has run so long.
+fn pause_alone(before: u64, ran: u64) -> u64
+    ensures { result ≡ pause_alone before ran }
+{
+    let first = (before - before / LOOK_PARTS).min(LONGEST_FIRST);
+    if ran < first {
+        (first - ran).max(FIRST_LOOK)
+    } else {
+        pause_of(ran)
+    }
+}
+
+// The pause where the youngest child has run so long.
+fn pause_of(ran: u64) -> u64
+    ensures { result ≡ pause_of ran }
+{
+    (ran / LOOK_PARTS).min(LAST_LOOK).max(FIRST_LOOK)
 }
 
 /// How long the poll may wait; with no answer it waits until something comes. `has_more` tells whether there is more to do at
@@ -54,8 +75,12 @@ pub fn pause_for(wait: u64) -> Pause
 }
 
 /// A child that has run for some time at a look, and for so long in all, is seen to have ended at the next look: after no
-/// more than a part of the time that it ran, or after the shortest pause. The youngest child has run no longer than it.
+/// more than a part of the time that it ran, or after the shortest pause. The youngest child has run no longer than it. One that is
+/// alone is seen to have ended then, or at its first look.
 pub fn ends_are_seen_soon()
-    ensures { (youngest ran all : ℕ) → youngest ≤ ran → ran ≤ all →
+    ensures beside { (youngest ran all : ℕ) → youngest ≤ ran → ran ≤ all →
         ran + pause_of youngest ≤ all + max first_look (min (all / look_parts) last_look) }
+    ensures alone { (before ran all : ℕ) → ran ≤ all →
+        ran + pause_alone before ran ≤ max (first_after before) (all + max first_look (min (all / look_parts) last_look)) }
+    ensures first { (before : ℕ) → first_after before ≤ longest_first }
 {}

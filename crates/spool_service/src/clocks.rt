@@ -1,5 +1,5 @@
 //! The system's clocks.
-ghost use Rattle.std.specs.Prelude.{◌≡◌, ◌≤◌, ◌^◌, IfSome};
+ghost use Rattle.std.specs.Prelude.{◌≡◌, ◌≤◌, ◌^◌, None, IfSome};
 
 use service_loop::Times;
 use std::thread;
@@ -29,6 +29,8 @@ impl<'a, R: Clock> SystemTimes<'a, R> {
 }
 
 impl<'a, R: Clock> Times for SystemTimes<'a, R> {
+    ghost told = { λ _. None };
+
     fn micros(&mut self) -> u64
         ensures never_back { self.old.last ≤ result }
         ensures kept { self.new.last ≡ result }

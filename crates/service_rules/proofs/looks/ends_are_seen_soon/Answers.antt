@@ -1,5 +1,9 @@
-use Rattle.service_rules.proofs.Seeing.{ends_are_seen_soon}
+-- an end is seen after a part of the child's time, or at its first look
+use Rattle.service_rules.proofs.Seeing.{ends_alone, ends_beside}
 use Rattle.service_rules.proofs.looks.ends_are_seen_soon.Goals as goal
 
-pub returns : goal.returns
-returns c = ends_are_seen_soon
+pub returns-clause-beside : goal.returns-clause-beside
+returns-clause-beside c = ends_beside
+
+pub returns-clause-alone : goal.returns-clause-alone
+returns-clause-alone c = ends_alone

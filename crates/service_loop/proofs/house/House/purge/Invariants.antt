@@ -1,4 +1,5 @@
--- the engine went on by calls, and what is still to be purged is the rest of what is to go
+-- the engine went on by calls, and what is still to be purged is the rest of what is to go, by which the count will have fallen
+use Rattle.std.proofs.Common.{◌≡◌, ◌-◌, length}
 use Rattle.service_rules.specs.Purges.{purged}
 use Rattle.spool_engine.specs.Runs.{Engine}
 use Rattle.service_loop.specs.Calls.{GoesByCalls, HasAnsweredAll, purges}
@@ -9,4 +10,5 @@ invariant-loop-job g l = record {
   calls : GoesByCalls g.D.Disk.device l.fn.office.engine l.office.engine;
   rest : (e : Engine _) → HasAnsweredAll g.D.Disk.device l.office.engine (purges l.job-iterator) e →
       HasAnsweredAll g.D.Disk.device l.fn.office.engine (purges (purged l.count l.fn.self.listed.items)) e;
+  counted : l.ended - length l.job-iterator ≡ l.fn.self.ended - length (purged l.count l.fn.self.listed.items);
 }
